@@ -1,5 +1,5 @@
 -- What is held at first is held by the count over what stored it.
-use Rattle.std.proofs.Common.{◌≡◌, ℕ, ◌≤◌, Bool, true, false, not, cond, ◌||◌, eqb, Option, None, Some, List, [], ◌∷◌, ◌++◌, map, refl, sym, ◌∙◌, ap, subst, arith}
+use Rattle.std.proofs.Common.{◌≡◌, ℕ, ◌≤◌, false, not, cond, eqb, Option, None, Some, List, [], ◌∷◌, map, refl, sym, ◌∙◌, ap, arith}
 use Rattle.std.specs.Prelude.{IfSome}
 use Rattle.std.specs.List.{filter, sum_by}
 use Rattle.std.proofs.lemmas.Bool.{eq-eqb, eqb-true, false≢true, false_from_ne_true}
@@ -14,7 +14,6 @@ use Rattle.hx_store.specs.WeightedRecency.{weighed_held_of, changes_of}
 use Rattle.hx_store.proofs.Recency.{filter_all}
 use Rattle.hx_store.proofs.EntryWeights.{serials_stay}
 use Rattle.hx_store.proofs.WeightedRecency.{weighed_held_more}
-use Rattle.proxy_core.specs.State.{NoSerialIsHeldFrom}
 use Rattle.proxy_core.specs.Starts.{StartStands, weight_if_any, change_that_stores, changes_at_start}
 use Rattle.proxy_core.proofs.HeldEntries.{EachIs, EachIs-nil, EachIs-cons, EachIs-but, EachIs-weights}
 

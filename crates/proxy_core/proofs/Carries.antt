@@ -9,9 +9,10 @@ use Rattle.hx_framing.specs.declared.messages.Response.{Response}
 use Rattle.hx_hop.specs.declared.request_view.Asked.{Asked}
 use Rattle.hx_allow.specs.TableLines.{Table}
 use Rattle.hx_allow.specs.Matching.{policy_of}
-use Rattle.proxy_core.specs.Allowing.{verdict_of_asked, exchanges_to_wait_for}
+use Rattle.proxy_core.specs.Allowing.{verdict_of_asked}
 use Rattle.hx_allow.specs.declared.verdicts.Verdict.{Verdict}
 use Rattle.hx_allow.specs.declared.verdicts.Verdict.TheVariants as verdict
+use Rattle.hx_allow.specs.declared.verdicts.Route.{Route}
 use Rattle.hx_store.specs.Stored.{Stored}
 use Rattle.hx_reuse.specs.Rules.{decision_of}
 use Rattle.hx_reuse.specs.ChosenAndNamed.{IsLeastReuseRule, RuleNamesTheResponse}
@@ -27,12 +28,11 @@ use Rattle.proxy_core.specs.declared.outcome.Outcome.{Outcome}
 use Rattle.proxy_core.specs.declared.outcome.Outcome.TheVariants.{Reply, Forward, Waits, Ended}
 use Rattle.proxy_core.specs.declared.event.Event.{Event}
 use Rattle.proxy_core.specs.declared.event.Event.TheVariants.{Arrive, Answer, Fail, Wake, Abandon}
-use Rattle.proxy_core.specs.Validating.{condition_about_serial, is_validation, stored_response_validated}
+use Rattle.proxy_core.specs.Validating.{condition_about_serial, is_304_to_own_conditions, stored_response_validated}
 use Rattle.proxy_core.specs.Storing.{is_304_without_condition}
 use Rattle.proxy_core.specs.declared.open.stage.Stage.TheVariants.{Forwarded, Released}
 use Rattle.proxy_core.specs.declared.steps.condition.Condition.{Condition}
 use Rattle.proxy_core.specs.Leading.{waits_for}
-use Rattle.proxy_core.specs.Awaiting.{leader_of_request}
 use Rattle.proxy_core.specs.Outcomes.{find_exchange, exchange_id_of_event, outcome_of_arrival, outcome_of_allowed_request, outcome_of_waiting_or_forwarding, outcome_without_stored_response, outcome_of_wake, is_only_if_cached, forward_text, fallback_for, outcome_of_failure, is_error_status, outcome_of_passing_on_or_stale, outcome_of_304, outcome_of_answer, outcome_of}
 use Rattle.proxy_core.specs.State.{State, overtaken_exchange, released_exchange, forwarded_exchange, waiting_exchange, line_of_verdict, rule_of_decision, serial_named_by_decision, exchange_gone_forward, exchange_forwarded_again, exchange_sent_forward, exchanges_after_wake, open_exchanges_after}
 use Rattle.proxy_core.specs.Starts.{StoreAtStart}
@@ -40,6 +40,7 @@ use Rattle.proxy_core.specs.Traces.{Item, initial_state, state_after_trace, IsGo
 use Rattle.proxy_core.specs.Histories.{open_exchanges, IsGoodHistory}
 use Rattle.proxy_core.specs.Promises.{outcome_goes_forward, count_of_outcomes}
 use Rattle.proxy_core.specs.Carrying.{judges_a_request, second_forward_item, WentForwardOnce, WentForwardASecondTime, HasWaitedSinceItsArrival, ExchangeWasJudged, RuleWasLeastWhenJudged, OpenExchangeCarriesItsArrival}
+use Rattle.proxy_core.proofs.SentBeside.{led_over, sent_over, unless_sent}
 use Rattle.proxy_core.proofs.ExchangeLists.{overtaken_by, released_by, changed_by, find-map, find-push, find-gone_out, sent_out-id, found-id}
 use Rattle.proxy_core.proofs.Moves.{Move, apart, opens, queues, passes, again, wakes, closes, out_again, woken_form, asked_of, ended_by, move_of, and_none, failed_back, key_taken_by_step}
 use Rattle.proxy_core.proofs.Tracing.{same_table}
@@ -53,13 +54,13 @@ none_some (Some x) z h g = cc
 
 module _ (table : Table) (es : List Stored) (xs : List Exchange) (now : ℕ) (asked : Asked) where
   -- a rule stands against a stored response, and the request takes others too
-  pub record IsSentOn (line : ℕ) : Type 0 where
+  pub record IsSentOn (line : Route) : Type 0 where
     pub line_allows : verdict_of_asked table asked ≡ verdict.Allowed line
     pub rule : ReuseRule
     pub against : Option ℕ
     pub decided : decision_of (policy_of table.lines line) es asked now ≡ decision.Forward rule against
 
-  pub record WentBy (line : ℕ) (bytes : List ℕ) : Type 0 where
+  pub record WentBy (line : Route) (bytes : List ℕ) : Type 0 where
     pub on : IsSentOn line
     pub bytes_are : bytes ≡ forward_text table line asked (condition_about_serial es on.against)
 
@@ -85,7 +86,9 @@ module _ (table : Table) (es : List Stored) (xs : List Exchange) (now : ℕ) (as
       unless : (rule : ReuseRule) (against : Option ℕ) (b : Bool) → decision_of (policy_of table.lines n) es asked now ≡ decision.Forward rule against →
           Goes (outcome_without_stored_response table es xs n now asked rule (condition_about_serial es against) b)
       unless rule against true d = tt
-      unless rule against false d = led rule against (leader_of_request (policy_of table.lines n) es (exchanges_to_wait_for table n asked xs) asked rule) d
+      unless rule against false d =
+          unless_sent Goes table es n now asked (sent_over table es xs n now asked rule) (outcome_of_waiting_or_forwarding table n asked (condition_about_serial es against) (led_over table es xs n asked rule))
+          (λ t is. tt) (led rule against (led_over table es xs n asked rule) d)
 
       by_decision : (d : Decision) → decision_of (policy_of table.lines n) es asked now ≡ d → Goes (outcome_of_allowed_request table es xs n now asked d)
       by_decision (decision.Hit t) k = tt
@@ -104,7 +107,7 @@ IsAgain table x (Reply r) = Unit {0}
 IsAgain table x Ended = Unit {0}
 
 pub again_by : (table : Table) (es : List Stored) (now : ℕ) (x : Exchange) (r : Response) (next : Option ℕ) (d : Decision) → IsAgain table x (outcome_of_answer table es now x r next d)
-again_by table es now x r next d = by_304 (is_validation x r)
+again_by table es now x r next d = by_304 (is_304_to_own_conditions x r)
   where
     by_validation : (o : Option Stored) (d : Decision) → IsAgain table x (outcome_of_304 table es now x r o d)
     by_validation (Some e) d = tt
@@ -447,7 +450,7 @@ module _ (table : Table) (start : StoreAtStart) (first : ℕ) where
       )
 
   -- behind an answer
-  carried_again : (past : List Item) (now id : ℕ) (r : Response) (z : Exchange) (line : ℕ) (bytes : List ℕ) (x : Exchange) → Carried table start id past z →
+  carried_again : (past : List Item) (now id : ℕ) (r : Response) (z : Exchange) (line : Route) (bytes : List ℕ) (x : Exchange) → Carried table start id past z →
       exchange id past ≡ Some z → IsAgain table z (Forward line bytes) →
       find_exchange id (map (exchange_forwarded_again id now) (state_after_trace (initial_state table start first) past).exchanges) ≡ Some x →
       Carried table start id (record { event = Answer now id r; outcome = Forward line bytes } ∷ past) x

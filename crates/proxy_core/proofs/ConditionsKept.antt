@@ -1,31 +1,28 @@
 -- What becomes of a client's own condition that stays with the proxy.
-use Rattle.std.proofs.Common.{◌≡◌, ◌⊎◌, inl, inr, ℕ, Bool, true, false, List, codes, Option, Some, None, refl, sym, subst, ◌∙◌, ap, cond}
-use Rattle.std.specs.Prelude.{◌∷◌, not, ◌&&◌, ◌||◌, is_none, is_some}
+use Rattle.std.proofs.Common.{◌≡◌, inl, inr, ℕ, Bool, true, false, List, codes, Option, Some, None, refl, sym, subst, ◌∙◌, ap, cond}
+use Rattle.std.specs.Prelude.{not, ◌&&◌, ◌||◌, is_none, is_some}
 use Rattle.hx_fields.specs.FieldLines.{has_field}
 use Rattle.hx_framing.specs.Text.{request_text}
 use Rattle.hx_framing.specs.declared.messages.Response.{Response}
 use Rattle.hx_hop.specs.Answering.{answered_of}
 use Rattle.hx_hop.specs.Forwarding.{forwarded_of}
-use Rattle.hx_hop.specs.declared.request_view.Asked.{Asked}
 use Rattle.hx_hop.proofs.SentLines.{keeps_conditions_behind}
 use Rattle.hx_allow.specs.Matching.{policy_of}
 use Rattle.hx_allow.specs.TableLines.{Table}
 use Rattle.hx_reuse.specs.Conditions.{keeps_conditions}
-use Rattle.hx_validate.specs.ClientConditions.{ConditionIsFalse}
 use Rattle.hx_validate.specs.NotModified.{answer_gets_304}
 use Rattle.hx_validate.proofs.ClientConditions.{false_gets_304, no_other_gets_304}
 use Rattle.proxy_core.specs.declared.open.exchange.Exchange.{Exchange}
-use Rattle.proxy_core.specs.declared.outcome.Outcome.TheVariants.{Reply as Replied}
 use Rattle.proxy_core.specs.declared.outcome.Reply.{Reply}
 use Rattle.proxy_core.specs.declared.event.Event.{Event}
 use Rattle.proxy_core.specs.declared.event.Event.TheVariants.{Answer}
 use Rattle.proxy_core.specs.Histories.{next_serial, open_exchanges}
 use Rattle.proxy_core.specs.KeptConditions.{AnswerOfKeptCondition, EachUnasked304IsAFailure, FalseConditionIsAnswered304, LeadsAsOneWithoutConditions, NoClientsConditionGoesForward, OtherConditionIsAnsweredWhole}
-use Rattle.proxy_core.specs.Naming.{AnswerNamesByEvent, AnswerNamesFirstRule, PassedAnswerNamesItsRule}
+use Rattle.proxy_core.specs.Naming.{AnswerNamesByEvent, AnswerNamesFirstRule}
 use Rattle.proxy_core.specs.Outcomes.{exchange_id_of_event, find_exchange}
 use Rattle.proxy_core.specs.Replies.{client_has_answer, not_modified_answer_text, passed_answer_text, whole_answer_text}
 use Rattle.proxy_core.specs.Starts.{StoreAtStart}
-use Rattle.proxy_core.specs.Storing.{is_304_without_condition, storing_rule_to_explain}
+use Rattle.proxy_core.specs.Storing.{storing_rule_to_explain}
 use Rattle.proxy_core.specs.Traces.{Item}
 use Rattle.proxy_core.proofs.FirstRules.{names_first_rules}
 

@@ -9,9 +9,10 @@ use Rattle.hx_framing.specs.declared.messages.Response.{Response}
 use Rattle.hx_hop.specs.declared.request_view.Asked.{Asked}
 use Rattle.hx_allow.specs.TableLines.{Table}
 use Rattle.hx_allow.specs.Matching.{policy_of}
-use Rattle.proxy_core.specs.Allowing.{verdict_of_asked, exchanges_to_wait_for}
+use Rattle.proxy_core.specs.Allowing.{verdict_of_asked}
 use Rattle.hx_allow.specs.declared.verdicts.Verdict.{Verdict}
 use Rattle.hx_allow.specs.declared.verdicts.Verdict.TheVariants as verdict
+use Rattle.hx_allow.specs.declared.verdicts.Route.{Route}
 use Rattle.hx_store.specs.Stored.{Stored}
 use Rattle.hx_store.specs.Serials.{Distinct}
 use Rattle.hx_store.specs.Shelf.{serials, find_entry}
@@ -35,14 +36,14 @@ use Rattle.proxy_core.specs.declared.steps.fallback.Fallback.{Fallback}
 use Rattle.proxy_core.specs.declared.steps.fallback.Fallback.TheVariants.{Sends, Refuses}
 use Rattle.proxy_core.specs.declared.event.Event.{Event}
 use Rattle.proxy_core.specs.declared.event.Event.TheVariants.{Arrive, Answer, Fail, Wake, Abandon}
-use Rattle.proxy_core.specs.Validating.{condition_about_serial, is_validation, stored_response_validated}
+use Rattle.proxy_core.specs.Validating.{condition_about_serial, is_304_to_own_conditions, stored_response_validated}
 use Rattle.proxy_core.specs.Storing.{is_304_without_condition}
-use Rattle.proxy_core.specs.Awaiting.{leader_of_request}
 use Rattle.proxy_core.specs.Outcomes.{find_exchange, exchange_id_of_event, outcome_of_arrival, outcome_of_allowed_request, outcome_of_waiting_or_forwarding, outcome_without_stored_response, outcome_of_wake, is_only_if_cached, error_rule_at, fallback_with_error_rule, fallback_for, outcome_of_failure, is_error_status, outcome_of_passing_on_or_stale, outcome_of_304, outcome_of_answer, outcome_of}
 use Rattle.proxy_core.specs.Traces.{Item}
 use Rattle.proxy_core.specs.Histories.{IsGoodHistory, store_changes, held_entries, open_exchanges, next_serial}
 use Rattle.proxy_core.specs.Carrying.{RuleWasLeastWhenJudged}
 use Rattle.proxy_core.specs.Naming.{AnswerNamesErrorRule, AnswerNamesFirstRule, EachOtherAnswerNamesTheFirstRule}
+use Rattle.proxy_core.proofs.SentBeside.{led_over, sent_over, unless_sent}
 use Rattle.proxy_core.proofs.Carries.{least_when_judged}
 use Rattle.proxy_core.proofs.HeldLaw.{good_plain, entries_are_held, stands_for}
 use Rattle.proxy_core.specs.Starts.{StoreAtStart}
@@ -106,17 +107,19 @@ module _ (table : Table) (start : StoreAtStart) (past : List Item) (distinct : D
   arrival_names : (xs : List Exchange) (x : Option Exchange) (now id : ℕ) (asked : Asked) → AnswerNamesFirstRule table start past next x (Arrive now id asked) (outcome_of_arrival table es xs now asked (verdict_of_asked table asked))
   arrival_names xs x now id asked = by_verdict (verdict_of_asked table asked) refl
     where
-      on : (line : ℕ) (condition : Option Condition) (leader : Option ℕ) → AnswerNamesFirstRule table start past next x (Arrive now id asked) (outcome_of_waiting_or_forwarding table line asked condition leader)
+      on : (line : Route) (condition : Option Condition) (leader : Option ℕ) → AnswerNamesFirstRule table start past next x (Arrive now id asked) (outcome_of_waiting_or_forwarding table line asked condition leader)
       on line condition None = tt
       on line condition (Some leader) = tt
 
-      unless : (line : ℕ) (rule : ReuseRule) (against : Option ℕ) (b : Bool) → verdict_of_asked table asked ≡ verdict.Allowed line →
+      unless : (line : Route) (rule : ReuseRule) (against : Option ℕ) (b : Bool) → verdict_of_asked table asked ≡ verdict.Allowed line →
           decision_of (policy_of table.lines line) es asked now ≡ decision.Forward rule against → is_only_if_cached asked ≡ b →
           AnswerNamesFirstRule table start past next x (Arrive now id asked) (outcome_without_stored_response table es xs line now asked rule (condition_about_serial es against) b)
       unless line rule against true v d k = λ h. inr (inr (inl (line, rule, v, k, (names_the_least (policy_of table.lines line) es asked now rule against d).0, refl)))
-      unless line rule against false v d k = on line (condition_about_serial es against) (leader_of_request (policy_of table.lines line) es (exchanges_to_wait_for table line asked xs) asked rule)
+      unless line rule against false v d k =
+          unless_sent (AnswerNamesFirstRule table start past next x (Arrive now id asked)) table es line now asked (sent_over table es xs line now asked rule) (outcome_of_waiting_or_forwarding table line asked (condition_about_serial es against) (led_over table es xs line asked rule))
+          (λ t is h. absurd (false≢true h)) (on line (condition_about_serial es against) (led_over table es xs line asked rule))
 
-      by_decision : (line : ℕ) (d : Decision) → verdict_of_asked table asked ≡ verdict.Allowed line → decision_of (policy_of table.lines line) es asked now ≡ d →
+      by_decision : (line : Route) (d : Decision) → verdict_of_asked table asked ≡ verdict.Allowed line → decision_of (policy_of table.lines line) es asked now ≡ d →
           AnswerNamesFirstRule table start past next x (Arrive now id asked) (outcome_of_allowed_request table es xs line now asked d)
       by_decision line (decision.Hit s) v k = λ h. absurd (false≢true h)
       by_decision line (decision.Forward rule against) v k = unless line rule against (is_only_if_cached asked) v k refl
@@ -153,7 +156,7 @@ module _ (table : Table) (start : StoreAtStart) (past : List Item) (distinct : D
     validation_names None (decision.Forward rule against) = tt
 
     answer_names : AnswerNamesFirstRule table start past next (Some x) (Answer now id r) (outcome_of_answer table es now x r next (decision_of (policy_of table.lines x.line) es x.asked now))
-    answer_names = by_304 (is_validation x r)
+    answer_names = by_304 (is_304_to_own_conditions x r)
       where
         by_unasked : (b : Bool) → is_304_without_condition (policy_of table.lines x.line) x.asked r ≡ b →
             AnswerNamesFirstRule table start past next (Some x) (Answer now id r) (cond b (outcome_of_failure table es now x BadAnswer (Some r.status) (fallback_for (policy_of table.lines x.line) es x.asked now (decision_of (policy_of table.lines x.line) es x.asked now)))

@@ -7,10 +7,11 @@ use Rattle.hx_framing.specs.declared.messages.Response.{Response}
 use Rattle.hx_hop.specs.declared.request_view.Asked.{Asked}
 use Rattle.hx_allow.specs.TableLines.{Table}
 use Rattle.hx_allow.specs.Matching.{policy_of}
-use Rattle.proxy_core.specs.Allowing.{verdict_of_asked, exchanges_to_wait_for}
+use Rattle.proxy_core.specs.Allowing.{verdict_of_asked}
 use Rattle.hx_allow.specs.declared.verdicts.Verdict.{Verdict}
 use Rattle.hx_allow.specs.declared.verdicts.Verdict.TheVariants as verdict
 use Rattle.hx_allow.specs.declared.verdicts.Verdict.TheVariants.{Allowed}
+use Rattle.hx_allow.specs.declared.verdicts.Route.{Route}
 use Rattle.hx_store.specs.Stored.{Stored}
 use Rattle.hx_store.specs.Serials.{Distinct}
 use Rattle.hx_store.specs.Shelf.{serials}
@@ -37,9 +38,8 @@ use Rattle.proxy_core.specs.declared.event.Event.{Event}
 use Rattle.proxy_core.specs.declared.event.Event.TheVariants.{Arrive, Answer, Fail, Wake, Abandon}
 use Rattle.proxy_core.specs.Moments.{moment_too_late_fault}
 use Rattle.proxy_core.specs.Leading.{is_forwarded, is_released}
-use Rattle.proxy_core.specs.Awaiting.{leader_of_request}
 use Rattle.proxy_core.specs.Storing.{is_304_without_condition}
-use Rattle.proxy_core.specs.Validating.{condition_about_serial, is_validation, stored_response_validated}
+use Rattle.proxy_core.specs.Validating.{condition_about_serial, is_304_to_own_conditions, stored_response_validated}
 use Rattle.proxy_core.specs.Outcomes.{find_exchange, exchange_id_of_event, outcome_of_event, outcome_of, fallback_for, outcome_of_wake, outcome_of_arrival, outcome_of_allowed_request, outcome_without_stored_response, outcome_of_waiting_or_forwarding, outcome_of_failure, outcome_of_passing_on_or_stale, outcome_of_304, outcome_of_answer, is_error_status, is_only_if_cached, forward_text, or_fault, fault_if_not_forwarded, fault_if_not_released, fault_at_exchange}
 use Rattle.proxy_core.specs.State.{serial_used_by_outcome, bounds_of}
 use Rattle.proxy_core.specs.Starts.{StoreAtStart, StartStands}
@@ -49,6 +49,7 @@ use Rattle.proxy_core.specs.Promises.{outcome_goes_forward, request_after_event,
 use Rattle.proxy_core.specs.Sending.{StoredResponseMayBeSentAt, RequestReachesCacheOrOrigin}
 use Rattle.proxy_core.specs.GoingOn.{EventMayCome, NeedsSecondForward, IsClientReply, ExchangeGoesOnBy, IsConditionOfEvent}
 use Rattle.proxy_core.specs.Headline.{HoldsAtEachItem, EventComesWhereItMay, RequestReachesExactlyWhereAllowed, RequestGoesForwardWhereAllowed, ExchangeGoesOnToItsAnswer, StoredResponseIsSentExactlyWhereItMayBe, SentResponseIsTheStoredOne, OtherAnswerNamesTheFirstRule, AnswerIsStoredExactlyWhereItMayBe, StoredResponsesAreRemovedExactlyWhereTheyMustBe, ConnectionClosesAsAsked, Headline, EveryGoodTraceHasTheHeadline}
+use Rattle.proxy_core.proofs.SentBeside.{led_over, sent_over, unless_sent}
 use Rattle.proxy_core.proofs.Carries.{IsAgain, again_by, carries_its_arrival}
 use Rattle.proxy_core.proofs.FirstRules.{held_distinct, names_first_rules}
 use Rattle.proxy_core.proofs.HeldLaw.{good_plain}
@@ -61,13 +62,13 @@ use Rattle.proxy_core.proofs.Tracing.{denied_leave_no_trace}
 use Rattle.proxy_core.proofs.TwiceForward.{twice_forward_one_reply}
 use Rattle.proxy_core.proofs.Unsent.{nothing_invalidated_is_sent, nothing_invalidated_since}
 
-not_forward : {P : Type 0} (o : Outcome) (line : ℕ) (bytes : List ℕ) → outcome_goes_forward o ≡ false → o ≡ Forward line bytes → P
+not_forward : {P : Type 0} (o : Outcome) (line : Route) (bytes : List ℕ) → outcome_goes_forward o ≡ false → o ≡ Forward line bytes → P
 not_forward {P} o line bytes back h =
     let out : false ≡ true = sym back ∙ ap outcome_goes_forward h in
     absurd (cc)
 
 -- the request of an event goes to a line that allows it, with the conditions of that moment
-abbrev Goes : Table → List Stored → List Item → ℕ → List ℕ → Event → Type 0
+abbrev Goes : Table → List Stored → List Item → Route → List ℕ → Event → Type 0
 Goes table es past line bytes event =
     (asked : Asked) × (condition : Option Condition) × (request_after_event (exchange_id_of_event event) event (latest_request_of (exchange_id_of_event event) past) ≡ Some asked) × (verdict_of_asked table asked ≡ Allowed line)
     × IsConditionOfEvent (policy_of table.lines line) es asked event condition × (bytes ≡ forward_text table line asked condition)
@@ -143,7 +144,7 @@ module _ (table : Table) (es : List Stored) where
 
   answer_goes_on : Distinct (serials es) → (now id : ℕ) (x : Exchange) (r : Response) (next : Option ℕ) →
       ExchangeGoesOnBy table es (Some x) (Answer now id r) (outcome_of_answer table es now x r next (decision_of (policy_of table.lines x.line) es x.asked now))
-  answer_goes_on distinct now id x r next = by_304 (is_validation x r) refl
+  answer_goes_on distinct now id x r next = by_304 (is_304_to_own_conditions x r) refl
     where
       d : Decision
       d = decision_of (policy_of table.lines x.line) es x.asked now
@@ -151,7 +152,7 @@ module _ (table : Table) (es : List Stored) where
       Is : Outcome → Type 0
       Is o = (NeedsSecondForward table es x now id r → o ≡ Forward x.line (forward_text table x.line x.asked None)) × ((NeedsSecondForward table es x now id r → ⊥) → IsClientReply o)
 
-      validates : is_validation x r ≡ true → (o : Option Stored) → stored_response_validated es x r now ≡ o → (k : Decision) → d ≡ k → Is (outcome_of_304 table es now x r o k)
+      validates : is_304_to_own_conditions x r ≡ true → (o : Option Stored) → stored_response_validated es x r now ≡ o → (k : Decision) → d ≡ k → Is (outcome_of_304 table es now x r o k)
       validates y (Some e) v k dk = (λ asks. absurd (asks.1 e.serial (inl (y, (e, v, refl)))), λ no. (_, refl))
       validates y None v (decision.Hit s) dk =
           (λ asks. absurd (asks.1 s (inr (inl (y, v, reused_is_allowed (policy_of table.lines x.line) es x.asked now s dk)))), λ no. (_, refl))
@@ -162,7 +163,7 @@ module _ (table : Table) (es : List Stored) where
           none_may s (inr (inl may)) = hit_or_not s rule against (sym (reusable_hit (policy_of table.lines x.line) es distinct x.asked now s may.2) ∙ dk)
           none_may s (inr (inr may)) = no_true (sym may.0 ∙ y)
 
-      by_304 : (b : Bool) → is_validation x r ≡ b →
+      by_304 : (b : Bool) → is_304_to_own_conditions x r ≡ b →
           Is (cond b (outcome_of_304 table es now x r (stored_response_validated es x r now) d)
           (cond (is_304_without_condition (policy_of table.lines x.line) x.asked r) (outcome_of_failure table es now x BadAnswer (Some r.status) (fallback_for (policy_of table.lines x.line) es x.asked now d)) (outcome_of_passing_on_or_stale table es now x r next (is_error_status r.status) (fallback_for (policy_of table.lines x.line) es x.asked now d))))
       by_304 true k = validates k (stored_response_validated es x r now) refl d refl
@@ -200,7 +201,9 @@ module _ (table : Table) (es : List Stored) where
 
       unless : (rule : ReuseRule) (condition : Option Condition) (b : Bool) → close_in asked.close (outcome_without_stored_response table es xs line now asked rule condition b) ≡ asked.close
       unless rule condition true = refl
-      unless rule condition false = on condition (leader_of_request (policy_of table.lines line) es (exchanges_to_wait_for table line asked xs) asked rule)
+      unless rule condition false =
+          unless_sent (λ (o : Outcome). close_in asked.close o ≡ asked.close) table es line now asked (sent_over table es xs line now asked rule) (outcome_of_waiting_or_forwarding table line asked condition (led_over table es xs line asked rule))
+          (λ t is. refl) (on condition (led_over table es xs line asked rule))
 
       by_decision : (d : Decision) → close_in asked.close (outcome_of_allowed_request table es xs line now asked d) ≡ asked.close
       by_decision (decision.Hit s) = refl
@@ -214,7 +217,7 @@ module _ (table : Table) (es : List Stored) where
   failed_closes now x kind came (Refuses rule error) = refl
 
   answer_closes : (now : ℕ) (x : Exchange) (r : Response) (next : Option ℕ) (d : Decision) → close_in x.asked.close (outcome_of_answer table es now x r next d) ≡ x.asked.close
-  answer_closes now x r next d = by_304 (is_validation x r)
+  answer_closes now x r next d = by_304 (is_304_to_own_conditions x r)
     where
       validates : (o : Option Stored) (k : Decision) → close_in x.asked.close (outcome_of_304 table es now x r o k) ≡ x.asked.close
       validates (Some e) k = refl

@@ -1,7 +1,7 @@
 -- What a bounded list has after a trace is what is held by the count: a trace that is good over the one is good over the other.
-use Rattle.std.proofs.Common.{◌≡◌, ℕ, ◌≤◌, Bool, true, false, not, cond, eqb, Option, None, Some, List, [], ◌∷◌, refl, sym, ◌∙◌, ap, subst, arith, inl, inr}
-use Rattle.std.specs.Prelude.{IfSome, option_map}
-use Rattle.std.specs.List.{filter, filter_map, sum_by}
+use Rattle.std.proofs.Common.{◌≡◌, ℕ, Bool, true, false, not, cond, eqb, Option, None, Some, List, [], ◌∷◌, refl, sym, ◌∙◌, ap, subst, arith, inl, inr}
+use Rattle.std.specs.Prelude.{option_map}
+use Rattle.std.specs.List.{filter, filter_map}
 use Rattle.std.proofs.lemmas.List.Elements.{filter_agree}
 use Rattle.std.proofs.lemmas.Bool.{and_parts, false≢true, eq-eqb, eqb-true, false_from_ne_true}
 use Rattle.std.proofs.lemmas.Bool.Decides.{nat_tests}
@@ -25,7 +25,7 @@ use Rattle.proxy_core.specs.declared.core_fault.CoreFault.{CoreFault}
 use Rattle.proxy_core.specs.Validating.{stored_response_is_answered, freshened_by_304}
 use Rattle.proxy_core.specs.Outcomes.{find_exchange, exchange_id_of_event, outcome_of_event, step_fault}
 use Rattle.proxy_core.specs.State.{State, state_after, open_exchanges_after, entries_after, NoSerialIsHeldFrom, serial_stored_by_outcome, serial_used_by_outcome, serials_removed_by_outcome, next_serial_after, serial_after_this, stored_response_by_answer, stored_response_as_used, entries_after_storing, entries_after_use, entries_without_serials, bounds_of, cut_where_touched}
-use Rattle.proxy_core.specs.Starts.{StoreAtStart, StartStands, weight_if_any}
+use Rattle.proxy_core.specs.Starts.{StoreAtStart, weight_if_any}
 use Rattle.proxy_core.specs.Traces.{Item, initial_state, state_after_trace, IsGood, ItemIsAccepted, RunStopsAt}
 use Rattle.proxy_core.specs.Histories.{store_change_of, store_changes, held_serials, open_exchanges, held_entry, held_entries, next_serial, IsGoodHistory, stored_response_after, HistoryStopsAt}
 use Rattle.proxy_core.proofs.Held.{NoneFrom-taken, NoneFrom-fresh, NoneFrom-next, NoneFrom-cut}

@@ -1,12 +1,10 @@
 -- What is held is within the bounds of the store, and what is stored is held behind it.
-use Rattle.std.proofs.Common.{◌≡◌, ℕ, ◌+◌, ◌≤◌, Bool, true, false, not, cond, ◌&&◌, ◌||◌, eqb, Option, None, Some, List, [], ◌∷◌, ◌++◌, map, length, refl, sym, ◌∙◌, ap, subst, arith}
-use Rattle.std.specs.Prelude.{IfSome, codes, nat_lt}
-use Rattle.std.specs.List.{filter, sum_by}
+use Rattle.std.proofs.Common.{◌≡◌, ℕ, ◌≤◌, not, cond, ◌||◌, Option, None, Some, List, [], ◌∷◌, ◌++◌, map, refl, sym, ◌∙◌, ap, subst, arith}
+use Rattle.std.specs.Prelude.{IfSome, codes}
 use Rattle.std.proofs.lemmas.Bool.{eq-eqb}
 use Rattle.std.proofs.lemmas.List.Sums.{sum_by-cons}
 use Rattle.std.proofs.lemmas.List.Filters.{sum_by-filter_both}
 use Rattle.std.proofs.lemmas.Option.{IfSome_then}
-use Rattle.hx_fields.specs.declared.field_line.Field.{Field}
 use Rattle.hx_fields.specs.FieldLines.{without_named, is_named}
 use Rattle.hx_framing.specs.declared.messages.Response.{Response}
 use Rattle.hx_hop.specs.Answering.{answered_of}
@@ -26,11 +24,11 @@ use Rattle.proxy_core.specs.Storing.{stored_response_made, weight_of_answer}
 use Rattle.proxy_core.specs.State.{bounds_of, serial_stored_by_outcome, serial_used_by_outcome, serials_removed_by_outcome, stored_response_by_answer, entries_after, entries_after_use, entries_after_storing, cut_where_touched}
 use Rattle.proxy_core.specs.Starts.{StoreAtStart, change_that_stores}
 use Rattle.proxy_core.specs.Traces.{Item, initial_state, state_after_trace}
-use Rattle.proxy_core.specs.Histories.{store_change_of, store_changes, held_serials, held_entry, held_entries, open_exchanges, IsGoodHistory}
+use Rattle.proxy_core.specs.Histories.{store_change_of, store_changes, held_entry, open_exchanges, IsGoodHistory}
 use Rattle.proxy_core.specs.Bounds.{HeldIsWithinTheBounds, StoredIsHeld, StoredWeighsNoMoreThanTheStore, HeldByNumberAlone, StoreChangesAreThose}
 use Rattle.proxy_core.proofs.Beginning.{changes_are_start}
 use Rattle.proxy_core.proofs.HeldLaw.{good_plain, entries_are_held, stands_for}
-use Rattle.proxy_core.proofs.StoredAnswers.{IsStored, stored_at}
+use Rattle.proxy_core.proofs.StoredAnswers.{stored_at}
 
 pub held_is_within : HeldIsWithinTheBounds
 held_is_within table start first trace good =

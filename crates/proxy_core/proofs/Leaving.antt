@@ -21,7 +21,7 @@ use Rattle.proxy_core.specs.declared.replies.pending.Change.TheVariants.{Keep, U
 use Rattle.proxy_core.specs.declared.replies.pending.PendingReply.{PendingReply}
 use Rattle.proxy_core.specs.declared.replies.pending.AfterAnswer.{AfterAnswer}
 use Rattle.proxy_core.specs.declared.replies.pending.AfterAnswer.TheVariants.{Ends, GoesOn}
-use Rattle.proxy_core.specs.Validating.{is_validation, stored_response_is_answered, condition_is_answered, stored_response_asked_about, stored_response_if_answered, stored_response_validated, freshened_by_304}
+use Rattle.proxy_core.specs.Validating.{is_304_to_own_conditions, stored_response_is_answered, condition_is_answered, stored_response_asked_about, stored_response_if_answered, stored_response_validated, freshened_by_304}
 use Rattle.hx_store.specs.Weights.{StoreBounds}
 use Rattle.proxy_core.specs.State.{cut_where_touched, entries_without_serials, stored_response_as_used, entries_after_use, entries_after_storing}
 use Rattle.proxy_core.specs.Pending.{serial_stored_by_change, serial_used_by_change, entries_before_cut, ChangeIsMadeByAnswer, ChangeStoresNothing, IsChangeAfterFreshening, StoresUnderNextSerial, FreshensHeldResponse, ReplyLeavesHeldAsStepDoes, AnswerLeavesHeldAsStepDoes, AnswerChangeFits, AnswerStoresNothing}
@@ -35,7 +35,7 @@ unanswered_by : (c : Option Condition) (r : Response) (now : ℕ) (e : Stored) �
 unanswered_by None r now e h = refl
 unanswered_by (Some c) r now e h = and_left (r.status == 304) ((c.serial == e.serial) && answers304 e c.sent (answered_of r now)) h
 
-pub unanswered : (x : Exchange) (r : Response) (now : ℕ) (e : Stored) → is_validation x r ≡ false → stored_response_is_answered x r now e ≡ false
+pub unanswered : (x : Exchange) (r : Response) (now : ℕ) (e : Stored) → is_304_to_own_conditions x r ≡ false → stored_response_is_answered x r now e ≡ false
 unanswered x r now e h = unanswered_by x.condition r now e h
 
 module _ (bounds : StoreBounds) (es : List Stored) (x : Exchange) (now id : ℕ) where
@@ -55,7 +55,7 @@ module _ (bounds : StoreBounds) (es : List Stored) (x : Exchange) (now id : ℕ)
   made_by r removed (Store e) h m = ap (λ (z : Stored). z ∷ without_serials removed es) m
 
   -- an answer that is passed on, or in whose place a held response is sent as it is
-  pub makes_leaves : (r : Response) (t : PendingReply) → is_validation x r ≡ false → ChangeIsMadeByAnswer x r now t.change → ReplyLeavesHeldAsStepDoes bounds es x (Answer now id r) t
+  pub makes_leaves : (r : Response) (t : PendingReply) → is_304_to_own_conditions x r ≡ false → ChangeIsMadeByAnswer x r now t.change → ReplyLeavesHeldAsStepDoes bounds es x (Answer now id r) t
   makes_leaves r t h m =
       ap (cut_where_touched bounds (serial_stored_by_change t.change) (serial_used_by_change t.change))
       (made_by r t.removed t.change (λ e. ap (λ b. cond b (freshened_by_304 x r now e) e) (unanswered x r now e h)) m)

@@ -10,6 +10,7 @@ pub mod UnsafeAnswers
 pub mod Moves
 pub mod TwiceForward
 pub mod HeldEntries
+pub mod SentBeside
 pub mod StepKinds
 pub mod Beginning
 pub mod HeldLaw
@@ -22,6 +23,7 @@ pub mod InOrder
 pub mod FirstRules
 pub mod Leads
 pub mod Awaits
+pub mod Beside
 pub mod InVain
 pub mod Openings
 pub mod SendLaws

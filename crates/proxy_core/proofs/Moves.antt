@@ -9,6 +9,7 @@ use Rattle.hx_framing.specs.declared.messages.Response.{Response}
 use Rattle.hx_hop.specs.declared.request_view.Asked.{Asked}
 use Rattle.hx_allow.specs.TableLines.{Table}
 use Rattle.hx_allow.specs.Matching.{policy_of}
+use Rattle.hx_allow.specs.declared.verdicts.Route.{Route}
 use Rattle.proxy_core.specs.Allowing.{verdict_of_asked}
 use Rattle.hx_store.specs.Stored.{Stored}
 use Rattle.hx_reuse.specs.Rules.{decision_of}
@@ -30,7 +31,7 @@ use Rattle.proxy_core.specs.declared.outcome.Outcome.{Outcome}
 use Rattle.proxy_core.specs.declared.outcome.Outcome.TheVariants.{Reply, Forward, Waits, Ended}
 use Rattle.proxy_core.specs.declared.event.Event.{Event}
 use Rattle.proxy_core.specs.declared.event.Event.TheVariants.{Arrive, Answer, Fail, Wake, Abandon}
-use Rattle.proxy_core.specs.Validating.{condition_about_serial, is_validation, stored_response_validated}
+use Rattle.proxy_core.specs.Validating.{condition_about_serial, is_304_to_own_conditions, stored_response_validated}
 use Rattle.proxy_core.specs.Storing.{is_304_without_condition, key_invalidated}
 use Rattle.proxy_core.specs.Outcomes.{find_exchange, exchange_id_of_event, fallback_for, outcome_of_failure, is_error_status, outcome_of_passing_on_or_stale, outcome_of_304, outcome_of_answer, outcome_of_wake, outcome_of, or_fault, fault_if_not_forwarded, fault_if_not_released, fault_at_exchange}
 use Rattle.proxy_core.specs.State.{State, state_after, open_exchanges_after, forwarded_exchange, waiting_exchange, line_of_verdict, rule_of_decision, serial_named_by_decision, exchange_gone_forward, exchange_forwarded_again, exchange_sent_forward, exchanges_after_wake, key_invalidated_by_response}
@@ -86,8 +87,8 @@ key_taken_by_step (Some asked) (Abandon id) outcome = None
 -- of a step of the exchange w of its own id, what becomes of the exchange x of an id
 pub data Move (id : ℕ) (w : Option Exchange) (event : Event) (o : Outcome) (x y : Option Exchange) : Type 0 where
   apart : eqb (exchange_id_of_event event) id ≡ false → y ≡ changed_by (key_taken_by_step (asked_of w) event o) (ended_by event o) x → Move id w event o x y
-  opens : (table : Table) (es : List Stored) (now : ℕ) (asked : Asked) (line : ℕ) → event ≡ Arrive now id asked → x ≡ None → outcome_goes_forward o ≡ true → y ≡ Some (forwarded_exchange table es now id asked line) → Move id w event o x y
-  queues : (table : Table) (es : List Stored) (now : ℕ) (asked : Asked) (line leader : ℕ) → event ≡ Arrive now id asked → x ≡ None → o ≡ Waits leader →
+  opens : (table : Table) (es : List Stored) (now : ℕ) (asked : Asked) (line : Route) → event ≡ Arrive now id asked → x ≡ None → outcome_goes_forward o ≡ true → y ≡ Some (forwarded_exchange table es now id asked line) → Move id w event o x y
+  queues : (table : Table) (es : List Stored) (now : ℕ) (asked : Asked) (line : Route) (leader : ℕ) → event ≡ Arrive now id asked → x ≡ None → o ≡ Waits leader →
       line ≡ line_of_verdict (verdict_of_asked table asked) → y ≡ Some (waiting_exchange table es now id asked line leader) → Move id w event o x y
   passes : eqb (exchange_id_of_event event) id ≡ true → is_arrival_event event ≡ true → x ≡ None → outcome_ends_exchange o ≡ true → y ≡ None → Move id w event o x y
   again : (z : Exchange) (now : ℕ) → eqb (exchange_id_of_event event) id ≡ true → is_arrival_event event ≡ false → x ≡ Some z → is_some z.condition ≡ true →
@@ -125,8 +126,8 @@ held_sent table es now x r None (decision.Hit serial) = refl
 held_sent table es now x r None (decision.Forward rule against) = refl
 
 -- what goes forward again was asked about
-again_asked : (table : Table) (es : List Stored) (now : ℕ) (x : Exchange) (r : Response) (next : Option ℕ) (d : Decision) → outcome_goes_forward (outcome_of_answer table es now x r next d) ≡ true → is_validation x r ≡ true
-again_asked table es now x r next d h = by_304 (is_validation x r) h
+again_asked : (table : Table) (es : List Stored) (now : ℕ) (x : Exchange) (r : Response) (next : Option ℕ) (d : Decision) → outcome_goes_forward (outcome_of_answer table es now x r next d) ≡ true → is_304_to_own_conditions x r ≡ true
+again_asked table es now x r next d h = by_304 (is_304_to_own_conditions x r) h
   where
     by_304 : (b : Bool) → outcome_goes_forward (cond b (outcome_of_304 table es now x r (stored_response_validated es x r now) d)
         (cond (is_304_without_condition (policy_of table.lines x.line) x.asked r) (outcome_of_failure table es now x BadAnswer (Some r.status) (fallback_for (policy_of table.lines x.line) es x.asked now d))
@@ -172,7 +173,7 @@ pub same_key_invalidated : (table : Table) (es : List Stored) (now : ℕ) (x : E
 same_key_invalidated table es now x r next =
     let d = decision_of (policy_of table.lines x.line) es x.asked now in
     let o = outcome_of_answer table es now x r next d in
-    let v = is_validation x r in
+    let v = is_304_to_own_conditions x r in
     let n = is_304_without_condition (policy_of table.lines x.line) x.asked r in
     let e = is_error_status r.status in
     let c = nat_le 200 r.status && nat_le r.status 399 in
@@ -226,7 +227,7 @@ released_from None s h = by_test (is_released s) h
     by_test true h = refl
     by_test false h = absurd (cc)
 
-no_key : (asked : Asked) (r : Response) (line : ℕ) (bytes : List ℕ) → key_taken_by_answer asked r (Forward line bytes) ≡ None
+no_key : (asked : Asked) (r : Response) (line : Route) (bytes : List ℕ) → key_taken_by_answer asked r (Forward line bytes) ≡ None
 no_key asked r line bytes = ap (λ b. cond b (Some asked.target.key) None)
     (ap (λ b. not (is_among safe_methods asked.method) && b) (and_none (nat_le 200 r.status && nat_le r.status 399)) ∙ and_none (not (is_among safe_methods asked.method)))
 
@@ -237,7 +238,7 @@ is_either (Waits leader) = false
 is_either Ended = false
 
 pub answer_either : (table : Table) (es : List Stored) (now : ℕ) (x : Exchange) (r : Response) (next : Option ℕ) (d : Decision) → is_either (outcome_of_answer table es now x r next d) ≡ true
-answer_either table es now x r next d = by_304 (is_validation x r)
+answer_either table es now x r next d = by_304 (is_304_to_own_conditions x r)
   where
     again_or_sent : (o : Option Stored) (d : Decision) → is_either (outcome_of_304 table es now x r o d) ≡ true
     again_or_sent (Some e) d = refl
@@ -291,7 +292,7 @@ module _ (table : Table) (es : List Stored) (xs : List Exchange) (next : Option 
         | inr n ↦ apart n (p ∙ ap (λ b. cond b (Some (forwarded_exchange table es now i asked line)) (find_exchange id xs)) n)
       ]
   arrives now i asked (Waits leader) f =
-      let line : ℕ = line_of_verdict (verdict_of_asked table asked) in
+      let line : Route = line_of_verdict (verdict_of_asked table asked) in
       let p = find-push id xs (waiting_exchange table es now i asked line leader) f in
       elim (cases_Bool (eqb i id)) [
         | inl t ↦ (

@@ -16,6 +16,7 @@ use Rattle.hx_allow.specs.Matching.{policy_of}
 use Rattle.proxy_core.specs.Allowing.{verdict_of_asked, exchanges_to_wait_for}
 use Rattle.hx_allow.specs.declared.verdicts.Verdict.{Verdict}
 use Rattle.hx_allow.specs.declared.verdicts.Verdict.TheVariants as verdict
+use Rattle.hx_allow.specs.declared.verdicts.Route.{Route}
 use Rattle.hx_store.specs.Stored.{Stored}
 use Rattle.hx_store.specs.Serials.{Distinct}
 use Rattle.hx_store.specs.Shelf.{serials}
@@ -42,14 +43,14 @@ use Rattle.proxy_core.specs.declared.event.Event.{Event}
 use Rattle.proxy_core.specs.declared.event.Event.TheVariants.{Arrive, Answer, Fail, Wake, Abandon}
 use Rattle.proxy_core.specs.Moments.{moment_too_late_fault}
 use Rattle.proxy_core.specs.Storing.{storing_rule_to_explain, is_304_without_condition}
-use Rattle.proxy_core.specs.Validating.{condition_about_serial, is_validation, stored_response_validated}
+use Rattle.proxy_core.specs.Validating.{condition_about_serial, is_304_to_own_conditions, stored_response_validated}
 use Rattle.proxy_core.specs.Replies.{stored_text, passed_answer_text, refusal_reply_text, is_head}
 use Rattle.proxy_core.specs.Outcomes.{hit_status_info, find_exchange, exchange_id_of_event, outcome_of_event, outcome_of_refusal, forwarded_status_info, forward_text, or_fault, fault_if_not_forwarded, fault_if_not_released, fault_at_exchange, step_fault}
 use Rattle.proxy_core.specs.State.{serial_stored_by_outcome, serial_used_by_outcome, serials_removed_by_outcome, stored_response_as_used, bounds_of}
 use Rattle.proxy_core.specs.Starts.{StoreAtStart, StartStands}
 use Rattle.proxy_core.specs.Traces.{Item}
 use Rattle.proxy_core.specs.Histories.{held_entries, open_exchanges, next_serial, IsGoodHistory}
-use Rattle.proxy_core.specs.Sending.{StoredResponseIsReusable, StoredResponseMayBeSentAt, RequestGoesForward, NoLeaderIsOpen, RequestWaitsForTheFirst, RequestReachesCacheOrOrigin, RequestIsTurnedAway, DetailWordAfterError, DetailWordAtAnswer, CacheStatusShowsHow, IsAbout, ReplyIsThatStoredResponse}
+use Rattle.proxy_core.specs.Sending.{StoredResponseIsReusable, StoredResponseMayBeSent, RequestGoesForward, NoLeaderIsOpen, RequestWaitsForTheFirst, RequestReachesCacheOrOrigin, RequestIsTurnedAway, DetailWordAfterError, DetailWordAtAnswer, DetailWordAtArrival, CacheStatusShowsHow, IsAbout, ReplyIsThatStoredResponse}
 use Rattle.proxy_core.specs.GoingOn.{EventMayCome, IsClientReply, ExchangeGoesOnBy}
 use Rattle.proxy_core.specs.Naming.{AnswerNamesErrorRule, AnswerAfterFailureNames, AnswerNamesByEvent, AnswerNamesFirstRule}
 use Rattle.proxy_core.specs.StoredAnswers.{ThoseAreRemoved}
@@ -109,7 +110,7 @@ module _ (policy : Policy) (es : List Stored) (asked : Asked) (now : ℕ) where
 
 -- ---- outcomes of a request that arrives
 
-forward_same : (table : Table) (es : List Stored) (asked : Asked) (now line : ℕ) (a b : ReuseRule) (o p : Outcome) → RequestGoesForward table es asked now line a o → RequestGoesForward table es asked now line b p → o ≡ p
+forward_same : (table : Table) (es : List Stored) (asked : Asked) (now : ℕ) (line : Route) (a b : ReuseRule) (o p : Outcome) → RequestGoesForward table es asked now line a o → RequestGoesForward table es asked now line b p → o ≡ p
 forward_same table es asked now line a b o p m n =
     let rule : a ≡ b = one_rule (policy_of table.lines line) es asked now a b m.is_least n.is_least in
     let against : m.against ≡ n.against = one_named (policy_of table.lines line) es asked now b m.against n.against (subst (λ r. RuleNamesTheResponse es asked r m.against) rule m.names) n.names in
@@ -133,14 +134,14 @@ module _ (table : Table) (es : List Stored) (distinct : Distinct (serials es)) (
       let lines : line ≡ other = cc in
       m ∙ ap (λ l. outcome_of_refusal now (Looped l) asked) lines ∙ sym n
 
-  module _ (line : ℕ) (o p : Outcome) (unused : serial_used_by_outcome o ≡ None) (other_unused : serial_used_by_outcome p ≡ None) where
+  module _ (line : Route) (o p : Outcome) (unused : serial_used_by_outcome o ≡ None) (other_unused : serial_used_by_outcome p ≡ None) where
     meets : (rule : ReuseRule) → IsLeastReuseRule (policy_of table.lines line) es asked now rule → NoLeaderIsOpen (policy_of table.lines line) es (exchanges_to_wait_for table line asked xs) asked now → RequestWaitsForTheFirst table es xs now asked line p → {P : Type 0} → P
     meets rule least nobody w =
         never_one w.leader
         (sym (leads_for_none (policy_of table.lines line) es distinct (exchanges_to_wait_for table line asked xs) asked now rule least nobody)
         ∙ leads_for (policy_of table.lines line) es distinct (exchanges_to_wait_for table line asked xs) asked now rule least w.awaited w.leader w.awaits w.first_leads)
 
-  reached_same : (line : ℕ) (o p : Outcome) → serial_used_by_outcome o ≡ None → serial_used_by_outcome p ≡ None → RequestReachesCacheOrOrigin table es xs now asked line o → RequestReachesCacheOrOrigin table es xs now asked line p → o ≡ p
+  reached_same : (line : Route) (o p : Outcome) → serial_used_by_outcome o ≡ None → serial_used_by_outcome p ≡ None → RequestReachesCacheOrOrigin table es xs now asked line o → RequestReachesCacheOrOrigin table es xs now asked line p → o ≡ p
   reached_same line o p u v (inl (s, used)) h = never_one s (sym u ∙ used)
   reached_same line o p u v (inr a) (inl (s, used)) = never_one s (sym v ∙ used)
   reached_same line o p u v (inr (inl (a, m, others, nobody))) (inr (inl (b, n, others2, nobody2))) = forward_same table es asked now line a b o p m n
@@ -171,7 +172,7 @@ about_same (Some x) (Wake t id) m n a b h k = (sym h.0 ∙ k.0, sym h.1 ∙ k.1)
 about_same None (Wake t id) m n a b h k = absurd h
 about_same x (Abandon id) m n a b h k = absurd h
 
-same_line : (a b : ℕ) → verdict.Allowed a ≡ verdict.Allowed b → a ≡ b
+same_line : (a b : Route) → verdict.Allowed a ≡ verdict.Allowed b → a ≡ b
 same_line a b h = cc
 
 module _ (table : Table) (es : List Stored) (distinct : Distinct (serials es)) where
@@ -179,18 +180,28 @@ module _ (table : Table) (es : List Stored) (distinct : Distinct (serials es)) w
       DetailWordAtAnswer (policy_of table.lines x.line) es x now r s a → DetailWordAtAnswer (policy_of table.lines x.line) es x now r s b → a ≡ b
   at_answer x now r s a b v w = by_entry (stored_response_validated es x r now) refl
     where
-      by_validation : stored_response_validated es x r now ≡ None → (t : Bool) → is_validation x r ≡ t → a ≡ b
+      by_validation : stored_response_validated es x r now ≡ None → (t : Bool) → is_304_to_own_conditions x r ≡ t → a ≡ b
       by_validation none true k = v.1 k none ∙ sym (w.1 k none)
       by_validation none false k = one_word (policy_of table.lines x.line) es x.asked now distinct s a b (v.2 k) (w.2 k)
 
       by_entry : (o : Option Stored) → stored_response_validated es x r now ≡ o → a ≡ b
       by_entry (Some e) k = v.0 (ap is_some k) ∙ sym (w.0 (ap is_some k))
-      by_entry None k = by_validation k (is_validation x r) refl
+      by_entry None k = by_validation k (is_304_to_own_conditions x r) refl
+
+  at_arrival : (policy : Policy) (asked : Asked) (now s : ℕ) (a b : Option Detail) → DetailWordAtArrival policy es asked now s a → DetailWordAtArrival policy es asked now s b → a ≡ b
+  at_arrival policy asked now s a b v w = by_test (reusable_or_not policy es asked now distinct s)
+    where
+      by_test : StoredResponseIsReusable policy es asked now s ⊎ (StoredResponseIsReusable policy es asked now s → ⊥) → a ≡ b
+      by_test (inl may) = v.0 may ∙ sym (w.0 may)
+      by_test (inr never) = v.1 never ∙ sym (w.1 never)
 
   how_same : (x : Option Exchange) (event : Event) (s : ℕ) (h k : CacheStatusInfo) → CacheStatusShowsHow table es x event s h → CacheStatusShowsHow table es x event s k → h ≡ k
-  how_same x (Arrive now id asked) s h k (n, v, is) (m, w, is2) =
+  how_same x (Arrive now id asked) s h k (n, v, (d, is, word)) (m, w, (e, is2, word2)) =
       let same : n ≡ m = same_line n m (sym v ∙ w) in
-      is ∙ ap (λ l. hit_status_info (policy_of table.lines l)) same ∙ sym is2
+      is ∙ ap (λ l. record (hit_status_info (policy_of table.lines l)) { detail = d }) same
+      ∙ ap (λ (o : Option Detail). record (hit_status_info (policy_of table.lines m)) { detail = o })
+      (at_arrival (policy_of table.lines m) asked now s d e (subst (λ l. DetailWordAtArrival (policy_of table.lines l) es asked now s d) same word) word2)
+      ∙ sym is2
   how_same (Some x) (Answer now id r) s h k (d, is, word) (e, is2, word2) =
       is ∙ ap (forwarded_status_info (policy_of table.lines x.line) x (Some r.status)) (at_answer x now r s d e word word2) ∙ sym is2
   how_same None (Answer now id r) s h k a b = absurd a
@@ -236,7 +247,7 @@ removed_same table es x (Abandon id) a b stored used = refl
 -- what is asked of one outcome of an event, by the exchange of its id
 record Fits (table : Table) (start : StoreAtStart) (first : ℕ) (past : List Item) (x : Option Exchange) (event : Event) (o : Outcome) : Type 0 where
   goes_on : ExchangeGoesOnBy table (held_entries table start past) x event o
-  sends : (s : ℕ) → (StoredResponseMayBeSentAt table (held_entries table start past) x event s → serial_used_by_outcome o ≡ Some s) × (serial_used_by_outcome o ≡ Some s → StoredResponseMayBeSentAt table (held_entries table start past) x event s)
+  sends : (s : ℕ) → (StoredResponseMayBeSent table (held_entries table start past) (open_exchanges table start past) x event s → serial_used_by_outcome o ≡ Some s) × (serial_used_by_outcome o ≡ Some s → StoredResponseMayBeSent table (held_entries table start past) (open_exchanges table start past) x event s)
   that : (s : ℕ) → serial_used_by_outcome o ≡ Some s → ReplyIsThatStoredResponse table (held_entries table start past) x event o s
   names : AnswerNamesFirstRule table start past (next_serial first past) x event o
   removes : ThoseAreRemoved table (held_entries table start past) x event o
@@ -307,7 +318,7 @@ module _ (table : Table) (start : StoreAtStart) (first : ℕ) (past : List Item)
     arrival_same : (x : Option Exchange) (now id : ℕ) (asked : Asked) → Fits table start first past x (Arrive now id asked) o → Fits table start first past x (Arrive now id asked) p → o ≡ p
     arrival_same x now id asked a b = by_verdict (verdict_of_asked table asked) refl
       where
-        turned : ((line : ℕ) → verdict_of_asked table asked ≢ verdict.Allowed line) → o ≡ p
+        turned : ((line : Route) → verdict_of_asked table asked ≢ verdict.Allowed line) → o ≡ p
         turned none = turned_same table es distinct (open_exchanges table start past) now asked o p ((a.reaches now id asked refl).1 none) ((b.reaches now id asked refl).1 none)
 
         by_verdict : (v : Verdict) → verdict_of_asked table asked ≡ v → o ≡ p
@@ -319,7 +330,7 @@ module _ (table : Table) (start : StoreAtStart) (first : ℕ) (past : List Item)
 
     answer_same : (now id : ℕ) (x : Exchange) (r : Response) (a : Fits table start first past (Some x) (Answer now id r) o) (b : Fits table start first past (Some x) (Answer now id r) p) →
         AnswerHasFinalStatus (record { event = Answer now id r; outcome = o }) past → AnswerHasFinalStatus (record { event = Answer now id r; outcome = p }) past → o ≡ p
-    answer_same now id x r a b final final2 = by_304 (is_validation x r) refl
+    answer_same now id x r a b final final2 = by_304 (is_304_to_own_conditions x r) refl
       where
         by_unasked : (u : Bool) → is_304_without_condition (policy_of table.lines x.line) x.asked r ≡ u → (m n : Reply) → o ≡ Replied m → p ≡ Replied n → AnswerNamesByEvent table start past (next_serial first past) (Some x) (Answer now id r) m.bytes m.stored →
             AnswerNamesByEvent table start past (next_serial first past) (Some x) (Answer now id r) n.bytes n.stored → m.bytes ≡ n.bytes
@@ -337,9 +348,9 @@ module _ (table : Table) (start : StoreAtStart) (first : ℕ) (past : List Item)
             (by_unasked (is_304_without_condition (policy_of table.lines x.line) x.asked r) refl m n h k
             (named (Some x) (Answer now id r) o p a b final m h unused) (named (Some x) (Answer now id r) p o b a final2 n k other_unused))
 
-        by_304 : (t : Bool) → is_validation x r ≡ t → o ≡ p
+        by_304 : (t : Bool) → is_304_to_own_conditions x r ≡ t → o ≡ p
         by_304 true y =
-            a.goes_on.0 (y, λ s may. never_one s (sym unused ∙ (a.sends s).0 may)) ∙ sym (b.goes_on.0 (y, λ s may. never_one s (sym other_unused ∙ (b.sends s).0 may)))
+            a.goes_on.0 (y, λ s may. never_one s (sym unused ∙ (a.sends s).0 (inl may))) ∙ sym (b.goes_on.0 (y, λ s may. never_one s (sym other_unused ∙ (b.sends s).0 (inl may))))
         by_304 false n = replies (a.goes_on.1 (λ asks. no_true (sym n ∙ asks.0))) (b.goes_on.1 (λ asks. no_true (sym n ∙ asks.0)))
 
     failure_same : (now id : ℕ) (x : Exchange) (kind : FailKind) (a : Fits table start first past (Some x) (Fail now id kind) o) (b : Fits table start first past (Some x) (Fail now id kind) p) →

@@ -6,6 +6,7 @@ use Rattle.hx_target.specs.Keys.{same_key}
 use Rattle.hx_hop.specs.declared.request_view.Asked.{Asked}
 use Rattle.hx_allow.specs.TableLines.{Table}
 use Rattle.hx_allow.specs.Matching.{policy_of}
+use Rattle.hx_allow.specs.declared.verdicts.Route.{Route}
 use Rattle.proxy_core.specs.Allowing.{verdict_of_asked}
 use Rattle.hx_store.specs.Stored.{Stored}
 use Rattle.hx_reuse.specs.Rules.{decision_of}
@@ -141,34 +142,34 @@ overtaken_where_invalidated table start first items before f x g o n h stage =
     (out_since table start first f before (exchange_id_of_event f.event) items p o refl n x
     (ap (find_exchange (exchange_id_of_event f.event)) (exchanges_are_open table start first (items ++ f ∷ before) p) ∙ h) stage).1
 
-overtake_rule : (rule : ℕ → ReuseRule) (key : Key) (x : Exchange) → x.rule ≡ rule x.line → (overtaken_exchange key x).rule ≡ rule (overtaken_exchange key x).line
+overtake_rule : (rule : Route → ReuseRule) (key : Key) (x : Exchange) → x.rule ≡ rule x.line → (overtaken_exchange key x).rule ≡ rule (overtaken_exchange key x).line
 overtake_rule rule key x h = elim (same_key x.asked.target.key key) as (λ b. (cond b (record x { overtaken = true }) x).rule ≡ rule (cond b (record x { overtaken = true }) x).line) [
   | true ↦ h
   | false ↦ h
 ]
 
 -- the exchange, where there is one, has the rule that is that of its line
-HasRule : (ℕ → ReuseRule) → Option Exchange → Type 0
+HasRule : (Route → ReuseRule) → Option Exchange → Type 0
 HasRule rule None = Unit {0}
 HasRule rule (Some x) = x.rule ≡ rule x.line
 
 -- by the word of a line
-abbrev rule_for : Table → List Stored → Asked → ℕ → ℕ → ReuseRule
+abbrev rule_for : Table → List Stored → Asked → ℕ → Route → ReuseRule
 rule_for table es asked now line = rule_of_decision (decision_of (policy_of table.lines line) es asked now)
 
-release_rule : (rule : ℕ → ReuseRule) (i : ℕ) (x : Exchange) → x.rule ≡ rule x.line → (released_exchange i x).rule ≡ rule (released_exchange i x).line
+release_rule : (rule : Route → ReuseRule) (i : ℕ) (x : Exchange) → x.rule ≡ rule x.line → (released_exchange i x).rule ≡ rule (released_exchange i x).line
 release_rule rule i x h = elim (waits_for i x.stage) as (λ b. (cond b (record x { stage = Released }) x).rule ≡ rule (cond b (record x { stage = Released }) x).line) [
   | true ↦ h
   | false ↦ h
 ]
 
-rule_released : (rule : ℕ → ReuseRule) (gone : Option ℕ) (x : Option Exchange) → HasRule rule x → HasRule rule (released_by gone x)
+rule_released : (rule : Route → ReuseRule) (gone : Option ℕ) (x : Option Exchange) → HasRule rule x → HasRule rule (released_by gone x)
 unfolding HasRule
 rule_released rule None x h = h
 rule_released rule (Some i) None h = tt
 rule_released rule (Some i) (Some x) h = release_rule rule i x h
 
-rule_marked : (rule : ℕ → ReuseRule) (key : Option Key) (x : Option Exchange) → HasRule rule x → HasRule rule (overtaken_by key x)
+rule_marked : (rule : Route → ReuseRule) (key : Option Key) (x : Option Exchange) → HasRule rule x → HasRule rule (overtaken_by key x)
 unfolding HasRule
 rule_marked rule None x h = h
 rule_marked rule (Some key) None h = tt
@@ -177,7 +178,7 @@ rule_marked rule (Some key) (Some x) h = overtake_rule rule key x h
 judged_now : (id : ℕ) (event : Event) → (eqb (exchange_id_of_event event) id && judges_a_request event) ≡ true → (eqb (exchange_id_of_event event) id && judges_a_request event) ≡ false → ⊥
 judged_now id event h a = false≢true (sym a ∙ h)
 
-rule_step : (rule : ℕ → ReuseRule) (id : ℕ) (w : Option Exchange) (event : Event) (o : Outcome) (x y : Option Exchange) → Move id w event o x y →
+rule_step : (rule : Route → ReuseRule) (id : ℕ) (w : Option Exchange) (event : Event) (o : Outcome) (x y : Option Exchange) → Move id w event o x y →
     (eqb (exchange_id_of_event event) id && judges_a_request event) ≡ false → HasRule rule x → HasRule rule y
 unfolding HasRule
 rule_step rule id w event o x y (apart n h) a i =
@@ -202,7 +203,7 @@ rule_first table es xs now id asked (Forward line bytes) f =
     in
     subst (HasRule rule) (sym here) refl
 rule_first table es xs now id asked (Waits leader) f =
-    let line : ℕ = line_of_verdict (verdict_of_asked table asked) in
+    let line : Route = line_of_verdict (verdict_of_asked table asked) in
     subst (HasRule (rule_for table es asked now)) (sym (find-push id xs (waiting_exchange table es now id asked line leader) f ∙ ap (λ b. cond b (Some (waiting_exchange table es now id asked line leader)) (find_exchange id xs)) (eq-eqb id id refl))) refl
 rule_first table es xs now id asked (Reply r) f = subst (HasRule (rule_for table es asked now)) (sym f) tt
 rule_first table es xs now id asked Ended f = subst (HasRule (rule_for table es asked now)) (sym f) tt

@@ -1,10 +1,15 @@
 -- A request that is allowed and that no stored response answers opens an exchange, which waits or goes forward.
-use Rattle.std.proofs.Common.{◌≡◌, ℕ, Bool, false, Option, None, Some, [], ◌∷◌, ◌++◌, sym, ◌∙◌, ap, Result, Ok, Err, IfOk, OnOk}
+use Rattle.std.proofs.Common.{◌≡◌, ℕ, Bool, false, Option, None, Some, [], ◌∷◌, ◌++◌, refl, sym, ◌∙◌, ap, Result, Ok, Err, IfOk, OnOk, List}
 use Rattle.hx_hop.specs.declared.request_view.Asked.{Asked}
-use Rattle.hx_allow.specs.Matching.{policy_of}
+use Rattle.hx_allow.specs.Matching.{policy_of, vary_of}
 use Rattle.proxy_core.specs.Allowing.{verdict_of_asked}
 use Rattle.hx_allow.specs.declared.verdicts.Verdict.{Verdict}
 use Rattle.hx_allow.specs.declared.verdicts.Verdict.TheVariants as verdict
+use Rattle.std.specs.Prelude.{option_map}
+use Rattle.hx_store.specs.Stored.{Stored}
+use Rattle.hx_store.specs.Shelf.{find_entry, without_serials, with_in_front, with_promoted}
+use Rattle.hx_store.specs.Weights.{cut_to_bounds}
+use Rattle.hx_allow.specs.declared.verdicts.Route.{Route}
 use Rattle.hx_reuse.specs.Rules.{decision_of}
 use Rattle.hx_reuse.specs.declared.rule.ReuseRule.{ReuseRule}
 use Rattle.hx_reuse.specs.declared.decision.Decision.{Decision}
@@ -18,14 +23,16 @@ use Rattle.proxy_core.specs.declared.event.Event.{Event}
 use Rattle.proxy_core.specs.declared.event.Event.TheVariants.{Arrive}
 use Rattle.proxy_core.specs.Leading.{has_no_store}
 use Rattle.proxy_core.specs.Validating.{condition_about_serial}
-use Rattle.proxy_core.specs.Outcomes.{outcome_of_waiting_or_forwarding}
-use Rattle.proxy_core.specs.State.{State, rule_of_decision, serial_named_by_decision, line_of_verdict, exchange_with_leader, state_after}
+use Rattle.proxy_core.specs.declared.replies.stored_reply.CacheStatusInfo.{CacheStatusInfo}
+use Rattle.proxy_core.specs.Outcomes.{find_exchange, outcome_of_waiting_or_forwarding, outcome_of_sending_stored}
+use Rattle.proxy_core.specs.State.{State, rule_of_decision, serial_named_by_decision, line_of_verdict, exchange_with_leader, stored_response_as_used, bounds_of, state_after}
 
-abbrev form : State → ℕ → ℕ → Asked → ℕ → Stage → Decision → Exchange
+abbrev form : State → ℕ → ℕ → Asked → Route → Stage → Decision → Exchange
 form s now id asked line stage d = record {
   id = id;
   asked = asked;
   line = line;
+  vary = vary_of s.table.lines line.number;
   rule = rule_of_decision d;
   named = serial_named_by_decision d;
   request_time = now;
@@ -38,7 +45,7 @@ form s now id asked line stage d = record {
 abbrev with_one_more : State → Exchange → State
 with_one_more s x = record s { exchanges = s.exchanges ++ x ∷ [] }
 
-pub opens_of : (s : State) (now id line : ℕ) (asked : Asked) (rule : ReuseRule) (against o : Option ℕ) → verdict_of_asked s.table asked ≡ verdict.Allowed line →
+pub opens_of : (s : State) (now id : ℕ) (line : Route) (asked : Asked) (rule : ReuseRule) (against o : Option ℕ) → verdict_of_asked s.table asked ≡ verdict.Allowed line →
     decision_of (policy_of s.table.lines line) s.entries asked now ≡ decision.Forward rule against →
     record s { exchanges = s.exchanges ++ exchange_with_leader o (form s now id asked line Forwarded (decision.Forward rule against)) ∷ [] }
     ≡ state_after s (Arrive now id asked) (outcome_of_waiting_or_forwarding s.table line asked (condition_about_serial s.entries against) o)
@@ -53,10 +60,28 @@ both s event t u a (Ok o) is leaves m = leaves ∙ (m ∙ ap (state_after s even
 both s event t u a (Err e) is leaves m = tt
 
 -- the same of what the parts of the exchange are known to be
-pub opens_by : (s : State) (now id line : ℕ) (asked other : Asked) (rule : ReuseRule) (against o : Option ℕ) (condition : Option Condition) (no_store : Bool) →
+pub opens_by : (s : State) (now id : ℕ) (line : Route) (asked other : Asked) (rule : ReuseRule) (against o : Option ℕ) (condition : Option Condition) (no_store : Bool) (vary : List (List ℕ)) →
     verdict_of_asked s.table asked ≡ verdict.Allowed line → decision_of (policy_of s.table.lines line) s.entries asked now ≡ decision.Forward rule against →
-    other ≡ asked → condition ≡ condition_about_serial s.entries against → no_store ≡ has_no_store asked →
+    other ≡ asked → condition ≡ condition_about_serial s.entries against → no_store ≡ has_no_store asked → vary ≡ vary_of s.table.lines line.number →
     record s {
-      exchanges = s.exchanges ++ exchange_with_leader o (record { id = id; asked = other; line = line; rule = rule; named = against; request_time = now; condition = condition; overtaken = false; no_store = no_store; stage = Forwarded }) ∷ [];
+      exchanges = s.exchanges ++ exchange_with_leader o (record { id = id; asked = other; line = line; vary = vary; rule = rule; named = against; request_time = now; condition = condition; overtaken = false; no_store = no_store; stage = Forwarded }) ∷ [];
     } ≡ state_after s (Arrive now id asked) (outcome_of_waiting_or_forwarding s.table line other condition o)
-opens_by s now id line asked other rule against o condition no_store v d same asks is = rw same (rw asks (rw is (opens_of s now id line asked rule against o v d)))
+opens_by s now id line asked other rule against o condition no_store vary v d same asks is names = rw same (rw asks (rw is (rw names (opens_of s now id line asked rule against o v d))))
+
+-- ---- a request that is sent a stored response
+
+as_it_is : (event : Event) (o : Option Stored) → o ≡ option_map (stored_response_as_used None event) o
+as_it_is event None = refl
+as_it_is event (Some e) = refl
+
+pub sends_of : (s : State) (now id serial : ℕ) (asked : Asked) (info : CacheStatusInfo) → find_exchange id s.exchanges ≡ None →
+    record s { entries = cut_to_bounds (bounds_of s.table s.limit) (with_promoted serial s.entries) } ≡ state_after s (Arrive now id asked) (outcome_of_sending_stored s.table s.entries serial now info asked)
+sends_of s now id serial asked info free =
+    ap (λ (o : Option Stored). record s { entries = cut_to_bounds (bounds_of s.table s.limit) (with_in_front o (without_serials (serial ∷ []) s.entries)) }) (as_it_is (Arrive now id asked) (find_entry serial s.entries))
+    ∙ ap (λ (x : Option Exchange). record s { entries = cut_to_bounds (bounds_of s.table s.limit) (with_in_front (option_map (stored_response_as_used x (Arrive now id asked)) (find_entry serial s.entries)) (without_serials (serial ∷ []) s.entries)) }) (sym free)
+
+-- what such a call gives, and leaves where it gives that
+pub sends_by : {E : Type 0} (s t : State) (now id serial : ℕ) (asked : Asked) (info : CacheStatusInfo) (r : Result Outcome E) → find_exchange id s.exchanges ≡ None →
+    IfOk r (λ o. o ≡ outcome_of_sending_stored s.table s.entries serial now info asked) → OnOk r (t ≡ record s { entries = cut_to_bounds (bounds_of s.table s.limit) (with_promoted serial s.entries) }) →
+    IfOk r (λ o. t ≡ state_after s (Arrive now id asked) o)
+sends_by s t now id serial asked info r free is leaves = both s (Arrive now id asked) t _ _ r is leaves (sends_of s now id serial asked info free)

@@ -8,6 +8,7 @@ use Rattle.hx_hop.specs.declared.request_view.Asked.{Asked}
 use Rattle.hx_allow.specs.Matching.{policy_of}
 use Rattle.proxy_core.specs.Allowing.{verdict_of_asked}
 use Rattle.hx_allow.specs.declared.verdicts.Verdict.TheVariants.{Allowed}
+use Rattle.hx_allow.specs.declared.verdicts.Route.{Route}
 use Rattle.hx_store.specs.Recency.{is_that_serial}
 use Rattle.hx_reuse.specs.ChosenAndNamed.{RuleNamesTheResponse}
 use Rattle.hx_reuse.specs.Rules.{decision_of}
@@ -94,7 +95,7 @@ abbrev pub has_bytes : List ℕ → Outcome → Bool
 has_bytes bytes o = bytes_eq (reply_bytes o) bytes
 
 abbrev pub goes_by : ℕ → Outcome → Bool
-goes_by n (Forward line bytes) = line == n
+goes_by n (Forward line bytes) = line.number == n
 goes_by n (Reply r) = false
 goes_by n (Waits leader) = false
 goes_by n Ended = false
@@ -119,7 +120,7 @@ closes Ended = false
 
 -- ---- what goes forward at an arrival
 
-module _ (past : List Item) (now id line : ℕ) (asked : Asked) (bytes : List ℕ) (rule : ReuseRule) (against : Option ℕ)
+module _ (past : List Item) (now id : ℕ) (line : Route) (asked : Asked) (bytes : List ℕ) (rule : ReuseRule) (against : Option ℕ)
     (decided : decision_of (policy_of edge_table.lines line) (held_entries edge_table (empty_store 2) past) asked now ≡ decision.Forward rule against) where
   condition_is : (condition : Option Condition) → IsConditionOfEvent (policy_of edge_table.lines line) (held_entries edge_table (empty_store 2) past) asked (Arrive now id asked) condition →
       condition ≡ condition_about_serial (held_entries edge_table (empty_store 2) past) against
@@ -143,7 +144,7 @@ module _ (past : List Item) (now id line : ℕ) (asked : Asked) (bytes : List �
           (sym fails ∙ ap (λ c. test (forward_text edge_table line asked c)) (sym carried) ∙ ap (λ z. test (forward_text edge_table line z condition)) own ∙ sym (ap test text) ∙ passes)
 
 -- the line isn't the one that allows it
-pub refuse_line : (now id line : ℕ) (asked : Asked) (bytes : List ℕ) → (verdict_of_asked edge_table asked ≡ Allowed line → ⊥) → GoingForwardIsWrong [] (Arrive now id asked) (Forward line bytes)
+pub refuse_line : (now id : ℕ) (line : Route) (asked : Asked) (bytes : List ℕ) → (verdict_of_asked edge_table asked ≡ Allowed line → ⊥) → GoingForwardIsWrong [] (Arrive now id asked) (Forward line bytes)
 refuse_line now id line asked bytes never h =
     let parts = h line bytes refl in
     let own : asked ≡ parts.0 = same_Some asked parts.0 (sym (ap (λ b. cond b (Some asked) None) (eq-eqb id id refl)) ∙ parts.2) in

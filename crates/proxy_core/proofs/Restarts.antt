@@ -1,13 +1,12 @@
 -- A trace up to where nothing is open, and one over what was held then, are one.
-use Rattle.std.proofs.Common.{◌≡◌, ℕ, Option, None, Some, List, [], ◌∷◌, ◌++◌, refl, sym, ◌∙◌, ap, subst}
+use Rattle.std.proofs.Common.{◌≡◌, ℕ, Option, Some, List, [], ◌∷◌, ◌++◌, refl, sym, ◌∙◌, ap, subst}
 use Rattle.hx_allow.specs.TableLines.{Table}
 use Rattle.hx_store.specs.Stored.{Stored}
 use Rattle.proxy_core.specs.declared.open.exchange.Exchange.{Exchange}
 use Rattle.proxy_core.specs.State.{State, state_after, bounds_of, NoSerialIsHeldFrom}
 use Rattle.proxy_core.specs.Starts.{StoreAtStart, StartStands}
 use Rattle.proxy_core.specs.Traces.{Item, initial_state, state_after_trace, ItemIsAccepted, IsGood}
-use Rattle.proxy_core.specs.Histories.{held_entries, open_exchanges, next_serial, IsGoodHistory}
-use Rattle.proxy_core.specs.Headline.{Headline, HoldsAtEachItem, AnswerHasFinalStatus}
+use Rattle.proxy_core.specs.Histories.{held_entries, IsGoodHistory}
 use Rattle.proxy_core.specs.Restarts.{IsQuietAfter, store_left, ThoseAreOneTrace, OneTraceIsThose, LeavesTheSame, ThatIsWhatIsLeft}
 use Rattle.proxy_core.proofs.HeldLaw.{good_held, good_plain, stands_for, entries_are_held, exchanges_are_open, next_is_counted}
 use Rattle.proxy_core.proofs.FirstRules.{held_distinct}

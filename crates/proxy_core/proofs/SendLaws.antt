@@ -12,6 +12,7 @@ use Rattle.hx_allow.specs.Matching.{policy_of}
 use Rattle.proxy_core.specs.Allowing.{verdict_of_asked, exchanges_to_wait_for}
 use Rattle.hx_allow.specs.declared.verdicts.Verdict.{Verdict}
 use Rattle.hx_allow.specs.declared.verdicts.Verdict.TheVariants as verdict
+use Rattle.hx_allow.specs.declared.verdicts.Route.{Route}
 use Rattle.hx_store.specs.Stored.{Stored}
 use Rattle.hx_store.specs.Serials.{Distinct}
 use Rattle.hx_store.specs.Shelf.{serials, find_entry}
@@ -41,15 +42,18 @@ use Rattle.proxy_core.specs.declared.outcome.Outcome.{Outcome}
 use Rattle.proxy_core.specs.declared.outcome.Outcome.TheVariants.{Forward}
 use Rattle.proxy_core.specs.declared.event.Event.{Event}
 use Rattle.proxy_core.specs.declared.event.Event.TheVariants.{Arrive, Answer, Fail, Wake, Abandon}
-use Rattle.proxy_core.specs.Validating.{condition_about_serial, is_validation, stored_response_validated, freshened_by_304}
+use Rattle.proxy_core.specs.Validating.{condition_about_serial, is_304_to_own_conditions, stored_response_validated, freshened_by_304}
 use Rattle.proxy_core.specs.Storing.{is_304_without_condition}
-use Rattle.proxy_core.specs.Awaiting.{leader_of_request}
-use Rattle.proxy_core.specs.Outcomes.{find_exchange, exchange_id_of_event, outcome_of_arrival, outcome_of_allowed_request, outcome_of_waiting_or_forwarding, outcome_without_stored_response, outcome_of_wake, is_only_if_cached, error_rule_at, fallback_with_error_rule, fallback_for, outcome_of_failure, is_error_status, outcome_of_passing_on_or_stale, outcome_of_304, outcome_of_answer, outcome_of, outcome_of_event, forward_text}
+use Rattle.proxy_core.specs.Awaiting.{awaited_of, leader_of_request}
+use Rattle.proxy_core.specs.Revalidating.{sent_beside}
+use Rattle.proxy_core.specs.Outcomes.{find_exchange, exchange_id_of_event, outcome_of_arrival, outcome_of_allowed_request, outcome_of_waiting_or_forwarding, revalidating_status_info, outcome_unless_sent_beside, outcome_without_stored_response, outcome_of_wake, is_only_if_cached, error_rule_at, fallback_with_error_rule, fallback_for, outcome_of_failure, is_error_status, outcome_of_passing_on_or_stale, outcome_of_304, outcome_of_answer, outcome_of, outcome_of_event, forward_text}
 use Rattle.proxy_core.specs.State.{serial_used_by_outcome}
 use Rattle.proxy_core.specs.Starts.{StoreAtStart}
 use Rattle.proxy_core.specs.Traces.{Item}
 use Rattle.proxy_core.specs.Histories.{IsGoodHistory, held_entries, open_exchanges, next_serial}
-use Rattle.proxy_core.specs.Sending.{StoredResponseIsReusable, MayBeSentInsteadOfError, IsStoredFallback, StoredResponseMayBeSentAt, RequestReachesCacheOrOrigin, RequestIsTurnedAway, NoLeaderIsOpen, StoredResponseIsSentWhereItMayBe, StoredResponseIsSentNowhereElse, RequestIsForwardedWhereAllowed, RequestIsForwardedNowhereElse, AllowedRequestReachesCacheOrOrigin, OtherRequestIsRefused}
+use Rattle.proxy_core.specs.Sending.{StoredResponseIsReusable, MayBeSentInsteadOfError, IsStoredFallback, StoredResponseMayBeSentAt, MayBeSentBesideLeader, StoredResponseMayBeSentBeside, StoredResponseMayBeSent, RequestReachesCacheOrOrigin, RequestIsTurnedAway, NoLeaderIsOpen, StoredResponseIsSentWhereItMayBe, StoredResponseIsSentNowhereElse, RequestIsForwardedWhereAllowed, RequestIsForwardedNowhereElse, AllowedRequestReachesCacheOrOrigin, OtherRequestIsRefused}
+use Rattle.proxy_core.proofs.SentBeside.{led_over, sent_over, unless_sent, sent_is_no_forward}
+use Rattle.proxy_core.proofs.Beside.{beside_is, beside_for}
 use Rattle.proxy_core.proofs.Leaving.{serial_stays}
 use Rattle.proxy_core.proofs.Leads.{nobody_leads, leads_for_none, is_led, led_by}
 use Rattle.proxy_core.proofs.FirstRules.{held_distinct}
@@ -225,20 +229,32 @@ module _ (table : Table) (es : List Stored) (distinct : Distinct (serials es)) (
 
   -- an arrival
   used_arrived : (now : ℕ) (asked : Asked) (s : ℕ) (v : Verdict) → verdict_of_asked table asked ≡ v → serial_used_by_outcome (outcome_of_arrival table es xs now asked v) ≡ Some s →
-      (line : ℕ) × (verdict_of_asked table asked ≡ verdict.Allowed line) × StoredResponseIsReusable (policy_of table.lines line) es asked now s
-  used_arrived now asked s (verdict.Allowed line) v h = (line, v, by_decision (decision_of (policy_of table.lines line) es asked now) refl h)
+      ((line : Route) × (verdict_of_asked table asked ≡ verdict.Allowed line) × StoredResponseIsReusable (policy_of table.lines line) es asked now s)
+      ⊎ ((line : Route) × (verdict_of_asked table asked ≡ verdict.Allowed line) × MayBeSentBesideLeader (policy_of table.lines line) es (exchanges_to_wait_for table line asked xs) asked now s)
+  used_arrived now asked s (verdict.Allowed line) v h = by_decision (decision_of (policy_of table.lines line) es asked now) refl h
     where
       on : (condition : Option Condition) (leader : Option ℕ) → serial_used_by_outcome (outcome_of_waiting_or_forwarding table line asked condition leader) ≡ Some s → ⊥
       on condition None h = never_one s h
       on condition (Some leader) h = never_one s h
 
-      unless : (rule : ReuseRule) (condition : Option Condition) (b : Bool) → serial_used_by_outcome (outcome_without_stored_response table es xs line now asked rule condition b) ≡ Some s → ⊥
-      unless rule condition true h = never_one s h
-      unless rule condition false h = on condition (leader_of_request (policy_of table.lines line) es (exchanges_to_wait_for table line asked xs) asked rule) h
+      IsBeside : Type 0
+      IsBeside = MayBeSentBesideLeader (policy_of table.lines line) es (exchanges_to_wait_for table line asked xs) asked now s
 
-      by_decision : (d : Decision) → decision_of (policy_of table.lines line) es asked now ≡ d → serial_used_by_outcome (outcome_of_allowed_request table es xs line now asked d) ≡ Some s → StoredResponseIsReusable (policy_of table.lines line) es asked now s
-      by_decision (decision.Hit t) k h = subst (λ n. StoredResponseIsReusable (policy_of table.lines line) es asked now n) (same_Some t s h) (reused_is_allowed (policy_of table.lines line) es asked now t k)
-      by_decision (decision.Forward rule against) k h = absurd (unless rule (condition_about_serial es against) (is_only_if_cached asked) h)
+      unless : (rule : ReuseRule) (against : Option ℕ) (condition : Option Condition) (b : Bool) → decision_of (policy_of table.lines line) es asked now ≡ decision.Forward rule against → is_only_if_cached asked ≡ b →
+          serial_used_by_outcome (outcome_without_stored_response table es xs line now asked rule condition b) ≡ Some s → IsBeside
+      unless rule against condition true k others h = absurd (never_one s h)
+      unless rule against condition false k others h =
+          unless_sent (λ (o : Outcome). serial_used_by_outcome o ≡ Some s → IsBeside) table es line now asked (sent_over table es xs line now asked rule) (outcome_of_waiting_or_forwarding table line asked condition (led_over table es xs line asked rule))
+          (λ t is sent.
+          beside_is (policy_of table.lines line) es distinct (exchanges_to_wait_for table line asked xs) asked now rule (names_the_least (policy_of table.lines line) es asked now rule against k).0 s others
+          (is ∙ ap (λ n. Some n) (same_Some t s sent)))
+          (λ sent. absurd (on condition (led_over table es xs line asked rule) sent)) h
+
+      by_decision : (d : Decision) → decision_of (policy_of table.lines line) es asked now ≡ d → serial_used_by_outcome (outcome_of_allowed_request table es xs line now asked d) ≡ Some s →
+          ((n : Route) × (verdict_of_asked table asked ≡ verdict.Allowed n) × StoredResponseIsReusable (policy_of table.lines n) es asked now s)
+          ⊎ ((n : Route) × (verdict_of_asked table asked ≡ verdict.Allowed n) × MayBeSentBesideLeader (policy_of table.lines n) es (exchanges_to_wait_for table n asked xs) asked now s)
+      by_decision (decision.Hit t) k h = inl (line, v, subst (λ n. StoredResponseIsReusable (policy_of table.lines line) es asked now n) (same_Some t s h) (reused_is_allowed (policy_of table.lines line) es asked now t k))
+      by_decision (decision.Forward rule against) k h = inr (line, v, unless rule against (condition_about_serial es against) (is_only_if_cached asked) k refl h)
   used_arrived now asked s (verdict.DeniedBy line) v h = absurd (never_one s h)
   used_arrived now asked s verdict.NoLine v h = absurd (never_one s h)
   used_arrived now asked s (verdict.Looped line) v h = absurd (never_one s h)
@@ -261,7 +277,7 @@ module _ (table : Table) (es : List Stored) (distinct : Distinct (serials es)) (
     used_passed false fallback k h = absurd (never_one s h)
 
     used_answered : IsUsed (outcome_of_answer table es now x r next (decision_of (policy_of table.lines x.line) es x.asked now)) → StoredResponseMayBeSentAt table es (Some x) (Answer now id r) s
-    used_answered h = by_304 (is_validation x r) refl h
+    used_answered h = by_304 (is_304_to_own_conditions x r) refl h
       where
         d : Decision
         d = decision_of (policy_of table.lines x.line) es x.asked now
@@ -275,7 +291,7 @@ module _ (table : Table) (es : List Stored) (distinct : Distinct (serials es)) (
             let p = used_passed (is_error_status r.status) (fallback_for (policy_of table.lines x.line) es x.asked now (decision_of (policy_of table.lines x.line) es x.asked now)) refl h in
             (or_right (is_304_without_condition (policy_of table.lines x.line) x.asked r) (is_error_status r.status) p.0, p.1)
 
-        by_304 : (b : Bool) → is_validation x r ≡ b → IsUsed (cond b (outcome_of_304 table es now x r (stored_response_validated es x r now) (decision_of (policy_of table.lines x.line) es x.asked now))
+        by_304 : (b : Bool) → is_304_to_own_conditions x r ≡ b → IsUsed (cond b (outcome_of_304 table es now x r (stored_response_validated es x r now) (decision_of (policy_of table.lines x.line) es x.asked now))
             (cond (is_304_without_condition (policy_of table.lines x.line) x.asked r) (outcome_of_failure table es now x BadAnswer (Some r.status) (fallback_for (policy_of table.lines x.line) es x.asked now (decision_of (policy_of table.lines x.line) es x.asked now)))
             (outcome_of_passing_on_or_stale table es now x r next (is_error_status r.status) (fallback_for (policy_of table.lines x.line) es x.asked now (decision_of (policy_of table.lines x.line) es x.asked now))))) →
             StoredResponseMayBeSentAt table es (Some x) (Answer now id r) s
@@ -323,6 +339,17 @@ module _ (table : Table) (es : List Stored) (distinct : Distinct (serials es)) (
   used_woken now x s (decision.Hit t) k h = subst (λ n. StoredResponseIsReusable (policy_of table.lines x.line) es x.asked now n) (same_Some t s h) (reused_is_allowed (policy_of table.lines x.line) es x.asked now t k)
   used_woken now x s (decision.Forward rule against) k h = absurd (never_one s h)
 
+  beside_used : (line : Route) (now : ℕ) (asked : Asked) (s : ℕ) → MayBeSentBesideLeader (policy_of table.lines line) es (exchanges_to_wait_for table line asked xs) asked now s →
+      serial_used_by_outcome (outcome_of_allowed_request table es xs line now asked (decision_of (policy_of table.lines line) es asked now)) ≡ Some s
+  beside_used line now asked s may =
+      let rule = may.awaits.rule in
+      let least = may.awaits.is_least in
+      let d = forwards (policy_of table.lines line) es asked now rule least in
+      ap (λ (k : Decision). serial_used_by_outcome (outcome_of_allowed_request table es xs line now asked k)) d.1
+      ∙ ap (λ b. serial_used_by_outcome (outcome_without_stored_response table es xs line now asked rule (condition_about_serial es d.0) b)) may.takes_an_answer
+      ∙ ap (λ (o : Option ℕ). serial_used_by_outcome (outcome_unless_sent_beside table es line now asked o (outcome_of_waiting_or_forwarding table line asked (condition_about_serial es d.0) (led_over table es xs line asked rule))))
+      (beside_for (policy_of table.lines line) es distinct (exchanges_to_wait_for table line asked xs) asked now rule least s may)
+
   may_be_used : (x : Option Exchange) (next : Option ℕ) (event : Event) (s : ℕ) → StoredResponseMayBeSentAt table es x event s → serial_used_by_outcome (outcome_of table es xs x next event) ≡ Some s
   may_be_used x next (Arrive now id asked) s may =
       ap (λ (v : Verdict). serial_used_by_outcome (outcome_of_arrival table es xs now asked v)) may.1
@@ -335,13 +362,25 @@ module _ (table : Table) (es : List Stored) (distinct : Distinct (serials es)) (
   may_be_used None next (Wake now id) s may = absurd may
   may_be_used x next (Abandon id) s may = absurd may
 
-  used_may_be : (x : Option Exchange) (next : Option ℕ) (event : Event) (s : ℕ) → serial_used_by_outcome (outcome_of table es xs x next event) ≡ Some s → StoredResponseMayBeSentAt table es x event s
+  may_be_used_beside : (x : Option Exchange) (next : Option ℕ) (event : Event) (s : ℕ) → StoredResponseMayBeSentBeside table es xs event s → serial_used_by_outcome (outcome_of table es xs x next event) ≡ Some s
+  may_be_used_beside x next (Arrive now id asked) s may =
+      ap (λ (v : Verdict). serial_used_by_outcome (outcome_of_arrival table es xs now asked v)) may.1 ∙ beside_used may.0 now asked s may.2
+  may_be_used_beside x next (Answer now id r) s may = absurd may
+  may_be_used_beside x next (Fail now id kind) s may = absurd may
+  may_be_used_beside x next (Wake now id) s may = absurd may
+  may_be_used_beside x next (Abandon id) s may = absurd may
+
+  may_be_used_either : (x : Option Exchange) (next : Option ℕ) (event : Event) (s : ℕ) → StoredResponseMayBeSent table es xs x event s → serial_used_by_outcome (outcome_of table es xs x next event) ≡ Some s
+  may_be_used_either x next event s (inl may) = may_be_used x next event s may
+  may_be_used_either x next event s (inr may) = may_be_used_beside x next event s may
+
+  used_may_be : (x : Option Exchange) (next : Option ℕ) (event : Event) (s : ℕ) → serial_used_by_outcome (outcome_of table es xs x next event) ≡ Some s → StoredResponseMayBeSent table es xs x event s
   used_may_be x next (Arrive now id asked) s h = used_arrived now asked s (verdict_of_asked table asked) refl h
-  used_may_be (Some x) next (Answer now id r) s h = used_answered x now id r next s h
+  used_may_be (Some x) next (Answer now id r) s h = inl (used_answered x now id r next s h)
   used_may_be None next (Answer now id r) s h = absurd (never_one s h)
-  used_may_be (Some x) next (Fail now id kind) s h = used_failed now x kind None s (fallback_for (policy_of table.lines x.line) es x.asked now (decision_of (policy_of table.lines x.line) es x.asked now)) refl h
+  used_may_be (Some x) next (Fail now id kind) s h = inl (used_failed now x kind None s (fallback_for (policy_of table.lines x.line) es x.asked now (decision_of (policy_of table.lines x.line) es x.asked now)) refl h)
   used_may_be None next (Fail now id kind) s h = absurd (never_one s h)
-  used_may_be (Some x) next (Wake now id) s h = used_woken now x s (decision_of (policy_of table.lines x.line) es x.asked now) refl h
+  used_may_be (Some x) next (Wake now id) s h = inl (used_woken now x s (decision_of (policy_of table.lines x.line) es x.asked now) refl h)
   used_may_be None next (Wake now id) s h = absurd (never_one s h)
   used_may_be x next (Abandon id) s h = absurd (never_one s h)
 
@@ -349,7 +388,7 @@ pub sends_what_may_be_sent : StoredResponseIsSentWhereItMayBe
 sends_what_may_be_sent table start first s item past g may =
     let xs = open_exchanges table start past in
     ap serial_used_by_outcome g.0.outcome_is
-    ∙ may_be_used table (held_entries table start past) (held_distinct table start first past g.1) xs (find_exchange (exchange_id_of_event item.event) xs) (next_serial first past) item.event s may
+    ∙ may_be_used_either table (held_entries table start past) (held_distinct table start first past g.1) xs (find_exchange (exchange_id_of_event item.event) xs) (next_serial first past) item.event s may
 
 pub sends_nothing_else : StoredResponseIsSentNowhereElse
 sends_nothing_else table start first s item past g h =
@@ -374,16 +413,16 @@ forwards_where_allowed table start first now id line asked rule item past g e v 
           ∙ ap (λ (v : Verdict). outcome_of_arrival table es xs now asked v) v
           ∙ ap (λ (d : Decision). outcome_of_allowed_request table es xs line now asked d) d.1
           ∙ ap (λ b. outcome_without_stored_response table es xs line now asked rule (condition_about_serial es d.0) b) other
-          ∙ ap (λ (leader : Option ℕ). outcome_of_waiting_or_forwarding table line asked (condition_about_serial es d.0) leader) (leads_for_none (policy_of table.lines line) es (held_distinct table start first past g.1) (exchanges_to_wait_for table line asked xs) asked now rule least none),
+          ∙ ap (λ (leader : Option ℕ). outcome_unless_sent_beside table es line now asked (sent_beside (policy_of table.lines line) es asked now (awaited_of (policy_of table.lines line) es asked rule) leader) (outcome_of_waiting_or_forwarding table line asked (condition_about_serial es d.0) leader)) (leads_for_none (policy_of table.lines line) es (held_distinct table start first past g.1) (exchanges_to_wait_for table line asked xs) asked now rule least none),
     )
 
 -- what is known of a request that goes forward at its arrival
-abbrev GoesOn : Table → List Stored → List Exchange → ℕ → ℕ → Asked → Type 0
+abbrev GoesOn : Table → List Stored → List Exchange → ℕ → Route → Asked → Type 0
 GoesOn table es xs now line asked =
     (verdict_of_asked table asked ≡ verdict.Allowed line)
     × ((rule : ReuseRule) × IsLeastReuseRule (policy_of table.lines line) es asked now rule × NoLeaderIsOpen (policy_of table.lines line) es (exchanges_to_wait_for table line asked xs) asked now) × (is_only_if_cached asked ≡ false)
 
-forward_parts : (table : Table) (es : List Stored) (distinct : Distinct (serials es)) (xs : List Exchange) (now line : ℕ) (asked : Asked) (bytes : List ℕ) (v : Verdict) → verdict_of_asked table asked ≡ v →
+forward_parts : (table : Table) (es : List Stored) (distinct : Distinct (serials es)) (xs : List Exchange) (now : ℕ) (line : Route) (asked : Asked) (bytes : List ℕ) (v : Verdict) → verdict_of_asked table asked ≡ v →
     outcome_of_arrival table es xs now asked v ≡ Forward line bytes → GoesOn table es xs now line asked
 forward_parts table es distinct xs now line asked bytes (verdict.Allowed n) v h = by_decision (decision_of (policy_of table.lines n) es asked now) refl h
   where
@@ -405,7 +444,10 @@ forward_parts table es distinct xs now line asked bytes (verdict.Allowed n) v h 
     unless : (rule : ReuseRule) (against : Option ℕ) (b : Bool) → is_only_if_cached asked ≡ b → decision_of (policy_of table.lines n) es asked now ≡ decision.Forward rule against →
         outcome_without_stored_response table es xs n now asked rule (condition_about_serial es against) b ≡ Forward line bytes → GoesOn table es xs now line asked
     unless rule against true k d h = absurd (cc)
-    unless rule against false k d h = on rule against (leader_of_request (policy_of table.lines n) es (exchanges_to_wait_for table n asked xs) asked rule) refl k d h
+    unless rule against false k d h =
+        unless_sent (λ (o : Outcome). o ≡ Forward line bytes → GoesOn table es xs now line asked) table es n now asked (sent_over table es xs n now asked rule) (outcome_of_waiting_or_forwarding table n asked (condition_about_serial es against) (led_over table es xs n asked rule))
+        (λ t is went. absurd (sent_is_no_forward table es t now (revalidating_status_info (policy_of table.lines n)) asked line bytes went))
+        (λ went. on rule against (led_over table es xs n asked rule) refl k d went) h
 
     by_decision : (d : Decision) → decision_of (policy_of table.lines n) es asked now ≡ d → outcome_of_allowed_request table es xs n now asked d ≡ Forward line bytes → GoesOn table es xs now line asked
     by_decision (decision.Hit t) k h = absurd (cc)
@@ -422,7 +464,7 @@ forwards_nothing_else table start first now id line asked bytes item past g e h 
 -- ---- reaching cache or origin
 
 module _ (table : Table) (es : List Stored) (distinct : Distinct (serials es)) (xs : List Exchange) (now : ℕ) (asked : Asked) where
-  reach_on : (line : ℕ) (rule : ReuseRule) (against leader : Option ℕ) → is_only_if_cached asked ≡ false → leader_of_request (policy_of table.lines line) es (exchanges_to_wait_for table line asked xs) asked rule ≡ leader →
+  reach_on : (line : Route) (rule : ReuseRule) (against leader : Option ℕ) → is_only_if_cached asked ≡ false → leader_of_request (policy_of table.lines line) es (exchanges_to_wait_for table line asked xs) asked rule ≡ leader →
       decision_of (policy_of table.lines line) es asked now ≡ decision.Forward rule against → RequestReachesCacheOrOrigin table es xs now asked line (outcome_of_waiting_or_forwarding table line asked (condition_about_serial es against) leader)
   reach_on line rule against None k l d =
       let named = names_the_least (policy_of table.lines line) es asked now rule against d in
@@ -439,16 +481,18 @@ module _ (table : Table) (es : List Stored) (distinct : Distinct (serials es)) (
         outcome_is = refl;
       })))
 
-  reach_unless : (line : ℕ) (rule : ReuseRule) (against : Option ℕ) (b : Bool) → is_only_if_cached asked ≡ b → decision_of (policy_of table.lines line) es asked now ≡ decision.Forward rule against →
+  reach_unless : (line : Route) (rule : ReuseRule) (against : Option ℕ) (b : Bool) → is_only_if_cached asked ≡ b → decision_of (policy_of table.lines line) es asked now ≡ decision.Forward rule against →
       RequestReachesCacheOrOrigin table es xs now asked line (outcome_without_stored_response table es xs line now asked rule (condition_about_serial es against) b)
   reach_unless line rule against true k d = inr (inr (inr (rule, k, (names_the_least (policy_of table.lines line) es asked now rule against d).0, refl)))
-  reach_unless line rule against false k d = reach_on line rule against (leader_of_request (policy_of table.lines line) es (exchanges_to_wait_for table line asked xs) asked rule) k refl d
+  reach_unless line rule against false k d =
+      unless_sent (RequestReachesCacheOrOrigin table es xs now asked line) table es line now asked (sent_over table es xs line now asked rule) (outcome_of_waiting_or_forwarding table line asked (condition_about_serial es against) (led_over table es xs line asked rule))
+      (λ t is. inl (t, refl)) (reach_on line rule against (led_over table es xs line asked rule) k refl d)
 
-  reach : (line : ℕ) (d : Decision) → decision_of (policy_of table.lines line) es asked now ≡ d → RequestReachesCacheOrOrigin table es xs now asked line (outcome_of_allowed_request table es xs line now asked d)
+  reach : (line : Route) (d : Decision) → decision_of (policy_of table.lines line) es asked now ≡ d → RequestReachesCacheOrOrigin table es xs now asked line (outcome_of_allowed_request table es xs line now asked d)
   reach line (decision.Hit s) d = inl (s, refl)
   reach line (decision.Forward rule against) d = reach_unless line rule against (is_only_if_cached asked) refl d
 
-  refuse : (v : Verdict) → verdict_of_asked table asked ≡ v → ((line : ℕ) → verdict_of_asked table asked ≢ verdict.Allowed line) →
+  refuse : (v : Verdict) → verdict_of_asked table asked ≡ v → ((line : Route) → verdict_of_asked table asked ≢ verdict.Allowed line) →
       RequestIsTurnedAway table now asked (outcome_of_arrival table es xs now asked v)
   refuse (verdict.Allowed line) v n = absurd (n line v)
   refuse (verdict.DeniedBy line) v n = inl (line, v, refl)

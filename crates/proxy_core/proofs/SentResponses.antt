@@ -8,7 +8,7 @@ use Rattle.hx_framing.specs.declared.messages.Response.{Response}
 use Rattle.hx_hop.specs.declared.request_view.Asked.{Asked}
 use Rattle.hx_allow.specs.TableLines.{Table}
 use Rattle.hx_allow.specs.Matching.{policy_of}
-use Rattle.proxy_core.specs.Allowing.{verdict_of_asked, exchanges_to_wait_for}
+use Rattle.proxy_core.specs.Allowing.{verdict_of_asked}
 use Rattle.hx_allow.specs.declared.verdicts.Verdict.{Verdict}
 use Rattle.hx_allow.specs.declared.verdicts.Verdict.TheVariants as verdict
 use Rattle.hx_store.specs.Stored.{Stored}
@@ -23,7 +23,7 @@ use Rattle.hx_reuse.proofs.Choice.{chosen_is_held, preferred_is_the_chosen, foun
 use Rattle.hx_reuse.proofs.MeaningLemmas.{is_held}
 use Rattle.hx_reuse.proofs.ReusableLemmas.{reused_is_allowed}
 use Rattle.hx_status.specs.declared.status.Detail.{Detail}
-use Rattle.hx_status.specs.declared.status.Detail.TheVariants.{StaleIfError, ReuseAfterError, ReuseAfter304}
+use Rattle.hx_status.specs.declared.status.Detail.TheVariants.{StaleIfError, ReuseAfterError, ReuseAfter304, StaleWhileRevalidate}
 use Rattle.hx_status.specs.declared.cause.FailKind.{FailKind}
 use Rattle.hx_status.specs.declared.cause.FailKind.TheVariants.{BadAnswer}
 use Rattle.proxy_core.specs.declared.steps.condition.Condition.{Condition}
@@ -35,13 +35,14 @@ use Rattle.proxy_core.specs.declared.outcome.Outcome.{Outcome}
 use Rattle.proxy_core.specs.declared.event.Event.{Event}
 use Rattle.proxy_core.specs.declared.event.Event.TheVariants.{Arrive, Answer, Fail, Wake, Abandon}
 use Rattle.proxy_core.specs.Replies.{stored_text}
-use Rattle.proxy_core.specs.Validating.{stored_response_asked_about, condition_about_serial, stored_response_if_answered, is_validation, stored_response_validated, freshened_by_304}
+use Rattle.proxy_core.specs.Validating.{stored_response_asked_about, condition_about_serial, stored_response_if_answered, is_304_to_own_conditions, stored_response_validated, freshened_by_304}
 use Rattle.proxy_core.specs.Storing.{is_304_without_condition}
-use Rattle.proxy_core.specs.Awaiting.{leader_of_request}
-use Rattle.proxy_core.specs.Outcomes.{find_exchange, exchange_id_of_event, outcome_of_sending_stored, sent_stored_text, hit_status_info, forwarded_status_info, collapsed_status_info, outcome_of_arrival, outcome_of_allowed_request, outcome_of_waiting_or_forwarding, outcome_without_stored_response, outcome_of_wake, is_only_if_cached, error_rule_at, fallback_with_error_rule, fallback_for, outcome_of_failure, is_error_status, outcome_of_passing_on_or_stale, outcome_of_304, outcome_of_answer, outcome_of}
+use Rattle.proxy_core.specs.Awaiting.{awaited_of}
+use Rattle.proxy_core.specs.Outcomes.{find_exchange, exchange_id_of_event, outcome_of_sending_stored, sent_stored_text, hit_status_info, revalidating_status_info, forwarded_status_info, collapsed_status_info, outcome_of_arrival, outcome_of_allowed_request, outcome_of_waiting_or_forwarding, outcome_without_stored_response, outcome_of_wake, is_only_if_cached, error_rule_at, fallback_with_error_rule, fallback_for, outcome_of_failure, is_error_status, outcome_of_passing_on_or_stale, outcome_of_304, outcome_of_answer, outcome_of}
 use Rattle.proxy_core.specs.State.{serial_used_by_outcome, stored_response_as_used}
 use Rattle.proxy_core.specs.Histories.{held_entries, open_exchanges, next_serial}
 use Rattle.proxy_core.specs.Sending.{StoredResponseIsReusable, DetailWordAfterError, DetailWordAtAnswer, IsAbout, CacheStatusShowsHow, ReplyIsThatStoredResponse, SendsWhatIsHeld}
+use Rattle.proxy_core.proofs.SentBeside.{led_over, sent_over, unless_sent, sent_beside_is}
 use Rattle.proxy_core.proofs.Leaving.{unanswered as never_answered, same_at, serial_stays, validated_is}
 use Rattle.proxy_core.proofs.SendLaws.{named_is, reusable_hit}
 use Rattle.proxy_core.proofs.FirstRules.{held_distinct}
@@ -131,18 +132,37 @@ module _ (table : Table) (es : List Stored) (distinct : Distinct (serials es)) w
       on condition None h = absurd (never_one s h)
       on condition (Some leader) h = absurd (never_one s h)
 
-      unless : (rule : ReuseRule) (condition : Option Condition) (b : Bool) → serial_used_by_outcome (outcome_without_stored_response table es xs line now asked rule condition b) ≡ Some s →
+      -- a rule keeps back what is sent beside the exchange that leads
+      no_hit : (rule : ReuseRule) (against : Option ℕ) (t : ℕ) → decision_of (policy_of table.lines line) es asked now ≡ decision.Forward rule against → StoredResponseIsReusable (policy_of table.lines line) es asked now t → ⊥
+      no_hit rule against t k may =
+          let hit : decision.Forward rule against ≡ decision.Hit t = sym k ∙ reusable_hit (policy_of table.lines line) es distinct asked now t may in
+          absurd (cc)
+
+      beside : (rule : ReuseRule) (against : Option ℕ) (t : ℕ) → decision_of (policy_of table.lines line) es asked now ≡ decision.Forward rule against → sent_over table es xs line now asked rule ≡ Some t →
+          serial_used_by_outcome (outcome_of_sending_stored table es t now (revalidating_status_info (policy_of table.lines line)) asked) ≡ Some s →
+          ReplyIsThatStoredResponse table es x (Arrive now id asked) (outcome_of_sending_stored table es t now (revalidating_status_info (policy_of table.lines line)) asked) s
+      beside rule against t k is h =
+          let sent = sent_beside_is (policy_of table.lines line) es asked now t (awaited_of (policy_of table.lines line) es asked rule) (led_over table es xs line asked rule) is in
+          at_serial x (Arrive now id asked) (outcome_of_sending_stored table es t now (revalidating_status_info (policy_of table.lines line)) asked) t s (same_Some t s h)
+          (as_held x (Arrive now id asked) t now (revalidating_status_info (policy_of table.lines line)) asked (sent.response, sent.found) (as_arrived x now id asked sent.response) (refl, refl)
+          (line, v, (Some StaleWhileRevalidate, refl, (λ may. absurd (no_hit rule against t k may), λ no. refl))))
+
+      unless : (rule : ReuseRule) (against : Option ℕ) (condition : Option Condition) (b : Bool) → decision_of (policy_of table.lines line) es asked now ≡ decision.Forward rule against →
+          serial_used_by_outcome (outcome_without_stored_response table es xs line now asked rule condition b) ≡ Some s →
           ReplyIsThatStoredResponse table es x (Arrive now id asked) (outcome_without_stored_response table es xs line now asked rule condition b) s
-      unless rule condition true h = absurd (never_one s h)
-      unless rule condition false h = on condition (leader_of_request (policy_of table.lines line) es (exchanges_to_wait_for table line asked xs) asked rule) h
+      unless rule against condition true k h = absurd (never_one s h)
+      unless rule against condition false k h =
+          unless_sent (λ (o : Outcome). serial_used_by_outcome o ≡ Some s → ReplyIsThatStoredResponse table es x (Arrive now id asked) o s) table es line now asked (sent_over table es xs line now asked rule)
+          (outcome_of_waiting_or_forwarding table line asked condition (led_over table es xs line asked rule)) (λ t is. beside rule against t k is) (on condition (led_over table es xs line asked rule)) h
 
       by_decision : (d : Decision) → decision_of (policy_of table.lines line) es asked now ≡ d → serial_used_by_outcome (outcome_of_allowed_request table es xs line now asked d) ≡ Some s →
           ReplyIsThatStoredResponse table es x (Arrive now id asked) (outcome_of_allowed_request table es xs line now asked d) s
       by_decision (decision.Hit t) k h =
           let f = found_hit (policy_of table.lines line) asked now t k in
           at_serial x (Arrive now id asked) (outcome_of_sending_stored table es t now (hit_status_info (policy_of table.lines line)) asked) t s (same_Some t s h)
-          (as_held x (Arrive now id asked) t now (hit_status_info (policy_of table.lines line)) asked f (as_arrived x now id asked f.0) (refl, refl) (line, v, refl))
-      by_decision (decision.Forward rule against) k h = unless rule (condition_about_serial es against) (is_only_if_cached asked) h
+          (as_held x (Arrive now id asked) t now (hit_status_info (policy_of table.lines line)) asked f (as_arrived x now id asked f.0) (refl, refl)
+          (line, v, (None, refl, (λ may. refl, λ no. absurd (no (reused_is_allowed (policy_of table.lines line) es asked now t k))))))
+      by_decision (decision.Forward rule against) k h = unless rule against (condition_about_serial es against) (is_only_if_cached asked) k h
   arrival_sends xs x now id asked s (verdict.DeniedBy line) v h = absurd (never_one s h)
   arrival_sends xs x now id asked s verdict.NoLine v h = absurd (never_one s h)
   arrival_sends xs x now id asked s (verdict.Looped line) v h = absurd (never_one s h)
@@ -164,18 +184,18 @@ module _ (table : Table) (es : List Stored) (distinct : Distinct (serials es)) w
     Is o = serial_used_by_outcome o ≡ Some s → ReplyIsThatStoredResponse table es (Some x) (Answer now id r) o s
 
     -- no 304 to the proxy's conditions answers
-    not_validated : is_validation x r ≡ false → stored_response_validated es x r now ≡ None
+    not_validated : is_304_to_own_conditions x r ≡ false → stored_response_validated es x r now ≡ None
     not_validated n = by_entry (stored_response_asked_about es x)
       where
         by_entry : (o : Option Stored) → stored_response_if_answered x r now o ≡ None
         by_entry None = refl
         by_entry (Some e) = ap (λ b. cond b (Some e) None) (never_answered x r now e n)
 
-    word_of_error : is_validation x r ≡ false → (t : ℕ) (detail : Option Detail) → DetailWordAfterError (policy_of table.lines x.line) es x.asked now t detail →
+    word_of_error : is_304_to_own_conditions x r ≡ false → (t : ℕ) (detail : Option Detail) → DetailWordAfterError (policy_of table.lines x.line) es x.asked now t detail →
         DetailWordAtAnswer (policy_of table.lines x.line) es x now r t detail
     word_of_error n t detail word = (λ some. absurd (false≢true (ap is_some (sym (not_validated n)) ∙ some)), λ is none. absurd (false≢true (sym n ∙ is)), λ not. word)
 
-    passes : (b : Bool) (fallback : Fallback) → fallback_for (policy_of table.lines x.line) es x.asked now (decision_of (policy_of table.lines x.line) es x.asked now) ≡ fallback → is_validation x r ≡ false → Is (outcome_of_passing_on_or_stale table es now x r next b fallback)
+    passes : (b : Bool) (fallback : Fallback) → fallback_for (policy_of table.lines x.line) es x.asked now (decision_of (policy_of table.lines x.line) es x.asked now) ≡ fallback → is_304_to_own_conditions x r ≡ false → Is (outcome_of_passing_on_or_stale table es now x r next b fallback)
     passes true (Sends t detail) k n =
         let f = found_fallback (policy_of table.lines x.line) x.asked now t detail (decision_of (policy_of table.lines x.line) es x.asked now) refl k in
         λ h. at_serial (Some x) (Answer now id r) (outcome_of_sending_stored table es t now (forwarded_status_info (policy_of table.lines x.line) x (Some r.status) (Some detail)) x.asked) t s (same_Some t s h)
@@ -185,7 +205,7 @@ module _ (table : Table) (es : List Stored) (distinct : Distinct (serials es)) w
     passes true (Refuses rule error) k n = λ h. absurd (never_one s h)
     passes false fallback k n = λ h. absurd (never_one s h)
 
-    validates : (o : Option Stored) (d : Decision) → is_validation x r ≡ true → stored_response_validated es x r now ≡ o → decision_of (policy_of table.lines x.line) es x.asked now ≡ d → Is (outcome_of_304 table es now x r o d)
+    validates : (o : Option Stored) (d : Decision) → is_304_to_own_conditions x r ≡ true → stored_response_validated es x r now ≡ o → decision_of (policy_of table.lines x.line) es x.asked now ≡ d → Is (outcome_of_304 table es now x r o d)
     validates (Some e) d y v k =
         let valid = validated_is es x r now e v in
         let serial : e.serial ≡ (freshened_by_304 x r now e).serial = sym (serial_stays x r now e) in
@@ -215,9 +235,9 @@ module _ (table : Table) (es : List Stored) (distinct : Distinct (serials es)) w
     validates None (decision.Forward rule against) y v k = λ h. absurd (never_one s h)
 
     answer_sends : Is (outcome_of_answer table es now x r next (decision_of (policy_of table.lines x.line) es x.asked now))
-    answer_sends = by_304 (is_validation x r) refl
+    answer_sends = by_304 (is_304_to_own_conditions x r) refl
       where
-        by_unasked : (b : Bool) → is_validation x r ≡ false →
+        by_unasked : (b : Bool) → is_304_to_own_conditions x r ≡ false →
             Is (cond b (outcome_of_failure table es now x BadAnswer (Some r.status) (fallback_for (policy_of table.lines x.line) es x.asked now (decision_of (policy_of table.lines x.line) es x.asked now)))
             (outcome_of_passing_on_or_stale table es now x r next (is_error_status r.status) (fallback_for (policy_of table.lines x.line) es x.asked now (decision_of (policy_of table.lines x.line) es x.asked now))))
         by_unasked true n =
@@ -225,7 +245,7 @@ module _ (table : Table) (es : List Stored) (distinct : Distinct (serials es)) w
             (λ e. ap (λ b. cond b (freshened_by_304 x r now e) e) (never_answered x r now e n)) (refl, refl) (λ t detail word. (detail, refl, word_of_error n t detail word))
         by_unasked false n = passes (is_error_status r.status) (fallback_for (policy_of table.lines x.line) es x.asked now (decision_of (policy_of table.lines x.line) es x.asked now)) refl n
 
-        by_304 : (b : Bool) → is_validation x r ≡ b → Is (cond b (outcome_of_304 table es now x r (stored_response_validated es x r now) (decision_of (policy_of table.lines x.line) es x.asked now))
+        by_304 : (b : Bool) → is_304_to_own_conditions x r ≡ b → Is (cond b (outcome_of_304 table es now x r (stored_response_validated es x r now) (decision_of (policy_of table.lines x.line) es x.asked now))
             (cond (is_304_without_condition (policy_of table.lines x.line) x.asked r) (outcome_of_failure table es now x BadAnswer (Some r.status) (fallback_for (policy_of table.lines x.line) es x.asked now (decision_of (policy_of table.lines x.line) es x.asked now)))
             (outcome_of_passing_on_or_stale table es now x r next (is_error_status r.status) (fallback_for (policy_of table.lines x.line) es x.asked now (decision_of (policy_of table.lines x.line) es x.asked now)))))
         by_304 true k = validates (stored_response_validated es x r now) (decision_of (policy_of table.lines x.line) es x.asked now) k refl refl

@@ -7,9 +7,10 @@ use Rattle.hx_framing.specs.declared.messages.Response.{Response}
 use Rattle.hx_hop.specs.declared.request_view.Asked.{Asked}
 use Rattle.hx_allow.specs.TableLines.{Table}
 use Rattle.hx_allow.specs.Matching.{policy_of}
-use Rattle.proxy_core.specs.Allowing.{verdict_of_asked, exchanges_to_wait_for}
+use Rattle.proxy_core.specs.Allowing.{verdict_of_asked}
 use Rattle.hx_allow.specs.declared.verdicts.Verdict.{Verdict}
 use Rattle.hx_allow.specs.declared.verdicts.Verdict.TheVariants as verdict
+use Rattle.hx_allow.specs.declared.verdicts.Route.{Route}
 use Rattle.hx_store.specs.Stored.{Stored}
 use Rattle.hx_store.specs.Serials.{serial_is_in}
 use Rattle.hx_store.specs.Shelf.{holds_serial, find_entry, entry_matches, serials_of}
@@ -36,13 +37,14 @@ use Rattle.proxy_core.specs.declared.steps.fallback.Fallback.TheVariants.{Sends,
 use Rattle.proxy_core.specs.declared.outcome.Outcome.{Outcome}
 use Rattle.proxy_core.specs.declared.event.Event.{Event}
 use Rattle.proxy_core.specs.declared.event.Event.TheVariants.{Arrive, Answer, Fail, Wake, Abandon}
-use Rattle.proxy_core.specs.Validating.{condition_about_serial, is_validation, stored_response_validated, freshened_by_304}
+use Rattle.proxy_core.specs.Validating.{condition_about_serial, is_304_to_own_conditions, stored_response_validated, freshened_by_304}
 use Rattle.proxy_core.specs.Storing.{storing_rule_to_explain, is_304_without_condition, is_storable, replaced_by, stored_response_made}
-use Rattle.proxy_core.specs.Awaiting.{leader_of_request}
-use Rattle.proxy_core.specs.Outcomes.{find_exchange, exchange_id_of_event, outcome_of_sending_stored, outcome_of_allowed_request, outcome_of_arrival, outcome_of_waiting_or_forwarding, outcome_without_stored_response, outcome_of_wake, is_only_if_cached, error_rule_at, fallback_with_error_rule, fallback_for, outcome_of_failure, is_error_status, outcome_of_passing_on, outcome_of_passing_on_or_stale, outcome_of_304, outcome_of_answer, outcome_of}
+use Rattle.proxy_core.specs.Awaiting.{awaited_of}
+use Rattle.proxy_core.specs.Outcomes.{find_exchange, exchange_id_of_event, outcome_of_sending_stored, revalidating_status_info, outcome_of_allowed_request, outcome_of_arrival, outcome_of_waiting_or_forwarding, outcome_without_stored_response, outcome_of_wake, is_only_if_cached, error_rule_at, fallback_with_error_rule, fallback_for, outcome_of_failure, is_error_status, outcome_of_passing_on, outcome_of_passing_on_or_stale, outcome_of_304, outcome_of_answer, outcome_of}
 use Rattle.proxy_core.specs.State.{State, NoSerialIsHeldFrom, serial_stored_by_outcome, serial_used_by_outcome, serials_removed_by_outcome, stored_response_by_answer}
 use Rattle.proxy_core.specs.Traces.{Item, ItemIsAccepted}
 use Rattle.proxy_core.proofs.Leaving.{validated_is, serial_stays}
+use Rattle.proxy_core.proofs.SentBeside.{led_over, sent_over, unless_sent, sent_beside_is}
 use Rattle.proxy_core.proofs.HeldEntries.{held_found, none_of_key}
 
 -- nothing is stored or used; a held response is used; an answer is stored under the next serial, which isn't removed
@@ -101,17 +103,22 @@ module _ (table : Table) (es : List Stored) (x : Option Exchange) (event : Event
   unfolding KindOf
   kind_sent s now info asked f = uses s f.0 refl refl f.1
 
-  kind_sent_on : (line : ℕ) (asked : Asked) (condition : Option Condition) (leader : Option ℕ) → KindOf es x event next (outcome_of_waiting_or_forwarding table line asked condition leader)
+  kind_sent_on : (line : Route) (asked : Asked) (condition : Option Condition) (leader : Option ℕ) → KindOf es x event next (outcome_of_waiting_or_forwarding table line asked condition leader)
   unfolding KindOf
   kind_sent_on line asked condition None = idle refl refl
   kind_sent_on line asked condition (Some leader) = idle refl refl
 
-  kind_unanswered : (xs : List Exchange) (line now : ℕ) (asked : Asked) (rule : ReuseRule) (condition : Option Condition) (b : Bool) → KindOf es x event next (outcome_without_stored_response table es xs line now asked rule condition b)
+  kind_unanswered : (xs : List Exchange) (line : Route) (now : ℕ) (asked : Asked) (rule : ReuseRule) (condition : Option Condition) (b : Bool) → KindOf es x event next (outcome_without_stored_response table es xs line now asked rule condition b)
   unfolding KindOf
   kind_unanswered xs line now asked rule condition true = idle refl refl
-  kind_unanswered xs line now asked rule condition false = kind_sent_on line asked condition (leader_of_request (policy_of table.lines line) es (exchanges_to_wait_for table line asked xs) asked rule)
+  kind_unanswered xs line now asked rule condition false =
+      unless_sent (KindOf es x event next) table es line now asked (sent_over table es xs line now asked rule) (outcome_of_waiting_or_forwarding table line asked condition (led_over table es xs line asked rule))
+      (λ s h.
+      let is = sent_beside_is (policy_of table.lines line) es asked now s (awaited_of (policy_of table.lines line) es asked rule) (led_over table es xs line asked rule) h in
+      kind_sent s now (revalidating_status_info (policy_of table.lines line)) asked (is.response, is.found))
+      (kind_sent_on line asked condition (led_over table es xs line asked rule))
 
-  kind_allowed : (xs : List Exchange) (line now : ℕ) (asked : Asked) (d : Decision) → ((s : ℕ) → d ≡ decision.Hit s → IsFound es s) → KindOf es x event next (outcome_of_allowed_request table es xs line now asked d)
+  kind_allowed : (xs : List Exchange) (line : Route) (now : ℕ) (asked : Asked) (d : Decision) → ((s : ℕ) → d ≡ decision.Hit s → IsFound es s) → KindOf es x event next (outcome_of_allowed_request table es xs line now asked d)
   unfolding KindOf
   kind_allowed xs line now asked (decision.Hit s) f = let r = f s refl in uses s r.0 refl refl r.1
   kind_allowed xs line now asked (decision.Forward rule against) f = kind_unanswered xs line now asked rule (condition_about_serial es against) (is_only_if_cached asked)
@@ -177,7 +184,7 @@ module _ (table : Table) (es : List Stored) (now id : ℕ) (x : Exchange) (r : R
   kind_revalidated None (decision.Forward rule against) v k = idle refl refl
 
   kind_answered : NoSerialIsHeldFrom next es → KindOf es (Some x) (Answer now id r) next (outcome_of_answer table es now x r next (decision_of (policy_of table.lines x.line) es x.asked now))
-  kind_answered g = by_304 (is_validation x r)
+  kind_answered g = by_304 (is_304_to_own_conditions x r)
     where
       d : Decision
       d = decision_of (policy_of table.lines x.line) es x.asked now

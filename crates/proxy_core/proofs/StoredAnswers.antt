@@ -1,6 +1,6 @@
 -- An answer is stored exactly where it may be, and no stored response is sent in its place.
 use Rattle.std.proofs.Common.{◌≡◌, inl, inr, ℕ, ◌≤◌, Bool, true, false, not, ◌&&◌, cond, List, [], ◌∷◌, length, refl, sym, ap, ◌∙◌, subst}
-use Rattle.std.specs.Prelude.{Option, Some, None, IfSome, is_none, is_some, ◌==◌, nat_le, nat_lt, ◌||◌}
+use Rattle.std.specs.Prelude.{Option, Some, None, IfSome, is_none, is_some, ◌==◌, nat_le, nat_lt}
 use Rattle.std.proofs.lemmas.Bool.{false_from_ne_true, eqb-true}
 use Rattle.http.specs.Method.{safe_methods, is_among}
 use Rattle.hx_target.specs.declared.keys.Key.{Key}
@@ -8,9 +8,10 @@ use Rattle.hx_framing.specs.declared.messages.Response.{Response}
 use Rattle.hx_hop.specs.Answering.{answered_of}
 use Rattle.hx_allow.specs.TableLines.{Table}
 use Rattle.hx_allow.specs.Matching.{policy_of}
-use Rattle.proxy_core.specs.Allowing.{verdict_of_asked, exchanges_to_wait_for}
+use Rattle.proxy_core.specs.Allowing.{verdict_of_asked}
 use Rattle.hx_allow.specs.declared.verdicts.Verdict.{Verdict}
 use Rattle.hx_allow.specs.declared.verdicts.Verdict.TheVariants as verdict
+use Rattle.hx_allow.specs.declared.verdicts.Route.{Route}
 use Rattle.hx_vary.specs.Vary.{is_star}
 use Rattle.hx_store.specs.Stored.{Stored}
 use Rattle.hx_store.specs.Shelf.{serials_of}
@@ -35,14 +36,14 @@ use Rattle.proxy_core.specs.declared.event.Event.{Event}
 use Rattle.proxy_core.specs.declared.event.Event.TheVariants.{Arrive, Answer, Fail, Wake, Abandon}
 use Rattle.proxy_core.specs.declared.steps.fallback.Fallback.{Fallback}
 use Rattle.proxy_core.specs.declared.steps.fallback.Fallback.TheVariants.{Sends, Refuses}
-use Rattle.proxy_core.specs.Awaiting.{leader_of_request}
 use Rattle.proxy_core.specs.Outcomes.{outcome_of_allowed_request, outcome_of_answer, outcome_of_arrival, outcome_of_failure, fallback_for, find_exchange, forward_text, forwarded_status_info, exchange_id_of_event, is_error_status, is_only_if_cached, outcome_of, outcome_of_passing_on, outcome_of_passing_on_or_stale, outcome_of_304, outcome_of_sending_stored, outcome_of_waiting_or_forwarding, outcome_of_sending_freshened, serial_of_stored_answer, outcome_without_stored_response, outcome_of_wake, step_fault, fault_at_exchange}
 use Rattle.proxy_core.specs.State.{serial_stored_by_outcome, serial_used_by_outcome, serials_removed_by_outcome}
 use Rattle.proxy_core.specs.Starts.{StoreAtStart}
 use Rattle.proxy_core.specs.Storing.{weight_of_answer, replaced_by, storing_rule_to_explain, storing_facts_of_answer, is_storable, is_304_without_condition}
-use Rattle.proxy_core.specs.Validating.{is_above, stored_response_asked_about, condition_about_serial, stored_response_if_answered, freshened_may_be_kept, is_validation, freshened_by_304, stored_response_validated}
+use Rattle.proxy_core.specs.Validating.{is_above, stored_response_asked_about, condition_about_serial, stored_response_if_answered, freshened_may_be_kept, is_304_to_own_conditions, freshened_by_304, stored_response_validated}
 use Rattle.proxy_core.specs.Traces.{Item}
 use Rattle.proxy_core.specs.Histories.{held_entries, IsGoodHistory, next_serial, open_exchanges}
+use Rattle.proxy_core.proofs.SentBeside.{led_over, sent_over, unless_sent}
 use Rattle.proxy_core.proofs.Moves.{key_taken_by_answer}
 use Rattle.proxy_core.specs.Promises.{reply_uses_no_stored_response, key_invalidated_by_answer}
 use Rattle.proxy_core.proofs.Leaving.{serial_stays, unanswered as never_answered}
@@ -167,7 +168,7 @@ module _ (table : Table) (x : Exchange) (r : Response) (now : ℕ) (next : Optio
       validated_never None (decision.Forward rule against) h = cc
 
       stored_only : serial_stored_by_outcome (outcome_of_answer table es now x r next d) ≡ Some s → (is_storable table x r now next ≡ true) × (serial_used_by_outcome (outcome_of_answer table es now x r next d) ≡ None) × (next ≡ Some s)
-      stored_only h = by_304 (is_validation x r) h
+      stored_only h = by_304 (is_304_to_own_conditions x r) h
         where
           by_unasked : (b : Bool) → serial_stored_by_outcome (cond b (outcome_of_failure table es now x BadAnswer (Some r.status) (fallback_for (policy_of table.lines x.line) es x.asked now d)) (outcome_of_passing_on_or_stale table es now x r next (is_error_status r.status) (fallback_for (policy_of table.lines x.line) es x.asked now d))) ≡ Some s
               → (is_storable table x r now next ≡ true) × (serial_used_by_outcome (cond b (outcome_of_failure table es now x BadAnswer (Some r.status) (fallback_for (policy_of table.lines x.line) es x.asked now d)) (outcome_of_passing_on_or_stale table es now x r next (is_error_status r.status) (fallback_for (policy_of table.lines x.line) es x.asked now d))) ≡ None) × (next ≡ Some s)
@@ -359,14 +360,14 @@ module _ (table : Table) (es : List Stored) (now : ℕ) (x : Exchange) (r : Resp
   nothing_held_for : (o : Outcome) → reply_uses_no_stored_response o ≡ false → serials_held_for_key es (key_taken_by_answer x.asked r o) (serial_not_kept_after_304 table x now r (stored_response_validated es x r now)) ≡ serial_not_kept_after_304 table x now r (stored_response_validated es x r now)
   nothing_held_for o h = ap (λ (k : Option Key). serials_held_for_key es k (serial_not_kept_after_304 table x now r (stored_response_validated es x r now))) (none_by x r o h)
 
-  no_304_goes : is_validation x r ≡ false → serial_not_kept_after_304 table x now r (stored_response_validated es x r now) ≡ []
+  no_304_goes : is_304_to_own_conditions x r ≡ false → serial_not_kept_after_304 table x now r (stored_response_validated es x r now) ≡ []
   no_304_goes n = ap (serial_not_kept_after_304 table x now r) (by_entry (stored_response_asked_about es x))
     where
       by_entry : (o : Option Stored) → stored_response_if_answered x r now o ≡ None
       by_entry None = refl
       by_entry (Some e) = ap (λ b. cond b (Some e) None) (never_answered x r now e n)
 
-  failed_goes : is_validation x r ≡ false → is_304_without_condition (policy_of table.lines x.line) x.asked r ≡ true → (fallback : Fallback) → Goes (outcome_of_failure table es now x BadAnswer (Some r.status) fallback)
+  failed_goes : is_304_to_own_conditions x r ≡ false → is_304_without_condition (policy_of table.lines x.line) x.asked r ≡ true → (fallback : Fallback) → Goes (outcome_of_failure table es now x BadAnswer (Some r.status) fallback)
   failed_goes n u (Sends serial detail) = sym (nothing_held_for (outcome_of_sending_stored table es serial now (forwarded_status_info (policy_of table.lines x.line) x (Some r.status) (Some detail)) x.asked) refl ∙ no_304_goes n)
   failed_goes n u (Refuses rule error) =
       let unsafe = not (is_among safe_methods x.asked.method) in
@@ -375,7 +376,7 @@ module _ (table : Table) (es : List Stored) (now : ℕ) (x : Exchange) (r : Resp
       ∙ all_goes (unsafe && (plain && true))
       ∙ sym (ap (serials_held_for_key es (cond (unsafe && (plain && true)) (Some x.asked.target.key) None)) (no_304_goes n))
 
-  passed_goes : (rule : Option StoreRule) (stored : Option ℕ) → is_validation x r ≡ false → Goes (outcome_of_passing_on table es now x r rule stored)
+  passed_goes : (rule : Option StoreRule) (stored : Option ℕ) → is_304_to_own_conditions x r ≡ false → Goes (outcome_of_passing_on table es now x r rule stored)
   passed_goes rule (Some s) n = refl
   passed_goes rule None n =
       let unsafe = not (is_among safe_methods x.asked.method) in
@@ -385,7 +386,7 @@ module _ (table : Table) (es : List Stored) (now : ℕ) (x : Exchange) (r : Resp
       ∙ all_goes (unsafe && (plain && true))
       ∙ sym (ap (serials_held_for_key es (cond (unsafe && (plain && true)) (Some x.asked.target.key) None)) (no_304_goes n))
 
-  unless_goes : is_validation x r ≡ false → (b : Bool) → is_error_status r.status ≡ b → (fallback : Fallback) → Goes (outcome_of_passing_on_or_stale table es now x r next b fallback)
+  unless_goes : is_304_to_own_conditions x r ≡ false → (b : Bool) → is_error_status r.status ≡ b → (fallback : Fallback) → Goes (outcome_of_passing_on_or_stale table es now x r next b fallback)
   unless_goes n true e (Sends serial detail) = sym (nothing_held_for (outcome_of_sending_stored table es serial now (forwarded_status_info (policy_of table.lines x.line) x (Some r.status) (Some detail)) x.asked) refl ∙ no_304_goes n)
   unless_goes n true e (Refuses rule error) = passed_goes (storing_rule_to_explain table x r now next) (serial_of_stored_answer table x r now next) n
   unless_goes n false e fallback = passed_goes (storing_rule_to_explain table x r now next) (serial_of_stored_answer table x r now next) n
@@ -398,14 +399,14 @@ module _ (table : Table) (es : List Stored) (now : ℕ) (x : Exchange) (r : Resp
   revalidated_goes None (decision.Forward rule against) v = sym (nothing_held_for (Forward x.line (forward_text table x.line x.asked None)) refl ∙ ap (serial_not_kept_after_304 table x now r) v)
 
   answer_goes : (d : Decision) → Goes (outcome_of_answer table es now x r next d)
-  answer_goes d = by_304 (is_validation x r) refl
+  answer_goes d = by_304 (is_304_to_own_conditions x r) refl
     where
-      by_unasked : is_validation x r ≡ false → (b : Bool) → is_304_without_condition (policy_of table.lines x.line) x.asked r ≡ b →
+      by_unasked : is_304_to_own_conditions x r ≡ false → (b : Bool) → is_304_without_condition (policy_of table.lines x.line) x.asked r ≡ b →
           Goes (cond b (outcome_of_failure table es now x BadAnswer (Some r.status) (fallback_for (policy_of table.lines x.line) es x.asked now d)) (outcome_of_passing_on_or_stale table es now x r next (is_error_status r.status) (fallback_for (policy_of table.lines x.line) es x.asked now d)))
       by_unasked n true u = failed_goes n u (fallback_for (policy_of table.lines x.line) es x.asked now d)
       by_unasked n false u = unless_goes n (is_error_status r.status) refl (fallback_for (policy_of table.lines x.line) es x.asked now d)
 
-      by_304 : (b : Bool) → is_validation x r ≡ b →
+      by_304 : (b : Bool) → is_304_to_own_conditions x r ≡ b →
           Goes (cond b (outcome_of_304 table es now x r (stored_response_validated es x r now) d)
           (cond (is_304_without_condition (policy_of table.lines x.line) x.asked r) (outcome_of_failure table es now x BadAnswer (Some r.status) (fallback_for (policy_of table.lines x.line) es x.asked now d)) (outcome_of_passing_on_or_stale table es now x r next (is_error_status r.status) (fallback_for (policy_of table.lines x.line) es x.asked now d))))
       by_304 true k = revalidated_goes (stored_response_validated es x r now) d refl
@@ -421,15 +422,17 @@ module _ (table : Table) (es : List Stored) (xs : List Exchange) (next : Option 
       serials_removed_by_outcome (outcome_of table es xs x next event) ≡ serials_removed_at table es x event (outcome_of table es xs x next event)
   goes_by_event x (Arrive now id asked) shown = by_verdict (verdict_of_asked table asked)
     where
-      on : (line : ℕ) (condition : Option Condition) (leader : Option ℕ) → serials_removed_by_outcome (outcome_of_waiting_or_forwarding table line asked condition leader) ≡ []
+      on : (line : Route) (condition : Option Condition) (leader : Option ℕ) → serials_removed_by_outcome (outcome_of_waiting_or_forwarding table line asked condition leader) ≡ []
       on line condition None = refl
       on line condition (Some leader) = refl
 
-      unless : (line : ℕ) (rule : ReuseRule) (condition : Option Condition) (b : Bool) → serials_removed_by_outcome (outcome_without_stored_response table es xs line now asked rule condition b) ≡ []
+      unless : (line : Route) (rule : ReuseRule) (condition : Option Condition) (b : Bool) → serials_removed_by_outcome (outcome_without_stored_response table es xs line now asked rule condition b) ≡ []
       unless line rule condition true = refl
-      unless line rule condition false = on line condition (leader_of_request (policy_of table.lines line) es (exchanges_to_wait_for table line asked xs) asked rule)
+      unless line rule condition false =
+          unless_sent (λ (o : Outcome). serials_removed_by_outcome o ≡ []) table es line now asked (sent_over table es xs line now asked rule) (outcome_of_waiting_or_forwarding table line asked condition (led_over table es xs line asked rule))
+          (λ t is. refl) (on line condition (led_over table es xs line asked rule))
 
-      by_decision : (line : ℕ) (d : Decision) → serials_removed_by_outcome (outcome_of_allowed_request table es xs line now asked d) ≡ []
+      by_decision : (line : Route) (d : Decision) → serials_removed_by_outcome (outcome_of_allowed_request table es xs line now asked d) ≡ []
       by_decision line (decision.Hit s) = refl
       by_decision line (decision.Forward rule against) = unless line rule (condition_about_serial es against) (is_only_if_cached asked)
 

@@ -6,6 +6,7 @@ use Rattle.hx_allow.specs.TableLines.{Table}
 use Rattle.proxy_core.specs.Allowing.{verdict_of_asked}
 use Rattle.hx_allow.specs.declared.verdicts.Verdict.{Verdict}
 use Rattle.hx_allow.specs.declared.verdicts.Verdict.TheVariants.{Allowed, DeniedBy, NoLine, Looped}
+use Rattle.hx_allow.specs.declared.verdicts.Route.{Route}
 use Rattle.hx_hop.specs.declared.request_view.Asked.{Asked}
 use Rattle.hx_store.specs.Stored.{Stored}
 use Rattle.proxy_core.specs.declared.outcome.Outcome.{Outcome}
@@ -71,7 +72,7 @@ same_good start events outcomes more m g = subst (λ (os : List Outcome). IsGood
 
 -- ---- a denied request leaves no trace
 
-denied_by : (table : Table) (es : List Stored) (xs : List Exchange) (now : ℕ) (asked : Asked) (v : Verdict) → ((line : ℕ) → v ≢ Allowed line) → OutcomeLeavesNoTrace (outcome_of_arrival table es xs now asked v)
+denied_by : (table : Table) (es : List Stored) (xs : List Exchange) (now : ℕ) (asked : Asked) (v : Verdict) → ((line : Route) → v ≢ Allowed line) → OutcomeLeavesNoTrace (outcome_of_arrival table es xs now asked v)
 denied_by table es xs now asked (Allowed line) n = absurd (n line refl)
 denied_by table es xs now asked (DeniedBy line) n = (refl, refl, refl)
 denied_by table es xs now asked NoLine n = (refl, refl, refl)

@@ -8,6 +8,7 @@ use Rattle.hx_allow.specs.TableLines.{Table}
 use Rattle.hx_allow.specs.Matching.{policy_of}
 use Rattle.hx_allow.specs.declared.verdicts.Verdict.{Verdict}
 use Rattle.hx_allow.specs.declared.verdicts.Verdict.TheVariants as verdict
+use Rattle.hx_allow.specs.declared.verdicts.Route.{Route}
 use Rattle.hx_store.specs.Stored.{Stored}
 use Rattle.hx_reuse.specs.Rules.{decision_of, names_chosen}
 use Rattle.hx_reuse.specs.ChosenAndNamed.{RuleNamesTheResponse}
@@ -20,24 +21,25 @@ use Rattle.proxy_core.specs.declared.steps.condition.Condition.{Condition}
 use Rattle.proxy_core.specs.declared.open.exchange.Exchange.{Exchange}
 use Rattle.proxy_core.specs.declared.event.Event.{Event}
 use Rattle.proxy_core.specs.declared.event.Event.TheVariants.{Arrive, Answer, Fail, Wake, Abandon}
-use Rattle.proxy_core.specs.Validating.{condition_about_serial, is_validation}
+use Rattle.proxy_core.specs.Validating.{condition_about_serial, is_304_to_own_conditions}
 use Rattle.proxy_core.specs.declared.open.awaited.Awaited.{Awaited}
 use Rattle.proxy_core.specs.Leading.{leader_if_awaited}
 use Rattle.proxy_core.proofs.Awaits.{operator_awaits_nothing}
-use Rattle.proxy_core.specs.Outcomes.{find_exchange, exchange_id_of_event, outcome_of_arrival, outcome_of_allowed_request, outcome_of_waiting_or_forwarding, outcome_without_stored_response, is_only_if_cached}
+use Rattle.proxy_core.specs.Outcomes.{find_exchange, exchange_id_of_event, outcome_of_arrival, outcome_of_allowed_request, outcome_of_waiting_or_forwarding, outcome_unless_sent_beside, outcome_without_stored_response, is_only_if_cached}
 use Rattle.proxy_core.specs.State.{serial_stored_by_outcome, serial_used_by_outcome}
 use Rattle.proxy_core.specs.Starts.{StoreAtStart}
 use Rattle.proxy_core.specs.Traces.{Item}
 use Rattle.proxy_core.specs.Histories.{held_entries, open_exchanges, next_serial}
 use Rattle.proxy_core.specs.Carrying.{WentForwardOnce, WentForwardASecondTime, HasWaitedSinceItsArrival, ExchangeWasJudged}
-use Rattle.proxy_core.specs.Sending.{StoredResponseIsReusable, IsStoredFallback, StoredResponseMayBeSentAt}
+use Rattle.proxy_core.specs.Sending.{StoredResponseIsReusable, IsStoredFallback, StoredResponseMayBeSentAt, StoredResponseMayBeSentBeside}
+use Rattle.proxy_core.specs.Revalidating.{sent_beside}
 use Rattle.proxy_core.specs.Uncached.{EventGoesOverLine, RequestIsAnsweredByTheOperator, NothingIsStoredOverUncachedLine, NothingStoredIsSentOverUncachedLine, RequestGoesForwardOverUncachedLine}
 use Rattle.proxy_core.proofs.Carries.{carries_its_arrival}
 use Rattle.proxy_core.proofs.SendLaws.{sends_nothing_else, arrival_is, allowed_by}
 use Rattle.proxy_core.proofs.Moves.{and_none}
 use Rattle.proxy_core.proofs.Unsent.{storing_of}
 
-same_line : (m n : ℕ) → verdict.Allowed m ≡ verdict.Allowed n → m ≡ n
+same_line : (m n : Route) → verdict.Allowed m ≡ verdict.Allowed n → m ≡ n
 same_line m n h = cc
 
 -- where nothing is there it is none
@@ -45,14 +47,14 @@ none_there : (o : Option ℕ) → ((s : ℕ) → o ≡ Some s → ⊥) → o ≡
 none_there None h = refl
 none_there (Some s) h = absurd (h s refl)
 
-module _ (table : Table) (line : ℕ) (off : (policy_of table.lines line).caches ≡ false) where
-  no_word : (n : ℕ) → n ≡ line → (policy_of table.lines n).caches ≡ true → ⊥
+module _ (table : Table) (line : Route) (off : (policy_of table.lines line).caches ≡ false) where
+  no_word : (n : Route) → n ≡ line → (policy_of table.lines n).caches ≡ true → ⊥
   no_word n same h = false≢true (sym off ∙ ap (λ m. (policy_of table.lines m).caches) (sym same) ∙ h)
 
-  not_reusable : (held : List Stored) (asked : Asked) (now s n : ℕ) → n ≡ line → StoredResponseIsReusable (policy_of table.lines n) held asked now s → ⊥
+  not_reusable : (held : List Stored) (asked : Asked) (now s : ℕ) (n : Route) → n ≡ line → StoredResponseIsReusable (policy_of table.lines n) held asked now s → ⊥
   not_reusable held asked now s n same r = no_word n same r.1.operator_allows
 
-  no_fallback : (held : List Stored) (asked : Asked) (now s n : ℕ) → n ≡ line → IsStoredFallback (policy_of table.lines n) held asked now s → ⊥
+  no_fallback : (held : List Stored) (asked : Asked) (now s : ℕ) (n : Route) → n ≡ line → IsStoredFallback (policy_of table.lines n) held asked now s → ⊥
   no_fallback held asked now s n same (inl r) = not_reusable held asked now s n same r
   no_fallback held asked now s n same (inr may) = no_word n same may.1.operator_allows
 
@@ -72,7 +74,7 @@ module _ (table : Table) (line : ℕ) (off : (policy_of table.lines line).caches
       by_going (inr (inl more)) = more.condition
       by_going (inr (inr waits)) = waits.condition ∙ ap (condition_about_serial (held_entries table start a.before)) (by_name waits.against waits.names)
 
-  no_validation : (x : Exchange) (r : Response) → x.condition ≡ None → is_validation x r ≡ true → ⊥
+  no_validation : (x : Exchange) (r : Response) → x.condition ≡ None → is_304_to_own_conditions x r ≡ true → ⊥
   no_validation x r none h = false≢true (sym (and_none (r.status == 304)) ∙ ap (λ (c : Option Condition). (r.status == 304) && is_some c) (sym none) ∙ h)
 
   nothing_sent : (start : StoreAtStart) (s : ℕ) (past : List Item) (x : Option Exchange) (event : Event) → ((z : Exchange) → x ≡ Some z → ExchangeWasJudged table start z past) →
@@ -90,12 +92,22 @@ module _ (table : Table) (line : ℕ) (off : (policy_of table.lines line).caches
   nothing_sent start s past (Some x) (Abandon id) carries over may = may
   nothing_sent start s past None (Abandon id) carries over may = may
 
+  nothing_beside : (start : StoreAtStart) (s : ℕ) (past : List Item) (x : Option Exchange) (event : Event) → EventGoesOverLine table x event line → StoredResponseMayBeSentBeside table (held_entries table start past) (open_exchanges table start past) event s → ⊥
+  nothing_beside start s past x (Arrive now id asked) over may =
+      let awaits = may.2.awaits in
+      no_word may.0 (same_line may.0 line (sym may.1 ∙ over)) (allowed_by (policy_of table.lines may.0) (held_entries table start past) asked now awaits.rule awaits.is_least awaits.leaves.1)
+  nothing_beside start s past x (Answer now id r) over may = may
+  nothing_beside start s past x (Fail now id kind) over may = may
+  nothing_beside start s past x (Wake now id) over may = may
+  nothing_beside start s past x (Abandon id) over may = may
+
 pub sends_nothing_over_it : NothingStoredIsSentOverUncachedLine
 sends_nothing_over_it table start first line item past g over off =
     let x = find_exchange (exchange_id_of_event item.event) (open_exchanges table start past) in
-    none_there (serial_used_by_outcome item.outcome) (λ s h.
-    nothing_sent table line off start s past x item.event
-    (λ z is. (carries_its_arrival table start first (exchange_id_of_event item.event) past z g.1 is).0) over (sends_nothing_else table start first s item past g h))
+    none_there (serial_used_by_outcome item.outcome) (λ s h. elim (sends_nothing_else table start first s item past g h) [
+      | inl may ↦ nothing_sent table line off start s past x item.event (λ z is. (carries_its_arrival table start first (exchange_id_of_event item.event) past z g.1 is).0) over may
+      | inr may ↦ nothing_beside table line off start s past x item.event over may
+    ])
 
 pub stores_nothing_over_it : NothingIsStoredOverUncachedLine
 stores_nothing_over_it table start first line item past g over off =
@@ -125,6 +137,8 @@ goes_forward_over_it table start first now id line asked item past g e v off =
     by_word false k is = inl (
       k,
       is
-          ∙ ap (λ (o : Option Awaited). outcome_of_waiting_or_forwarding table line asked None (leader_if_awaited (policy_of table.lines line) asked (exchanges_to_wait_for table line asked (open_exchanges table start past)) o))
+          ∙ ap (λ (o : Option Awaited). outcome_unless_sent_beside table (held_entries table start past) line now asked
+          (sent_beside (policy_of table.lines line) (held_entries table start past) asked now o (leader_if_awaited (policy_of table.lines line) asked (exchanges_to_wait_for table line asked (open_exchanges table start past)) o))
+          (outcome_of_waiting_or_forwarding table line asked None (leader_if_awaited (policy_of table.lines line) asked (exchanges_to_wait_for table line asked (open_exchanges table start past)) o)))
           (operator_awaits_nothing (policy_of table.lines line) (held_entries table start past) asked),
     )

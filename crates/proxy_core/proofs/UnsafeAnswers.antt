@@ -19,7 +19,7 @@ use Rattle.proxy_core.specs.Histories.{held_entries}
 use Rattle.proxy_core.specs.Traces.{Item}
 use Rattle.proxy_core.specs.Outcomes.{outcome_of_answer}
 use Rattle.proxy_core.specs.Storing.{status_invalidates, key_invalidated}
-use Rattle.proxy_core.specs.Validating.{condition_about_serial, is_validation}
+use Rattle.proxy_core.specs.Validating.{condition_about_serial, is_304_to_own_conditions}
 use Rattle.proxy_core.specs.Promises.{key_invalidated_by_answer}
 use Rattle.proxy_core.specs.Carrying.{ExchangeWasJudged, WentForwardOnce, WentForwardASecondTime, HasWaitedSinceItsArrival}
 use Rattle.proxy_core.proofs.Moves.{and_none, key_taken_by_answer, same_key_invalidated}
@@ -64,7 +64,7 @@ module _ (table : Table) (start : StoreAtStart) (x : Exchange) (past : List Item
       by_going (inr (inl more)) = more.condition
       by_going (inr (inr waits)) = waits.condition ∙ ap (condition_about_serial (held_entries table start a.before)) (by_name waits.against waits.names)
 
-  validates_nothing : (r : Response) → is_among safe_methods x.asked.method ≡ false → is_validation x r ≡ false
+  validates_nothing : (r : Response) → is_among safe_methods x.asked.method ≡ false → is_304_to_own_conditions x r ≡ false
   validates_nothing r u = ap (λ (c : Option Condition). (r.status == 304) && is_some c) (no_condition u) ∙ and_none (r.status == 304)
 
   by_status : (r : Response) → key_invalidated_by_answer x.asked r ≡ key_invalidated x r
@@ -72,7 +72,7 @@ module _ (table : Table) (start : StoreAtStart) (x : Exchange) (past : List Item
     | inl s ↦ (
         let c = nat_le 200 r.status && nat_le r.status 399 in
         ap (λ b. cond (not b && c) (Some x.asked.target.key) None) s
-        ∙ sym (ap (λ b. cond ((not b && c) && not (is_validation x r)) (Some x.asked.target.key) None) s)
+        ∙ sym (ap (λ b. cond ((not b && c) && not (is_304_to_own_conditions x r)) (Some x.asked.target.key) None) s)
         )
     | inr u ↦ (
         let i = status_invalidates x.asked r.status in

@@ -13,7 +13,7 @@ use Rattle.hx_hop.specs.Answering.{answered_of}
 use Rattle.hx_hop.specs.declared.request_view.Asked.{Asked}
 use Rattle.hx_allow.specs.TableLines.{Table}
 use Rattle.hx_allow.specs.Matching.{policy_of}
-use Rattle.proxy_core.specs.Allowing.{verdict_of_asked, exchanges_to_wait_for}
+use Rattle.proxy_core.specs.Allowing.{verdict_of_asked}
 use Rattle.hx_allow.specs.declared.verdicts.Verdict.{Verdict}
 use Rattle.hx_allow.specs.declared.verdicts.Verdict.TheVariants as verdict
 use Rattle.hx_store.specs.Stored.{Stored}
@@ -38,16 +38,16 @@ use Rattle.proxy_core.specs.declared.steps.fallback.Fallback.TheVariants.{Sends,
 use Rattle.proxy_core.specs.declared.outcome.Outcome.{Outcome}
 use Rattle.proxy_core.specs.declared.event.Event.{Event}
 use Rattle.proxy_core.specs.declared.event.Event.TheVariants.{Arrive, Answer, Fail, Wake, Abandon}
-use Rattle.proxy_core.specs.Validating.{condition_about_serial, is_validation, stored_response_is_answered, stored_response_validated, freshened_by_304}
+use Rattle.proxy_core.specs.Validating.{condition_about_serial, is_304_to_own_conditions, stored_response_is_answered, stored_response_validated, freshened_by_304}
 use Rattle.proxy_core.specs.Storing.{storing_rule_to_explain, storing_facts_of_answer, is_storable, is_304_without_condition, answer_invalidates, key_invalidated}
 use Rattle.proxy_core.specs.Leading.{is_forwarded}
-use Rattle.proxy_core.specs.Awaiting.{leader_of_request}
 use Rattle.proxy_core.specs.Outcomes.{find_exchange, exchange_id_of_event, outcome_of_arrival, outcome_of_allowed_request, outcome_of_waiting_or_forwarding, outcome_without_stored_response, outcome_of_wake, fault_at_exchange, is_only_if_cached, fallback_for, outcome_of_failure, is_error_status, outcome_of_passing_on, outcome_of_passing_on_or_stale, serials_removed_by_answer, serial_of_stored_answer, outcome_of_304, outcome_of_answer, outcome_of}
 use Rattle.proxy_core.specs.State.{State, serial_stored_by_outcome, serial_used_by_outcome, serials_removed_by_outcome, next_serial_after, serial_after_this, stored_response_by_answer, stored_response_as_used, bounds_of, NoSerialIsHeldFrom}
 use Rattle.proxy_core.specs.Starts.{StoreAtStart, StartStands}
 use Rattle.proxy_core.specs.Traces.{Item, initial_state, state_after_trace, IsGood}
 use Rattle.proxy_core.specs.Histories.{held_serials, held_entry, store_change_of, exchanges_and_responses_after}
 use Rattle.proxy_core.specs.Promises.{reply_uses_no_stored_response, is_invalidated_key, invalidates_key, NoItemInvalidates, NothingInvalidatedIsSent, NothingInvalidatedSinceTheStartIsSent}
+use Rattle.proxy_core.proofs.SentBeside.{led_over, sent_over, unless_sent}
 use Rattle.proxy_core.proofs.Storable.{none_of}
 use Rattle.proxy_core.proofs.Leaving.{key_stays}
 use Rattle.proxy_core.proofs.HeldEntries.{EachIs-find, held_found, some_of_key}
@@ -118,7 +118,9 @@ stored_arrival table es xs now asked (verdict.Allowed line) s h = by_decision (d
 
     unless : (rule : ReuseRule) (condition : Option Condition) (b : Bool) → serial_stored_by_outcome (outcome_without_stored_response table es xs line now asked rule condition b) ≡ Some s → ⊥
     unless rule condition true h = none_stored s h
-    unless rule condition false h = on condition (leader_of_request (policy_of table.lines line) es (exchanges_to_wait_for table line asked xs) asked rule) h
+    unless rule condition false h =
+        unless_sent (λ (o : Outcome). serial_stored_by_outcome o ≡ Some s → ⊥) table es line now asked (sent_over table es xs line now asked rule) (outcome_of_waiting_or_forwarding table line asked condition (led_over table es xs line asked rule))
+        (λ t is h. none_stored s h) (on condition (led_over table es xs line asked rule)) h
 
     by_decision : (d : Decision) → serial_stored_by_outcome (outcome_of_allowed_request table es xs line now asked d) ≡ Some s → ⊥
     by_decision (decision.Hit t) h = none_stored s h
@@ -147,7 +149,7 @@ module _ (table : Table) (es : List Stored) (now i : ℕ) (x : Exchange) (r : Re
   stored_unless false fallback h = stored_by_test (is_storable table x r now next) refl h
 
   stored_answer : (d : Decision) → serial_stored_by_outcome (outcome_of_answer table es now x r next d) ≡ Some s → Storing table (Some x) (Answer now i r) next s
-  stored_answer d h = by_304 (is_validation x r) h
+  stored_answer d h = by_304 (is_304_to_own_conditions x r) h
     where
       by_unasked : (b : Bool) → serial_stored_by_outcome (cond b (outcome_of_failure table es now x BadAnswer (Some r.status) (fallback_for (policy_of table.lines x.line) es x.asked now d))
           (outcome_of_passing_on_or_stale table es now x r next (is_error_status r.status) (fallback_for (policy_of table.lines x.line) es x.asked now d))) ≡ Some s → Storing table (Some x) (Answer now i r) next s
@@ -218,13 +220,13 @@ answer_removes table es now x r next k h =
     let d = decision_of (policy_of table.lines x.line) es x.asked now in
     let c = nat_le 200 r.status && nat_le r.status 399 in
     let p = key_parts x r k h in
-    let t = tested (not (is_among safe_methods x.asked.method)) c (is_validation x r) p.0 in
+    let t = tested (not (is_among safe_methods x.asked.method)) c (is_304_to_own_conditions x r) p.0 in
     elim (cases_Bool (is_304_without_condition (policy_of table.lines x.line) x.asked r)) [
       | inl u ↦ (
           let refuses = unsafe_refuses (policy_of table.lines x.line) es x.asked now (turned (is_among safe_methods x.asked.method) t.unsafe) in
           ap serials_removed_by_outcome (failed_at (outcome_of_304 table es now x r (stored_response_validated es x r now) d)
           (outcome_of_failure table es now x BadAnswer (Some r.status) (fallback_for (policy_of table.lines x.line) es x.asked now d))
-          (outcome_of_passing_on_or_stale table es now x r next (is_error_status r.status) (fallback_for (policy_of table.lines x.line) es x.asked now d)) (is_validation x r) (is_304_without_condition (policy_of table.lines x.line) x.asked r) t.no_validation u)
+          (outcome_of_passing_on_or_stale table es now x r next (is_error_status r.status) (fallback_for (policy_of table.lines x.line) es x.asked now d)) (is_304_to_own_conditions x r) (is_304_without_condition (policy_of table.lines x.line) x.asked r) t.no_validation u)
           ∙ ap (λ (o : Fallback). serials_removed_by_outcome (outcome_of_failure table es now x BadAnswer (Some r.status) o)) refuses.1
           ∙ ap (λ b. cond (b && c) (serials_of x.asked.target.key es) []) t.unsafe
           ∙ ap (λ b. cond b (serials_of x.asked.target.key es) []) t.no_error
@@ -235,7 +237,7 @@ answer_removes table es now x r next k h =
           let unstored : is_storable table x r now next ≡ false = false_from_ne_true _ (λ e.
           let plain = storable_is table x r now next e in
           false≢true (sym (ap not plain.safe) ∙ t.unsafe)) in
-          ap serials_removed_by_outcome (passed_at table es now x r next d (is_validation x r) (is_304_without_condition (policy_of table.lines x.line) x.asked r) (is_error_status r.status) t.no_validation f fine)
+          ap serials_removed_by_outcome (passed_at table es now x r next d (is_304_to_own_conditions x r) (is_304_without_condition (policy_of table.lines x.line) x.asked r) (is_error_status r.status) t.no_validation f fine)
           ∙ ap (λ b. serials_removed_by_answer es x r (cond b next None)) unstored
           ∙ ap (λ b. cond b (serials_of x.asked.target.key es) []) p.0
           ∙ ap (λ key. serials_of key es) p.1

@@ -13,9 +13,12 @@ use Rattle.hx_allow.specs.Matching.{policy_of}
 use Rattle.proxy_core.specs.Allowing.{verdict_of_asked, exchanges_to_wait_for}
 use Rattle.hx_allow.specs.declared.verdicts.Verdict.{Verdict}
 use Rattle.hx_allow.specs.declared.verdicts.Verdict.TheVariants as verdict
+use Rattle.hx_allow.specs.declared.verdicts.Route.{Route}
 use Rattle.hx_store.specs.Stored.{Stored}
 use Rattle.hx_store.specs.Serials.{Distinct}
 use Rattle.hx_store.specs.Shelf.{serials}
+use Rattle.proxy_core.proofs.SentBeside.{led_over, sent_over, unless_sent, sent_is_no_wait}
+use Rattle.proxy_core.proofs.Beside.{nothing_beside}
 use Rattle.proxy_core.proofs.FirstRules.{held_distinct}
 use Rattle.hx_store.specs.Serials.{serial_is_in}
 use Rattle.hx_reuse.specs.Rules.{decision_of}
@@ -42,17 +45,17 @@ use Rattle.proxy_core.specs.Awaiting.{asks_the_origin, RequestAwaits, leader_of_
 use Rattle.proxy_core.specs.declared.open.awaited.Awaited.{Awaited}
 use Rattle.proxy_core.specs.declared.open.awaited.Awaited.TheVariants.{Missing, Expired}
 use Rattle.proxy_core.specs.Validating.{condition_about_serial}
-use Rattle.proxy_core.specs.Outcomes.{find_exchange, exchange_id_of_event, outcome_of_arrival, outcome_of_allowed_request, outcome_of_waiting_or_forwarding, outcome_without_stored_response, is_only_if_cached, fallback_for, outcome_of_failure, outcome_of_wake, outcome_of, outcome_of_event, or_fault, fault_if_not_released, fault_at_exchange, step_fault, forward_text}
+use Rattle.proxy_core.specs.Outcomes.{find_exchange, exchange_id_of_event, outcome_of_arrival, outcome_of_allowed_request, outcome_of_waiting_or_forwarding, revalidating_status_info, outcome_unless_sent_beside, outcome_without_stored_response, is_only_if_cached, fallback_for, outcome_of_failure, outcome_of_wake, outcome_of, outcome_of_event, or_fault, fault_if_not_released, fault_at_exchange, step_fault, forward_text}
 use Rattle.proxy_core.specs.State.{State, overtaken_exchange, released_exchange, forwarded_exchange, waiting_exchange, rule_of_decision, serial_named_by_decision, open_exchanges_after, serial_used_by_outcome}
 use Rattle.proxy_core.specs.Starts.{StoreAtStart}
 use Rattle.proxy_core.specs.Traces.{Item, initial_state, state_after_trace, IsGood}
 use Rattle.proxy_core.specs.Histories.{held_entries, open_exchanges, next_serial, IsGoodHistory}
 use Rattle.proxy_core.specs.Promises.{outcome_goes_forward, outcome_ends_exchange, is_arrival_event, NoRequestArrives}
 use Rattle.proxy_core.specs.Carrying.{ArrivesBefore, IdsAreInOrderOfArrival, exchange_ids}
-use Rattle.proxy_core.specs.Sending.{StoredResponseIsReusable}
+use Rattle.proxy_core.specs.Sending.{StoredResponseIsReusable, MayBeSentBesideLeader}
 use Rattle.proxy_core.specs.Waiting.{RequestCouldWait, RequestWaitsWhereOneLeads, RequestIsToWait, RequestWaitsNowhereElse, exchange_has_closed, went_for, OnlyOneGoesForwardForKey, PlainLinesWaitForMisses, is_wake_event, was_woken, NothingHappenedToExchange, stage_of_exchange, ExchangeMayBeWoken, RequestWaitsUntilItsLeaderEnds, RequestIsWokenOnceBehindItsLeader, ReleasedAreInOrderOfArrival, WakeIsAcceptedExactlyWhereReady, WokenRequestIsJudgedAnew}
 use Rattle.proxy_core.proofs.Awaits.{one_named}
-use Rattle.proxy_core.proofs.Leads.{led_by, led_for, first_leads, is_led}
+use Rattle.proxy_core.proofs.Leads.{led_by, led_for, first_leads, is_led, no_leader}
 use Rattle.proxy_core.proofs.ExchangeLists.{changed_by, find-push}
 use Rattle.proxy_core.proofs.Moves.{Move, apart, opens, queues, passes, again, wakes, closes, asked_of, ended_by, move_of, and_none, is_either, answer_either, released_from, key_taken_by_step}
 use Rattle.proxy_core.proofs.Tracing.{same_table}
@@ -80,9 +83,10 @@ some_leads policy awaited asked id (x ∷ xs) z f h = by_test (λ g. some_leads 
 -- ---- who waits
 
 -- what becomes of a GET that may wait, where one leads
-waits_for_it : (table : Table) (start : StoreAtStart) (first now id line l : ℕ) (asked : Asked) (awaited : Awaited) (item : Item) (past : List Item) → IsGoodHistory table start first (item ∷ past) →
-    item.event ≡ Arrive now id asked → RequestCouldWait table start past now line asked awaited → leader (policy_of table.lines line) awaited asked (exchanges_to_wait_for table line asked (open_exchanges table start past)) ≡ Some l → item.outcome ≡ Waits l
-waits_for_it table start first now id line l asked awaited item past g e could led =
+waits_for_it : (table : Table) (start : StoreAtStart) (first now id : ℕ) (line : Route) (l : ℕ) (asked : Asked) (awaited : Awaited) (item : Item) (past : List Item) → IsGoodHistory table start first (item ∷ past) →
+    item.event ≡ Arrive now id asked → RequestCouldWait table start past now line asked awaited → leader (policy_of table.lines line) awaited asked (exchanges_to_wait_for table line asked (open_exchanges table start past)) ≡ Some l →
+    ((s : ℕ) → MayBeSentBesideLeader (policy_of table.lines line) (held_entries table start past) (exchanges_to_wait_for table line asked (open_exchanges table start past)) asked now s → ⊥) → item.outcome ≡ Waits l
+waits_for_it table start first now id line l asked awaited item past g e could led never =
     let es = held_entries table start past in
     let xs = open_exchanges table start past in
     let rule = could.awaits.rule in
@@ -92,17 +96,19 @@ waits_for_it table start first now id line l asked awaited item past g e could l
     ∙ (ap (λ (v : Verdict). outcome_of_arrival table es xs now asked v) could.line_allows
     ∙ (ap (λ (d : Decision). outcome_of_allowed_request table es xs line now asked d) d.1
     ∙ (ap (λ b. outcome_without_stored_response table es xs line now asked rule (condition_about_serial es d.0) b) could.takes_others
-    ∙ ap (λ (o : Option ℕ). outcome_of_waiting_or_forwarding table line asked (condition_about_serial es d.0) o) (led_for (policy_of table.lines line) es (held_distinct table start first past g.1) (exchanges_to_wait_for table line asked xs) asked now rule least awaited l could.awaits led))))
+    ∙ (ap (λ (o : Option ℕ). outcome_unless_sent_beside table es line now asked o (outcome_of_waiting_or_forwarding table line asked (condition_about_serial es d.0) (led_over table es xs line asked rule)))
+    (nothing_beside (policy_of table.lines line) es (held_distinct table start first past g.1) (exchanges_to_wait_for table line asked xs) asked now rule least never could.takes_others)
+    ∙ ap (λ (o : Option ℕ). outcome_of_waiting_or_forwarding table line asked (condition_about_serial es d.0) o) (led_for (policy_of table.lines line) es (held_distinct table start first past g.1) (exchanges_to_wait_for table line asked xs) asked now rule least awaited l could.awaits led)))))
 
 pub waits_where_one_leads : RequestWaitsWhereOneLeads
-waits_where_one_leads table start first now id line l asked awaited item past g e could f =
+waits_where_one_leads table start first now id line l asked awaited item past g e could f never =
     waits_for_it table start first now id line l asked awaited item past g e could
-    (first_leads (policy_of table.lines line) awaited asked (exchanges_to_wait_for table line asked (open_exchanges table start past)) l f)
+    (first_leads (policy_of table.lines line) awaited asked (exchanges_to_wait_for table line asked (open_exchanges table start past)) l f) never
 
 -- what is known of a request that waits
 abbrev WaitsBy : Table → List Stored → List Exchange → ℕ → ℕ → Asked → Type 0
 WaitsBy table es xs now l asked =
-    (line : ℕ) × (verdict_of_asked table asked ≡ verdict.Allowed line) × (is_only_if_cached asked ≡ false)
+    (line : Route) × (verdict_of_asked table asked ≡ verdict.Allowed line) × (is_only_if_cached asked ≡ false)
     × ((awaited : Awaited) × RequestAwaits (policy_of table.lines line) es asked now awaited × (leader (policy_of table.lines line) awaited asked (exchanges_to_wait_for table line asked xs) ≡ Some l))
 
 wait_parts : (table : Table) (es : List Stored) (distinct : Distinct (serials es)) (xs : List Exchange) (now l : ℕ) (asked : Asked) (v : Verdict) → verdict_of_asked table asked ≡ v →
@@ -119,7 +125,10 @@ wait_parts table es distinct xs now l asked (verdict.Allowed line) v h = by_deci
     unless : (rule : ReuseRule) (against : Option ℕ) (b : Bool) → is_only_if_cached asked ≡ b → decision_of (policy_of table.lines line) es asked now ≡ decision.Forward rule against →
         outcome_without_stored_response table es xs line now asked rule (condition_about_serial es against) b ≡ Waits l → WaitsBy table es xs now l asked
     unless rule against true k d h = absurd (cc)
-    unless rule against false k d h = by_leader rule against (leader_of_request (policy_of table.lines line) es (exchanges_to_wait_for table line asked xs) asked rule) refl k d h
+    unless rule against false k d h =
+        unless_sent (λ (o : Outcome). o ≡ Waits l → WaitsBy table es xs now l asked) table es line now asked (sent_over table es xs line now asked rule) (outcome_of_waiting_or_forwarding table line asked (condition_about_serial es against) (led_over table es xs line asked rule))
+        (λ t is waits. absurd (sent_is_no_wait table es t now (revalidating_status_info (policy_of table.lines line)) asked l waits))
+        (λ waits. by_leader rule against (led_over table es xs line asked rule) refl k d waits) h
 
     by_decision : (d : Decision) → decision_of (policy_of table.lines line) es asked now ≡ d → outcome_of_allowed_request table es xs line now asked d ≡ Waits l → WaitsBy table es xs now l asked
     by_decision (decision.Hit t) k h = absurd (cc)
@@ -586,7 +595,7 @@ module _ (table : Table) (start : StoreAtStart) (first now id : ℕ) (rule : Reu
       by_rest (inr a) = origin_more i items _ (its items) (its (i ∷ items)) (move_of table (state_after_trace began (items ++ first_item ∷ before)) i id (same_table began (items ++ first_item ∷ before)) g.0) a
 
 -- it is, right behind the arrival at which it goes there
-at_the_arrival : (table : Table) (start : StoreAtStart) (first now id line : ℕ) (rule : ReuseRule) (named : Option ℕ) (asked : Asked) (bytes : List ℕ) (before : List Item) (o : Outcome) → o ≡ Forward line bytes →
+at_the_arrival : (table : Table) (start : StoreAtStart) (first now id : ℕ) (line : Route) (rule : ReuseRule) (named : Option ℕ) (asked : Asked) (bytes : List ℕ) (before : List Item) (o : Outcome) → o ≡ Forward line bytes →
     IsGood (initial_state table start first) (record { event = Arrive now id asked; outcome = o } ∷ before) →
     IsLeastReuseRule (policy_of table.lines line) (held_entries table start before) asked now rule → RuleNamesTheResponse (held_entries table start before) asked rule named →
     AtTheOrigin rule named asked (find_exchange id (state_after_trace (initial_state table start first) (record { event = Arrive now id asked; outcome = o } ∷ before)).exchanges)
@@ -662,11 +671,11 @@ one_goes_forward table start first line awaited rule named bytes now id asked la
         (λ w. subst (λ (o : Option Exchange). IfSome o (λ (x : Exchange). may_serve policy asked x ≡ true)) at (serves w)) in
         let led = some_leads policy awaited asked e.id (open_exchanges table start past) a.x at (its_leads a.x a.asked_is a.rule_is a.named_is a.stage may) in
         let went = forwards_nothing_else table start first now id line asked bytes later past g arrives forward in
-        let waits : later.outcome ≡ Waits led.0 =
-        waits_for_it table start first now id line led.0 asked awaited later past g arrives
-        (record { line_allows = went.0; takes_others = went.2; awaits = awaits })
-        (ap (λ b. leader policy awaited asked (cond b [] (open_exchanges table start past))) stays ∙ led.1) in
-        let no : Forward line bytes ≡ Waits led.0 = sym forward ∙ waits in
+        let leads : leader policy awaited asked (exchanges_to_wait_for table line asked (open_exchanges table start past)) ≡ Some led.0 =
+        ap (λ b. leader policy awaited asked (cond b [] (open_exchanges table start past))) stays ∙ led.1 in
+        let nobody : leader policy awaited asked (exchanges_to_wait_for table line asked (open_exchanges table start past)) ≡ None =
+        no_leader policy awaited asked (exchanges_to_wait_for table line asked (open_exchanges table start past)) (went.1.2 awaited awaits) in
+        let no : ◌≡◌ {A = Option ℕ} None (Some led.0) = sym nobody ∙ leads in
         absurd (cc)
 
 -- ---- a line without the word

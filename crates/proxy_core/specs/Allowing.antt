@@ -1,8 +1,9 @@
 -- What the operator's table says of a request that arrives, and for whom it may wait.
-use Rattle.std.specs.Prelude.{ℕ, Bool, List, [], if◌then◌else◌}
+use Rattle.std.specs.Prelude.{Bool, List, [], if◌then◌else◌}
 use Rattle.hx_hop.specs.declared.request_view.Asked.{Asked}
 use Rattle.hx_allow.specs.TableLines.{Table}
 use Rattle.hx_allow.specs.Matching.{verdict_of_request, request_came_back}
+use Rattle.hx_allow.specs.declared.verdicts.Route.{Route}
 use Rattle.hx_allow.specs.declared.verdicts.Verdict.{Verdict}
 use Rattle.proxy_core.specs.declared.open.exchange.Exchange.{Exchange}
 
@@ -11,10 +12,10 @@ abbrev pub verdict_of_asked : Table → Asked → Verdict
 verdict_of_asked table asked = verdict_of_request table asked.method asked.target asked.fields
 
 -- over a line that refuses loops the request was here before
-abbrev pub came_back : Table → ℕ → Asked → Bool
+abbrev pub came_back : Table → Route → Asked → Bool
 came_back table line asked = request_came_back table line asked.fields
 
 -- the open exchanges for whose answer a request may wait
 -- own: one that came back waits for none, which could be its own ("A request that came back waits for nobody")
-abbrev pub exchanges_to_wait_for : Table → ℕ → Asked → List Exchange → List Exchange
+abbrev pub exchanges_to_wait_for : Table → Route → Asked → List Exchange → List Exchange
 exchanges_to_wait_for table line asked xs = if came_back table line asked then [] else xs

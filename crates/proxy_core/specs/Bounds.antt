@@ -6,6 +6,7 @@
 -- two_were_stored, one_was_freshened, one_was_sent: worked histories       two_at_first: a store that isn't empty
 use Rattle.std.specs.Prelude.{◌≡◌, ℕ, ◌≤◌, true, List, [], ◌∷◌, ◌++◌, map, codes, Option, Some, None, IfSome}
 use Rattle.hx_allow.specs.TableLines.{Table}
+use Rattle.hx_allow.specs.Matching.{over_line}
 use Rattle.hx_store.specs.Stored.{Stored}
 use Rattle.hx_store.specs.Serials.{serial_is_in}
 use Rattle.hx_store.specs.Recency.{held_of}
@@ -60,17 +61,17 @@ abbrev pub two_were_stored : List Item
 two_were_stored =
     item_of (Answer 101 2 (response_with 200 (date_101 ∷ cache_control (codes "max-age=60") ∷ [])))
     (reply_that_stores [] (Some 2) [])
-    ∷ item_of (Arrive 101 2 get_b) (Forward 3 [])
+    ∷ item_of (Arrive 101 2 get_b) (Forward (over_line 3) [])
     ∷ item_of (Answer 101 1 (response_with 200 (date_101 ∷ cache_control (codes "max-age=1") ∷ etag_field
     (codes "\"v\"") ∷ []))) (reply_that_stores [] (Some 1) [])
-    ∷ item_of (Arrive 101 1 get_a) (Forward 3 []) ∷ []
+    ∷ item_of (Arrive 101 1 get_a) (Forward (over_line 3) []) ∷ []
 
 -- and then a 304 to the proxy's condition has another line of Cache-Control, and /a is sent
 abbrev pub one_was_freshened : List Item
 one_was_freshened =
     item_of (Answer 105 3 (response_304 (date_101 ∷ cache_control (codes "max-age=60") ∷ [])))
     (reply_that_sends_stored 1 [])
-    ∷ item_of (Arrive 105 3 get_a) (Forward 3 []) ∷ two_were_stored
+    ∷ item_of (Arrive 105 3 get_a) (Forward (over_line 3) []) ∷ two_were_stored
 
 -- the table of the wrong traces, with such a bound of bytes
 abbrev pub table_with_store : Option ℕ → Table

@@ -10,6 +10,7 @@ use Rattle.hx_vary.specs.Vary.{kept_values}
 use Rattle.hx_hop.specs.declared.request_view.Asked.{Asked}
 use Rattle.hx_allow.specs.TableLines.{Line, Table}
 use Rattle.hx_allow.specs.declared.line_hosts.LineHost.TheVariants.{Every}
+use Rattle.hx_allow.specs.Matching.{over_line}
 use Rattle.hx_store.specs.Stored.{Stored}
 use Rattle.hx_reuse.specs.declared.rule.ReuseRule.TheVariants.{UriMiss, NoLifetime, NoMaxStale}
 use Rattle.proxy_core.specs.Leading.{has_no_store}
@@ -47,6 +48,9 @@ line_with_no_cache = record {
   origin = Some (codes "127.0.0.1:8081");
   policy = plain true;
   refuses_loops = false;
+  session_cookies = [];
+  vary = [];
+  origin_timeout = None;
 }
 
 abbrev pub table : Table
@@ -58,6 +62,10 @@ table = record {
   max_store = None;
   lines = line_with_no_cache ∷ record line_with_no_cache { policy = plain false } ∷ [];
 }
+
+-- the same with one line, which names a field for Vary
+abbrev pub varying_table : Table
+varying_table = record table { lines = record line_with_no_cache { vary = codes "X-Forwarded-Proto" ∷ [] } ∷ [] }
 
 -- the same, but for the words of its one line
 abbrev pub table_with_policy : Policy → Table
@@ -90,7 +98,8 @@ forwarded_on_miss asked =
     record {
       id = 1;
       asked = asked;
-      line = 1;
+      line = over_line 1;
+      vary = [];
       rule = UriMiss;
       named = None;
       request_time = 100;
@@ -99,6 +108,14 @@ forwarded_on_miss asked =
       no_store = has_no_store asked;
       stage = Forwarded;
     }
+
+-- the same over a line that names a field for Vary
+abbrev pub varied_by_scheme : Exchange → Exchange
+varied_by_scheme x = record x { vary = codes "X-Forwarded-Proto" ∷ [] }
+
+-- a request that a front got in this scheme
+abbrev pub get_a_by_scheme : List ℕ → Asked
+get_a_by_scheme scheme = get_a_with (line (codes "X-Forwarded-Proto") scheme ∷ [])
 
 -- one that went forward since the response of serial 1 was stale, which has no validator
 abbrev pub forwarded_on_stale_by : Asked → Exchange
@@ -119,7 +136,7 @@ abbrev pub get_a_with_cookie : Asked
 get_a_with_cookie = get_a_with (line (codes "Cookie") (codes "session=alice") ∷ [])
 
 abbrev pub forwarded_over_line_2 : Exchange
-forwarded_over_line_2 = record (forwarded_on_miss (get_a_with [])) { line = 2 }
+forwarded_over_line_2 = record (forwarded_on_miss (get_a_with [])) { line = over_line 2 }
 
 -- one that waits for it
 abbrev pub waiting : Exchange

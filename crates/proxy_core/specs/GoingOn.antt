@@ -23,7 +23,7 @@ use Rattle.proxy_core.specs.declared.outcome.Outcome.TheVariants.{Reply as Repli
 use Rattle.proxy_core.specs.declared.event.Event.{Event}
 use Rattle.proxy_core.specs.declared.event.Event.TheVariants.{Arrive, Answer, Fail, Wake, Abandon}
 use Rattle.proxy_core.specs.Leading.{is_forwarded, is_released}
-use Rattle.proxy_core.specs.Validating.{condition_about_serial, is_validation}
+use Rattle.proxy_core.specs.Validating.{condition_about_serial, is_304_to_own_conditions}
 use Rattle.proxy_core.specs.Outcomes.{forward_text}
 use Rattle.proxy_core.specs.Sending.{StoredResponseMayBeSentAt, RequestGoesForward}
 
@@ -45,7 +45,8 @@ EventMayCome None (Abandon id) = ⊥
 -- the answer is a 304 to the proxy's own conditions, and there is no stored response to send for it
 abbrev pub NeedsSecondForward : Table → List Stored → Exchange → ℕ → ℕ → Response → Type 0
 NeedsSecondForward table held x now id r =
-    (is_validation x r ≡ true) × ((s : ℕ) → StoredResponseMayBeSentAt table held (Some x) (Answer now id r) s → ⊥)
+    (is_304_to_own_conditions x r ≡ true)
+    × ((s : ℕ) → StoredResponseMayBeSentAt table held (Some x) (Answer now id r) s → ⊥)
 
 abbrev pub IsClientReply : Outcome → Type 0
 IsClientReply outcome = (reply : Reply) × (outcome ≡ Replied reply)

@@ -18,6 +18,7 @@ use Rattle.hx_allow.specs.TableLines.{Table}
 use Rattle.hx_allow.specs.Matching.{policy_of}
 use Rattle.proxy_core.specs.Allowing.{verdict_of_asked}
 use Rattle.hx_allow.specs.declared.verdicts.Verdict.TheVariants.{Allowed}
+use Rattle.hx_allow.specs.declared.verdicts.Route.{Route}
 use Rattle.hx_storable.specs.Storable.{StatusIsFinal}
 use Rattle.proxy_core.specs.declared.steps.condition.Condition.{Condition}
 use Rattle.proxy_core.specs.declared.open.exchange.Exchange.{Exchange}
@@ -31,7 +32,7 @@ use Rattle.proxy_core.specs.Traces.{Item, DeniedRequestsLeaveNoTrace}
 use Rattle.proxy_core.specs.Histories.{held_entries, open_exchanges, next_serial, IsGoodHistory}
 use Rattle.proxy_core.specs.Promises.{latest_request_of, TwiceForwardOneReply}
 use Rattle.proxy_core.specs.Promises.{NothingInvalidatedIsSent, NothingInvalidatedSinceTheStartIsSent}
-use Rattle.proxy_core.specs.Sending.{RequestReachesCacheOrOrigin, RequestIsTurnedAway, StoredResponseMayBeSentAt}
+use Rattle.proxy_core.specs.Sending.{RequestReachesCacheOrOrigin, RequestIsTurnedAway, StoredResponseMayBeSent}
 use Rattle.proxy_core.specs.Sending.{ReplyIsThatStoredResponse}
 use Rattle.proxy_core.specs.GoingOn.{EventMayCome, ExchangeGoesOnBy, IsConditionOfEvent}
 use Rattle.proxy_core.specs.StoredAnswers.{AnswerMayBeStored, IsAnswerThatMayBeStored, ThoseAreRemoved}
@@ -53,16 +54,17 @@ EventComesWhereItMay table start item past =
 abbrev pub RequestReachesExactlyWhereAllowed : Table → StoreAtStart → Item → List Item → Type 0
 RequestReachesExactlyWhereAllowed table start item past = (now id : ℕ) (asked : Asked) → item.event
     ≡ Arrive now id asked →
-    ((line : ℕ) → verdict_of_asked table asked ≡ Allowed line
+    ((line : Route) → verdict_of_asked table asked ≡ Allowed line
     → RequestReachesCacheOrOrigin table (held_entries table start past)
     (open_exchanges table start past) now asked line item.outcome)
-    × (((line : ℕ) → verdict_of_asked table asked ≢ Allowed line)
+    × (((line : Route) → verdict_of_asked table asked ≢ Allowed line)
     → RequestIsTurnedAway table now asked item.outcome)
 
 -- Whatever goes forward, at an arrival, a wake or a second time, goes to the origin of the line
 -- that allows its request, and is that request's text, with the proxy's conditions of that moment.
 abbrev pub RequestGoesForwardWhereAllowed : Table → StoreAtStart → Item → List Item → Type 0
-RequestGoesForwardWhereAllowed table start item past = (line : ℕ) (bytes : List ℕ) → item.outcome ≡ Forward line bytes →
+RequestGoesForwardWhereAllowed table start item past = (line : Route) (bytes : List ℕ) → item.outcome
+    ≡ Forward line bytes →
     (asked : Asked) ×
     (condition : Option Condition) × (latest_request_of (exchange_id_of_event item.event) (item ∷ past) ≡ Some asked)
     × (verdict_of_asked table asked ≡ Allowed line)
@@ -76,13 +78,14 @@ ExchangeGoesOnToItsAnswer table start item past =
     (find_exchange (exchange_id_of_event item.event) (open_exchanges table start past)) item.event item.outcome
 
 -- A stored response is sent exactly where one is held that may be sent at this event (RFC 9111,
--- section 4; RFC 5861, section 4).
+-- section 4; RFC 5861, section 4), or beside an exchange that asks the origin about it (RFC 5861, section 3).
 abbrev pub StoredResponseIsSentExactlyWhereItMayBe : Table → StoreAtStart → Item → List Item → Type 0
 StoredResponseIsSentExactlyWhereItMayBe table start item past = (s : ℕ) →
-    (StoredResponseMayBeSentAt table (held_entries table start past)
+    (StoredResponseMayBeSent table (held_entries table start past) (open_exchanges table start past)
     (find_exchange (exchange_id_of_event item.event) (open_exchanges table start past)) item.event s
     → serial_used_by_outcome item.outcome ≡ Some s)
-    × (serial_used_by_outcome item.outcome ≡ Some s → StoredResponseMayBeSentAt table (held_entries table start past)
+    × (serial_used_by_outcome item.outcome ≡ Some s
+    → StoredResponseMayBeSent table (held_entries table start past) (open_exchanges table start past)
     (find_exchange (exchange_id_of_event item.event) (open_exchanges table start past)) item.event s)
 
 -- and what is sent is that response: its content, its head or its 304

@@ -3,7 +3,7 @@
 --
 -- AnswerOfKeptCondition: an answer of the origin is passed on to such a request
 -- Below it are the statements that the law `a_kept_condition_is_judged_on_the_answer` proves.
-use Rattle.std.specs.Prelude.{◌≡◌, ℕ, true, false, List, ◌∷◌, codes, Option, Some, None, is_some}
+use Rattle.std.specs.Prelude.{◌≡◌, ℕ, true, false, List, ◌∷◌, codes, Some, None, is_some}
 use Rattle.hx_fields.specs.FieldLines.{has_field}
 use Rattle.hx_framing.specs.Text.{request_text}
 use Rattle.hx_framing.specs.declared.messages.Request.{Request}
@@ -13,6 +13,7 @@ use Rattle.hx_hop.specs.declared.request_view.Asked.{Asked}
 use Rattle.hx_policy.specs.declared.words.Policy.{Policy}
 use Rattle.hx_allow.specs.Matching.{policy_of}
 use Rattle.hx_allow.specs.TableLines.{Table}
+use Rattle.hx_allow.specs.declared.verdicts.Route.{Route}
 use Rattle.hx_reuse.specs.Conditions.{keeps_conditions}
 use Rattle.hx_validate.specs.ClientConditions.{ConditionIsFalse}
 use Rattle.proxy_core.specs.declared.open.exchange.Exchange.{Exchange}
@@ -60,7 +61,7 @@ OtherConditionIsAnsweredWhole = (table : Table) (start : StoreAtStart) (first no
 
 -- what goes forward has none of the two conditions, where the proxy has none of its own to send
 abbrev pub NoClientsConditionGoesForward : Type 0
-NoClientsConditionGoesForward = (table : Table) (line : ℕ) (asked : Asked) →
+NoClientsConditionGoesForward = (table : Table) (line : Route) (asked : Asked) →
     keeps_conditions (policy_of table.lines line) asked ≡ true →
     (request : Request) × (forward_text table line asked None ≡ request_text request)
     × (has_field request.fields (codes "If-None-Match") ≡ false)

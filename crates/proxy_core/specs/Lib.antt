@@ -4,6 +4,7 @@ pub mod Storing
 pub mod Leading
 pub mod Allowing
 pub mod Awaiting
+pub mod Revalidating
 pub mod Outcomes
 pub mod State
 pub mod Arrivals

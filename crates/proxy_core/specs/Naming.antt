@@ -18,6 +18,7 @@ use Rattle.hx_allow.specs.Matching.{policy_of}
 use Rattle.proxy_core.specs.Allowing.{verdict_of_asked}
 use Rattle.hx_allow.specs.declared.verdicts.Verdict.TheVariants.{Allowed, DeniedBy, NoLine as Unmatched}
 use Rattle.hx_allow.specs.declared.verdicts.Verdict.TheVariants as verdict
+use Rattle.hx_allow.specs.declared.verdicts.Route.{Route}
 use Rattle.hx_store.specs.Stored.{Stored}
 use Rattle.hx_reuse.specs.Chosen.{chosen_of}
 use Rattle.hx_reuse.specs.Rules.{names_chosen}
@@ -51,7 +52,7 @@ AnswerAtArrivalNames table held now asked bytes =
     × (bytes ≡ refusal_reply_text (date_text_of now) (Denied line) asked.close (is_head asked)))
     ⊎ (((verdict_of_asked table asked ≡ Unmatched)
     × (bytes ≡ refusal_reply_text (date_text_of now) NoLine asked.close (is_head asked)))
-    ⊎ (((line : ℕ) × (rule : ReuseRule) × (verdict_of_asked table asked ≡ Allowed line)
+    ⊎ (((line : Route) × (rule : ReuseRule) × (verdict_of_asked table asked ≡ Allowed line)
     × (is_only_if_cached asked ≡ true) × IsLeastReuseRule (policy_of table.lines line) held asked now rule
     × (bytes ≡ refusal_reply_text (date_text_of now) (OnlyIfCached rule) asked.close (is_head asked)))
     ⊎ ((line : ℕ) × (verdict_of_asked table asked ≡ verdict.Looped line)

@@ -18,6 +18,7 @@ use Rattle.hx_hop.specs.Moments.{date_text_of}
 use Rattle.hx_allow.specs.TableLines.{Table}
 use Rattle.hx_allow.specs.Matching.{policy_of}
 use Rattle.proxy_core.specs.Allowing.{verdict_of_asked, exchanges_to_wait_for}
+use Rattle.hx_allow.specs.declared.verdicts.Route.{Route}
 use Rattle.hx_allow.specs.declared.verdicts.Verdict.{Verdict}
 use Rattle.hx_allow.specs.declared.verdicts.Verdict.TheVariants as verdict
 use Rattle.hx_store.specs.Stored.{Stored}
@@ -33,6 +34,7 @@ use Rattle.hx_storable.specs.declared.rule.StoreRule.{StoreRule}
 use Rattle.hx_status.specs.declared.status.How.TheVariants.{Hit, Fwd}
 use Rattle.hx_status.specs.declared.status.Detail.{Detail}
 use Rattle.hx_status.specs.declared.status.Detail.TheVariants.{StaleIfError, ReuseAfterError, ReuseAfter304}
+use Rattle.hx_status.specs.declared.status.Detail.TheVariants.{StaleWhileRevalidate}
 use Rattle.hx_status.specs.declared.cause.FailKind.{FailKind}
 use Rattle.hx_status.specs.declared.cause.FailKind.TheVariants.{BadAnswer}
 use Rattle.hx_status.specs.declared.cause.Cause.{Cause}
@@ -51,9 +53,10 @@ use Rattle.proxy_core.specs.declared.core_fault.CoreFault.{CoreFault}
 use Rattle.proxy_core.specs.declared.core_fault.CoreFault.TheVariants.{IdTaken, UnknownId, NotForwarded, NotReady}
 use Rattle.proxy_core.specs.Moments.{moment_too_late_fault}
 use Rattle.proxy_core.specs.Leading.{is_forwarded, is_released}
-use Rattle.proxy_core.specs.Awaiting.{leader_of_request}
+use Rattle.proxy_core.specs.Awaiting.{awaited_of, leader_of_request}
+use Rattle.proxy_core.specs.Revalidating.{sent_beside}
 use Rattle.proxy_core.specs.Replies.{stored_text, passed_answer_text, refusal_reply_text, is_head}
-use Rattle.proxy_core.specs.Validating.{conditions_to_send, condition_about_serial, is_validation}
+use Rattle.proxy_core.specs.Validating.{conditions_to_send, condition_about_serial, is_304_to_own_conditions}
 use Rattle.proxy_core.specs.Validating.{stored_response_validated, freshened_by_304, freshened_may_be_kept}
 use Rattle.proxy_core.specs.Storing.{is_storable, storing_rule_to_explain, replaced_by, is_304_without_condition}
 use Rattle.proxy_core.specs.Storing.{status_invalidates, answer_invalidates}
@@ -90,7 +93,7 @@ outcome_of_refusal now cause asked = Reply (record {
 })
 
 -- the bytes of a request that goes forward over a line; its own conditions may stay with the proxy
-abbrev pub forward_text : Table → ℕ → Asked → Option Condition → List ℕ
+abbrev pub forward_text : Table → Route → Asked → Option Condition → List ℕ
 forward_text table line asked condition =
     request_text (forwarded_of (keeps_conditions (policy_of table.lines line) asked) asked table.name
     (conditions_to_send condition))
@@ -100,25 +103,40 @@ abbrev pub is_only_if_cached : Asked → Bool
 is_only_if_cached asked = has_directive (occurrences_of asked.fields) OnlyIfHeld
 
 -- a request waits for the exchange that leads, or where none does goes forward
-abbrev pub outcome_of_waiting_or_forwarding : Table → ℕ → Asked → Option Condition → Option ℕ → Outcome
+abbrev pub outcome_of_waiting_or_forwarding : Table → Route → Asked → Option Condition → Option ℕ → Outcome
 outcome_of_waiting_or_forwarding table line asked condition (Some leader) = Waits leader
 outcome_of_waiting_or_forwarding table line asked condition None = Forward line
     (forward_text table line asked condition)
 
+-- what is told of a stale response that is sent while one asks the origin about it
+abbrev pub revalidating_status_info : Policy → CacheStatusInfo
+revalidating_status_info policy =
+    record { policy = policy; how = Hit; came = None; detail = Some StaleWhileRevalidate; collapsed = false }
+
+-- the stale response that is sent beside the exchange that leads, or where none is what follows otherwise
+abbrev pub outcome_unless_sent_beside : Table → List Stored → Route → ℕ → Asked → Option ℕ → Outcome → Outcome
+outcome_unless_sent_beside table es line now asked None otherwise = otherwise
+outcome_unless_sent_beside table es line now asked (Some serial) otherwise =
+    outcome_of_sending_stored table es serial now (revalidating_status_info (policy_of table.lines line)) asked
+
 -- a rule keeps each stored response back
-abbrev pub outcome_without_stored_response : Table → List Stored → List Exchange → ℕ → ℕ → Asked → ReuseRule
+abbrev pub outcome_without_stored_response : Table → List Stored → List Exchange → Route → ℕ → Asked → ReuseRule
     → Option Condition → Bool → Outcome
 outcome_without_stored_response table es xs line now asked rule condition true = outcome_of_refusal now
     (OnlyIfCached rule) asked
 outcome_without_stored_response table es xs line now asked rule condition false =
-    outcome_of_waiting_or_forwarding table line asked
-    condition (leader_of_request (policy_of table.lines line) es (exchanges_to_wait_for table line asked xs) asked rule)
+    outcome_unless_sent_beside table es line now asked
+    (sent_beside (policy_of table.lines line) es asked now (awaited_of (policy_of table.lines line) es asked rule)
+    (leader_of_request (policy_of table.lines line) es (exchanges_to_wait_for table line asked xs) asked rule))
+    (outcome_of_waiting_or_forwarding table line asked condition
+    (leader_of_request (policy_of table.lines line) es (exchanges_to_wait_for table line asked xs) asked rule))
 
 abbrev pub hit_status_info : Policy → CacheStatusInfo
 hit_status_info policy = record { policy = policy; how = Hit; came = None; detail = None; collapsed = false }
 
--- an allowed request: the stored response that no rule keeps back is sent, else the request waits or goes forward
-abbrev pub outcome_of_allowed_request : Table → List Stored → List Exchange → ℕ → ℕ → Asked → Decision → Outcome
+-- an allowed request: the stored response that no rule keeps back is sent, else one that may be sent while another
+-- asks, else the request waits or goes forward
+abbrev pub outcome_of_allowed_request : Table → List Stored → List Exchange → Route → ℕ → Asked → Decision → Outcome
 outcome_of_allowed_request table es xs line now asked (decision.Hit serial) =
     outcome_of_sending_stored table es serial now (hit_status_info (policy_of table.lines line)) asked
 outcome_of_allowed_request table es xs line now asked (decision.Forward rule against) =
@@ -246,7 +264,7 @@ outcome_of_304 table es now x r None (decision.Forward rule against) = Forward x
 -- answer is passed on, and stored where no rule stands, unless a stored response is sent in its place
 abbrev pub outcome_of_answer : Table → List Stored → ℕ → Exchange → Response → Option ℕ → Decision → Outcome
 outcome_of_answer table es now x r next d =
-    cond (is_validation x r) (outcome_of_304 table es now x r (stored_response_validated es x r now) d)
+    cond (is_304_to_own_conditions x r) (outcome_of_304 table es now x r (stored_response_validated es x r now) d)
     (cond (is_304_without_condition (policy_of table.lines x.line) x.asked r)
     (outcome_of_failure table es now x BadAnswer (Some r.status)
     (fallback_for (policy_of table.lines x.line) es x.asked now d))

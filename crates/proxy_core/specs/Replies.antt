@@ -14,6 +14,7 @@ use Rattle.hx_age.specs.Age.{times_of, age_of, ttl_of}
 use Rattle.hx_hop.specs.Answering.{answered_of}
 use Rattle.hx_hop.specs.declared.request_view.Asked.{Asked}
 use Rattle.hx_policy.specs.declared.words.Policy.{Policy}
+use Rattle.hx_allow.specs.declared.verdicts.Route.{Route}
 use Rattle.hx_store.specs.Stored.{Stored}
 use Rattle.hx_reuse.specs.Conditions.{keeps_conditions}
 use Rattle.hx_reuse.specs.Lifetimes.{lifetime_under}
@@ -23,6 +24,8 @@ use Rattle.hx_status.specs.Member.{member_text}
 use Rattle.hx_status.specs.Refusals.{refusal_status, refusal_text}
 use Rattle.hx_status.specs.declared.status.Status.{Status}
 use Rattle.hx_status.specs.declared.status.How.TheVariants.{Fwd}
+use Rattle.hx_status.specs.declared.status.Detail.{Detail}
+use Rattle.hx_status.specs.declared.status.Detail.TheVariants.{SessionCookie}
 use Rattle.hx_status.specs.declared.cause.Cause.{Cause}
 use Rattle.proxy_core.specs.declared.open.exchange.Exchange.{Exchange}
 use Rattle.proxy_core.specs.declared.replies.stored_reply.CacheStatusInfo.{CacheStatusInfo}
@@ -93,6 +96,10 @@ ttl_of_passed_answer policy x status fields now false = None
 ttl_of_passed_answer policy x status fields now true =
     Some (ttl_of (lifetime_under policy status fields) (age_of (times_of fields x.request_time now) now))
 
+-- past the store the word of the operator's rule is that of the cookies (RFC 9211, section 2.8)
+abbrev pub detail_past_store : Route → Option Detail
+detail_past_store route = cond route.past_store (Some SessionCookie) None
+
 -- and where the line tells it the first storing rule against the answer
 abbrev pub cache_status_of_passed_answer : Policy → Exchange → ℕ → List Field → ℕ → Bool → Option StoreRule → Status
 cache_status_of_passed_answer policy x status fields now stored rule = record {
@@ -101,7 +108,7 @@ cache_status_of_passed_answer policy x status fields now stored rule = record {
   ttl = ttl_of_passed_answer policy x status fields now stored;
   stored = stored;
   collapsed = false;
-  detail = None;
+  detail = detail_past_store x.line;
   not_stored = rule;
 }
 

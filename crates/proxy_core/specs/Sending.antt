@@ -4,6 +4,8 @@
 -- ResponseMayBeReused of hx_reuse: what RFC 9111 lets be sent
 -- MayBeSentInsteadOfError: what RFC 5861 lets be sent in place of an error
 -- StoredResponseMayBeSentAt: what may be sent at an event
+-- MayBeSentBesideLeader, StoredResponseMayBeSentBeside: what RFC 5861 lets be sent while one asks the origin about it
+-- StoredResponseMayBeSent: either
 -- ReplyIsThatStoredResponse: what is sent is that response
 -- RequestGoesForward, RequestWaitsForTheFirst: the two ways to an origin's answer
 -- RequestReachesCacheOrOrigin, RequestIsTurnedAway: what becomes of a request that is allowed, and of one that isn't
@@ -18,16 +20,19 @@ use Rattle.hx_allow.specs.Matching.{policy_of}
 use Rattle.proxy_core.specs.Allowing.{verdict_of_asked, exchanges_to_wait_for}
 use Rattle.hx_allow.specs.declared.verdicts.Verdict.TheVariants.{Allowed, DeniedBy, NoLine as Unmatched}
 use Rattle.hx_allow.specs.declared.verdicts.Verdict.TheVariants as verdict
+use Rattle.hx_allow.specs.declared.verdicts.Route.{Route}
 use Rattle.hx_store.specs.Stored.{Stored}
 use Rattle.hx_store.specs.Shelf.{find_entry}
 use Rattle.hx_reuse.specs.Rules.{reuse_rule_applies, names_chosen}
 use Rattle.hx_reuse.specs.ChosenAndNamed.{ResponseIsChosen, IsLeastReuseRule, RuleNamesTheResponse}
 use Rattle.hx_reuse.specs.Reusable.{ResponseMayBeReused}
 use Rattle.hx_reuse.specs.OnError.{ResponseMayBeSentOnError}
+use Rattle.hx_reuse.specs.WhileRevalidating.{ResponseMayBeSentWhileRevalidating}
 use Rattle.hx_reuse.specs.declared.rule.ReuseRule.{ReuseRule}
 use Rattle.hx_status.specs.declared.cause.Cause.TheVariants.{Denied, NoLine, Looped, OnlyIfCached}
 use Rattle.hx_status.specs.declared.status.Detail.{Detail}
 use Rattle.hx_status.specs.declared.status.Detail.TheVariants.{StaleIfError, ReuseAfterError, ReuseAfter304}
+use Rattle.hx_status.specs.declared.status.Detail.TheVariants.{StaleWhileRevalidate}
 use Rattle.proxy_core.specs.declared.open.exchange.Exchange.{Exchange}
 use Rattle.proxy_core.specs.declared.replies.stored_reply.CacheStatusInfo.{CacheStatusInfo}
 use Rattle.proxy_core.specs.declared.outcome.Reply.{Reply}
@@ -36,12 +41,13 @@ use Rattle.proxy_core.specs.declared.outcome.Outcome.TheVariants.{Reply as Repli
 use Rattle.proxy_core.specs.declared.event.Event.{Event}
 use Rattle.proxy_core.specs.declared.event.Event.TheVariants.{Arrive, Answer, Fail, Wake, Abandon}
 use Rattle.proxy_core.specs.Storing.{is_304_without_condition}
-use Rattle.proxy_core.specs.Validating.{condition_about_serial, is_validation, stored_response_validated}
+use Rattle.proxy_core.specs.Validating.{condition_about_serial, is_304_to_own_conditions, stored_response_validated}
 use Rattle.proxy_core.specs.Replies.{stored_text}
 use Rattle.proxy_core.specs.Outcomes.{find_exchange, exchange_id_of_event, is_only_if_cached, is_error_status}
 use Rattle.proxy_core.specs.Outcomes.{outcome_of_refusal, forward_text}
 use Rattle.proxy_core.specs.Outcomes.{hit_status_info, forwarded_status_info, collapsed_status_info}
 use Rattle.proxy_core.specs.declared.open.awaited.Awaited.{Awaited}
+use Rattle.proxy_core.specs.declared.open.awaited.Awaited.TheVariants.{Expired}
 use Rattle.proxy_core.specs.Leading.{NoExchangeLeads, IsFirstLeader}
 use Rattle.proxy_core.specs.Awaiting.{RequestAwaits}
 use Rattle.proxy_core.specs.State.{serial_used_by_outcome, stored_response_as_used}
@@ -77,13 +83,14 @@ IsStoredFallback policy held asked now s =
 -- and at a failure; and to a request that waited, when it is woken.
 abbrev pub StoredResponseMayBeSentAt : Table → List Stored → Option Exchange → Event → ℕ → Type 0
 StoredResponseMayBeSentAt table held x (Arrive now id asked) s =
-    (line : ℕ) × (verdict_of_asked table asked ≡ Allowed line)
+    (line : Route) × (verdict_of_asked table asked ≡ Allowed line)
     × StoredResponseIsReusable (policy_of table.lines line) held asked now s
 StoredResponseMayBeSentAt table held (Some x) (Answer now id r) s =
-    ((is_validation x r ≡ true) × ((e : Stored) × (stored_response_validated held x r now ≡ Some e) × (e.serial ≡ s)))
-    ⊎ (((is_validation x r ≡ true) × (stored_response_validated held x r now ≡ None)
+    ((is_304_to_own_conditions x r ≡ true)
+    × ((e : Stored) × (stored_response_validated held x r now ≡ Some e) × (e.serial ≡ s)))
+    ⊎ (((is_304_to_own_conditions x r ≡ true) × (stored_response_validated held x r now ≡ None)
     × StoredResponseIsReusable (policy_of table.lines x.line) held x.asked now s)
-    ⊎ ((is_validation x r ≡ false)
+    ⊎ ((is_304_to_own_conditions x r ≡ false)
     × ((is_304_without_condition (policy_of table.lines x.line) x.asked r || is_error_status r.status) ≡ true)
     × IsStoredFallback (policy_of table.lines x.line) held x.asked now s))
 StoredResponseMayBeSentAt table held (Some x) (Fail now id kind) s = IsStoredFallback
@@ -95,13 +102,42 @@ StoredResponseMayBeSentAt table held None (Fail now id kind) s = ⊥
 StoredResponseMayBeSentAt table held None (Wake now id) s = ⊥
 StoredResponseMayBeSentAt table held x (Abandon id) s = ⊥
 
+-- While one asks the origin about it (RFC 5861, section 3): a GET that takes an answer of the origin could wait for the
+-- first to arrive of those that went there for the response of this serial, which is the chosen one, and over, and may
+-- be sent stale meanwhile.
+pub record MayBeSentBesideLeader (policy : Policy) (held : List Stored) (xs : List Exchange) (asked : Asked)
+    (now s : ℕ) : Type 0 where
+  pub takes_an_answer : is_only_if_cached asked ≡ false
+  pub awaits : RequestAwaits policy held asked now (Expired s)
+  pub leader : ℕ
+  pub first_leads : IsFirstLeader policy (Expired s) asked xs leader
+  pub response : Stored
+  pub chosen_is : ResponseIsChosen held asked response
+  pub serial_is : response.serial ≡ s
+  pub may_be_sent : ResponseMayBeSentWhileRevalidating policy response (occurrences_of asked.fields) now
+
+-- so at an arrival that the table allows, where these are open
+abbrev pub StoredResponseMayBeSentBeside : Table → List Stored → List Exchange → Event → ℕ → Type 0
+StoredResponseMayBeSentBeside table held xs (Arrive now id asked) s =
+    (line : Route)
+    × (verdict_of_asked table asked ≡ Allowed line)
+    × MayBeSentBesideLeader (policy_of table.lines line) held (exchanges_to_wait_for table line asked xs) asked now s
+StoredResponseMayBeSentBeside table held xs (Answer now id r) s = ⊥
+StoredResponseMayBeSentBeside table held xs (Fail now id kind) s = ⊥
+StoredResponseMayBeSentBeside table held xs (Wake now id) s = ⊥
+StoredResponseMayBeSentBeside table held xs (Abandon id) s = ⊥
+
+abbrev pub StoredResponseMayBeSent : Table → List Stored → List Exchange → Option Exchange → Event → ℕ → Type 0
+StoredResponseMayBeSent table held xs x event s =
+    StoredResponseMayBeSentAt table held x event s ⊎ StoredResponseMayBeSentBeside table held xs event s
+
 -- ---- an item
 
 -- By the least rule against a stored response a request goes to the origin of a line: its own text,
 -- with conditions where the rule is on a response that has a validator, about that one (RFC 9111,
 -- section 4.3.1).
-pub record RequestGoesForward (table : Table) (held : List Stored) (asked : Asked) (now line : ℕ) (rule : ReuseRule)
-    (outcome : Outcome) : Type 0 where
+pub record RequestGoesForward (table : Table) (held : List Stored) (asked : Asked) (now : ℕ) (line : Route)
+    (rule : ReuseRule) (outcome : Outcome) : Type 0 where
   pub is_least : IsLeastReuseRule (policy_of table.lines line) held asked now rule
   pub against : Option ℕ
   pub names : RuleNamesTheResponse held asked rule against
@@ -117,7 +153,7 @@ NoLeaderIsOpen policy held xs asked now =
 -- waits for the first to arrive of those that are at the origin for that (RFC 9111, section 4:
 -- collapsed requests).
 pub record RequestWaitsForTheFirst (table : Table) (held : List Stored) (xs : List Exchange) (now : ℕ) (asked : Asked)
-    (line : ℕ) (outcome : Outcome) : Type 0 where
+    (line : Route) (outcome : Outcome) : Type 0 where
   pub leader : ℕ
   pub takes_others : is_only_if_cached asked ≡ false
   pub awaited : Awaited
@@ -129,7 +165,7 @@ pub record RequestWaitsForTheFirst (table : Table) (held : List Stored) (xs : Li
 -- A request that is allowed reaches the cache, which sends a stored response, or the origin of that
 -- line; or it waits for the answer to another request for its target; or it takes no response but a
 -- stored one, and is told the rule against that.
-abbrev pub RequestReachesCacheOrOrigin : Table → List Stored → List Exchange → ℕ → Asked → ℕ → Outcome → Type 0
+abbrev pub RequestReachesCacheOrOrigin : Table → List Stored → List Exchange → ℕ → Asked → Route → Outcome → Type 0
 RequestReachesCacheOrOrigin table held xs now asked line outcome =
     ((s : ℕ) × (serial_used_by_outcome outcome ≡ Some s))
     ⊎ (((rule : ReuseRule)
@@ -160,15 +196,24 @@ DetailWordAfterError policy held asked now s detail =
 abbrev pub DetailWordAtAnswer : Policy → List Stored → Exchange → ℕ → Response → ℕ → Option Detail → Type 0
 DetailWordAtAnswer policy held x now r s detail =
     (is_some (stored_response_validated held x r now) ≡ true → detail ≡ None)
-    × (is_validation x r ≡ true → stored_response_validated held x r now ≡ None → detail ≡ Some ReuseAfter304)
-    × (is_validation x r ≡ false → DetailWordAfterError policy held x.asked now s detail)
+    × (is_304_to_own_conditions x r ≡ true → stored_response_validated held x r now ≡ None
+    → detail ≡ Some ReuseAfter304)
+    × (is_304_to_own_conditions x r ≡ false → DetailWordAfterError policy held x.asked now s detail)
 
--- what Cache-Status tells of a stored response (RFC 9211): a hit, or why the request had gone
--- forward, what came, and the word of the step
+-- The word of one that is sent at an arrival: none where it may be sent anyway, else that one asks
+-- the origin about it.
+abbrev pub DetailWordAtArrival : Policy → List Stored → Asked → ℕ → ℕ → Option Detail → Type 0
+DetailWordAtArrival policy held asked now s detail =
+    (StoredResponseIsReusable policy held asked now s → detail ≡ None)
+    × ((StoredResponseIsReusable policy held asked now s → ⊥) → detail ≡ Some StaleWhileRevalidate)
+
+-- what Cache-Status tells of a stored response (RFC 9211): a hit, with a word where it is sent while
+-- one asks the origin about it, or why the request had gone forward, what came, and the word of the step
 abbrev pub CacheStatusShowsHow : Table → List Stored → Option Exchange → Event → ℕ → CacheStatusInfo → Type 0
-CacheStatusShowsHow table held x (Arrive now id asked) s h = (line : ℕ)
-    × (verdict_of_asked table asked ≡ Allowed line) ×
-    (h ≡ hit_status_info (policy_of table.lines line))
+CacheStatusShowsHow table held x (Arrive now id asked) s h = (line : Route)
+    × (verdict_of_asked table asked ≡ Allowed line)
+    × ((detail : Option Detail) × (h ≡ record (hit_status_info (policy_of table.lines line)) { detail = detail })
+    × DetailWordAtArrival (policy_of table.lines line) held asked now s detail)
 CacheStatusShowsHow table held (Some x) (Answer now id r) s h = (detail : Option Detail)
     × (h ≡ forwarded_status_info (policy_of table.lines x.line) x (Some r.status) detail)
     × DetailWordAtAnswer (policy_of table.lines x.line) held x now r s detail
@@ -214,14 +259,15 @@ pub record ReplyIsThatStoredResponse (table : Table) (held : List Stored) (x : O
 abbrev pub StoredResponseIsSentWhereItMayBe : Type 0
 StoredResponseIsSentWhereItMayBe = (table : Table) (start : StoreAtStart) (first s : ℕ) (item : Item) (past : List Item)
     → IsGoodHistory table start first (item ∷ past) →
-    StoredResponseMayBeSentAt table (held_entries table start past)
+    StoredResponseMayBeSent table (held_entries table start past) (open_exchanges table start past)
     (find_exchange (exchange_id_of_event item.event) (open_exchanges table start past)) item.event s
     → serial_used_by_outcome item.outcome ≡ Some s
 
 abbrev pub StoredResponseIsSentNowhereElse : Type 0
 StoredResponseIsSentNowhereElse = (table : Table) (start : StoreAtStart) (first s : ℕ) (item : Item) (past : List Item)
     → IsGoodHistory table start first (item ∷ past) →
-    serial_used_by_outcome item.outcome ≡ Some s → StoredResponseMayBeSentAt table (held_entries table start past)
+    serial_used_by_outcome item.outcome ≡ Some s
+    → StoredResponseMayBeSent table (held_entries table start past) (open_exchanges table start past)
     (find_exchange (exchange_id_of_event item.event) (open_exchanges table start past)) item.event s
 
 -- A request that arrives goes to the origin of a line exactly where that is the table's first line
@@ -229,7 +275,8 @@ StoredResponseIsSentNowhereElse = (table : Table) (start : StoreAtStart) (first 
 -- too, and there is none for whose answer it waits.
 abbrev pub RequestIsForwardedWhereAllowed : Type 0
 RequestIsForwardedWhereAllowed =
-    (table : Table) (start : StoreAtStart) (first now id line : ℕ) (asked : Asked) (rule : ReuseRule) (item : Item)
+    (table : Table) (start : StoreAtStart) (first now id : ℕ) (line : Route) (asked : Asked)
+    (rule : ReuseRule) (item : Item)
     (past : List Item) →
     IsGoodHistory table start first (item ∷ past) → item.event ≡ Arrive now id asked →
     verdict_of_asked table asked ≡ Allowed line
@@ -242,7 +289,8 @@ RequestIsForwardedWhereAllowed =
 
 abbrev pub RequestIsForwardedNowhereElse : Type 0
 RequestIsForwardedNowhereElse =
-    (table : Table) (start : StoreAtStart) (first now id line : ℕ) (asked : Asked) (bytes : List ℕ) (item : Item)
+    (table : Table) (start : StoreAtStart) (first now id : ℕ) (line : Route) (asked : Asked)
+    (bytes : List ℕ) (item : Item)
     (past : List Item) →
     IsGoodHistory table start first (item ∷ past) → item.event ≡ Arrive now id asked
     → item.outcome ≡ Forward line bytes →
@@ -257,7 +305,8 @@ RequestIsForwardedNowhereElse =
 -- of that line; or it waits for the answer to another; or it takes no response but a stored one,
 -- and is told the rule against that.
 abbrev pub AllowedRequestReachesCacheOrOrigin : Type 0
-AllowedRequestReachesCacheOrOrigin = (table : Table) (start : StoreAtStart) (first now id line : ℕ) (asked : Asked)
+AllowedRequestReachesCacheOrOrigin = (table : Table) (start : StoreAtStart) (first now id : ℕ) (line : Route)
+    (asked : Asked)
     (item : Item)
     (past : List Item) →
     IsGoodHistory table start first (item ∷ past) → item.event ≡ Arrive now id asked →
@@ -270,7 +319,7 @@ abbrev pub OtherRequestIsRefused : Type 0
 OtherRequestIsRefused = (table : Table) (start : StoreAtStart) (first now id : ℕ) (asked : Asked) (item : Item)
     (past : List Item) →
     IsGoodHistory table start first (item ∷ past) → item.event ≡ Arrive now id asked →
-    ((line : ℕ) → verdict_of_asked table asked ≢ Allowed line)
+    ((line : Route) → verdict_of_asked table asked ≢ Allowed line)
     → RequestIsTurnedAway table now asked item.outcome
 
 -- and what is sent is that response

@@ -12,8 +12,9 @@ use Rattle.hx_target.specs.Keys.{same_key}
 use Rattle.hx_framing.specs.declared.messages.Response.{Response}
 use Rattle.hx_hop.specs.declared.request_view.Asked.{Asked}
 use Rattle.hx_allow.specs.TableLines.{Table}
-use Rattle.hx_allow.specs.Matching.{policy_of}
+use Rattle.hx_allow.specs.Matching.{policy_of, over_line, vary_of}
 use Rattle.proxy_core.specs.Allowing.{verdict_of_asked}
+use Rattle.hx_allow.specs.declared.verdicts.Route.{Route}
 use Rattle.hx_allow.specs.declared.verdicts.Verdict.{Verdict}
 use Rattle.hx_allow.specs.declared.verdicts.Verdict.TheVariants as verdict
 use Rattle.hx_store.specs.Stored.{Stored}
@@ -151,11 +152,12 @@ abbrev pub serial_named_by_decision : Decision → Option ℕ
 serial_named_by_decision (decision.Hit serial) = None
 serial_named_by_decision (decision.Forward rule against) = against
 
-abbrev pub forwarded_exchange : Table → List Stored → ℕ → ℕ → Asked → ℕ → Exchange
+abbrev pub forwarded_exchange : Table → List Stored → ℕ → ℕ → Asked → Route → Exchange
 forwarded_exchange table es now id asked line = record {
   id = id;
   asked = asked;
   line = line;
+  vary = vary_of table.lines line.number;
   rule = rule_of_decision (decision_of (policy_of table.lines line) es asked now);
   named = serial_named_by_decision (decision_of (policy_of table.lines line) es asked now);
   request_time = now;
@@ -167,14 +169,14 @@ forwarded_exchange table es now id asked line = record {
 }
 
 -- the line by which the table allows a request
-abbrev pub line_of_verdict : Verdict → ℕ
+abbrev pub line_of_verdict : Verdict → Route
 line_of_verdict (verdict.Allowed line) = line
-line_of_verdict (verdict.DeniedBy line) = line
-line_of_verdict verdict.NoLine = 0
-line_of_verdict (verdict.Looped line) = line
+line_of_verdict (verdict.DeniedBy line) = over_line line
+line_of_verdict verdict.NoLine = over_line 0
+line_of_verdict (verdict.Looped line) = over_line line
 
 -- the same of a request that waits for another's answer
-abbrev pub waiting_exchange : Table → List Stored → ℕ → ℕ → Asked → ℕ → ℕ → Exchange
+abbrev pub waiting_exchange : Table → List Stored → ℕ → ℕ → Asked → Route → ℕ → Exchange
 waiting_exchange table es now id asked line leader =
     record (forwarded_exchange table es now id asked line) { stage = Waiting leader }
 

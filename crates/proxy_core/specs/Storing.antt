@@ -13,7 +13,7 @@ use Rattle.hx_fields.specs.FieldLines.{without_named}
 use Rattle.hx_framing.specs.declared.messages.Response.{Response}
 use Rattle.hx_target.specs.declared.keys.Key.{Key}
 use Rattle.hx_age.specs.Age.{times_of}
-use Rattle.hx_vary.specs.Vary.{kept_values, is_star}
+use Rattle.hx_vary.specs.Vary.{kept_values_with, is_star}
 use Rattle.hx_vary.specs.declared.nominations.Nomination.{Nomination}
 use Rattle.hx_vary.specs.declared.nominations.Nomination.TheVariants.{Star, Names}
 use Rattle.hx_hop.specs.Answering.{answered_of}
@@ -32,7 +32,7 @@ use Rattle.hx_storable.specs.declared.known_facts.StoringFacts.{StoringFacts}
 use Rattle.hx_storable.specs.declared.rule.StoreRule.{StoreRule}
 use Rattle.hx_validate.specs.Validators.{has_validator}
 use Rattle.proxy_core.specs.declared.open.exchange.Exchange.{Exchange}
-use Rattle.proxy_core.specs.Validating.{is_validation, is_above}
+use Rattle.proxy_core.specs.Validating.{is_304_to_own_conditions, is_above}
 
 -- no request may be answered by the response but the one that it answered
 abbrev pub nominates_a_star : Nomination → Bool
@@ -44,7 +44,7 @@ nominates_a_star (Names values) = false
 abbrev pub weight_of_answer : Exchange → Response → ℕ → ℕ
 weight_of_answer x r now =
     length r.content + weight_of_lines (answered_of r now).fields
-    + weight_of_nominated (kept_values (answered_of r now).fields x.asked.fields)
+    + weight_of_nominated (kept_values_with x.vary (answered_of r now).fields x.asked.fields)
     + weight_of_key x.asked.target.key + weight_of_key x.asked.target.key
     + bytes_of_an_entry
 
@@ -86,7 +86,7 @@ abbrev pub stored_response_made : ℕ → Exchange → Response → ℕ → Stor
 stored_response_made serial x r now = record {
   serial = serial;
   key = x.asked.target.key;
-  nominated = kept_values (answered_of r now).fields x.asked.fields;
+  nominated = kept_values_with x.vary (answered_of r now).fields x.asked.fields;
   status = r.status;
   fields = without_named (answered_of r now).fields (codes "Age");
   content = r.content;
@@ -112,7 +112,7 @@ status_invalidates asked status =
 
 -- Such an answer came. To an unsafe request the proxy adds no conditions, so that no 304 validates anything there.
 abbrev pub answer_invalidates : Exchange → Response → Bool
-answer_invalidates x r = status_invalidates x.asked r.status && not (is_validation x r)
+answer_invalidates x r = status_invalidates x.asked r.status && not (is_304_to_own_conditions x r)
 
 -- the key of which nothing is kept
 abbrev pub key_invalidated : Exchange → Response → Option Key

@@ -8,6 +8,7 @@ use Rattle.std.specs.List.{AllByRecursion}
 use Rattle.hx_allow.specs.TableLines.{Table}
 use Rattle.proxy_core.specs.Allowing.{verdict_of_asked}
 use Rattle.hx_allow.specs.declared.verdicts.Verdict.TheVariants.{Allowed}
+use Rattle.hx_allow.specs.declared.verdicts.Route.{Route}
 use Rattle.proxy_core.specs.declared.outcome.Outcome.{Outcome}
 use Rattle.proxy_core.specs.declared.outcome.Outcome.TheVariants.{Reply, Forward, Waits, Ended}
 use Rattle.proxy_core.specs.declared.event.Event.{Event}
@@ -72,7 +73,7 @@ RunStopsAt s (Some event) fault = StepIsRefusedWith s event fault
 
 -- no line of the table allows the request that arrives
 abbrev pub ArrivalIsDenied : Table → Event → Type 0
-ArrivalIsDenied table (Arrive now id asked) = (line : ℕ)
+ArrivalIsDenied table (Arrive now id asked) = (line : Route)
     → verdict_of_asked table asked ≢ Allowed line
 ArrivalIsDenied table (Answer now id r) = ⊥
 ArrivalIsDenied table (Fail now id kind) = ⊥

@@ -1,7 +1,7 @@
 -- Going forward to have a held response validated, and what a 304 does for it (RFC 9111, section 4.3).
 --
 -- condition_about_stored, condition_about_serial: what a request carries of a held response
--- is_validation: a 304 to what it carried
+-- is_304_to_own_conditions: a 304 to what it carried
 -- stored_response_is_answered: the 304 answers a held response
 -- freshened_by_304: what that becomes
 -- freshened_may_be_kept: and whether it is kept, by the storing rules
@@ -45,8 +45,8 @@ abbrev pub conditions_to_send : Option Condition → Option Conditions
 conditions_to_send condition = option_map (λ (c : Condition). c.sent) condition
 
 -- a 304 to a request that carried the proxy's conditions
-abbrev pub is_validation : Exchange → Response → Bool
-is_validation x r = (r.status == 304) && is_some x.condition
+abbrev pub is_304_to_own_conditions : Exchange → Response → Bool
+is_304_to_own_conditions x r = (r.status == 304) && is_some x.condition
 
 -- a response to these conditions answers a held response
 abbrev pub condition_is_answered : Option Condition → Response → ℕ → Stored → Bool
@@ -74,10 +74,10 @@ stored_response_if_answered x r now (Some e) = cond (stored_response_is_answered
 abbrev pub stored_response_validated : List Stored → Exchange → Response → ℕ → Option Stored
 stored_response_validated es x r now = stored_response_if_answered x r now (stored_response_asked_about es x)
 
--- what it becomes: the times are those of the 304 (RFC 9111, section 4.3.4)
+-- what it becomes: the times are those of the 304 (RFC 9111, section 4.3.4), and what the line names for Vary counts
 abbrev pub freshened_by_304 : Exchange → Response → ℕ → Stored → Stored
 freshened_by_304 x r now e =
-    freshened_of e (answered_of r now) x.asked (times_of (answered_of r now).fields x.request_time now)
+    freshened_of x.vary e (answered_of r now) x.asked (times_of (answered_of r now).fields x.request_time now)
 
 -- the same request, of method GET
 -- own: what a HEAD had validated is judged as if a GET had asked, and may be kept for one

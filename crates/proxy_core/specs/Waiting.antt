@@ -16,6 +16,7 @@ use Rattle.hx_allow.specs.TableLines.{Table}
 use Rattle.hx_allow.specs.Matching.{policy_of}
 use Rattle.proxy_core.specs.Allowing.{verdict_of_asked, came_back, exchanges_to_wait_for}
 use Rattle.hx_allow.specs.declared.verdicts.Verdict.TheVariants.{Allowed}
+use Rattle.hx_allow.specs.declared.verdicts.Route.{Route}
 use Rattle.hx_store.specs.Serials.{serial_is_in}
 use Rattle.hx_store.specs.Stored.{Stored}
 use Rattle.hx_reuse.specs.ChosenAndNamed.{IsLeastReuseRule, RuleNamesTheResponse}
@@ -41,27 +42,30 @@ use Rattle.proxy_core.specs.Traces.{Item}
 use Rattle.proxy_core.specs.Histories.{held_entries, open_exchanges, IsGoodHistory}
 use Rattle.proxy_core.specs.Promises.{outcome_ends_exchange, is_arrival_event, NoRequestArrives}
 use Rattle.proxy_core.specs.Carrying.{IdsAreInOrderOfArrival}
-use Rattle.proxy_core.specs.Sending.{StoredResponseIsReusable}
+use Rattle.proxy_core.specs.Sending.{StoredResponseIsReusable, MayBeSentBesideLeader}
 
 -- ---- who waits
 
 -- A GET that the table allows, that takes an answer of the origin, and that could be sent the answer
 -- to another.
-pub record RequestCouldWait (table : Table) (start : StoreAtStart) (past : List Item) (now line : ℕ) (asked : Asked)
-    (awaited : Awaited) : Type 0 where
+pub record RequestCouldWait (table : Table) (start : StoreAtStart) (past : List Item) (now : ℕ) (line : Route)
+    (asked : Asked) (awaited : Awaited) : Type 0 where
   pub line_allows : verdict_of_asked table asked ≡ Allowed line
   pub takes_others : is_only_if_cached asked ≡ false
   pub awaits : RequestAwaits (policy_of table.lines line) (held_entries table start past) asked now awaited
 
--- whoever could wait does, where one leads
+-- whoever could wait does, where one leads, unless he is sent what is stale meanwhile
 abbrev pub RequestWaitsWhereOneLeads : Type 0
-RequestWaitsWhereOneLeads = (table : Table) (start : StoreAtStart) (first now id line leader : ℕ) (asked : Asked)
+RequestWaitsWhereOneLeads = (table : Table) (start : StoreAtStart) (first now id : ℕ) (line : Route) (leader : ℕ)
+    (asked : Asked)
     (awaited : Awaited)
     (item : Item) (past : List Item) →
     IsGoodHistory table start first (item ∷ past) → item.event ≡ Arrive now id asked
     → RequestCouldWait table start past now line asked awaited →
     IsFirstLeader (policy_of table.lines line) awaited asked
     (exchanges_to_wait_for table line asked (open_exchanges table start past)) leader
+    → ((s : ℕ) → MayBeSentBesideLeader (policy_of table.lines line) (held_entries table start past)
+    (exchanges_to_wait_for table line asked (open_exchanges table start past)) asked now s → ⊥)
     → item.outcome ≡ Waits leader
 
 -- Whoever waits has just arrived, could wait, and waits for the first that leads.
@@ -70,7 +74,7 @@ pub record RequestIsToWait (table : Table) (start : StoreAtStart) (leader : ℕ)
   pub now : ℕ
   pub id : ℕ
   pub asked : Asked
-  pub line : ℕ
+  pub line : Route
   pub arrives : item.event ≡ Arrive now id asked
   pub awaited : Awaited
   pub could : RequestCouldWait table start past now line asked awaited
@@ -95,7 +99,7 @@ pub record RequestGoesOutBy (table : Table) (start : StoreAtStart) (rule : Reuse
   pub now : ℕ
   pub id : ℕ
   pub asked : Asked
-  pub line : ℕ
+  pub line : Route
   pub bytes : List ℕ
   pub arrives : item.event ≡ Arrive now id asked
   pub forward : item.outcome ≡ Forward line bytes
@@ -118,7 +122,7 @@ AnswerMayServe policy asked x =
 -- that one's answer could bring it, unless it came back: before a later one does the earlier has
 -- ended. Over a line with the word this is so while that answer may be for the later one.
 abbrev pub OnlyOneGoesForwardForKey : Type 0
-OnlyOneGoesForwardForKey = (table : Table) (start : StoreAtStart) (first line : ℕ) (awaited : Awaited)
+OnlyOneGoesForwardForKey = (table : Table) (start : StoreAtStart) (first : ℕ) (line : Route) (awaited : Awaited)
     (rule : ReuseRule)
     (named : Option ℕ) (bytes : List ℕ) (now id : ℕ) (asked : Asked) (later earlier : Item)
     (between before : List Item) →

@@ -10,6 +10,7 @@ use Rattle.hx_fields.specs.declared.field_line.Field.{Field}
 use Rattle.hx_framing.specs.declared.messages.Response.{Response}
 use Rattle.hx_hop.specs.declared.request_view.Asked.{Asked}
 use Rattle.hx_allow.specs.TableLines.{Table}
+use Rattle.hx_allow.specs.Matching.{over_line}
 use Rattle.proxy_core.specs.declared.steps.condition.Condition.{Condition}
 use Rattle.proxy_core.specs.declared.outcome.Outcome.{Outcome}
 use Rattle.proxy_core.specs.declared.outcome.Outcome.TheVariants.{Reply, Forward}
@@ -159,7 +160,7 @@ GoingForwardIsWrong past event outcome = RequestGoesForwardWhereAllowed edge_tab
     (item_of event outcome) past → ⊥
 
 abbrev pub forward_over_line_3 : Outcome
-forward_over_line_3 = Forward 3 []
+forward_over_line_3 = Forward (over_line 3) []
 
 abbrev pub trace_with_three_forwards : List Item
 trace_with_three_forwards = item_of (Answer 102 1 (response_with 304 [])) forward_over_line_3 ∷ item_of

@@ -35,11 +35,34 @@ ghost use Rattle.proxy_core.specs.StoredAnswers.{NothingElseIsKept};
 ghost use Rattle.proxy_core.specs.Uncached.{NothingIsStoredOverUncachedLine, NothingStoredIsSentOverUncachedLine};
 ghost use Rattle.proxy_core.specs.Uncached.{RequestGoesForwardOverUncachedLine};
 
-pub(crate) mod bound_cases;
-pub(crate) mod event_cases;
-pub(crate) mod headline_cases;
-pub(crate) mod promise_cases;
-pub(crate) mod worked_cases;
+mod bound_cases;
+mod event_cases;
+mod headline_cases;
+mod promise_cases;
+mod worked_cases;
+
+pub use bound_cases::{
+    what_an_answer_weighs, what_is_held_at_first, what_is_held_by_weight, what_is_too_heavy_alone,
+};
+pub use event_cases::{worked_counts_of_traces, worked_kinds_of_events, worked_kinds_of_outcomes};
+pub use headline_cases::{
+    the_headline_refuses_no_answer, the_headline_refuses_other_names,
+    the_headline_refuses_other_requests, the_headline_refuses_other_waits,
+    the_headline_refuses_what_may_not_be_sent, the_headline_refuses_what_never_comes,
+    the_headline_refuses_what_the_table_forbids, the_headline_refuses_wrong_storing,
+};
+pub use promise_cases::{
+    a_denied_request_leaves_no_trace, an_exchange_goes_twice_and_replies_once,
+    no_run_stops_without_a_fault, sending_what_is_invalidated_is_refused,
+    what_goes_forward_is_the_request,
+};
+pub use worked_cases::{
+    faults_and_serials_in_order, statuses_of_errors, what_a_304_leaves, what_a_step_leaves_open,
+    what_a_step_leaves_stored, what_an_answer_gives, what_an_arrival_gives, what_invalidates,
+    what_is_made_of_an_answer, what_is_sent_after_a_failure, which_304_was_asked_for,
+    which_answers_are_stored, who_waits_for_what_is_stale, who_waits_for_whom,
+    who_would_wait_in_vain, worked_passed_answers, worked_stored_replies,
+};
 
 /// After a good trace an exchange is open from its arrival to its end and not else, with the
 /// request and the rule of its arrival.

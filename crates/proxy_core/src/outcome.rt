@@ -1,6 +1,7 @@
 //! What a step gives.
 
 use crate::core_fault::CoreFault;
+use hx_allow::Route;
 use hx_fields::Bytes;
 use hx_store::Serials;
 
@@ -24,7 +25,7 @@ pub struct Reply {
 pub enum Outcome {
     Reply(Reply),
     /// A request for the origin of this line of the table.
-    Forward(u16, Bytes),
+    Forward(Route, Bytes),
     /// The request waits for the answer to the exchange of this id.
     Waits(u64),
     /// The exchange was abandoned.

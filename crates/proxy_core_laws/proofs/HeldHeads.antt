@@ -34,7 +34,7 @@ use Rattle.proxy_core.specs.State.{serials_removed_by_outcome, stored_response_b
 use Rattle.proxy_core.specs.Starts.{StoreAtStart, EachHeldAtFirst}
 use Rattle.proxy_core.specs.Storing.{is_304_without_condition}
 use Rattle.proxy_core.specs.Traces.{Item, initial_state, state_after_trace}
-use Rattle.proxy_core.specs.Validating.{as_get_request, head_of_stored, stored_response_if_answered, stored_response_is_answered, condition_is_answered, freshened_may_be_kept, is_validation, storing_facts_of_freshened, freshened_by_304, serial_asked_about, stored_response_validated}
+use Rattle.proxy_core.specs.Validating.{as_get_request, head_of_stored, stored_response_if_answered, stored_response_is_answered, condition_is_answered, freshened_may_be_kept, is_304_to_own_conditions, storing_facts_of_freshened, freshened_by_304, serial_asked_about, stored_response_validated}
 use Rattle.proxy_core.proofs.HeldEntries.{EachIs-find, held_found}
 use Rattle.proxy_core.proofs.HeldLaw.{held_before_cut, entries_are_held, good_plain, stands_for}
 use Rattle.proxy_core.proofs.Leaving.{serial_stays, unanswered, validated_is}
@@ -101,10 +101,10 @@ module _ (table : Table) (es : List Stored) (xs : List Exchange) (next : Option 
   validated_so : (x : Exchange) (r : Response) (now : ℕ) (e : Stored) → stored_response_is_answered x r now e ≡ true → find_entry e.serial es ≡ Some e → stored_response_validated es x r now ≡ Some e
   validated_so x r now e h found = ap (stored_response_if_answered x r now) (by_condition x.condition r now e h found) ∙ ap (λ b. cond b (Some e) None) h
 
-  validation_so : (x : Exchange) (r : Response) (now : ℕ) (e : Stored) → stored_response_is_answered x r now e ≡ true → is_validation x r ≡ true
-  validation_so x r now e h = by_test (is_validation x r) refl
+  validation_so : (x : Exchange) (r : Response) (now : ℕ) (e : Stored) → stored_response_is_answered x r now e ≡ true → is_304_to_own_conditions x r ≡ true
+  validation_so x r now e h = by_test (is_304_to_own_conditions x r) refl
     where
-      by_test : (t : Bool) → is_validation x r ≡ t → t ≡ true
+      by_test : (t : Bool) → is_304_to_own_conditions x r ≡ t → t ≡ true
       by_test true is = refl
       by_test false is = absurd (false≢true (sym (unanswered x r now e is) ∙ h))
 
@@ -113,7 +113,7 @@ module _ (table : Table) (es : List Stored) (xs : List Exchange) (next : Option 
   stays false s n same out = absurd (false≢true (sym out ∙ ap (λ b. b || false) (eq-eqb n s same)))
 
   -- it is kept, or its serial is among those that go
-  kept_so : (x : Exchange) (now id : ℕ) (r : Response) (s : ℕ) (e : Stored) → stored_response_is_answered x r now e ≡ true → find_entry s es ≡ Some e
+  pub kept_so : (x : Exchange) (now id : ℕ) (r : Response) (s : ℕ) (e : Stored) → stored_response_is_answered x r now e ≡ true → find_entry s es ≡ Some e
       → serial_is_in s (serials_removed_by_outcome (outcome_of table es xs (Some x) next (Answer now id r))) ≡ false → freshened_may_be_kept table x r (freshened_by_304 x r now e) ≡ true
   kept_so x now id r s e h found out =
       let serial = find-serial s es e found in
@@ -180,10 +180,10 @@ module _ (table : Table) (start : StoreAtStart) (item : Item) (past : List Item)
       sym (is_in-after s (store_change_of item) (held_serials table start past))
       ∙ held_before_cut table start item past s inside
 
-  stays_in : (serial_is_in s (serials_removed_by_outcome item.outcome) ≡ false) × (stores_or_uses (store_change_of item) s ≡ false → serial_is_in s (held_serials table start past) ≡ true)
+  pub stays_in : (serial_is_in s (serials_removed_by_outcome item.outcome) ≡ false) × (stores_or_uses (store_change_of item) s ≡ false → serial_is_in s (held_serials table start past) ≡ true)
   stays_in = after_parts (stores_or_uses (store_change_of item) s) (serial_is_in s (held_serials table start past)) (serial_is_in s (serials_removed_by_outcome item.outcome)) left_in
 
-  not_removed : serial_is_in s (serials_removed_by_outcome item.outcome) ≡ false
+  pub not_removed : serial_is_in s (serials_removed_by_outcome item.outcome) ≡ false
   not_removed = stays_in.0
 
 module _ (table : Table) (start : StoreAtStart) (first : ℕ) where

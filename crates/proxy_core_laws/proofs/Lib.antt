@@ -14,3 +14,5 @@ pub mod SentHeads
 pub mod SentRoom
 pub mod LeftStores
 pub mod ComingBack
+pub mod PastStore
+pub mod Varied

@@ -28,7 +28,7 @@ use Rattle.hx_status.specs.declared.status.Status.{Status}
 use Rattle.hx_storable.specs.declared.rule.StoreRule.{StoreRule}
 use Rattle.hx_storable.specs.declared.rule.StoreRule.TheVariants.{Operator}
 use Rattle.hx_status.specs.Member.{detail_of_step_or_rule, flag_text, fwd_status_text, hit_or_forward_text, member_text, not_stored_word, ttl_text, detail_word, word_or_not_stored, detail_word_text}
-use Rattle.hx_status.specs.Refusals.{error_rule_text, frame_word, fail_kind_word, origin_text, reuse_rule_text, target_word, refusal_text}
+use Rattle.hx_status.specs.Refusals.{error_rule_text, frame_word, fail_kind_word, origin_text, fwd_parameters_of_rule, target_word, refusal_text}
 use Rattle.hx_hop_laws.specs.OneMessage.{IsFieldValue}
 use Rattle.hx_hop_laws.proofs.ReadTargets.{IsVisible, pass_visible}
 use Rattle.hx_hop_laws.proofs.SentRequests.{visible_seen, visible_value}
@@ -167,7 +167,7 @@ member_value name status token =
 
 -- ---- the proxy's own texts
 
-rule_visible : (rule : ReuseRule) → AreVisible (reuse_rule_text rule)
+rule_visible : (rule : ReuseRule) → AreVisible (fwd_parameters_of_rule rule)
 rule_visible rule =
     joined (codes ";fwd=" ++ reuse_rule_reason rule) (detail_word_text (reuse_rule_detail rule)) (how_visible (Fwd rule)) (word (detail_word_text (reuse_rule_detail rule)) (detail_visible rule))
 
@@ -223,11 +223,11 @@ some_by text h = grind (arith, nat_tests)
 
 origin_value : (kind : FailKind) (rule : ReuseRule) (error : Option ErrorRule) → IsFieldValue (origin_text kind rule error)
 origin_value kind rule error =
-    let last : List ℕ = fail_kind_word kind ++ reuse_rule_text rule ++ error_rule_text error in
-    let are : AreVisible last = joined (fail_kind_word kind ++ reuse_rule_text rule) (error_rule_text error) (joined (fail_kind_word kind) (reuse_rule_text rule) (word (fail_kind_word kind) (kind_visible kind)) (rule_visible rule)) (errors_visible error) in
+    let last : List ℕ = fail_kind_word kind ++ fwd_parameters_of_rule rule ++ error_rule_text error in
+    let are : AreVisible last = joined (fail_kind_word kind ++ fwd_parameters_of_rule rule) (error_rule_text error) (joined (fail_kind_word kind) (fwd_parameters_of_rule rule) (word (fail_kind_word kind) (kind_visible kind)) (rule_visible rule)) (errors_visible error) in
     let kinds : 0 < length (fail_kind_word kind) = some_by (fail_kind_word kind) (some_kind kind) in
-    let some : 0 < length last = omega (arith, kinds, length-append (fail_kind_word kind ++ reuse_rule_text rule) (error_rule_text error), length-append (fail_kind_word kind) (reuse_rule_text rule)) in
-    subst IsFieldValue (regroup (fail_kind_word kind) (reuse_rule_text rule) (error_rule_text error)) (fronted 111 (codes "rigin ") last refl refl some are)
+    let some : 0 < length last = omega (arith, kinds, length-append (fail_kind_word kind ++ fwd_parameters_of_rule rule) (error_rule_text error), length-append (fail_kind_word kind) (fwd_parameters_of_rule rule)) in
+    subst IsFieldValue (regroup (fail_kind_word kind) (fwd_parameters_of_rule rule) (error_rule_text error)) (fronted 111 (codes "rigin ") last refl refl some are)
   where
     regroup : (a b c : List ℕ) → codes "origin " ++ (a ++ b ++ c) ≡ codes "origin " ++ a ++ b ++ c
     regroup a b c = simp append_assoc refl
@@ -236,7 +236,7 @@ pub text_value : (cause : Cause) → IsFieldValue (refusal_text cause)
 text_value (Denied line) = fronted 100 (codes "enied by line ") (decimal line) refl refl (some_decimal line) (decimal_visible line)
 text_value (Looped line) = fronted 108 (codes "oop refused by line ") (decimal line) refl refl (some_decimal line) (decimal_visible line)
 text_value NoLine = fronted 110 (codes "o line allows ") (codes "it") refl refl (omega arith) (word (codes "it") refl)
-text_value (OnlyIfCached rule) = visible_field_value (codes "only-if-cached" ++ reuse_rule_text rule) (joined (codes "only-if-cached") (reuse_rule_text rule) (word (codes "only-if-cached") refl) (rule_visible rule))
+text_value (OnlyIfCached rule) = visible_field_value (codes "only-if-cached" ++ fwd_parameters_of_rule rule) (joined (codes "only-if-cached") (fwd_parameters_of_rule rule) (word (codes "only-if-cached") refl) (rule_visible rule))
 text_value (Origin kind rule error) = origin_value kind rule error
 text_value (Frame fault) = fronted 114 (codes "efused: ") (frame_word fault) refl refl (some_by (frame_word fault) (some_frame fault)) (word (frame_word fault) (frame_visible fault))
 text_value (Target fault) = fronted 114 (codes "efused: ") (target_word fault) refl refl (some_by (target_word fault) (some_target fault)) (word (target_word fault) (target_visible fault))

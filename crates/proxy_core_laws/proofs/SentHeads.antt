@@ -35,11 +35,11 @@ reason_short : (rule : ReuseRule) → nat_le (length (reuse_rule_reason rule)) 9
 reason_short UriMiss = refl
 reason_short _ = refl
 
-detail_short : (rule : ReuseRule) → nat_le (length (detail_word_text (reuse_rule_detail rule))) 25 ≡ true
+detail_short : (rule : ReuseRule) → nat_le (length (detail_word_text (reuse_rule_detail rule))) 30 ≡ true
 detail_short UriMiss = refl
 detail_short _ = refl
 
-step_short : (detail : Detail) → nat_le (length (detail_word_text (Some (detail_word detail)))) 25 ≡ true
+step_short : (detail : Detail) → nat_le (length (detail_word_text (Some (detail_word detail)))) 30 ≡ true
 step_short StaleIfError = refl
 step_short _ = refl
 
@@ -78,13 +78,13 @@ flag_short : (flag : Bool) (text : List ℕ) (n : ℕ) → length text ≤ n →
 flag_short true text n is = is
 flag_short false text n is = omega arith
 
-named_short : (detail : Option Detail) (how : How) → length (detail_word_text (detail_of_step_or_rule detail how)) ≤ 25
-named_short (Some detail) how = leb-true _ 25 (step_short detail)
+named_short : (detail : Option Detail) (how : How) → length (detail_word_text (detail_of_step_or_rule detail how)) ≤ 30
+named_short (Some detail) how = leb-true _ 30 (step_short detail)
 named_short None Hit = omega arith
-named_short None (Fwd rule) = leb-true _ 25 (detail_short rule)
+named_short None (Fwd rule) = leb-true _ 30 (detail_short rule)
 
 -- so where no storing rule is told
-short_or : (o : Option (List ℕ)) (rule : Option StoreRule) → rule ≡ None → length (detail_word_text o) ≤ 25 → length (detail_word_text (word_or_not_stored o rule)) ≤ 25
+short_or : (o : Option (List ℕ)) (rule : Option StoreRule) → rule ≡ None → length (detail_word_text o) ≤ 30 → length (detail_word_text (word_or_not_stored o rule)) ≤ 30
 short_or (Some text) rule none h = h
 short_or None None none h = h
 short_or None (Some rule) none h = absurd cc
@@ -92,7 +92,7 @@ short_or None (Some rule) none h = absurd cc
 seven : (a b c d e f g : List ℕ) (n : ℕ) → length (a ++ b ++ c ++ d ++ e ++ f ++ g) ≡ n → n ≡ length a + length b + length c + length d + length e + length f + length g
 seven a b c d e f g n whole = let parts = simp length-append at whole in omega (arith, parts)
 
-member_short : (name : List ℕ) (shown : Status) → length name ≤ 32 → StatusIsInRange shown → length (member_text name shown) ≤ 119
+member_short : (name : List ℕ) (shown : Status) → length name ≤ 32 → StatusIsInRange shown → length (member_text name shown) ≤ 124
 member_short name shown named is =
     let how = how_short shown.how in
     let came = came_short shown.fwd_status is.came in
@@ -128,7 +128,7 @@ module _ (name : List ℕ) (fields : List Field) (e : Stored) (now : ℕ) (shown
       let inner = length-append fields age in
       omega (arith, outer, inner)
 
-  shown_bytes : length (field_lines_text (fields_as_sent name fields e now shown)) ≤ length (field_lines_text fields) + 152
+  shown_bytes : length (field_lines_text (fields_as_sent name fields e now shown)) ≤ length (field_lines_text fields) + 157
   shown_bytes =
       let outer = ap length (flat_map-append field_line_text (fields ++ age) status) ∙ length-append (field_lines_text (fields ++ age)) (field_lines_text status) in
       let inner = ap length (flat_map-append field_line_text fields age) ∙ length-append (field_lines_text fields) (field_lines_text age) in

@@ -8,6 +8,7 @@ use Rattle.hx_policy.specs.declared.words.Policy.{Policy}
 use Rattle.hx_fields.specs.declared.limits.TheConstants.{END_OF_TIME}
 use Rattle.hx_framing.specs.declared.messages.Response.{Response}
 use Rattle.hx_framing.specs.Reading.{Spelled}
+use Rattle.hx_framing.specs.declared.messages.Request.{Request}
 use Rattle.hx_framing.specs.RequestReading.{Reads as ReadsRequest}
 use Rattle.hx_framing.specs.Text.{request_text}
 use Rattle.hx_framing.specs.Written.{request_as_read_back}
@@ -16,11 +17,13 @@ use Rattle.hx_framing.proofs.RequestOnce.{read_once_lem as request_read_once}
 use Rattle.hx_framing.proofs.ResponseOnce.{read_once_lem as response_read_once}
 use Rattle.hx_allow.specs.TableLines.{Table}
 use Rattle.hx_allow.specs.Matching.{policy_of}
-use Rattle.proxy_core.specs.Allowing.{verdict_of_asked, exchanges_to_wait_for}
+use Rattle.proxy_core.specs.Allowing.{verdict_of_asked}
 use Rattle.hx_allow.specs.declared.verdicts.Verdict.{Verdict}
 use Rattle.hx_allow.specs.declared.verdicts.Verdict.TheVariants as verdict
+use Rattle.hx_allow.specs.declared.verdicts.Route.{Route}
 use Rattle.hx_hop.specs.declared.request_view.Asked.{Asked}
 use Rattle.hx_hop.specs.declared.conditions.Conditions.{Conditions}
+use Rattle.hx_hop.specs.Asking.{asked_with_target}
 use Rattle.hx_hop.specs.Forwarding.{forwarded_of}
 use Rattle.hx_hop.specs.Moments.{date_text_of}
 use Rattle.hx_store.specs.Stored.{Stored}
@@ -50,7 +53,6 @@ use Rattle.proxy_core.specs.declared.event.Event.TheVariants.{Arrive, Answer, Fa
 use Rattle.proxy_core.specs.declared.outcome.Outcome.{Outcome}
 use Rattle.proxy_core.specs.declared.outcome.Outcome.TheVariants.{Forward}
 use Rattle.proxy_core.specs.Histories.{held_entries, held_entry, held_serials, next_serial, open_exchanges}
-use Rattle.proxy_core.specs.Awaiting.{leader_of_request}
 use Rattle.proxy_core.specs.Outcomes.{outcome_of_allowed_request, outcome_of_answer, outcome_of_arrival, outcome_of_failure, fallback_for, fault_at_exchange, find_exchange, forward_text, exchange_id_of_event, is_error_status, is_only_if_cached, fault_if_not_forwarded, fault_if_not_released, outcome_of, outcome_of_passing_on, outcome_of_passing_on_or_stale, outcome_of_refusal, outcome_of_304, outcome_of_waiting_or_forwarding, serial_of_stored_answer, outcome_without_stored_response, outcome_of_wake}
 use Rattle.proxy_core.specs.Moments.{moment_too_late_fault}
 use Rattle.proxy_core.specs.ReadAnswers.{WasReadFromAStream, EventIsReadFromAStream}
@@ -59,7 +61,8 @@ use Rattle.proxy_core.specs.Sending.{IsAbout, ReplyIsThatStoredResponse}
 use Rattle.proxy_core.specs.State.{stored_response_as_used, serial_used_by_outcome}
 use Rattle.proxy_core.specs.Storing.{is_304_without_condition}
 use Rattle.proxy_core.specs.Traces.{Item}
-use Rattle.proxy_core.specs.Validating.{condition_about_serial, condition_about_stored, is_validation, freshened_by_304, conditions_to_send, stored_response_validated}
+use Rattle.proxy_core.specs.Validating.{condition_about_serial, condition_about_stored, is_304_to_own_conditions, freshened_by_304, conditions_to_send, stored_response_validated}
+use Rattle.proxy_core.proofs.SentBeside.{led_over, sent_over, unless_sent}
 use Rattle.proxy_core.proofs.SentResponses.{sends_what_is_held}
 use Rattle.proxy_core_laws.specs.OneResponse.{not_modified_answer_sent, passed_answer_sent, proxys_answer_sent, whole_answer_sent}
 use Rattle.proxy_core_laws.specs.StoredReplies.{StoredIsSendable, stored_sent_as_304, stored_sent_whole}
@@ -73,6 +76,11 @@ use Rattle.proxy_core_laws.proofs.ReadTables.{names_a_token}
 
 -- ---- one request
 
+-- whether the client's connection closes is no part of what goes forward
+forwarded_anyway : (keeps closes : Bool) (asked : Asked) (name : List ℕ) (conditions : Option Conditions) → forwarded_of keeps (record asked { close = closes }) name conditions ≡ forwarded_of keeps asked name conditions
+unfolding forwarded_of
+forwarded_anyway keeps closes asked name conditions = refl
+
 pub one_request : (name : List ℕ) (asked : Asked) (keeps : Bool) (conditions : Option Conditions) → IsToken name → RequestWasRead asked → IfSome conditions ConditionsAreFieldValues
     → BytesAreOneRequest name (request_text (forwarded_of keeps asked name conditions))
 one_request name asked keeps conditions token is are = record {
@@ -81,8 +89,9 @@ one_request name asked keeps conditions token is are = record {
   conditions = conditions;
   was_read = is;
   text_is = refl;
-  alone = subst (λ (a : Asked). (most : ℕ) → most < 2 ^ 64 → RequestIsWithinLimits most (forwarded_of keeps a name conditions) → (over continued : Bool) (behind : List ℕ)
-      → ReadsRequest most over continued (request_text (forwarded_of keeps a name conditions) ++ behind) (Spelled (request_as_read_back (forwarded_of keeps a name conditions)) behind)) (sym is.asked_is)
+  alone = subst (λ (sent : Request). (most : ℕ) → most < 2 ^ 64 → RequestIsWithinLimits most sent → (over continued : Bool) (behind : List ℕ)
+      → ReadsRequest most over continued (request_text sent ++ behind) (Spelled (request_as_read_back sent) behind))
+      (sym (ap (λ (a : Asked). forwarded_of keeps a name conditions) is.asked_is ∙ forwarded_anyway keeps is.closes (asked_with_target is.request is.target) name conditions))
       (λ most small limits over continued behind.
       forwards_one_request is.max_body most is.ended is.continue_sent is.bytes is.rest is.request is.target name keeps conditions is.reads is.judged token are small limits over continued behind);
 }
@@ -119,23 +128,27 @@ never s h = cc
 
 module _ (table : Table) (es : List Stored) (token : IsToken table.name) (fit : (against : Option ℕ) → IfSome (conditions_to_send (condition_about_serial es against)) ConditionsAreFieldValues) where
   module _ (now : ℕ) (early : now < END_OF_TIME) (asked : Asked) (is : RequestWasRead asked) where
-    forward_one : (line : ℕ) (condition : Option Condition) → IfSome (conditions_to_send condition) ConditionsAreFieldValues → OutcomeIsOneMessage table.name (is_head asked) (Forward line (forward_text table line asked condition))
+    forward_one : (line : Route) (condition : Option Condition) → IfSome (conditions_to_send condition) ConditionsAreFieldValues → OutcomeIsOneMessage table.name (is_head asked) (Forward line (forward_text table line asked condition))
     forward_one line condition are = one_request table.name asked (keeps_conditions (policy_of table.lines line) asked) (conditions_to_send condition) token is are
 
     refused_one : (cause : Cause) → OutcomeIsOneMessage table.name (is_head asked) (outcome_of_refusal now cause asked)
     refused_one cause = one_refusal now cause asked.close (is_head asked) early
 
-    sent_on_one : (line : ℕ) (condition : Option Condition) (leader : Option ℕ) → IfSome (conditions_to_send condition) ConditionsAreFieldValues → OutcomeIsOneMessage table.name (is_head asked) (outcome_of_waiting_or_forwarding table line asked condition leader)
+    sent_on_one : (line : Route) (condition : Option Condition) (leader : Option ℕ) → IfSome (conditions_to_send condition) ConditionsAreFieldValues → OutcomeIsOneMessage table.name (is_head asked) (outcome_of_waiting_or_forwarding table line asked condition leader)
     sent_on_one line condition (Some leader) are = tt
     sent_on_one line condition None are = forward_one line condition are
 
-    unanswered_one : (xs : List Exchange) (line : ℕ) (rule : ReuseRule) (against : Option ℕ) (b : Bool) → OutcomeIsOneMessage table.name (is_head asked) (outcome_without_stored_response table es xs line now asked rule (condition_about_serial es against) b)
-    unanswered_one xs line rule against true = refused_one (OnlyIfCached rule)
-    unanswered_one xs line rule against false = sent_on_one line (condition_about_serial es against) (leader_of_request (policy_of table.lines line) es (exchanges_to_wait_for table line asked xs) asked rule) (fit against)
+    unanswered_one : (xs : List Exchange) (line : Route) (rule : ReuseRule) (against : Option ℕ) (b : Bool) → serial_used_by_outcome (outcome_without_stored_response table es xs line now asked rule (condition_about_serial es against) b) ≡ None →
+        OutcomeIsOneMessage table.name (is_head asked) (outcome_without_stored_response table es xs line now asked rule (condition_about_serial es against) b)
+    unanswered_one xs line rule against true unused = refused_one (OnlyIfCached rule)
+    unanswered_one xs line rule against false unused =
+        unless_sent (λ (o : Outcome). serial_used_by_outcome o ≡ None → OutcomeIsOneMessage table.name (is_head asked) o) table es line now asked (sent_over table es xs line now asked rule)
+        (outcome_of_waiting_or_forwarding table line asked (condition_about_serial es against) (led_over table es xs line asked rule)) (λ s is used. never s used)
+        (λ none. sent_on_one line (condition_about_serial es against) (led_over table es xs line asked rule) (fit against)) unused
 
-    allowed_one : (xs : List Exchange) (line : ℕ) (d : Decision) → serial_used_by_outcome (outcome_of_allowed_request table es xs line now asked d) ≡ None → OutcomeIsOneMessage table.name (is_head asked) (outcome_of_allowed_request table es xs line now asked d)
+    allowed_one : (xs : List Exchange) (line : Route) (d : Decision) → serial_used_by_outcome (outcome_of_allowed_request table es xs line now asked d) ≡ None → OutcomeIsOneMessage table.name (is_head asked) (outcome_of_allowed_request table es xs line now asked d)
     allowed_one xs line (decision.Hit serial) unused = never serial unused
-    allowed_one xs line (decision.Forward rule against) unused = unanswered_one xs line rule against (is_only_if_cached asked)
+    allowed_one xs line (decision.Forward rule against) unused = unanswered_one xs line rule against (is_only_if_cached asked) unused
 
     arrived_one : (xs : List Exchange) (v : Verdict) → serial_used_by_outcome (outcome_of_arrival table es xs now asked v) ≡ None → OutcomeIsOneMessage table.name (is_head asked) (outcome_of_arrival table es xs now asked v)
     arrived_one xs (verdict.Allowed line) unused = allowed_one xs line (decision_of (policy_of table.lines line) es asked now) unused
@@ -167,7 +180,7 @@ module _ (table : Table) (es : List Stored) (token : IsToken table.name) (fit : 
       revalidated_one None (decision.Forward rule against) unused = forward_one now early x.asked is x.line None tt
 
       answered_one : (next : Option ℕ) (d : Decision) → serial_used_by_outcome (outcome_of_answer table es now x r next d) ≡ None → OutcomeIsOneMessage table.name (is_head x.asked) (outcome_of_answer table es now x r next d)
-      answered_one next d unused = by_304 (is_validation x r) unused
+      answered_one next d unused = by_304 (is_304_to_own_conditions x r) unused
         where
           again : Outcome
           again = outcome_of_304 table es now x r (stored_response_validated es x r now) d

@@ -106,7 +106,7 @@ left_counted policy e now =
 shown_of : (table : Table) (held : List Stored) (x : Option Exchange) (event : Event) (outcome : Outcome) (s : ℕ) (is : ReplyIsThatStoredResponse table held x event outcome s) → EventWasRead event
     → (status : ℕ) (e : Stored) → StatusIsInRange (cache_status_of_sent status e is.now is.info)
 shown_of table held x (Arrive now id asked) outcome s is read status e =
-    subst StatusIsInRange (sym (ap (cache_status_of_sent status e is.now) is.shows_how.2)) (record { came = tt; left = left_counted (policy_of table.lines is.shows_how.0) e is.now; is_held = refl })
+    subst StatusIsInRange (sym (ap (cache_status_of_sent status e is.now) is.shows_how.2.1)) (record { came = tt; left = left_counted (policy_of table.lines is.shows_how.0) e is.now; is_held = refl })
 shown_of table held (Some x) (Answer now id r) outcome s is read status e =
     subst StatusIsInRange (sym (ap (cache_status_of_sent status e is.now) is.shows_how.1)) (record { came = came_low (Some r.status) status (read_low r read); left = left_counted (policy_of table.lines x.line) e is.now; is_held = refl })
 shown_of table held (Some x) (Fail now id kind) outcome s is read status e =

@@ -60,7 +60,7 @@ kept_without stored answer name none other =
 
 pub freshens_sendable : FreshenedIsSendable
 unfolding freshened_of
-freshens_sendable max_body now h ended bytes rest e r asked times sendable reads early =
+freshens_sendable max_body now h ended bytes rest e r asked times further sendable reads early =
     let is = clean max_body h ended bytes r rest reads in
     let answer : List Field = dated_of (stripped r.fields) now in record {
       status = sendable.status;

@@ -11,6 +11,7 @@ use Rattle.hx_allow.specs.TableLines.{Table}
 use Rattle.hx_allow.specs.Tables.{is_name}
 use Rattle.hx_allow.specs.Via.{times_named}
 use Rattle.hx_allow.specs.declared.verdicts.Verdict.TheVariants.{Allowed}
+use Rattle.hx_allow.specs.declared.verdicts.Route.{Route}
 use Rattle.proxy_core.specs.declared.outcome.Outcome.TheVariants.{Waits}
 use Rattle.proxy_core.specs.declared.event.Event.TheVariants.{Arrive}
 use Rattle.proxy_core.specs.Allowing.{verdict_of_asked, came_back}
@@ -20,7 +21,8 @@ use Rattle.proxy_core.specs.Histories.{IsGoodHistory}
 
 -- over a line that refuses loops a request whose Via names the proxy waits for no answer
 abbrev pub WhoCameBackWaitsForNobody : Type 0
-WhoCameBackWaitsForNobody = (table : Table) (start : StoreAtStart) (first now id line leader : ℕ) (asked : Asked)
+WhoCameBackWaitsForNobody = (table : Table) (start : StoreAtStart) (first now id : ℕ) (line : Route) (leader : ℕ)
+    (asked : Asked)
     (item : Item) (past : List Item) → IsGoodHistory table start first (item ∷ past)
     → item.event ≡ Arrive now id asked → verdict_of_asked table asked ≡ Allowed line
     → came_back table line asked ≡ true → item.outcome ≡ Waits leader → ⊥

@@ -5,3 +5,5 @@ pub mod SentMessages
 pub mod HeldHeads
 pub mod LeftStores
 pub mod ComingBack
+pub mod PastStore
+pub mod Varied

@@ -45,7 +45,8 @@ use Rattle.proxy_core.specs.Starts.{StoreAtStart, EachHeldAtFirst}
 
 -- ---- what was read
 
--- some stream spells a request, which is asked so
+-- Some stream spells a request, which is asked so; whether its client's connection closes behind the answer is left to
+-- whoever hands it over.
 pub record RequestWasRead (asked : Asked) : Type 0 where
   pub max_body : ℕ
   pub ended : Bool
@@ -54,9 +55,10 @@ pub record RequestWasRead (asked : Asked) : Type 0 where
   pub rest : List ℕ
   pub request : Request
   pub target : Target
+  pub closes : Bool
   pub reads : ReadsRequest max_body ended continue_sent bytes (Spelled request rest)
   pub judged : TargetIsJudged request.target (values_of request.fields (codes "Host")) (Ok target)
-  pub asked_is : asked ≡ asked_with_target request target
+  pub asked_is : asked ≡ record (asked_with_target request target) { close = closes }
 
 -- an event whose request or answer was read
 abbrev pub EventWasRead : Event → Type 0

@@ -81,9 +81,9 @@ StoredAnswerIsSendable = (max_body serial now : ℕ) (to_head ended : Bool) (byt
 abbrev pub FreshenedIsSendable : Type 0
 FreshenedIsSendable =
     (max_body now : ℕ) (to_head ended : Bool) (bytes rest : List ℕ) (e : Stored) (r : Response) (asked : Asked)
-    (times : Times)
+    (times : Times) (further : List (List ℕ))
     → StoredIsSendable e → Reads max_body to_head ended bytes (Spelled r rest) → now < END_OF_TIME
-    → StoredIsSendable (freshened_of e (answered_of r now) asked times)
+    → StoredIsSendable (freshened_of further e (answered_of r now) asked times)
 
 -- at each moment of a good history whose answers were read (law `answers_are_final` of proxy_engine says that they
 -- are), so is the response of each serial, held or not, where each that was held at first is

@@ -18,7 +18,7 @@ use Rattle.proxy_engine.specs.declared.endpoints.peeked.Peeked.{Peeked}
 use Rattle.proxy_engine.specs.Peeked.{ResponseRepresents}
 use Rattle.proxy_engine.specs.EngineModel.{EngineModel, ConnectionModel, LinkModel, new_link_model, no_connection, no_link, connection_at, link_at, with_connection, with_link, with_core}
 use Rattle.proxy_engine.specs.Pairing.{activity_of}
-use Rattle.proxy_engine.specs.State.{RelatesLists, ConnectionRepresents, LinkRepresents, EngineRepresents, engine_state, due_request_at, due_request_seen, load_of_due_request, connection_is_free_at, is_gone_at, link_result_at, connection_load}
+use Rattle.proxy_engine.specs.State.{RelatesLists, ConnectionRepresents, LinkRepresents, EngineRepresents, engine_state, due_request_at, due_request_seen, load_of_due_request, connection_is_free_at, is_gone_at, is_retired_at, link_result_at, connection_load}
 use Rattle.proxy_engine.specs.declared.endpoints.activities.Activity.{Activity}
 use Rattle.proxy_engine.specs.declared.endpoints.activities.Activity.TheVariants.{Free, Forwarded}
 use Rattle.proxy_engine.specs.declared.endpoints.ends.Connection.{Connection}
@@ -122,6 +122,14 @@ pub gone_there : (o : Option Connection) (b : Bool) → is_gone_at o ≡ Some b 
 gone_there None b e = absurd (cc)
 gone_there (Some c) b e = refl
 
+-- whether one that isn't over is to end
+retired_there : (o : Option Connection) (c : ConnectionModel) → is_some o ≡ true → ConnectionRepresents o c → is_retired_at o ≡ c.retired
+retired_there None c e h = absurd (cc)
+retired_there (Some x) c e h = h.retired
+
+pub retired_in_model : (cs : List (Option Connection)) (ks : List (Option Link)) (core : CoreState) (first : ℕ) (s : EngineModel) (i : ℕ) → i < length cs → is_some (get_or cs i None) ≡ true → EngineRepresents (engine_state cs ks core first) s → is_retired_at (get_or cs i None) ≡ (connection_at s i).retired
+retired_in_model cs ks core first s i within there h = retired_there (get_or cs i None) (connection_at s i) there (both_at ConnectionRepresents cs s.connections i None no_connection h.connections within)
+
 -- what is open counts
 pub counts_one : (o : Option Connection) → is_some o ≡ true → 1 ≤ connection_load o
 counts_one None e = absurd (cc)
@@ -134,7 +142,7 @@ finish_there (Some k) e = refl
 -- where it isn't closed
 pub left_open : (o : Option Connection) (c : ConnectionModel) → ConnectionRepresents o c → ConnectionRepresents o (with_closed false c)
 left_open None c h = (ap (λ (b : Bool). c.gone || b) (or_false c.closed) ∙ h.0, h.1)
-left_open (Some x) c h = record { reader = h.reader; ended = h.ended; gone = h.gone; activity = h.activity; still = ap (λ (b : Bool). b || false) h.still; used = h.used }
+left_open (Some x) c h = record { reader = h.reader; ended = h.ended; gone = h.gone; retired = h.retired; activity = h.activity; still = ap (λ (b : Bool). b || false) h.still; used = h.used }
 
 -- what a look shows to be due, and how much that counts
 action_due : (busy : Bool) (l : Lookahead Request) (a : Next Request) → cond busy None (due_request_seen l) ≡ Some a → l ≡ Due a

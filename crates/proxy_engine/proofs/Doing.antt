@@ -16,8 +16,8 @@ use Rattle.proxy_core.specs.declared.event.Event.{Event}
 use Rattle.proxy_core.specs.declared.event.Event.TheVariants as events
 use Rattle.proxy_core.specs.Traces.{Item}
 use Rattle.proxy_script.specs.declared.effect_list.Effect.{Effect}
-use Rattle.proxy_engine.specs.Admitted.{Refusal, RequestIsAdmittedOrRefused}
-use Rattle.proxy_engine.specs.EngineModel.{EngineModel, with_core}
+use Rattle.proxy_engine.specs.Admitted.{Refusal, RequestIsAdmittedOrRefused, asked_on_connection}
+use Rattle.proxy_engine.specs.EngineModel.{EngineModel, connection_at, with_core}
 use Rattle.proxy_engine.specs.Due.{Act, Abandons, Finishes, Wakes, Serves, Gives, Breaks}
 use Rattle.proxy_engine.specs.Acts.{outcome_by_table, model_after_outcome, effects_of_outcome, next_link_number, CoreIsStepped, RequestArrives, ConnectionIsServed, RequestIsRefused, ConnectionIsClosed}
 use Rattle.proxy_engine.specs.Executions.{ExecutionStep, Took, Worked, StepLeads, IsCoreEventOfAct, ActAsksCoreNothing, IsItemOfAct, StepAddsToTrace, ActIsDoneInOneWay, StepsHaveOneTrace}
@@ -110,7 +110,8 @@ module _ (asked_once : (request : Request) (r s : Result Asked TargetFault) → 
   event_once s now (Wakes i) e f h k = h ∙ sym k
   event_once s now (Serves i next.More) e f h k = absurd h
   event_once s now (Serves i next.NeedsContinue) e f h k = absurd h
-  event_once s now (Serves i (next.Message r)) e f h k = h.2 ∙ (ap (λ (a : Asked). events.Arrive now (i + 1) a) (one_request r h.0 k.0 h.1 k.1) ∙ sym k.2)
+  event_once s now (Serves i (next.Message r)) e f (a, (sent, read, is), h) (b, (other, again, also), k) =
+      h ∙ (ap (λ (x : Asked). events.Arrive now (i + 1) x) (is ∙ (ap (asked_on_connection (connection_at s i).retired) (one_request r sent other read again) ∙ sym also)) ∙ sym k)
   event_once s now (Serves i (next.Refused fault)) e f h k = absurd h
   event_once s now (Serves i next.End) e f h k = absurd h
 
@@ -120,7 +121,7 @@ module _ (asked_once : (request : Request) (r s : Result Asked TargetFault) → 
   event_or_none {P} s now (Wakes i) e h k = absurd k
   event_or_none {P} s now (Serves i next.More) e h k = absurd h
   event_or_none {P} s now (Serves i next.NeedsContinue) e h k = absurd h
-  event_or_none {P} s now (Serves i (next.Message r)) e h k = not_both r h.0 k.0 h.1 k.1
+  event_or_none {P} s now (Serves i (next.Message r)) e (a, (sent, read, is), h) k = not_both r sent k.0 read k.1
   event_or_none {P} s now (Serves i (next.Refused fault)) e h k = absurd h
   event_or_none {P} s now (Serves i next.End) e h k = absurd h
 

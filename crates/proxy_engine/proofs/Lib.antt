@@ -22,7 +22,9 @@ pub mod Living
 pub mod Doing
 pub mod Staying
 pub mod Dropping
+pub mod Retiring
 pub mod Readable
+pub mod Owners
 pub mod SendingEnds
 pub mod Failures
 pub mod FinalAnswers

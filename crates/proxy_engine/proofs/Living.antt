@@ -14,9 +14,9 @@ use Rattle.proxy_core.specs.declared.event.Event.{Event}
 use Rattle.proxy_core.specs.Traces.{Item, initial_state as core_begun}
 use Rattle.proxy_core.proofs.Driven.{promises_of_a_driven_core}
 use Rattle.proxy_script.specs.declared.effect_list.Effect.{Effect}
-use Rattle.proxy_engine.specs.Admitted.{Refusal, RequestIsAdmittedOrRefused}
-use Rattle.proxy_engine.specs.Happenings.{PlainHappening, Accepts as Accepted, Sends, Hears, Ends, Leaves, Shuts, Fails}
-use Rattle.proxy_engine.specs.EngineModel.{EngineModel, model_after_happening, with_core}
+use Rattle.proxy_engine.specs.Admitted.{Refusal, RequestIsAdmittedOrRefused, asked_on_connection}
+use Rattle.proxy_engine.specs.Happenings.{PlainHappening, Accepts as Accepted, Sends, Hears, Ends, Leaves, Retires, Shuts, Fails}
+use Rattle.proxy_engine.specs.EngineModel.{EngineModel, connection_at, model_after_happening, with_core}
 use Rattle.proxy_engine.specs.Due.{Act, Abandons, Finishes, Wakes, Serves, Gives, Breaks}
 use Rattle.proxy_engine.specs.Acts.{OutcomeOnConnection, Replies, Forwards, Nothing, outcome_by_table, model_after_outcome, effects_of_outcome, next_link_number, CoreIsStepped, ActIsDone, RequestArrives, ConnectionIsServed, RequestIsRefused as IsRefused, ConnectionIsClosed as IsClosed, Queues}
 use Rattle.proxy_engine.specs.State.{new_engine_model}
@@ -57,7 +57,7 @@ module _ (table : Table) where
   shut now s i action emitted after none h = inr (ap (λ (u : EngineModel). u.core) h.1, none, Closes h.0)
 
   arrives : (now : ℕ) (s : EngineModel) (i : ℕ) (r : Request) (judged : Result Asked Refusal) (emitted : List Effect) (after : EngineModel) → s.core.table ≡ table → RequestIsAdmittedOrRefused r judged → RequestArrives s now i r judged emitted after → Goes s now (Serves i (next.Message r)) emitted after
-  arrives now s i r (Ok asked) emitted after config a h = stepped now (Serves i (next.Message r)) s _ _ _ emitted after config (asked, a, refl) h.1
+  arrives now s i r (Ok asked) emitted after config a h = stepped now (Serves i (next.Message r)) s _ _ _ emitted after config (asked_on_connection (connection_at s i).retired asked, (asked, a, refl), refl) h.1
   arrives now s i r (Err refusal) emitted after config a h = refused now s i (next.Message r) _ _ emitted after (refusal, a) h
 
   serves : (now : ℕ) (s : EngineModel) (i : ℕ) (action : Next Request) (emitted : List Effect) (after : EngineModel) → s.core.table ≡ table → ConnectionIsServed s now i action emitted after → Goes s now (Serves i action) emitted after
@@ -89,6 +89,7 @@ heard_core s (Sends n bytes) = refl
 heard_core s (Hears l bytes) = refl
 heard_core s (Ends n) = refl
 heard_core s (Leaves n) = refl
+heard_core s (Retires n) = refl
 heard_core s (Shuts l) = refl
 heard_core s (Fails l kind) = refl
 

@@ -9,7 +9,7 @@ use Rattle.hx_framing.specs.declared.messages.Next.{Next}
 use Rattle.hx_framing.specs.declared.messages.Next.TheVariants as next
 use Rattle.hx_framing.specs.Progress.{stream_with_piece, stream_finished}
 use Rattle.hx_hop.specs.declared.request_view.Asked.{Asked}
-use Rattle.proxy_engine.specs.Admitted.{Refusal}
+use Rattle.proxy_engine.specs.Admitted.{Refusal, asked_on_connection}
 use Rattle.hx_status.specs.declared.cause.Cause.{Cause}
 use Rattle.hx_target.specs.declared.keys.Key.{Key}
 use Rattle.proxy_core.specs.declared.open.exchange.Exchange.{Exchange}
@@ -25,7 +25,7 @@ use Rattle.proxy_core.specs.Waiting.{ExchangeMayBeWoken}
 use Rattle.proxy_core.proofs.Waits.{ready_by}
 use Rattle.proxy_script.specs.declared.effect_list.Effect.{Effect}
 use Rattle.proxy_script.specs.declared.effect_list.Effect.TheVariants as effects
-use Rattle.proxy_engine.specs.Happenings.{Accepts, Sends, Hears, Ends, Leaves, Shuts, Fails}
+use Rattle.proxy_engine.specs.Happenings.{Accepts, Sends, Hears, Ends, Leaves, Retires, Shuts, Fails}
 use Rattle.proxy_engine.specs.EngineModel.{EngineModel, ConnectionModel, LinkModel, no_connection, no_link, new_connection_model, new_link_model, connection_at, link_at, with_connection, with_core, model_after_happening}
 use Rattle.proxy_engine.specs.Due.{Abandons, Finishes, Wakes, Serves, LinkResult, Gives, Breaks, LinkResultUnlessDropped, ConnectionActionUnlessBusy, takes_no_request, IsDueFirst}
 use Rattle.proxy_engine.specs.Acts.{ActIsDone, ConnectionIsServed, LinkIsFinished, RequestIsWoken, RequestArrives, RequestIsRefused, ConnectionIsClosed, Replies, outcome_by_table, exchange_asks_head, effects_of_outcome, model_after_outcome, model_after_link_freed, with_activity, with_closed, with_dropped, with_next_passed, next_link_number}
@@ -141,6 +141,7 @@ takes_in_order s (Accepts n) h = record {
 takes_in_order s (Sends n bytes) h = orderly (model_after_happening s (Sends n bytes)) (let c = connection_at s (n - 1) in marked s (n - 1) (c.gone || (c.closed || c.progress.ended)) (record c { progress = stream_with_piece c.progress bytes }) refl refl h)
 takes_in_order s (Ends n) h = orderly (model_after_happening s (Ends n)) (let c = connection_at s (n - 1) in marked s (n - 1) (c.gone || c.closed) (record c { progress = stream_finished c.progress }) refl refl h)
 takes_in_order s (Leaves n) h = orderly (model_after_happening s (Leaves n)) (let c = connection_at s (n - 1) in marked s (n - 1) c.closed (record c { gone = true }) refl refl h)
+takes_in_order s (Retires n) h = orderly (model_after_happening s (Retires n)) (let c = connection_at s (n - 1) in marked s (n - 1) false (record c { retired = true }) refl refl h)
 takes_in_order s (Hears l bytes) h = orderly (model_after_happening s (Hears l bytes)) (let k = link_at s (l - s.first) in marked_link s (l - s.first) (k.dropped || (is_some k.failed || k.progress.ended)) (record k { progress = stream_with_piece k.progress bytes }) refl h)
 takes_in_order s (Shuts l) h = orderly (model_after_happening s (Shuts l)) (let k = link_at s (l - s.first) in marked_link s (l - s.first) (k.dropped || is_some k.failed) (record k { progress = stream_finished k.progress }) refl h)
 takes_in_order s (Fails l kind) h = orderly (model_after_happening s (Fails l kind)) (let k = link_at s (l - s.first) in marked_link s (l - s.first) (k.dropped || is_some k.failed) (record k { failed = Some kind }) refl h)
@@ -568,7 +569,7 @@ serves_order s now i w emitted after h due done = by_action w done
     closes d = shuts_order s i emitted _ after h inside parts.2 d.0 d.1 (λ t shut. (unshut, (i, refl, shut), refl))
 
     arrives : (r : Request) (judged : Result Asked Refusal) → RequestArrives s now i r judged emitted after → ModelIsOrderly after × EffectsNameOpenEnds s after emitted
-    arrives r (Ok asked) d = arrived_order s now i (next.Message r) asked d.1.outcome d.1.core (is_head asked) emitted after h inside unshut parts.1 parts.2 d.1.steps d.1.emitted_is d.1.after_is
+    arrives r (Ok asked) d = arrived_order s now i (next.Message r) (asked_on_connection (connection_at s i).retired asked) d.1.outcome d.1.core (is_head asked) emitted after h inside unshut parts.1 parts.2 d.1.steps d.1.emitted_is d.1.after_is
     arrives r (Err fault) d = refuses _ _ d
 
     by_action : (w : Next Request) → ConnectionIsServed s now i w emitted after → ModelIsOrderly after × EffectsNameOpenEnds s after emitted

@@ -19,8 +19,8 @@ use Rattle.proxy_engine.specs.Room.{HappeningFindsMemory}
 use Rattle.proxy_script.specs.declared.happening.Happening.{Happening}
 use Rattle.proxy_engine.specs.ReadyList.{entries_below}
 use Rattle.proxy_engine.specs.Held.{flagged_places, has_flag, connection_is_open, connection_may_send, link_failed, link_may_send}
-use Rattle.proxy_engine.specs.Pairing.{activity_of}
-use Rattle.proxy_engine.specs.Reading.{places_with_flag, connection_is_open_in_model, connection_may_send_request, link_has_failed, link_end_at}
+use Rattle.proxy_engine.specs.Pairing.{activity_of, owner_of}
+use Rattle.proxy_engine.specs.Reading.{places_with_flag, connection_is_open_in_model, connection_may_send_request, link_has_failed, link_end_at, owner_in_model}
 use Rattle.proxy_engine.specs.declared.endpoints.activities.Activity.{Activity}
 use Rattle.proxy_engine.specs.declared.endpoints.ends.Connection.{Connection}
 use Rattle.proxy_engine.specs.declared.endpoints.ends.Link.{Link}
@@ -194,6 +194,13 @@ activity_same (Some k) c h = h.activity
 
 pub activity_read_at : (xs : List (Option Connection)) (ss : List ConnectionModel) → RelatesLists ConnectionRepresents xs ss → (i : ℕ) → activity_of (get_or xs i None) ≡ (get_or ss i no_connection).activity
 activity_read_at = flag_at ConnectionRepresents activity_of (λ (c : ConnectionModel). c.activity) no_connection activity_same refl
+
+owner_same : (o : Option Link) (s : LinkModel) → LinkRepresents o s → owner_of o ≡ owner_in_model s
+owner_same None s h = sym (ap (λ (b : Bool). cond b None (Some s.connection)) h)
+owner_same (Some k) s h = ap Some h.connection ∙ sym (ap (λ (b : Bool). cond b None (Some s.connection)) h.still)
+
+pub owner_read_at : (xs : List (Option Link)) (ss : List LinkModel) → RelatesLists LinkRepresents xs ss → (j : ℕ) → owner_of (get_or xs j None) ≡ owner_in_model (get_or ss j no_link)
+owner_read_at = flag_at LinkRepresents owner_of owner_in_model no_link owner_same refl
 
 pub answer_at : (xs : List (Option Link)) (ss : List LinkModel) → RelatesLists LinkRepresents xs ss → (j : ℕ) → has_flag link_may_send (get_or xs j None) ≡ keeps_answer (get_or ss j no_link)
 answer_at = flag_at LinkRepresents (has_flag link_may_send) keeps_answer no_link answer_same refl

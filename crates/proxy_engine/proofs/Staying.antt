@@ -1,4 +1,4 @@
--- What is closed, gone or dropped stays so.
+-- What is closed, gone, to end or dropped stays so.
 use Rattle.std.proofs.Common.{◌≡◌, ℕ, zero, suc, ◌-◌, ◌<◌, List, [], ◌∷◌, ◌++◌, length, get_or, set, refl, sym, ◌∙◌, subst, arith, Bool, true, false, ◌||◌, cond, Some, is_some, Result, Ok, Err, None}
 use Rattle.std.proofs.lemmas.List.{length_push}
 use Rattle.std.proofs.Math.ListN.{length-set}
@@ -12,8 +12,8 @@ use Rattle.proxy_engine.specs.Admitted.{Refusal}
 use Rattle.proxy_core.specs.State.{State as CoreState}
 use Rattle.proxy_core.specs.declared.event.Event.{Event}
 use Rattle.proxy_script.specs.declared.effect_list.Effect.{Effect}
-use Rattle.proxy_engine.specs.Happenings.{Accepts, Sends, Hears, Ends, Leaves, Shuts, Fails}
-use Rattle.proxy_engine.specs.EngineModel.{EngineModel, ConnectionModel, LinkModel, no_connection, no_link, new_connection_model, new_link_model, connection_at, with_connection, with_link, with_core, connection_after_bytes, connection_after_end, connection_after_disconnect, link_after_bytes, link_after_shut, link_after_failure}
+use Rattle.proxy_engine.specs.Happenings.{Accepts, Sends, Hears, Ends, Leaves, Retires, Shuts, Fails}
+use Rattle.proxy_engine.specs.EngineModel.{EngineModel, ConnectionModel, LinkModel, no_connection, no_link, new_connection_model, new_link_model, connection_at, with_connection, with_link, with_core, connection_after_bytes, connection_after_end, connection_after_disconnect, connection_after_retirement, link_after_bytes, link_after_shut, link_after_failure}
 use Rattle.proxy_engine.specs.Due.{Abandons, Finishes, Wakes, Serves, Gives, Breaks}
 use Rattle.proxy_engine.specs.Acts.{OutcomeOnConnection, Replies, Forwards, Nothing, ConnectionIsServed, RequestArrives, CoreIsStepped, outcome_by_table, model_after_outcome, model_after_link_freed, with_activity, with_closed, with_dropped, with_next_passed, with_opened_link, Queues}
 use Rattle.proxy_engine.specs.Orderly.{EndedStaysEnded, HappeningKeepsEnded, ActKeepsEnded}
@@ -37,27 +37,33 @@ IsShut c = c.closed ≡ true
 abbrev IsGone : ConnectionModel → Type 0
 IsGone c = c.gone ≡ true
 
+abbrev IsRetired : ConnectionModel → Type 0
+IsRetired c = c.retired ≡ true
+
 abbrev IsDropped : LinkModel → Type 0
 IsDropped k = k.dropped ≡ true
 
 -- the same lists, under another core or none
 stays_here : (s : EngineModel) (core : CoreState) → EndedStaysEnded s (with_core s core)
-stays_here s core = record { closed = λ i l e. e; gone = λ i l e. e; dropped = λ j l e. e; connections = omega arith; links = omega arith; first = refl }
+stays_here s core = record { closed = λ i l e. e; gone = λ i l e. e; retired = λ i l e. e; dropped = λ j l e. e; connections = omega arith; links = omega arith; first = refl }
 
 stays_on : (r s t : EngineModel) → EndedStaysEnded r s → EndedStaysEnded s t → EndedStaysEnded r t
 stays_on r s t f g = record {
   closed = λ i l e. g.closed i (omega (arith, l, f.connections)) (f.closed i l e);
   gone = λ i l e. g.gone i (omega (arith, l, f.connections)) (f.gone i l e);
+  retired = λ i l e. g.retired i (omega (arith, l, f.connections)) (f.retired i l e);
   dropped = λ j l e. g.dropped j (omega (arith, l, f.links)) (f.dropped j l e);
   connections = omega (arith, f.connections, g.connections);
   links = omega (arith, f.links, g.links);
   first = g.first ∙ f.first;
 }
 
-stays_connection : (s : EngineModel) (i : ℕ) (f : ConnectionModel → ConnectionModel) → ((c : ConnectionModel) → IsShut c → IsShut (f c)) → ((c : ConnectionModel) → IsGone c → IsGone (f c)) → EndedStaysEnded s (with_connection s i f)
-stays_connection s i f shuts goes = record {
+stays_connection : (s : EngineModel) (i : ℕ) (f : ConnectionModel → ConnectionModel) → ((c : ConnectionModel) → IsShut c → IsShut (f c)) → ((c : ConnectionModel) → IsGone c → IsGone (f c))
+    → ((c : ConnectionModel) → IsRetired c → IsRetired (f c)) → EndedStaysEnded s (with_connection s i f)
+stays_connection s i f shuts goes retires = record {
   closed = λ k l e. stays_set IsShut no_connection s.connections i (f (connection_at s i)) k (shuts (connection_at s i)) e;
   gone = λ k l e. stays_set IsGone no_connection s.connections i (f (connection_at s i)) k (goes (connection_at s i)) e;
+  retired = λ k l e. stays_set IsRetired no_connection s.connections i (f (connection_at s i)) k (retires (connection_at s i)) e;
   dropped = λ j l e. e;
   connections = let same = length-set s.connections i (f (connection_at s i)) in omega (arith, same);
   links = omega arith;
@@ -68,6 +74,7 @@ stays_link : (s : EngineModel) (j : ℕ) (f : LinkModel → LinkModel) → ((k :
 stays_link s j f drops = record {
   closed = λ k l e. e;
   gone = λ k l e. e;
+  retired = λ k l e. e;
   dropped = λ k l e. stays_set IsDropped no_link s.links j (f (get_or s.links j no_link)) k (drops (get_or s.links j no_link)) e;
   connections = omega arith;
   links = let same = length-set s.links j (f (get_or s.links j no_link)) in omega (arith, same);
@@ -82,6 +89,10 @@ gone_by : (b : Bool) (c d : ConnectionModel) → (IsGone c → IsGone d) → IsG
 gone_by true c d e h = h
 gone_by false c d e h = e h
 
+retired_by : (b : Bool) (c d : ConnectionModel) → d.retired ≡ c.retired → IsRetired c → IsRetired (cond b c d)
+retired_by true c d e h = h
+retired_by false c d e h = e ∙ h
+
 dropped_by : (b : Bool) (k d : LinkModel) → d.dropped ≡ k.dropped → IsDropped k → IsDropped (cond b k d)
 dropped_by true k d e h = h
 dropped_by false k d e h = e ∙ h
@@ -90,14 +101,16 @@ pub takes_stay : HappeningKeepsEnded
 takes_stay s (Accepts n) = record {
   closed = λ i l e. stays_push IsShut no_connection s.connections (new_connection_model s.core.table.max_body) i l e;
   gone = λ i l e. stays_push IsGone no_connection s.connections (new_connection_model s.core.table.max_body) i l e;
+  retired = λ i l e. stays_push IsRetired no_connection s.connections (new_connection_model s.core.table.max_body) i l e;
   dropped = λ j l e. e;
   connections = let more = length_push s.connections (new_connection_model s.core.table.max_body) in omega (arith, more);
   links = omega arith;
   first = refl;
 }
-takes_stay s (Sends n bytes) = stays_connection s (n - 1) (connection_after_bytes bytes) (λ c e. shut_by (c.gone || (c.closed || c.progress.ended)) c (record c { progress = stream_with_piece c.progress bytes }) refl e) (λ c e. gone_by (c.gone || (c.closed || c.progress.ended)) c (record c { progress = stream_with_piece c.progress bytes }) (λ g. g) e)
-takes_stay s (Ends n) = stays_connection s (n - 1) connection_after_end (λ c e. shut_by (c.gone || c.closed) c (record c { progress = stream_finished c.progress }) refl e) (λ c e. gone_by (c.gone || c.closed) c (record c { progress = stream_finished c.progress }) (λ g. g) e)
-takes_stay s (Leaves n) = stays_connection s (n - 1) connection_after_disconnect (λ c e. shut_by c.closed c (record c { gone = true }) refl e) (λ c e. gone_by c.closed c (record c { gone = true }) (λ g. refl) e)
+takes_stay s (Sends n bytes) = stays_connection s (n - 1) (connection_after_bytes bytes) (λ c e. shut_by (c.gone || (c.closed || c.progress.ended)) c (record c { progress = stream_with_piece c.progress bytes }) refl e) (λ c e. gone_by (c.gone || (c.closed || c.progress.ended)) c (record c { progress = stream_with_piece c.progress bytes }) (λ g. g) e) (λ c e. retired_by (c.gone || (c.closed || c.progress.ended)) c (record c { progress = stream_with_piece c.progress bytes }) refl e)
+takes_stay s (Ends n) = stays_connection s (n - 1) connection_after_end (λ c e. shut_by (c.gone || c.closed) c (record c { progress = stream_finished c.progress }) refl e) (λ c e. gone_by (c.gone || c.closed) c (record c { progress = stream_finished c.progress }) (λ g. g) e) (λ c e. retired_by (c.gone || c.closed) c (record c { progress = stream_finished c.progress }) refl e)
+takes_stay s (Leaves n) = stays_connection s (n - 1) connection_after_disconnect (λ c e. shut_by c.closed c (record c { gone = true }) refl e) (λ c e. gone_by c.closed c (record c { gone = true }) (λ g. refl) e) (λ c e. retired_by c.closed c (record c { gone = true }) refl e)
+takes_stay s (Retires n) = stays_connection s (n - 1) connection_after_retirement (λ c e. e) (λ c e. e) (λ c e. refl)
 takes_stay s (Hears l bytes) = stays_link s (l - s.first) (link_after_bytes bytes) (λ k e. dropped_by (k.dropped || (is_some k.failed || k.progress.ended)) k (record k { progress = stream_with_piece k.progress bytes }) refl e)
 takes_stay s (Shuts l) = stays_link s (l - s.first) link_after_shut (λ k e. dropped_by (k.dropped || is_some k.failed) k (record k { progress = stream_finished k.progress }) refl e)
 takes_stay s (Fails l kind) = stays_link s (l - s.first) (link_after_failure kind) (λ k e. dropped_by (k.dropped || is_some k.failed) k (record k { failed = Some kind }) refl e)
@@ -109,7 +122,7 @@ shut_or true c e = refl
 shut_or false c e = cc
 
 stays_closing : (s : EngineModel) (i : ℕ) (close : Bool) → EndedStaysEnded s (with_connection s i (with_closed close))
-stays_closing s i close = stays_connection s i (with_closed close) (λ c e. shut_or c.closed close e) (λ c e. e)
+stays_closing s i close = stays_connection s i (with_closed close) (λ c e. shut_or c.closed close e) (λ c e. e) (λ c e. e)
 
 stays_opened : (s : EngineModel) (i : ℕ) (to_head : Bool) → EndedStaysEnded s (with_opened_link s i to_head)
 stays_opened s i to_head =
@@ -117,6 +130,7 @@ stays_opened s i to_head =
     record {
       closed = λ k l e. stays_set IsShut no_connection s.connections i y k (λ e. e) e;
       gone = λ k l e. stays_set IsGone no_connection s.connections i y k (λ e. e) e;
+      retired = λ k l e. stays_set IsRetired no_connection s.connections i y k (λ e. e) e;
       dropped = λ j l e. stays_push IsDropped no_link s.links (new_link_model s.core.table.max_body to_head i) j l e;
       connections = let same = length-set s.connections i y in omega (arith, same);
       links = let more = length_push s.links (new_link_model s.core.table.max_body to_head i) in omega (arith, more);
@@ -126,11 +140,11 @@ stays_opened s i to_head =
 stays_after : (s : EngineModel) (i : ℕ) (to_head : Bool) (o : OutcomeOnConnection) → EndedStaysEnded s (model_after_outcome i to_head o s)
 stays_after s i to_head (Replies bytes close) = stays_closing s i close
 stays_after s i to_head (Forwards address bytes) = stays_opened s i to_head
-stays_after s i to_head Queues = stays_connection s i (with_activity Waiting) (λ c e. e) (λ c e. e)
+stays_after s i to_head Queues = stays_connection s i (with_activity Waiting) (λ c e. e) (λ c e. e) (λ c e. e)
 stays_after s i to_head Nothing = stays_here s s.core
 
 stays_freed : (s : EngineModel) (j i : ℕ) → EndedStaysEnded s (model_after_link_freed s j i)
-stays_freed s j i = stays_on s (with_link s j with_dropped) (model_after_link_freed s j i) (stays_link s j with_dropped (λ k e. refl)) (stays_connection (with_link s j with_dropped) i (with_activity Free) (λ c e. e) (λ c e. e))
+stays_freed s j i = stays_on s (with_link s j with_dropped) (model_after_link_freed s j i) (stays_link s j with_dropped (λ k e. refl)) (stays_connection (with_link s j with_dropped) i (with_activity Free) (λ c e. e) (λ c e. e) (λ c e. e))
 
 stays_equal : (s t after : EngineModel) → after ≡ t → EndedStaysEnded s t → EndedStaysEnded s after
 stays_equal s t after e h = subst (λ (x : EngineModel). EndedStaysEnded s x) (sym e) h
@@ -142,7 +156,7 @@ stays_stepped s t i to_head event before emitted after h d =
     (stays_on s t (model_after_outcome i to_head (outcome_by_table s.core.table d.outcome) now) h (stays_on t now (model_after_outcome i to_head (outcome_by_table s.core.table d.outcome) now) (stays_here t d.core) (stays_after now i to_head (outcome_by_table s.core.table d.outcome))))
 
 stays_passed : (s : EngineModel) (i : ℕ) (m : Next Request) → EndedStaysEnded s (with_connection s i (with_next_passed m))
-stays_passed s i m = stays_connection s i (with_next_passed m) (λ c e. e) (λ c e. e)
+stays_passed s i m = stays_connection s i (with_next_passed m) (λ c e. e) (λ c e. e) (λ c e. e)
 
 stays_arrived : (s : EngineModel) (now i : ℕ) (r : Request) (judged : Result Asked Refusal) (emitted : List Effect) (after : EngineModel) → RequestArrives s now i r judged emitted after → EndedStaysEnded s after
 stays_arrived s now i r (Ok asked) emitted after d = stays_stepped s (with_connection s i (with_next_passed (next.Message r))) i _ _ _ emitted after (stays_passed s i (next.Message r)) d.1
@@ -166,8 +180,8 @@ stays_served s now i next.End emitted after d = stays_equal s _ after d.1 (stays
 
 pub acts_stay : ActKeepsEnded
 acts_stay s now (Abandons i (Some l)) emitted after d = stays_stepped s (model_after_link_freed s l i) i _ _ _ emitted after (stays_freed s l i) d
-acts_stay s now (Abandons i None) emitted after d = stays_stepped s (with_connection s i (with_activity Free)) i _ _ _ emitted after (stays_connection s i (with_activity Free) (λ c e. e) (λ c e. e)) d
+acts_stay s now (Abandons i None) emitted after d = stays_stepped s (with_connection s i (with_activity Free)) i _ _ _ emitted after (stays_connection s i (with_activity Free) (λ c e. e) (λ c e. e) (λ c e. e)) d
 acts_stay s now (Finishes j (Gives r)) emitted after d = stays_stepped s (model_after_link_freed s j _) _ _ _ _ emitted after (stays_freed s j _) d.1
 acts_stay s now (Finishes j (Breaks kind)) emitted after d = stays_stepped s (model_after_link_freed s j _) _ _ _ _ emitted after (stays_freed s j _) d
-acts_stay s now (Wakes i) emitted after d = stays_stepped s (with_connection s i (with_activity Free)) i _ _ _ emitted after (stays_connection s i (with_activity Free) (λ c e. e) (λ c e. e)) d.1
+acts_stay s now (Wakes i) emitted after d = stays_stepped s (with_connection s i (with_activity Free)) i _ _ _ emitted after (stays_connection s i (with_activity Free) (λ c e. e) (λ c e. e) (λ c e. e)) d.1
 acts_stay s now (Serves i w) emitted after d = stays_served s now i w emitted after d

@@ -3,7 +3,7 @@ use Rattle.std.proofs.Common.{◌≡◌, ℕ, ◌+◌, ◌<◌, ◌≤◌, ◌^�
 use Rattle.hx_framing.specs.declared.messages.Request.{Request}
 use Rattle.hx_framing.specs.declared.messages.Next.TheVariants as next
 use Rattle.hx_hop.specs.declared.request_view.Asked.{Asked}
-use Rattle.proxy_engine.specs.Admitted.{RequestIsAdmittedOrRefused}
+use Rattle.proxy_engine.specs.Admitted.{RequestIsAdmittedOrRefused, asked_on_connection}
 use Rattle.hx_allow.specs.TableLines.{Table}
 use Rattle.hx_store.specs.Stored.{Stored}
 use Rattle.proxy_core.specs.Outcomes.{outcome_of, find_exchange}
@@ -21,7 +21,7 @@ use Rattle.hx_status.specs.declared.cause.FailKind.{FailKind}
 use Rattle.proxy_engine.specs.declared.endpoints.lookahead.Lookahead.{Lookahead}
 use Rattle.proxy_engine.specs.declared.endpoints.lookahead.Lookahead.TheVariants.{Unknown, Quiet, Due}
 use Rattle.proxy_engine.specs.declared.endpoints.activities.Activity.TheVariants.{Free}
-use Rattle.proxy_engine.specs.EngineModel.{EngineModel, link_at, with_connection, with_core}
+use Rattle.proxy_engine.specs.EngineModel.{EngineModel, connection_at, link_at, with_connection, with_core}
 use Rattle.proxy_engine.specs.Due.{Abandons, LinkResult, Gives, Breaks, Finishes, Wakes, Serves, IsDueFirst}
 use Rattle.proxy_engine.specs.Acts.{OutcomeOnConnection, CoreIsStepped, LinkIsFinished, exchange_asks_head, outcome_by_table, with_activity, with_next_passed, model_after_link_freed, effects_of_outcome, model_after_outcome, next_link_number}
 use Rattle.proxy_engine.specs.State.{LinkRepresents, EngineRepresents, engine_state, link_result_seen, link_result_at, load_of_link_result, link_load, EngineDoesAct, NoActWasDoneSince}
@@ -34,7 +34,7 @@ use Rattle.proxy_engine.proofs.Changes.{changed_core}
 
 -- a request has arrived
 pub arrived_done : (s : EngineModel) (cs1 cs2 : List (Option Connection)) (ks1 ks2 : List (Option Link)) (core core1 : CoreState) (first now i : ℕ) (r : Request) (asked : Asked) (o : Outcome) (table : Table) (to_head : Bool) (emitted : List Effect)
-    → RequestIsAdmittedOrRefused r (Ok asked) → StepIsAccepted core (events.Arrive now (i + 1) asked) o core1 → first + length ks1 < 2 ^ 64
+    → RequestIsAdmittedOrRefused r (Ok asked) → StepIsAccepted core (events.Arrive now (i + 1) (asked_on_connection (connection_at s i).retired asked)) o core1 → first + length ks1 < 2 ^ 64
     → table ≡ core.table → to_head ≡ is_head asked
     → emitted ≡ effects_of_outcome i (first + length ks1) (outcome_by_table table o)
     → ((t : EngineModel) (k : CoreState) → k.table.max_body ≡ table.max_body → EngineRepresents (engine_state cs1 ks1 k first) t → EngineRepresents (engine_state cs2 ks2 k first) (model_after_outcome i to_head (outcome_by_table table o) t))
@@ -61,7 +61,7 @@ arrived_done s cs1 cs2 ks1 ks2 core core1 first now i r asked o table to_head em
           record {
             outcome = o;
             core = core1;
-            steps = subst (λ (k : CoreState). StepIsAccepted k (events.Arrive now (i + 1) asked) o core1) core_is steps;
+            steps = subst (λ (k : CoreState). StepIsAccepted k (events.Arrive now (i + 1) (asked_on_connection (connection_at s i).retired asked)) o core1) core_is steps;
             emitted_is = has_trace ∙ (ap (λ n. effects_of_outcome i n (outcome_by_table table o)) number ∙ ap (effects_of_outcome i (next_link_number s)) coming);
             after_is = refl;
           },

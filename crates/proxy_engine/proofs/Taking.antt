@@ -119,10 +119,10 @@ link_keeps cs ks core first s l j x place within e read h =
 
 -- a connection more
 pub accepted_more : (cs : List (Option Connection)) (ks : List (Option Link)) (core : CoreState) (first : ℕ) (s : EngineModel) (max_body : ℕ) (w : Peeked RequestState Request) → core.table.max_body ≡ max_body → RequestRepresents w (no_stream max_body false) → EngineRepresents (engine_state cs ks core first) s
-    → EngineRepresents (engine_state (cs ++ Some (record { reader = w; ended = false; gone = false; activity = Free }) ∷ []) ks core first) (model_after_happening s (Accepts 0))
+    → EngineRepresents (engine_state (cs ++ Some (record { reader = w; ended = false; gone = false; retired = false; activity = Free }) ∷ []) ks core first) (model_after_happening s (Accepts 0))
 accepted_more cs ks core first s max_body w most fresh h = record {
-  connections = both_push ConnectionRepresents cs s.connections (Some (record { reader = w; ended = false; gone = false; activity = Free })) (new_connection_model s.core.table.max_body) h.connections
-      record { reader = subst (λ (n : ℕ). RequestRepresents w (no_stream n false)) (sym most ∙ ap (λ (k : CoreState). k.table.max_body) h.core) fresh; ended = refl; gone = refl; activity = refl; still = refl; used = λ e. absurd (cc) };
+  connections = both_push ConnectionRepresents cs s.connections (Some (record { reader = w; ended = false; gone = false; retired = false; activity = Free })) (new_connection_model s.core.table.max_body) h.connections
+      record { reader = subst (λ (n : ℕ). RequestRepresents w (no_stream n false)) (sym most ∙ ap (λ (k : CoreState). k.table.max_body) h.core) fresh; ended = refl; gone = refl; retired = refl; activity = refl; still = refl; used = λ e. absurd (cc) };
   links = h.links;
   core = h.core;
   first = h.first;

@@ -16,6 +16,7 @@ use Rattle.hx_hop.specs.declared.request_view.Asked.{Asked}
 use Rattle.hx_allow.specs.TableLines.{Table}
 use Rattle.hx_allow.specs.Addresses.{address_of_numbers}
 use Rattle.hx_allow.specs.Matching.{origin_address_of}
+use Rattle.hx_allow.specs.declared.verdicts.Route.{Route}
 use Rattle.hx_status.specs.declared.cause.Cause.{Cause}
 use Rattle.hx_status.specs.declared.cause.Cause.TheVariants as cause
 use Rattle.hx_hop.specs.Moments.{date_text_of}
@@ -30,7 +31,7 @@ use Rattle.proxy_core.specs.declared.event.Event.TheVariants as events
 use Rattle.proxy_script.specs.declared.effect_list.Effect.{Effect}
 use Rattle.proxy_script.specs.declared.effect_list.Effect.TheVariants as effects
 use Rattle.proxy_engine.specs.ConnectionNumbers.{connection_number, link_number}
-use Rattle.proxy_engine.specs.Admitted.{Refusal, RequestIsAdmittedOrRefused}
+use Rattle.proxy_engine.specs.Admitted.{Refusal, RequestIsAdmittedOrRefused, asked_on_connection}
 use Rattle.proxy_engine.specs.EngineModel.{EngineModel, ConnectionModel, LinkModel, new_link_model, connection_at}
 use Rattle.proxy_engine.specs.EngineModel.{link_at}
 use Rattle.proxy_engine.specs.EngineModel.{with_connection, with_link, with_core}
@@ -46,8 +47,8 @@ pub data OutcomeOnConnection : Type 0 where
   Nothing : OutcomeOnConnection
 
 -- the address of the origin of a line; 0.0.0.0:0 of one that has none, by which no request comes
-abbrev pub origin_address_of_line : Table → ℕ → SocketAddrV4
-origin_address_of_line table line = unwrap_or (origin_address_of table.lines line) (address_of_numbers 0 0 0 0 0)
+abbrev pub origin_address_of_line : Table → Route → SocketAddrV4
+origin_address_of_line table line = unwrap_or (origin_address_of table.lines line.number) (address_of_numbers 0 0 0 0 0)
 
 -- an outcome by this table
 abbrev pub outcome_by_table : Table → Outcome → OutcomeOnConnection
@@ -141,7 +142,7 @@ abbrev pub RequestArrives : EngineModel → ℕ → ℕ → Request → Result A
 RequestArrives s now i r (Ok asked) emitted after =
     (next_link_number s < 2 ^ 64) × CoreIsStepped s (with_connection s i (with_next_passed (next.Message r))) i
     (is_head asked)
-    (events.Arrive now (connection_number i) asked) [] emitted after
+    (events.Arrive now (connection_number i) (asked_on_connection (connection_at s i).retired asked)) [] emitted after
 RequestArrives s now i r (Err refusal) emitted after = RequestIsRefused s now i refusal.why refusal.head emitted after
 
 -- what a client's stream asks for is done

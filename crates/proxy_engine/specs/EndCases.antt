@@ -7,6 +7,9 @@ use Rattle.hx_framing.specs.RequestState.{State as RequestState}
 use Rattle.hx_framing.specs.ResponseState.{State as ResponseState}
 use Rattle.hx_status.specs.declared.cause.FailKind.{FailKind}
 use Rattle.hx_status.specs.declared.cause.FailKind.TheVariants as kinds
+use Rattle.hx_allow.specs.Matching.{over_line}
+use Rattle.proxy_core.specs.Cases.{forwarded_on_miss, get_a_with, line_with_no_cache, table}
+use Rattle.proxy_core.specs.declared.open.exchange.Exchange.{Exchange}
 use Rattle.proxy_engine.specs.Happenings.{Accepts, Leaves, Shuts, Fails}
 use Rattle.proxy_engine.specs.EngineModel.{EngineModel, model_after_happening, with_connection}
 use Rattle.proxy_engine.specs.Acts.{with_activity, with_closed, with_opened_link}
@@ -34,6 +37,19 @@ model_with_the_third_closed = with_connection model_with_three_clients 2 (with_c
 -- the third client's request went forward too: a second link
 abbrev pub model_with_two_links : EngineModel
 model_with_two_links = with_opened_link model_with_three_clients 2 false
+
+-- the second line gives its origin 7 seconds; over it the first client's request went forward, over the first line the
+-- third one's
+abbrev pub exchange_over : ℕ → ℕ → Exchange
+exchange_over id line = record (forwarded_on_miss (get_a_with [])) { id = id; line = over_line line }
+
+abbrev pub model_with_two_lines : EngineModel
+model_with_two_lines = record model_with_two_links {
+  core = record model_with_two_links.core {
+    table = record table { lines = line_with_no_cache ∷ record line_with_no_cache { origin_timeout = Some 7 } ∷ [] };
+    exchanges = exchange_over 1 2 ∷ exchange_over 3 1 ∷ [];
+  };
+}
 
 -- ---- what is kept of them
 
@@ -64,6 +80,7 @@ kept_client bytes ahead gone activity = record {
   reader = record { inner = reader_with bytes; ahead = ahead };
   ended = false;
   gone = gone;
+  retired = false;
   activity = activity;
 }
 

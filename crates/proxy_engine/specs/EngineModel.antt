@@ -13,7 +13,8 @@ use Rattle.hx_framing.specs.Progress.{Progress, no_stream, stream_with_piece, st
 use Rattle.hx_status.specs.declared.cause.FailKind.{FailKind}
 use Rattle.proxy_core.specs.State.{State as CoreState}
 use Rattle.proxy_engine.specs.ConnectionNumbers.{connection_number, connection_place, link_place}
-use Rattle.proxy_engine.specs.Happenings.{PlainHappening, Accepts, Sends, Hears, Ends, Leaves, Shuts, Fails}
+use Rattle.proxy_engine.specs.Happenings.{PlainHappening, Accepts, Sends, Hears, Ends, Leaves, Retires, Shuts}
+use Rattle.proxy_engine.specs.Happenings.{Fails}
 use Rattle.proxy_engine.specs.declared.endpoints.activities.Activity.{Activity}
 use Rattle.proxy_engine.specs.declared.endpoints.activities.Activity.TheVariants.{Free}
 use Rattle.proxy_engine.specs.declared.work.EngineFault.{EngineFault}
@@ -23,6 +24,7 @@ pub record ConnectionModel : Type 0 where
   pub progress : Progress Request
   pub gone : Bool
   pub closed : Bool
+  pub retired : Bool
   pub activity : Activity
 
 pub record LinkModel : Type 0 where
@@ -43,6 +45,7 @@ new_connection_model max_body = record {
   progress = no_stream max_body false;
   gone = false;
   closed = false;
+  retired = false;
   activity
       = Free;
 }
@@ -58,7 +61,7 @@ new_link_model max_body to_head i = record {
 
 -- stand-ins beyond the lists
 abbrev pub no_connection : ConnectionModel
-no_connection = record { progress = no_stream 0 false; gone = true; closed = true; activity = Free }
+no_connection = record { progress = no_stream 0 false; gone = true; closed = true; retired = false; activity = Free }
 
 abbrev pub no_link : LinkModel
 no_link = record { progress = no_stream 0 false; failed = None; dropped = true; connection = 0 }
@@ -83,6 +86,7 @@ happening_fault s (Accepts n) = if n == connection_number (length s.connections)
 happening_fault s (Sends n bytes) = connection_fault (length s.connections) n
 happening_fault s (Ends n) = connection_fault (length s.connections) n
 happening_fault s (Leaves n) = connection_fault (length s.connections) n
+happening_fault s (Retires n) = connection_fault (length s.connections) n
 happening_fault s (Hears l bytes) = link_fault s.first (length s.links) l
 happening_fault s (Shuts l) = link_fault s.first (length s.links) l
 happening_fault s (Fails l kind) = link_fault s.first (length s.links) l
@@ -97,6 +101,10 @@ connection_after_end c = if c.gone || c.closed then c else record c { progress =
 
 abbrev pub connection_after_disconnect : ConnectionModel → ConnectionModel
 connection_after_disconnect c = if c.closed then c else record c { gone = true }
+
+-- it is to end: the answer to its next request closes it
+abbrev pub connection_after_retirement : ConnectionModel → ConnectionModel
+connection_after_retirement c = record c { retired = true }
 
 -- nor does what comes for a link that is dropped, failed or shut
 abbrev pub link_after_bytes : List ℕ → LinkModel → LinkModel
@@ -124,6 +132,7 @@ happening_is_kept s (Sends n bytes) = keeps_bytes (connection_at s (connection_p
 happening_is_kept s (Hears l bytes) = keeps_answer (link_at s (link_place s.first l))
 happening_is_kept s (Ends n) = false
 happening_is_kept s (Leaves n) = false
+happening_is_kept s (Retires n) = false
 happening_is_kept s (Shuts l) = false
 happening_is_kept s (Fails l kind) = false
 
@@ -159,6 +168,7 @@ model_after_happening s (Accepts n) =
 model_after_happening s (Sends n bytes) = with_connection s (connection_place n) (connection_after_bytes bytes)
 model_after_happening s (Ends n) = with_connection s (connection_place n) connection_after_end
 model_after_happening s (Leaves n) = with_connection s (connection_place n) connection_after_disconnect
+model_after_happening s (Retires n) = with_connection s (connection_place n) connection_after_retirement
 model_after_happening s (Hears l bytes) = with_link s (link_place s.first l) (link_after_bytes bytes)
 model_after_happening s (Shuts l) = with_link s (link_place s.first l) link_after_shut
 model_after_happening s (Fails l kind) = with_link s (link_place s.first l) (link_after_failure kind)

@@ -23,9 +23,10 @@ use Rattle.proxy_core.specs.Traces.{Item, initial_state as core_begun}
 use Rattle.proxy_script.specs.declared.effect_list.Effect.{Effect}
 use Rattle.proxy_script.specs.declared.effect_list.Effect.TheVariants as effects
 use Rattle.proxy_engine.specs.ConnectionNumbers.{connection_number, link_number}
-use Rattle.proxy_engine.specs.Admitted.{Refusal, RequestIsAdmittedOrRefused}
+use Rattle.proxy_engine.specs.Admitted.{Refusal, RequestIsAdmittedOrRefused, RequestIsHandedOver}
 use Rattle.proxy_engine.specs.Happenings.{PlainHappening}
-use Rattle.proxy_engine.specs.EngineModel.{EngineModel, link_at, model_after_happening, happening_fault}
+use Rattle.proxy_engine.specs.EngineModel.{EngineModel, connection_at, link_at, model_after_happening}
+use Rattle.proxy_engine.specs.EngineModel.{happening_fault}
 use Rattle.proxy_engine.specs.Due.{Act, Abandons, Finishes, Wakes, Serves, Gives, Breaks, IsDueFirst}
 use Rattle.proxy_engine.specs.Acts.{drop_effects, ActIsDone, outcome_by_table, effects_of_outcome}
 use Rattle.proxy_engine.specs.Acts.{next_link_number}
@@ -67,7 +68,8 @@ drop_effects_of_act s (Wakes i) = []
 drop_effects_of_act s (Serves i action) = []
 
 -- The event that an act asks the core about at a moment: the client's going away, the response that the origin's stream
--- spells, the failure, the wake, or the request that the client's stream spells.
+-- spells, the failure, the wake, or the request that the client's stream spells: on a connection that is to end, as one
+-- that closes it.
 abbrev pub IsCoreEventOfAct : EngineModel → ℕ → Act → Event → Type 0
 IsCoreEventOfAct s now (Abandons i l) event = event ≡ events.Abandon (connection_number i)
 IsCoreEventOfAct s now (Finishes j (Gives r)) event = event ≡ events.Answer now
@@ -76,7 +78,8 @@ IsCoreEventOfAct s now (Finishes j (Breaks kind)) event =
     event ≡ events.Fail now (connection_number (link_at s j).connection) kind
 IsCoreEventOfAct s now (Wakes i) event = event ≡ events.Wake now (connection_number i)
 IsCoreEventOfAct s now (Serves i (next.Message r)) event =
-    (asked : Asked) × RequestIsAdmittedOrRefused r (Ok asked) × (event ≡ events.Arrive now (connection_number i) asked)
+    (asked : Asked) × RequestIsHandedOver (connection_at s i).retired r asked
+    × (event ≡ events.Arrive now (connection_number i) asked)
 IsCoreEventOfAct s now (Serves i next.More) event = ⊥
 IsCoreEventOfAct s now (Serves i next.NeedsContinue) event = ⊥
 IsCoreEventOfAct s now (Serves i (next.Refused fault)) event = ⊥

@@ -7,6 +7,7 @@ pub use Rattle.proxy_script.specs.Happenings.{
   Hears,
   Ends,
   Leaves,
+  Retires,
   Shuts,
   Fails,
   plain_happening,
@@ -19,5 +20,6 @@ happening_takes_memory (Sends n bytes) = true
 happening_takes_memory (Hears l bytes) = true
 happening_takes_memory (Ends n) = false
 happening_takes_memory (Leaves n) = false
+happening_takes_memory (Retires n) = false
 happening_takes_memory (Shuts l) = false
 happening_takes_memory (Fails l kind) = false

@@ -26,5 +26,6 @@ pub mod Beginnings
 pub mod Executions
 pub mod FinalAnswers
 pub mod OneRun
+pub mod Retired
 pub mod ModelCases
 pub mod EndCases

@@ -2,7 +2,7 @@
 --
 -- ModelIsOrderly: connections, links and open exchanges belong together, and a closed connection has no open exchange
 -- EffectsNameOpenEnds: no effect names a connection that is closed or gone, or a link that was dropped
--- EndedStaysEnded: what is closed, gone or dropped stays so
+-- EndedStaysEnded: what is closed, gone, to end or dropped stays so
 -- NewModelIsOrderly, HappeningKeepsOrder, ActKeepsOrder, HappeningKeepsEnded, ActKeepsEnded: the laws
 use Rattle.std.specs.Prelude.{◌≡◌, ℕ, List, [], ◌∷◌, map, true, false, Option, None, Some, if◌then◌else◌, ◌<◌, ◌≤◌}
 use Rattle.std.specs.Prelude.{length}
@@ -60,11 +60,13 @@ EffectsNameOpenEnds s after (effects.Forward l address bytes ∷ rest) = (l ≡ 
     × EffectsNameOpenEnds s after rest
 EffectsNameOpenEnds s after (effects.Drop l ∷ rest) = LinkIsDropped s after l × EffectsNameOpenEnds s after rest
 
--- what is closed, gone or dropped is so in a later model
+-- what is closed, gone, to end or dropped is so in a later model
 pub record EndedStaysEnded (s after : EngineModel) : Type 0 where
   pub closed : (i : ℕ) → i < length s.connections → (connection_at s i).closed ≡ true → (connection_at after i).closed
       ≡ true
   pub gone : (i : ℕ) → i < length s.connections → (connection_at s i).gone ≡ true → (connection_at after i).gone ≡ true
+  pub retired : (i : ℕ) → i < length s.connections → (connection_at s i).retired ≡ true
+      → (connection_at after i).retired ≡ true
   pub dropped : (j : ℕ) → j < length s.links → (link_at s j).dropped ≡ true → (link_at after j).dropped ≡ true
   pub connections : length s.connections ≤ length after.connections
   pub links : length s.links ≤ length after.links

@@ -4,15 +4,16 @@
 -- forwarded_or_waiting_at: whether an exchange is open, and its request at the origin
 -- ConnectionsAndLinksArePaired: connections, links and open exchanges belong together
 -- IsPaired: those of an engine do
+-- owner_kept: the connection of a link by its number
 use Rattle.std.specs.Prelude.{◌≡◌, ℕ, Bool, List, [], ◌∷◌, ◌++◌, map, Option, None, Some, slice_set}
-use Rattle.std.specs.Prelude.{slice_index_or}
+use Rattle.std.specs.Prelude.{slice_index_or, nat_le, if◌then◌else◌}
 use Rattle.std.specs.Option.{option_map}
 use Rattle.proxy_core.specs.Leading.{is_forwarded}
 use Rattle.proxy_core.specs.Outcomes.{find_exchange}
 use Rattle.proxy_core.specs.declared.open.exchange.Exchange.{Exchange}
 use Rattle.proxy_core.specs.declared.outcome.Outcome.{Outcome}
 use Rattle.proxy_core.specs.declared.outcome.Outcome.TheVariants.{Reply, Forward, Waits, Ended}
-use Rattle.proxy_engine.specs.ConnectionNumbers.{connection_number}
+use Rattle.proxy_engine.specs.ConnectionNumbers.{connection_number, link_place}
 use Rattle.proxy_engine.specs.Activities.{link_place_of_activity, forwarded_or_waiting}
 use Rattle.proxy_engine.specs.State.{State}
 use Rattle.proxy_engine.specs.declared.endpoints.activities.Activity.{Activity}
@@ -75,3 +76,7 @@ owners_of links = map owner_of links
 
 abbrev pub IsPaired : State → Type 0
 IsPaired e = ConnectionsAndLinksArePaired (activities_of e.connections) (owners_of e.links) e.core.exchanges
+
+-- the place of the connection that the link of this number belongs to, where it is open
+abbrev pub owner_kept : State → ℕ → Option ℕ
+owner_kept e l = if nat_le e.first l then owner_of (slice_index_or e.links (link_place e.first l) None) else None

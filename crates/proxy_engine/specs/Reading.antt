@@ -6,10 +6,14 @@
 -- end_may_send: whether bytes may come from an end
 -- IsBetweenRequests: a client is between two requests
 -- link_of_connection: the link on which the request of a client went forward
+-- line_of_link, origin_timeout_of_link: the line over which the request of a link went forward, and what it says
 use Rattle.std.specs.Prelude.{◌≡◌, ℕ, ◌+◌, ◌^◌, List, [], ◌∷◌, ◌++◌, map, length, Bool, true, false, ◌&&◌, ◌||◌}
 use Rattle.std.specs.Prelude.{not, nat_lt, nat_le, Option, None, Some, is_some, if◌then◌else◌}
-use Rattle.std.specs.Option.{option_and_then}
+use Rattle.std.specs.Option.{option_and_then, option_map}
+use Rattle.hx_allow.specs.Matching.{origin_timeout_of}
 use Rattle.hx_framing.specs.RequestStream.{StreamSpells}
+use Rattle.proxy_core.specs.Outcomes.{find_exchange}
+use Rattle.proxy_core.specs.declared.open.exchange.Exchange.{Exchange}
 use Rattle.proxy_engine.specs.ConnectionNumbers.{connection_number, connection_place, link_number, link_place}
 use Rattle.proxy_engine.specs.ConnectionNumbers.{link_with_number}
 use Rattle.proxy_engine.specs.Activities.{has_exchange, link_place_of_activity}
@@ -77,3 +81,28 @@ abbrev pub link_of_connection : EngineModel → ℕ → Option ℕ
 link_of_connection s n =
     option_and_then (link_with_number s.first)
     (link_place_of_activity (connection_at s (connection_place n)).activity)
+
+-- the place of the connection whose request is open on a link: there is none where that was dropped
+abbrev pub owner_in_model : LinkModel → Option ℕ
+owner_in_model k = if k.dropped then None else Some k.connection
+
+-- of the link of this number
+abbrev pub owner_of_number : EngineModel → ℕ → Option ℕ
+owner_of_number s l = if nat_le s.first l then owner_in_model (link_at s (link_place s.first l)) else None
+
+-- the line over which the request of an exchange went forward
+abbrev pub line_of_exchange : Option Exchange → Option ℕ
+line_of_exchange x = option_map (λ (x : Exchange). x.line.number) x
+
+-- the same of a connection's
+abbrev pub line_of_owner : List Exchange → Option ℕ → Option ℕ
+line_of_owner exchanges None = None
+line_of_owner exchanges (Some i) = line_of_exchange (find_exchange (connection_number i) exchanges)
+
+-- the line over which the request that is open on the link of this number went forward
+abbrev pub line_of_link : EngineModel → ℕ → Option ℕ
+line_of_link s l = line_of_owner s.core.exchanges (owner_of_number s l)
+
+-- for how many seconds the origin of that link may send no byte, where this line says so
+abbrev pub origin_timeout_of_link : EngineModel → ℕ → Option ℕ
+origin_timeout_of_link s l = option_and_then (origin_timeout_of s.core.table.lines) (line_of_link s l)

@@ -61,6 +61,7 @@ pub record ConnectionHolds (c : Connection) (s : ConnectionModel) : Type 0 where
   pub reader : RequestRepresents c.reader s.progress
   pub ended : c.ended ≡ s.progress.ended
   pub gone : c.gone ≡ s.gone
+  pub retired : c.retired ≡ s.retired
   pub activity : c.activity ≡ s.activity
   pub still : s.closed ≡ false
   pub used : s.gone ≡ true → has_exchange s.activity ≡ true
@@ -146,6 +147,11 @@ connection_is_free_at (Some c) = not (takes_no_request c.gone false c.activity)
 abbrev pub is_gone_at : Option Connection → Option Bool
 is_gone_at None = None
 is_gone_at (Some c) = Some c.gone
+
+-- whether it is to end
+abbrev pub is_retired_at : Option Connection → Bool
+is_retired_at None = false
+is_retired_at (Some c) = c.retired
 
 -- no connection is gone with an open exchange
 abbrev pub NoConnectionIsLost : List (Option Connection) → Type 0

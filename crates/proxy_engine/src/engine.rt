@@ -1,6 +1,7 @@
 //! The engine: connections of clients, links to origins, and the core between them.
 ghost use Rattle.std.specs.Prelude.{◌≡◌, ◌≢◌, ◌<◌, ◌≤◌, ◌-◌, nat_lt, [], length, IfOk, IfErr, OnOk, OnErr, Some};
 ghost use Rattle.std.specs.Prelude.{Err, true};
+ghost use Rattle.proxy_core.specs.Outcomes.{find_exchange};
 ghost use Rattle.proxy_core.specs.Starts.{StartStands};
 ghost use Rattle.proxy_core.specs.State.{bounds_of};
 ghost use Rattle.proxy_core.specs.Traces.{initial_state};
@@ -8,7 +9,9 @@ ghost use Rattle.proxy_engine.specs.EngineModel.{EngineModel, connection_at, hap
 ghost use Rattle.proxy_engine.specs.Happenings.{plain_happening, happening_takes_memory};
 ghost use Rattle.proxy_engine.specs.Reading.{readable_ends_of, failed_links, open_connection_count};
 ghost use Rattle.proxy_engine.specs.Reading.{next_connection_number, end_may_send, IsBetweenRequests};
-ghost use Rattle.proxy_engine.specs.Reading.{link_of_connection};
+ghost use Rattle.proxy_engine.specs.Pairing.{owner_kept};
+ghost use Rattle.proxy_engine.specs.Reading.{link_of_connection, line_of_exchange, line_of_link};
+ghost use Rattle.proxy_engine.specs.Reading.{origin_timeout_of_link};
 ghost use Rattle.proxy_engine.specs.Room.{HappeningFindsMemory, NextHappeningFindsMemory, ClientRoomIsGivenBack};
 ghost use Rattle.proxy_engine.specs.State.{State, EngineRepresents, EngineTakesHappening, IsFaultOfTaking};
 ghost use Rattle.proxy_engine.specs.State.{new_engine_model};
@@ -25,6 +28,16 @@ use proxy_core::Core;
 use proxy_script::Happening;
 use std::alloc::{AllocError, Global};
 use std::marker::Model;
+
+/// The line over which the request of an exchange went forward, if that is open.
+fn line_of_exchange<S: Shelf>(core: &Core<S>, id: u64) -> Option<u16>
+    ensures { result ≡ line_of_exchange (find_exchange id core.now.exchanges) }
+{
+    match core.exchange(id) {
+        Some(exchange) => Some(exchange.line.number),
+        None => None,
+    }
+}
 
 /// The proxy without sockets. It is told what happens, and asked for what is to be done.
 ///
@@ -159,6 +172,7 @@ impl<S: Shelf> Engine<S> {
             ),
             Happening::End(n) => takes::finish_client(&mut self.ends.connections, n),
             Happening::Gone(n) => takes::disconnect_client(&mut self.ends.connections, n),
+            Happening::Retire(n) => takes::retire_client(&mut self.ends.connections, n),
             Happening::Shut(l) => takes::shut_link(&mut self.ends.links, self.ends.first_link, l),
             Happening::Fail(l, kind) => takes::break_link(
                 &mut self.ends.links,
@@ -265,6 +279,39 @@ impl<S: Shelf> Engine<S> {
         let place = ConnectionPlace::of_number(n);
         match self.ends.connections.link_of(place) {
             Some(link) => link.checked_number(self.ends.first_link),
+            None => None,
+        }
+    }
+
+    /// The place of the client whose request is open on a link.
+    fn owner_of_link(&self, l: u64) -> Option<ConnectionPlace>
+        ensures { result ≡ owner_kept self.now l }
+    {
+        let first = self.ends.first_link;
+        if first <= l {
+            self.ends.links.owner_at(LinkPlace::of_number(l, first))
+        } else {
+            None
+        }
+    }
+
+    /// The line over which the request of a link went forward, counted from 1. There is none of a link that is dropped.
+    pub fn line_of_link(&self, l: u64) -> Option<u16>
+        ensures { (s : EngineModel) → EngineRepresents self.now s → result ≡ line_of_link s l }
+    {
+        match self.owner_of_link(l) {
+            Some(i) => line_of_exchange(&self.core, self.ends.connections.number_at(i)),
+            None => None,
+        }
+    }
+
+    /// The seconds for which the origin of a link may send no byte, where the line over which its request went forward
+    /// says so. There are none of a link that is dropped.
+    pub fn origin_timeout(&self, l: u64) -> Option<u32>
+        ensures { (s : EngineModel) → EngineRepresents self.now s → result ≡ origin_timeout_of_link s l }
+    {
+        match self.line_of_link(l) {
+            Some(line) => self.core.config().origin_timeout(line),
             None => None,
         }
     }

@@ -8,15 +8,26 @@ ghost use Rattle.proxy_engine.specs.FinalAnswers.{EachActIsSpelled, EachAnswerIs
 ghost use Rattle.proxy_engine.specs.Exhausted.{MemoryHidesNoExhaustedAnswer, MemoryHidesNoExhaustedWake};
 ghost use Rattle.proxy_engine.specs.Orderly.{NewModelIsOrderly, HappeningKeepsOrder, ActKeepsOrder};
 ghost use Rattle.proxy_engine.specs.Orderly.{HappeningKeepsEnded, ActKeepsEnded};
+ghost use Rattle.proxy_engine.specs.Retired.{RetirementMarksItsConnection, EachLaterRequestCloses};
+ghost use Rattle.proxy_engine.specs.Retired.{OtherRequestsComeAsTheyAreAsked};
 ghost use Rattle.proxy_engine.specs.SendingEnds.{SendingEndHasNumber, ReadableEndsMaySend, SendingEndIsReadable};
 ghost use Rattle.proxy_engine.specs.SendingEnds.{AcceptAddsReadableEnd, AcceptKeepsSending};
 
-pub(crate) mod end_cases;
-pub(crate) mod model_cases;
-pub(crate) mod run_laws;
+mod end_cases;
+mod model_cases;
+mod run_laws;
 
+pub use end_cases::{
+    worked_actions, worked_activities, worked_lines_of_links, worked_loads, worked_lookaheads,
+    worked_marks, worked_numbers, worked_open_connections, worked_readable_ends,
+};
 use hx_framing::laws::response_laws::what_is_read_is_final;
-use hx_hop::a_request_is_asked_in_one_way;
+use hx_hop::laws::a_request_is_asked_in_one_way;
+pub use model_cases::{
+    worked_addresses_of_outcomes, worked_due_acts, worked_effects_of_acts, worked_effects_of_steps,
+    worked_faults_of_happenings, worked_happenings,
+};
+pub use run_laws::a_run_refuses_what_was_not_done;
 
 /// One act is due first, or none is: so `work` has no choice.
 pub fn one_act_is_due_first()
@@ -31,10 +42,19 @@ pub fn effects_name_open_ends()
     ensures acts { ActKeepsOrder }
 {}
 
-/// What is closed, gone or dropped stays so, whatever happens and is done.
+/// What is closed, gone, to end or dropped stays so, whatever happens and is done.
 pub fn what_ends_stays_ended()
     ensures takes { HappeningKeepsEnded }
     ensures acts { ActKeepsEnded }
+{}
+
+/// `retire` marks its connection. From there each request that comes on it is handed to the core as one that closes it,
+/// and so its reply says `Connection: close` (RFC 9112, section 9.6): that is the headline's field on closing. On any
+/// other connection a request is handed over as it is asked.
+pub fn a_connection_that_is_to_end_ends()
+    ensures marks { RetirementMarksItsConnection }
+    ensures closes { EachLaterRequestCloses }
+    ensures others { OtherRequestsComeAsTheyAreAsked }
 {}
 
 /// Bytes may come from the readable ends, and from no others; each of them is there. One more connection is one more of

@@ -4,9 +4,10 @@ ghost use Rattle.std.specs.Prelude.{List, length, true, false, is_some, IsOk, If
 ghost use Rattle.std.specs.Prelude.{OnErr, Option, Some, None, Err, MatchOption, slice_index_or};
 ghost use Rattle.proxy_core.specs.State.{State as CoreState};
 ghost use Rattle.proxy_engine.specs.ConnectionNumbers.{connection_number, connection_place, link_place};
-ghost use Rattle.proxy_engine.specs.Happenings.{Accepts, Sends, Hears, Ends, Leaves, Shuts, Fails};
+ghost use Rattle.proxy_engine.specs.Happenings.{Accepts, Sends, Hears, Ends, Leaves, Retires, Shuts, Fails};
 ghost use Rattle.proxy_engine.specs.EngineModel.{EngineModel, ConnectionModel, LinkModel, connection_after_bytes};
-ghost use Rattle.proxy_engine.specs.EngineModel.{connection_after_end, connection_after_disconnect, link_after_bytes};
+ghost use Rattle.proxy_engine.specs.EngineModel.{connection_after_end, connection_after_disconnect};
+ghost use Rattle.proxy_engine.specs.EngineModel.{connection_after_retirement, link_after_bytes};
 ghost use Rattle.proxy_engine.specs.EngineModel.{link_after_shut, link_after_failure};
 ghost use Rattle.proxy_engine.specs.Activities.{has_exchange};
 ghost use Rattle.proxy_engine.specs.Pairing.{activities_of, owners_of};
@@ -108,6 +109,15 @@ fn disconnect(connection: &mut Connection)
     connection.gone = true;
 }
 
+/// The answer to the connection's next request closes it.
+fn retire(connection: &mut Connection)
+    ensures represents { (s : ConnectionModel) → ConnectionRepresents (Some connection.old) s
+        → ConnectionRepresents (Some connection.new) (connection_after_retirement s) }
+    ensures activity { connection.new.activity ≡ connection.old.activity }
+{
+    connection.retired = true;
+}
+
 fn close_link(link: &mut Link)
     ensures represents { (s : LinkModel) → LinkRepresents (Some link.old) s → LinkRepresents (Some link.new)
         (link_after_shut s) }
@@ -160,6 +170,7 @@ pub(crate) fn accept(
         reader,
         ended: false,
         gone: false,
+        retired: false,
         activity: Activity::Free,
     };
     match connections.accept(alloc, connection) {
@@ -224,6 +235,22 @@ pub(crate) fn disconnect_client(connections: &mut Connections, n: u64) -> Result
         connections.release(i);
     } else if let Some(connection) = connections.at_mut(i) {
         disconnect(connection);
+    }
+    Ok(())
+}
+
+pub(crate) fn retire_client(connections: &mut Connections, n: u64) -> Result<(), EngineFault>
+    ensures ok { OnOk result (ConnectionsTake connections.old.items connections.new.items (Retires n)) }
+    ensures fault { IfErr result (ConnectionsRefuse connections.old.items (Retires n)) }
+    ensures memory { IfErr result (λ e. e ≡ EngineFault.NotAccepted) }
+    ensures activities { activities_of connections.new.items ≡ activities_of connections.old.items }
+    ensures err { OnErr result (connections.new ≡ connections.old) }
+{
+    let Some(i) = find_connection(connections, n) else {
+        return Err(EngineFault::NotAccepted);
+    };
+    if let Some(connection) = connections.at_mut(i) {
+        retire(connection);
     }
     Ok(())
 }

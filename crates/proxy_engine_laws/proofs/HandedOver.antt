@@ -1,5 +1,5 @@
 -- What a core is handed was read.
-use Rattle.std.proofs.Common.{◌≡◌, inl, inr, ℕ, [], ◌∷◌, sym, subst}
+use Rattle.std.proofs.Common.{◌≡◌, inl, inr, ℕ, Bool, ◌||◌, [], ◌∷◌, sym, ap, ◌∙◌, subst}
 use Rattle.std.specs.Prelude.{Some, Result, Ok, Err, codes}
 use Rattle.hx_fields.specs.FieldLines.{values_of}
 use Rattle.hx_framing.specs.declared.messages.Request.{Request}
@@ -13,6 +13,7 @@ use Rattle.hx_hop.specs.Asking.{asked_with_judged_target, asked_with_target}
 use Rattle.proxy_core.specs.declared.event.Event.{Event}
 use Rattle.proxy_core.specs.ReadAnswers.{WasReadFromAStream}
 use Rattle.proxy_core_laws.specs.SentMessages.{EventsWereRead, EventWasRead, RequestWasRead}
+use Rattle.proxy_engine.specs.Admitted.{asked_on_connection}
 use Rattle.proxy_engine.specs.EngineModel.{EngineModel, ConnectionModel, LinkModel, connection_at, link_at}
 use Rattle.proxy_engine.specs.Due.{Act, Abandons, Finishes, Wakes, Serves, Gives, Breaks, IsDueFirst}
 use Rattle.proxy_engine.specs.FinalAnswers.{LinkSpellsAnswer, ConnectionSpellsRequest}
@@ -23,9 +24,9 @@ use Rattle.proxy_engine_laws.specs.OneMessageEach.{CoreIsHandedWhatWasRead}
 read_answer : (k : LinkModel) (r : Response) → LinkSpellsAnswer k r → WasReadFromAStream r
 read_answer k r is = record { max_body = k.progress.max_body; to_head = k.progress.to_head; ended = k.progress.ended; bytes = k.progress.stream; rest = is.rest; reads = is.reads }
 
-pub read_request : (c : ConnectionModel) (r : Request) (asked : Asked) (judged : Result Target TargetFault) → ConnectionSpellsRequest c r → TargetIsJudged r.target (values_of r.fields (codes "Host")) judged → Ok asked ≡ asked_with_judged_target r judged
-    → RequestWasRead asked
-read_request c r asked (Ok target) is named same = record {
+pub read_request : (c : ConnectionModel) (r : Request) (asked sent : Asked) (judged : Result Target TargetFault) (retired : Bool) → ConnectionSpellsRequest c r → TargetIsJudged r.target (values_of r.fields (codes "Host")) judged → Ok sent ≡ asked_with_judged_target r judged
+    → asked ≡ asked_on_connection retired sent → RequestWasRead asked
+read_request c r asked sent (Ok target) retired is named same handed = record {
   max_body = c.progress.max_body;
   ended = c.progress.ended;
   continue_sent = c.progress.continue_sent;
@@ -33,22 +34,23 @@ read_request c r asked (Ok target) is named same = record {
   rest = is.rest;
   request = r;
   target = target;
+  closes = (asked_with_target r target).close || retired;
   reads = is.reads;
   judged = named;
-  asked_is = one;
+  asked_is = handed ∙ ap (asked_on_connection retired) one;
 }
   where
-    one : asked ≡ asked_with_target r target
+    one : sent ≡ asked_with_target r target
     one = cc
-read_request c r asked (Err fault) is named same = absurd cc
+read_request c r asked sent (Err fault) retired is named same handed = absurd cc
 
 pub event_read : (s : EngineModel) (now : ℕ) (act : Act) (event : Event) → IsDueFirst s (Some act) → IsCoreEventOfAct s now act event → EventWasRead event
 event_read s now (Abandons i l) event due is = subst EventWasRead (sym is) tt
 event_read s now (Finishes j (Gives r)) event due is = subst EventWasRead (sym is) (read_answer (link_at s j) r (acts_are_spelled s (Finishes j (Gives r)) due))
 event_read s now (Finishes j (Breaks kind)) event due is = subst EventWasRead (sym is) tt
 event_read s now (Wakes i) event due is = subst EventWasRead (sym is) tt
-event_read s now (Serves i (next.Message r)) event due (asked, (judged, named, same), is) =
-    subst EventWasRead (sym is) (read_request (connection_at s i) r asked judged (acts_are_spelled s (Serves i (next.Message r)) due) named same)
+event_read s now (Serves i (next.Message r)) event due (asked, (sent, (judged, named, same), handed), is) =
+    subst EventWasRead (sym is) (read_request (connection_at s i) r asked sent judged (connection_at s i).retired (acts_are_spelled s (Serves i (next.Message r)) due) named same handed)
 event_read s now (Serves i next.More) event due is = absurd is
 event_read s now (Serves i next.NeedsContinue) event due is = absurd is
 event_read s now (Serves i (next.Refused fault)) event due is = absurd is

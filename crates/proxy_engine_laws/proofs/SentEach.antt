@@ -35,8 +35,8 @@ use Rattle.proxy_script.specs.declared.effect_list.Effect.TheVariants as effects
 use Rattle.proxy_core_laws.specs.SentMessages.{EventsWereRead, OutcomeIsOneMessage, BytesAreOneResponse, event_is_to_head}
 use Rattle.hx_allow.specs.Tables.{TableWasRead}
 use Rattle.proxy_core_laws.proofs.SentMessages.{one_refusal, sends_one_message_each_time}
-use Rattle.proxy_engine.specs.Admitted.{Refusal, RequestIsAdmittedOrRefused}
-use Rattle.proxy_engine.specs.EngineModel.{EngineModel, link_at}
+use Rattle.proxy_engine.specs.Admitted.{Refusal, RequestIsAdmittedOrRefused, asked_on_connection}
+use Rattle.proxy_engine.specs.EngineModel.{EngineModel, connection_at, link_at}
 use Rattle.proxy_engine.specs.Due.{Act, Abandons, Finishes, Wakes, Serves, Gives, Breaks, IsDueFirst}
 use Rattle.proxy_engine.specs.Acts.{RequestArrives, RequestIsRefused as IsRefused, ConnectionIsServed, origin_address_of_line, exchange_asks_head, outcome_by_table, drop_effects, effects_of_outcome, next_link_number}
 use Rattle.proxy_engine.specs.State.{new_engine_model}
@@ -81,8 +81,8 @@ about_act s now (Finishes j (Breaks kind)) event is =
     ap (λ (v : Event). event_is_to_head (find_exchange (exchange_id_of_event v) s.core.exchanges) v) is ∙ fail_head (find_exchange id s.core.exchanges) now id kind
 about_act s now (Wakes i) event is =
     ap (λ (v : Event). event_is_to_head (find_exchange (exchange_id_of_event v) s.core.exchanges) v) is ∙ wake_head (find_exchange (i + 1) s.core.exchanges) now (i + 1)
-about_act s now (Serves i (next.Message r)) event (asked, (judged, named, same), is) =
-    ap (λ (v : Event). event_is_to_head (find_exchange (exchange_id_of_event v) s.core.exchanges) v) is ∙ asked_head r asked judged same
+about_act s now (Serves i (next.Message r)) event (asked, (sent, (judged, named, same), handed), is) =
+    ap (λ (v : Event). event_is_to_head (find_exchange (exchange_id_of_event v) s.core.exchanges) v) is ∙ (ap is_head handed ∙ asked_head r sent judged same)
 about_act s now (Serves i next.More) event is = absurd is
 about_act s now (Serves i next.NeedsContinue) event is = absurd is
 about_act s now (Serves i (next.Refused fault)) event is = absurd is
@@ -161,7 +161,7 @@ module _ (table : Table) (read : TableWasRead table) (start : StoreAtStart) (fir
 
     arrives : (i : ℕ) (r : Request) (judged : Result Asked Refusal) → IsDueFirst s (Some (Serves i (next.Message r))) → RequestIsAdmittedOrRefused r judged → RequestArrives s now i r judged emitted t
         → All (IsSent table.name now (bytes_eq r.method (codes "HEAD"))) emitted
-    arrives i r (Ok asked) due admitted h = by_item (Serves i (next.Message r)) due (step_emitted table now (Serves i (next.Message r)) s _ _ _ emitted t run.config (asked, admitted, refl) h.1)
+    arrives i r (Ok asked) due admitted h = by_item (Serves i (next.Message r)) due (step_emitted table now (Serves i (next.Message r)) s _ _ _ emitted t run.config (asked_on_connection (connection_at s i).retired asked, (asked, admitted, refl), refl) h.1)
     arrives i r (Err refusal) due (fault, asked, is) h = refused_sent table now (bytes_eq r.method (codes "HEAD")) (i + 1) refusal.why refusal.head emitted (ap (λ (f : Refusal). f.head) is) h.emitted_is
 
     refused : (i : ℕ) (why : Cause) → IsRefused s now i why false emitted t → All (IsSent table.name now false) emitted

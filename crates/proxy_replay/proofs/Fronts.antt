@@ -6,13 +6,18 @@ use Rattle.hx_allow.specs.TableLines.{Table}
 use Rattle.hx_allow.specs.Tables.{BytesReadAs}
 use Rattle.hx_allow.specs.declared.config_faults.ConfigFault.{ConfigFault}
 use Rattle.hx_allow.specs.declared.config_faults.ConfigFault.TheVariants as config
+use Rattle.proxy_store_file.specs.declared.store_faults.StoreFault.{StoreFault}
+use Rattle.proxy_store_file.specs.declared.store_faults.StoreFault.TheVariants as store
+use Rattle.proxy_store_file.specs.Stores.{StoreReading}
 use Rattle.proxy_script.specs.ScriptLines.{is_config, line_text}
 use Rattle.proxy_script.specs.Script.{PlainItem as Item, item_spelling, line_of_item, block_of_item, ItemHasSpelling, ItemMayStandHere, ItemReading, Found, Cut, Wrong, item_in_front}
 use Rattle.proxy_script.specs.Script as item
 use Rattle.proxy_script.proofs.ItemLaws.{item_found, item_again}
 use Rattle.proxy_replay.specs.Played.{moment_after}
 use Rattle.proxy_replay.specs.Replay.{BytesBeginWithItem, NoItemStandsInFront, ReplayEndsAt, ReplayFails}
-use Rattle.proxy_replay.specs.Steps.{replay_fault_of_config_fault, TableIsReadFirst}
+use Rattle.proxy_replay.specs.Steps.{replay_fault_of_config_fault, replay_fault_of_store_fault, TableIsReadFirst, TableIsNotRead, BeginningFails}
+use Rattle.proxy_replay.specs.declared.replay_fault.ReplayFault.{ReplayFault}
+use Rattle.proxy_replay.specs.declared.replay_fault.ReplayFault.TheVariants as faults
 
 pub item_shorter : (first : Bool) (rest more : List ℕ) (h : Item) → BytesBeginWithItem first rest h more → length more < length rest
 item_shorter first rest more h represents =
@@ -51,16 +56,26 @@ opens_by bytes rest text h table found is reads = record {
 }
 
 -- a replay that ends in front of the table
-pub ends_first : (P : Bool → List ℕ → ℕ → Type 0) (bytes : List ℕ) → P true bytes 1 → ReplayEndsAt bytes [] P
-ends_first P bytes holds = record { first = true; rest = bytes; line = 1; effects = []; reaches = (refl, refl, refl); emitted = refl; holds = holds }
+pub ends_first : (Opens : Table → StoreReading → Type 0) (P : Bool → List ℕ → ℕ → Type 0) (bytes : List ℕ) → P true bytes 1 → ReplayEndsAt Opens bytes [] P
+ends_first Opens P bytes holds = record { first = true; rest = bytes; line = 1; effects = []; reaches = (refl, refl, refl); emitted = refl; holds = holds }
 
-refused_with : (bytes rest text : List ℕ) (ended : Bool) (fault : ConfigFault) → BytesBeginWithItem true bytes (item.Table text) rest → ((◌≢◌ {A = Result Table ConfigFault} (Err fault) (Err config.OutOfMemory)) → BytesReadAs text (Err fault)) → ReplayFails bytes ended [] (replay_fault_of_config_fault fault)
-refused_with bytes rest text ended config.OutOfMemory represents reads = ends_first _ bytes tt
-refused_with bytes rest text ended fault represents reads = (text, rest, represents, reads (λ e. cc), refl)
+refused_with : (bytes rest text : List ℕ) (ended : Bool) (fault : ConfigFault) → BytesBeginWithItem true bytes (item.Table text) rest → ((◌≢◌ {A = Result Table ConfigFault} (Err fault) (Err config.OutOfMemory)) → BytesReadAs text (Err fault)) → TableIsNotRead bytes ended (replay_fault_of_config_fault fault)
+refused_with bytes rest text ended config.OutOfMemory represents reads = tt
+refused_with bytes rest text ended fault represents reads = (text, rest, represents, reads (λ e. cc))
 
-pub refused_by : (bytes rest text : List ℕ) (ended : Bool) (h : Item) (fault : ConfigFault) → Found h rest ≡ item_in_front true bytes → h ≡ item.Table text → ((◌≢◌ {A = Result Table ConfigFault} (Err fault) (Err config.OutOfMemory)) → BytesReadAs text (Err fault)) → ReplayFails bytes ended [] (replay_fault_of_config_fault fault)
+pub refused_by : (bytes rest text : List ℕ) (ended : Bool) (h : Item) (fault : ConfigFault) → Found h rest ≡ item_in_front true bytes → h ≡ item.Table text → ((◌≢◌ {A = Result Table ConfigFault} (Err fault) (Err config.OutOfMemory)) → BytesReadAs text (Err fault)) → TableIsNotRead bytes ended (replay_fault_of_config_fault fault)
 refused_by bytes rest text ended h fault found is reads =
     refused_with bytes rest text ended fault (subst (λ h. BytesBeginWithItem true bytes h rest) is (item_found true bytes rest h (sym found))) reads
+
+-- a replay whose table isn't read fails, whatever a store would hold
+pub not_read : (Opens : Table → StoreReading → Type 0) (bytes : List ℕ) (ended : Bool) (fault : ReplayFault) → TableIsNotRead bytes ended fault → ReplayFails Opens bytes ended [] fault
+not_read Opens bytes ended (faults.Config fault) why = (why.0, why.1, why.2, why.3, refl)
+not_read Opens bytes ended (faults.Line n) why = ends_first Opens _ bytes why
+not_read Opens bytes ended faults.Read why = (why.0, ends_first Opens _ bytes why.1)
+not_read Opens bytes ended faults.OutOfMemory why = ends_first Opens _ bytes tt
+not_read Opens bytes ended (faults.Store fault) why = absurd why
+not_read Opens bytes ended (faults.Engine fault) why = absurd why
+not_read Opens bytes ended faults.Write why = absurd why
 
 -- no other item stands first
 pub other_by : (bytes rest : List ℕ) (h : Item) → Found h rest ≡ item_in_front true bytes → is_config (line_of_item h) ≡ false → ⊥
@@ -70,3 +85,8 @@ other_by bytes rest h found other = let placed = item_found true bytes rest h (s
 pub moment_fits : (now : ℕ) (h : Item) → now < END_OF_TIME → ItemHasSpelling h → moment_after now h < END_OF_TIME
 moment_fits now (item.Moment m) before fits = fits
 moment_fits now h before fits = before
+
+-- a replay whose store is refused
+pub store_refused : (Opens : Table → StoreReading → Type 0) (table : Table) (fault : StoreFault) → Opens table (Err fault) → BeginningFails Opens table (replay_fault_of_store_fault fault)
+store_refused Opens table store.OutOfMemory refused = λ bytes rest ended opens. ends_first Opens _ bytes tt
+store_refused Opens table fault refused = λ bytes rest ended opens. (opens.text, rest, table, opens.represents, opens.reads, refused, refl)

@@ -13,7 +13,7 @@ use Rattle.proxy_engine.specs.EngineModel.{EngineModel, model_after_happening}
 use Rattle.proxy_engine.specs.Due.{Act, IsDueFirst}
 use Rattle.proxy_engine.specs.Acts.{ActIsDone}
 use Rattle.proxy_engine.specs.Executions.{ActIsDoneInOneWay}
-use Rattle.proxy_replay.specs.Played.{DoneAct, ActsAreDoneInOrder, effects_of_acts, Scene, initial_scene, ItemIsPlayed, ItemsArePlayed, HappeningIfAnyIsPlayed, happening_of_item}
+use Rattle.proxy_replay.specs.Played.{DoneAct, ActsAreDoneInOrder, effects_of_acts, Scene, scene_over, ItemIsPlayed, ItemsArePlayed, HappeningIfAnyIsPlayed, happening_of_item}
 use Rattle.proxy_replay.specs.Runs.{ScriptHasOnePlay}
 use Rattle.proxy_replay.specs.Replay.{ReplayHasOneText}
 use Rattle.proxy_replay.proofs.Fronts.{item_nil}
@@ -88,7 +88,7 @@ module _ (again : (first : Bool) (h : Item) (rest : List ℕ) → ItemHasSpellin
 
   pub has_one_text : ScriptHasOnePlay → ((bytes : List ℕ) (r s : Result Table ConfigFault) → BytesReadAs bytes r → BytesReadAs bytes s → r ≡ s) → ReplayHasOneText
   unfolding table_of
-  has_one_text play reads script text other h k =
+  has_one_text play reads held first script text other h k =
       let front = front_once true (item.Table h.table) (item.Table k.table) (flat_map item_spelling h.items) (flat_map item_spelling k.items)
       h.is_script.table_fits refl k.is_script.table_fits refl (sym h.is_script.script ∙ k.is_script.script) in
       let table : h.table ≡ k.table = ap table_of front.item_is in
@@ -96,6 +96,6 @@ module _ (again : (first : Bool) (h : Item) (rest : List ℕ) → ItemHasSpellin
       items_once h.items k.items h.is_script.items_fit h.is_script.one_table k.is_script.items_fit k.is_script.one_table front.rest_is in
       let read : Ok h.config ≡ Ok k.config = reads h.table (Ok h.config) (Ok k.config) h.reads (subst (λ (b : List ℕ). BytesReadAs b (Ok k.config)) (sym table) k.reads) in
       let config : h.config ≡ k.config = cc in
-      let plays : ItemsArePlayed (initial_scene h.config) h.items k.effects k.last =
-      subst (λ (t : Table). ItemsArePlayed (initial_scene t) h.items k.effects k.last) (sym config) (subst (λ (is : List Item). ItemsArePlayed (initial_scene k.config) is k.effects k.last) (sym items) k.plays) in
-      h.emitted ∙ (ap effects_text (play (initial_scene h.config) h.items h.effects k.effects h.last k.last h.plays plays).0 ∙ sym k.emitted)
+      let plays : ItemsArePlayed (scene_over h.config held first) h.items k.effects k.last =
+      subst (λ (t : Table). ItemsArePlayed (scene_over t held first) h.items k.effects k.last) (sym config) (subst (λ (is : List Item). ItemsArePlayed (scene_over k.config held first) is k.effects k.last) (sym items) k.plays) in
+      h.emitted ∙ (ap effects_text (play (scene_over h.config held first) h.items h.effects k.effects h.last k.last h.plays plays).0 ∙ sym k.emitted)

@@ -3,11 +3,12 @@ use Rattle.std.proofs.Common.{◌≡◌, ℕ, List, [], ◌∷◌, ◌++◌, fal
 use Rattle.std.proofs.lemmas.Bool.{false≢true}
 use Rattle.proxy_script.specs.Script.{IsScript}
 use Rattle.proxy_script.specs.Effects.{effects_text}
-use Rattle.proxy_replay.specs.Replay.{BytesLeadToWhere, IsReplayed, ReplayHasOneText}
+use Rattle.proxy_replay.specs.Replay.{opens_empty, BytesLeadToWhere, IsReplayed, ReplayHasOneText}
 use Rattle.proxy_replay.specs.OneReplay.{ReplayHasNoOtherText, NoWholeReplayBeforeTheEnd, NoReadFaultAtTheEnd, NothingIsWrittenForARefusedTable}
+use Rattle.proxy_replay.proofs.Playing.{begins_empty, runs_empty}
 
 -- bytes that lead to their end are a script
-replayed : (script written : List ℕ) → BytesLeadToWhere script (λ items rest effects last. (rest ≡ []) × (written ≡ effects_text effects)) → IsReplayed script written
+replayed : (script written : List ℕ) → BytesLeadToWhere opens_empty script (λ items rest effects last. (rest ≡ []) × (written ≡ effects_text effects)) → IsReplayed script written
 replayed script written to =
     let whole : script ≡ to.leads.front = to.leads.bytes_are ∙ ap (λ (z : List ℕ). to.leads.front ++ z) to.holds.0 ∙ append-nil to.leads.front in
     record {
@@ -18,13 +19,13 @@ replayed script written to =
       reads = to.leads.reads;
       effects = to.effects;
       last = to.last;
-      plays = to.leads.plays;
-      run = to.leads.run;
+      plays = begins_empty to.leads.config to.items to.effects to.last to.leads.held to.leads.first to.leads.opens to.leads.plays;
+      run = runs_empty to.leads.config to.items to.effects to.last to.leads.held to.leads.first to.leads.opens to.leads.run;
       emitted = to.holds.1;
     }
 
 pub no_other_text : ReplayHasOneText → ReplayHasNoOtherText
-no_other_text one script written other h differ k = differ (one script written other (replayed script written h.1) (replayed script other k.1))
+no_other_text one script written other h differ k = differ (one [] 1 script written other (replayed script written h.1) (replayed script other k.1))
 
 pub not_before_its_end : NoWholeReplayBeforeTheEnd
 not_before_its_end bytes written h = false≢true h.0

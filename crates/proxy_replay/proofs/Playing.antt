@@ -6,15 +6,20 @@ use Rattle.std.proofs.KnownBytes.{Appends-trans, Appends-nil}
 use Rattle.std.proofs.lemmas.Grind.{flat_map-append}
 use Rattle.std.proofs.lemmas.List.{append-nil, length_push, take_at, drop_at}
 use Rattle.hx_allow.specs.TableLines.{Table}
+use Rattle.hx_store.specs.Stored.{Stored}
 use Rattle.proxy_script.specs.Script.{PlainItem as Item, item_spelling, ItemHasSpelling, ItemMayStandHere, IsScript, Found, Cut, Wrong, item_in_front}
 use Rattle.proxy_script.specs.Script as item
 use Rattle.proxy_script.specs.Effects.{effect_text, effects_text}
 use Rattle.proxy_script.specs.declared.effect_list.Effect.{Effect}
+use Rattle.proxy_store_file.specs.Stores.{StoreReading}
+use Rattle.proxy_store_file.specs.Streams.{contents_of}
+use Rattle.proxy_engine.specs.Beginnings.{MayBeHeldAtFirst}
 use Rattle.proxy_engine.specs.State.{State, EngineRepresents}
 use Rattle.proxy_replay.specs.Bytes.{ReaderGave, script_limit}
-use Rattle.proxy_replay.specs.Played.{Scene, initial_scene, happening_of_item, moment_after, ItemIsPlayed, ItemsArePlayed, EngineRefusesHappening}
+use Rattle.proxy_replay.specs.Played.{Scene, scene_over, happening_of_item, moment_after, ItemIsPlayed, ItemsArePlayed, EngineRefusesHappening}
+use Rattle.proxy_replay.specs.Runs.{PlayIsAGoodRunOver}
 use Rattle.proxy_replay.proofs.Running.{plays_run}
-use Rattle.proxy_replay.specs.Replay.{BytesBeginWithItem, NoItemStandsInFront, BytesLeadTo, BytesLeadToWhere, ReplayEndsAt, ReplayFails, ReplayWrites, IsReplay, IsReplayed, ScriptIsRefused}
+use Rattle.proxy_replay.specs.Replay.{BytesBeginWithItem, NoItemStandsInFront, opens_empty, BytesLeadTo, BytesLeadToWhere, ReplayEndsAt, ReplayFails, ReplayWrites, IsReplayOver, IsReplay, IsReplayed, ScriptIsRefused}
 use Rattle.proxy_replay.specs.Steps.{TableIsReadFirst, ItemWasPlayed, ItemWasNotPlayed, PlayingItemFails}
 use Rattle.proxy_replay.specs.declared.replay_fault.ReplayFault.{ReplayFault}
 use Rattle.proxy_replay.specs.declared.replay_fault.ReplayFault.TheVariants as faults
@@ -48,175 +53,209 @@ script_more front table items h script fits placed = record {
   one_table = all_push (ItemMayStandHere false) items h script.one_table placed;
 }
 
-leads_more : (bytes rest more : List ℕ) (items : List Item) (h : Item) (effects others : List Effect) (b c : Scene) → BytesLeadTo bytes items rest effects b → BytesBeginWithItem false rest h more → ItemIsPlayed b h others c → BytesLeadTo bytes (items ++ h ∷ []) more (effects ++ others) c
-leads_more bytes rest more items h effects others b c leads represents one = let longer = plays_more items (initial_scene leads.config) b c effects others h leads.plays one in record {
-  front = leads.front ++ item_spelling h;
-  bytes_are = leads.bytes_are ∙ (ap (λ xs. leads.front ++ xs) represents.0 ∙ sym (append_assoc leads.front (item_spelling h) more));
-  table = leads.table;
-  script = script_more leads.front leads.table items h leads.script represents.1 represents.2;
-  config = leads.config;
-  reads = leads.reads;
-  plays = longer;
-  run = plays_run leads.config (items ++ h ∷ []) (effects ++ others) c longer;
-}
+-- over a store that opens so
+module _ (Opens : Table → StoreReading → Type 0) where
+  leads_more : (bytes rest more : List ℕ) (items : List Item) (h : Item) (effects others : List Effect) (b c : Scene) → BytesLeadTo Opens bytes items rest effects b → BytesBeginWithItem false rest h more → ItemIsPlayed b h others c → BytesLeadTo Opens bytes (items ++ h ∷ []) more (effects ++ others) c
+  leads_more bytes rest more items h effects others b c leads represents one = let longer = plays_more items (scene_over leads.config leads.held leads.first) b c effects others h leads.plays one in record {
+    front = leads.front ++ item_spelling h;
+    bytes_are = leads.bytes_are ∙ (ap (λ xs. leads.front ++ xs) represents.0 ∙ sym (append_assoc leads.front (item_spelling h) more));
+    table = leads.table;
+    script = script_more leads.front leads.table items h leads.script represents.1 represents.2;
+    config = leads.config;
+    reads = leads.reads;
+    held = leads.held;
+    first = leads.first;
+    opens = leads.opens;
+    may = leads.may;
+    plays = longer;
+    run = plays_run leads.config leads.held leads.first (items ++ h ∷ []) (effects ++ others) c leads.may longer;
+  }
 
--- what was played so far, at this moment and line, by an engine that stands for it
-pub record SoFar (bytes rest : List ℕ) (now line : ℕ) (e : State) (old current : Option (List ℕ)) : Type 0 where
-  pub items : List Item
-  pub effects : List Effect
-  pub last : Scene
-  pub leads : BytesLeadTo bytes items rest effects last
-  pub moment : last.now ≡ now
-  pub line_is : line ≡ length items + 2
-  pub represents : EngineRepresents e last.model
-  pub appends : Appends old current (effects_text effects)
+  -- what was played so far, at this moment and line, by an engine that stands for it
+  pub record SoFar (bytes rest : List ℕ) (now line : ℕ) (e : State) (old current : Option (List ℕ)) : Type 0 where
+    pub items : List Item
+    pub effects : List Effect
+    pub last : Scene
+    pub leads : BytesLeadTo Opens bytes items rest effects last
+    pub moment : last.now ≡ now
+    pub line_is : line ≡ length items + 2
+    pub represents : EngineRepresents e last.model
+    pub appends : Appends old current (effects_text effects)
 
-pub so_far_first : (bytes rest : List ℕ) (table : Table) (e : State) (old : Option (List ℕ)) → TableIsReadFirst bytes table rest → EngineRepresents e (initial_scene table).model → SoFar bytes rest 0 2 e old old
-so_far_first bytes rest table e old opens represents = record {
-  items = [];
-  effects = [];
-  last = initial_scene table;
-  leads = record {
-    front = item_spelling (item.Table opens.text);
-    bytes_are = opens.represents.0;
-    table = opens.text;
-    script = record { script = sym (append-nil (item_spelling (item.Table opens.text))); table_fits = opens.represents.1; items_fit = tt; one_table = tt };
-    config = table;
-    reads = opens.reads;
-    plays = (refl, refl);
-    run = plays_run table [] [] (initial_scene table) (refl, refl);
-  };
-  moment = refl;
-  line_is = refl;
-  represents = represents;
-  appends = Appends-nil old;
-}
+  pub so_far_first : (bytes rest : List ℕ) (table : Table) (held : List Stored) (first : ℕ) (e : State) (old : Option (List ℕ)) → TableIsReadFirst bytes table rest → Opens table (Ok (contents_of held first)) → MayBeHeldAtFirst table held first → EngineRepresents e (scene_over table held first).model →
+      SoFar bytes rest 0 2 e old old
+  so_far_first bytes rest table held first e old opens opened may represents = record {
+    items = [];
+    effects = [];
+    last = scene_over table held first;
+    leads = record {
+      front = item_spelling (item.Table opens.text);
+      bytes_are = opens.represents.0;
+      table = opens.text;
+      script = record { script = sym (append-nil (item_spelling (item.Table opens.text))); table_fits = opens.represents.1; items_fit = tt; one_table = tt };
+      config = table;
+      reads = opens.reads;
+      held = held;
+      first = first;
+      opens = opened;
+      may = may;
+      plays = (refl, refl);
+      run = plays_run table held first [] [] (scene_over table held first) may (refl, refl);
+    };
+    moment = refl;
+    line_is = refl;
+    represents = represents;
+    appends = Appends-nil old;
+  }
 
--- an item was played
-played : (a : Scene) (now : ℕ) (h : Item) (e : State) (old new : Option (List ℕ)) (emitted : ItemWasPlayed a.model (moment_after now h) (happening_of_item h) e old new) → a.now ≡ now → ItemIsPlayed a h emitted.effects (record { model = emitted.last; now = moment_after now h })
-played a now h e old new emitted same = record { moment = ap (λ m. moment_after m h) (sym same); happened = emitted.happened }
+  -- an item was played
+  played : (a : Scene) (now : ℕ) (h : Item) (e : State) (old new : Option (List ℕ)) (emitted : ItemWasPlayed a.model (moment_after now h) (happening_of_item h) e old new) → a.now ≡ now → ItemIsPlayed a h emitted.effects (record { model = emitted.last; now = moment_after now h })
+  played a now h e old new emitted same = record { moment = ap (λ m. moment_after m h) (sym same); happened = emitted.happened }
 
-pub so_far_more : (bytes rest more : List ℕ) (now line : ℕ) (h : Item) (e f : State) (old mid new : Option (List ℕ)) → (before : SoFar bytes rest now line e old mid) → BytesBeginWithItem false rest h more → ItemWasPlayed before.last.model (moment_after now h) (happening_of_item h) f mid new → SoFar bytes more (moment_after now h) (line + 1) f old new
-so_far_more bytes rest more now line h e f old mid new before represents emitted = record {
-  items = before.items ++ h ∷ [];
-  effects = before.effects ++ emitted.effects;
-  last = record { model = emitted.last; now = moment_after now h };
-  leads = leads_more bytes rest more before.items h before.effects emitted.effects before.last _ before.leads represents (played before.last now h f mid new emitted before.moment);
-  moment = refl;
-  line_is = rw length_push (omega (arith, before.line_is));
-  represents = emitted.represents;
-  appends = subst (Appends old new) (sym (flat_map-append effect_text before.effects emitted.effects)) (Appends-trans old mid new (effects_text before.effects) (effects_text emitted.effects) before.appends emitted.appends);
-}
+  pub so_far_more : (bytes rest more : List ℕ) (now line : ℕ) (h : Item) (e f : State) (old mid new : Option (List ℕ)) → (before : SoFar bytes rest now line e old mid) → BytesBeginWithItem false rest h more → ItemWasPlayed before.last.model (moment_after now h) (happening_of_item h) f mid new → SoFar bytes more (moment_after now h) (line + 1) f old new
+  so_far_more bytes rest more now line h e f old mid new before represents emitted = record {
+    items = before.items ++ h ∷ [];
+    effects = before.effects ++ emitted.effects;
+    last = record { model = emitted.last; now = moment_after now h };
+    leads = leads_more bytes rest more before.items h before.effects emitted.effects before.last _ before.leads represents (played before.last now h f mid new emitted before.moment);
+    moment = refl;
+    line_is = rw length_push (omega (arith, before.line_is));
+    represents = emitted.represents;
+    appends = subst (Appends old new) (sym (flat_map-append effect_text before.effects emitted.effects)) (Appends-trans old mid new (effects_text before.effects) (effects_text emitted.effects) before.appends emitted.appends);
+  }
 
--- how a replay ends
+  -- how a replay ends
 
-leads_so_far : (P : List Item → List ℕ → List Effect → Scene → Type 0) (bytes rest : List ℕ) (now line : ℕ) (e : State) (old current : Option (List ℕ)) → (before : SoFar bytes rest now line e old current) → P before.items rest before.effects before.last → BytesLeadToWhere bytes P
-leads_so_far P bytes rest now line e old current before holds = record { items = before.items; rest = rest; effects = before.effects; last = before.last; leads = before.leads; holds = holds }
+  leads_so_far : (P : List Item → List ℕ → List Effect → Scene → Type 0) (bytes rest : List ℕ) (now line : ℕ) (e : State) (old current : Option (List ℕ)) → (before : SoFar bytes rest now line e old current) → P before.items rest before.effects before.last → BytesLeadToWhere Opens bytes P
+  leads_so_far P bytes rest now line e old current before holds = record { items = before.items; rest = rest; effects = before.effects; last = before.last; leads = before.leads; holds = holds }
 
--- behind what was played so far
-ends_here : (P : Bool → List ℕ → ℕ → Type 0) (bytes rest : List ℕ) (now line : ℕ) (e : State) (old current : Option (List ℕ)) → (before : SoFar bytes rest now line e old current) → P false rest line → ReplayEndsAt bytes (effects_text before.effects) P
-ends_here P bytes rest now line e old current before holds = record {
-  first = false;
-  rest = rest;
-  line = line;
-  effects = before.effects;
-  reaches = leads_so_far _ bytes rest now line e old current before (refl, refl, before.line_is);
-  emitted = refl;
-  holds = holds;
-}
+  -- behind what was played so far
+  ends_here : (P : Bool → List ℕ → ℕ → Type 0) (bytes rest : List ℕ) (now line : ℕ) (e : State) (old current : Option (List ℕ)) → (before : SoFar bytes rest now line e old current) → P false rest line → ReplayEndsAt Opens bytes (effects_text before.effects) P
+  ends_here P bytes rest now line e old current before holds = record {
+    first = false;
+    rest = rest;
+    line = line;
+    effects = before.effects;
+    reaches = leads_so_far _ bytes rest now line e old current before (refl, refl, before.line_is);
+    emitted = refl;
+    holds = holds;
+  }
 
--- in front of the table
-pub writes_first : (bytes : List ℕ) (ended : Bool) (fault : ReplayFault) (old : Option (List ℕ)) → ReplayFails bytes ended [] fault → ReplayWrites bytes ended old old (Err fault)
-writes_first bytes ended fault old fails = record { written = []; appends = Appends-nil old; replays = fails }
+  -- in front of the table
+  pub writes_first : (bytes : List ℕ) (ended : Bool) (fault : ReplayFault) (old : Option (List ℕ)) → ReplayFails Opens bytes ended [] fault → ReplayWrites Opens bytes ended old old (Err fault)
+  writes_first bytes ended fault old fails = record { written = []; appends = Appends-nil old; replays = fails }
 
--- at a line or a block that is wrong
-pub writes_wrong : (bytes rest : List ℕ) (ended : Bool) (now line : ℕ) (e : State) (old current : Option (List ℕ)) → SoFar bytes rest now line e old current → NoItemStandsInFront false ended rest → ReplayWrites bytes ended old current (Err (faults.Line line))
-writes_wrong bytes rest ended now line e old current before wrong = record {
-  written = effects_text before.effects;
-  appends = before.appends;
-  replays = ends_here _ bytes rest now line e old current before (wrong, refl);
-}
+  -- at a line or a block that is wrong
+  pub writes_wrong : (bytes rest : List ℕ) (ended : Bool) (now line : ℕ) (e : State) (old current : Option (List ℕ)) → SoFar bytes rest now line e old current → NoItemStandsInFront false ended rest → ReplayWrites Opens bytes ended old current (Err (faults.Line line))
+  writes_wrong bytes rest ended now line e old current before wrong = record {
+    written = effects_text before.effects;
+    appends = before.appends;
+    replays = ends_here _ bytes rest now line e old current before (wrong, refl);
+  }
 
--- where the reader failed in the middle of an item
-pub writes_cut : (bytes rest : List ℕ) (ended : Bool) (now line : ℕ) (e : State) (old current : Option (List ℕ)) → SoFar bytes rest now line e old current → ended ≡ false → item_in_front false rest ≡ Cut → ReplayWrites bytes ended old current (Err faults.Read)
-writes_cut bytes rest ended now line e old current before more cut = record {
-  written = effects_text before.effects;
-  appends = before.appends;
-  replays = (more, ends_here _ bytes rest now line e old current before cut);
-}
+  -- where the reader failed in the middle of an item
+  pub writes_cut : (bytes rest : List ℕ) (ended : Bool) (now line : ℕ) (e : State) (old current : Option (List ℕ)) → SoFar bytes rest now line e old current → ended ≡ false → item_in_front false rest ≡ Cut → ReplayWrites Opens bytes ended old current (Err faults.Read)
+  writes_cut bytes rest ended now line e old current before more cut = record {
+    written = effects_text before.effects;
+    appends = before.appends;
+    replays = (more, ends_here _ bytes rest now line e old current before cut);
+  }
 
--- at the script's end
-pub writes_whole : (bytes rest : List ℕ) (ended : Bool) (now line : ℕ) (e : State) (old current : Option (List ℕ)) → SoFar bytes rest now line e old current → ended ≡ true → rest ≡ [] → ReplayWrites bytes ended old current (Ok tt)
-writes_whole bytes rest ended now line e old current before whole none = record {
-  written = effects_text before.effects;
-  appends = before.appends;
-  replays = (whole, leads_so_far _ bytes rest now line e old current before (none, refl));
-}
+  -- at the script's end
+  pub writes_whole : (bytes rest : List ℕ) (ended : Bool) (now line : ℕ) (e : State) (old current : Option (List ℕ)) → SoFar bytes rest now line e old current → ended ≡ true → rest ≡ [] → ReplayWrites Opens bytes ended old current (Ok tt)
+  writes_whole bytes rest ended now line e old current before whole none = record {
+    written = effects_text before.effects;
+    appends = before.appends;
+    replays = (whole, leads_so_far _ bytes rest now line e old current before (none, refl));
+  }
 
-take_past : (xs ys : List ℕ) (k : ℕ) → take (length xs + k) (xs ++ ys) ≡ xs ++ take k ys
-take_past xs ys k = take-add (length xs) k (xs ++ ys) ∙ (ap (λ a. a ++ take k (drop (length xs) (xs ++ ys))) (take_at xs ys (length xs) refl) ∙ ap (λ b. xs ++ take k b) (drop_at xs ys (length xs) refl))
+  take_past : (xs ys : List ℕ) (k : ℕ) → take (length xs + k) (xs ++ ys) ≡ xs ++ take k ys
+  take_past xs ys k = take-add (length xs) k (xs ++ ys) ∙ (ap (λ a. a ++ take k (drop (length xs) (xs ++ ys))) (take_at xs ys (length xs) refl) ∙ ap (λ b. xs ++ take k b) (drop_at xs ys (length xs) refl))
 
--- at an item that isn't taken, or whose text isn't written
-fails_by : (bytes rest more : List ℕ) (h : Item) (ended : Bool) (now line : ℕ) (e : State) (old mid : Option (List ℕ)) (written : List ℕ) (fault : ReplayFault) → (before : SoFar bytes rest now line e old mid) → BytesBeginWithItem false rest h more → PlayingItemFails before.last.model (moment_after now h) (happening_of_item h) written fault → ReplayFails bytes ended (effects_text before.effects ++ written) fault
-fails_by bytes rest more h ended now line e old mid written (faults.Engine fault) before represents fails =
-    leads_so_far _ bytes rest now line e old mid before (
-      h,
-      more,
-      represents,
-      (fails.0, fails.1, subst (λ m. EngineRefusesHappening before.last.model (moment_after m h) fails.0 fault) (sym before.moment) fails.2),
-      ap (λ w. effects_text before.effects ++ w) fails.3 ∙ append-nil (effects_text before.effects),
-    )
-fails_by bytes rest more h ended now line e old mid written faults.OutOfMemory before represents fails =
-    subst (λ w. ReplayEndsAt bytes w (λ first rest line. Unit {0})) (sym (append-nil (effects_text before.effects)) ∙ ap (λ w. effects_text before.effects ++ w) (sym fails)) (ends_here _ bytes rest now line e old mid before tt)
-fails_by bytes rest more h ended now line e old mid written faults.Write before represents fails = record {
-  items = before.items ++ h ∷ [];
-  rest = more;
-  effects = before.effects ++ fails.0;
-  last = record { model = fails.1; now = moment_after now h };
-  leads = leads_more bytes rest more before.items h before.effects fails.0 before.last _ before.leads represents (record { moment = ap (λ m. moment_after m h) (sym before.moment); happened = fails.2 });
-  holds = (
-    length (effects_text before.effects) + fails.3,
-    ap (λ w. effects_text before.effects ++ w) fails.4 ∙ (sym (take_past (effects_text before.effects) (effects_text fails.0) fails.3)
-        ∙ ap (take (length (effects_text before.effects) + fails.3)) (sym (flat_map-append effect_text before.effects fails.0))),
-  );
-}
-fails_by bytes rest more h ended now line e old mid written (faults.Config fault) before represents fails = absurd fails
-fails_by bytes rest more h ended now line e old mid written (faults.Line n) before represents fails = absurd fails
-fails_by bytes rest more h ended now line e old mid written faults.Read before represents fails = absurd fails
+  -- at an item that isn't taken, or whose text isn't written
+  fails_by : (bytes rest more : List ℕ) (h : Item) (ended : Bool) (now line : ℕ) (e : State) (old mid : Option (List ℕ)) (written : List ℕ) (fault : ReplayFault) → (before : SoFar bytes rest now line e old mid) → BytesBeginWithItem false rest h more → PlayingItemFails before.last.model (moment_after now h) (happening_of_item h) written fault → ReplayFails Opens bytes ended (effects_text before.effects ++ written) fault
+  fails_by bytes rest more h ended now line e old mid written (faults.Engine fault) before represents fails =
+      leads_so_far _ bytes rest now line e old mid before (
+        h,
+        more,
+        represents,
+        (fails.0, fails.1, subst (λ m. EngineRefusesHappening before.last.model (moment_after m h) fails.0 fault) (sym before.moment) fails.2),
+        ap (λ w. effects_text before.effects ++ w) fails.3 ∙ append-nil (effects_text before.effects),
+      )
+  fails_by bytes rest more h ended now line e old mid written faults.OutOfMemory before represents fails =
+      subst (λ w. ReplayEndsAt Opens bytes w (λ first rest line. Unit {0})) (sym (append-nil (effects_text before.effects)) ∙ ap (λ w. effects_text before.effects ++ w) (sym fails)) (ends_here _ bytes rest now line e old mid before tt)
+  fails_by bytes rest more h ended now line e old mid written faults.Write before represents fails = record {
+    items = before.items ++ h ∷ [];
+    rest = more;
+    effects = before.effects ++ fails.0;
+    last = record { model = fails.1; now = moment_after now h };
+    leads = leads_more bytes rest more before.items h before.effects fails.0 before.last _ before.leads represents (record { moment = ap (λ m. moment_after m h) (sym before.moment); happened = fails.2 });
+    holds = (
+      length (effects_text before.effects) + fails.3,
+      ap (λ w. effects_text before.effects ++ w) fails.4 ∙ (sym (take_past (effects_text before.effects) (effects_text fails.0) fails.3)
+          ∙ ap (take (length (effects_text before.effects) + fails.3)) (sym (flat_map-append effect_text before.effects fails.0))),
+    );
+  }
+  fails_by bytes rest more h ended now line e old mid written (faults.Config fault) before represents fails = absurd fails
+  fails_by bytes rest more h ended now line e old mid written (faults.Line n) before represents fails = absurd fails
+  fails_by bytes rest more h ended now line e old mid written faults.Read before represents fails = absurd fails
+  fails_by bytes rest more h ended now line e old mid written (faults.Store fault) before represents fails = absurd fails
 
-pub writes_not_done : (bytes rest more : List ℕ) (h : Item) (ended : Bool) (now line : ℕ) (e : State) (old mid new : Option (List ℕ)) (fault : ReplayFault) → (before : SoFar bytes rest now line e old mid) → BytesBeginWithItem false rest h more → ItemWasNotPlayed before.last.model (moment_after now h) (happening_of_item h) fault mid new → ReplayWrites bytes ended old new (Err fault)
-writes_not_done bytes rest more h ended now line e old mid new fault before represents not_done = record {
-  written = effects_text before.effects ++ not_done.written;
-  appends = Appends-trans old mid new (effects_text before.effects) not_done.written before.appends not_done.appends;
-  replays = fails_by bytes rest more h ended now line e old mid not_done.written fault before represents not_done.fails;
-}
+  pub writes_not_done : (bytes rest more : List ℕ) (h : Item) (ended : Bool) (now line : ℕ) (e : State) (old mid new : Option (List ℕ)) (fault : ReplayFault) → (before : SoFar bytes rest now line e old mid) → BytesBeginWithItem false rest h more → ItemWasNotPlayed before.last.model (moment_after now h) (happening_of_item h) fault mid new → ReplayWrites Opens bytes ended old new (Err fault)
+  writes_not_done bytes rest more h ended now line e old mid new fault before represents not_done = record {
+    written = effects_text before.effects ++ not_done.written;
+    appends = Appends-trans old mid new (effects_text before.effects) not_done.written before.appends not_done.appends;
+    replays = fails_by bytes rest more h ended now line e old mid not_done.written fault before represents not_done.fails;
+  }
 
--- the whole
+  -- the whole
 
--- memory ran out while the script was read
-pub ends_unread : (old new before : Option (List ℕ)) (read : List ℕ) → Consumes old new read → IsReplay old new before before (Err faults.OutOfMemory)
-ends_unread old new before read consumes = record {
-  bytes = [];
-  over = read;
-  ended = false;
-  consumes = consumes;
-  few = omega arith;
-  whole = λ e. cc;
-  full = λ e other. absurd (other refl);
-  writes = writes_first [] false faults.OutOfMemory before (ends_first _ [] tt);
-}
+  -- memory ran out while the script was read
+  pub ends_unread : (old new before : Option (List ℕ)) (read : List ℕ) → Consumes old new read → IsReplayOver Opens old new before before (Err faults.OutOfMemory)
+  ends_unread old new before read consumes = record {
+    bytes = [];
+    over = read;
+    ended = false;
+    consumes = consumes;
+    few = omega arith;
+    whole = λ e. cc;
+    full = λ e other. absurd (other refl);
+    writes = writes_first [] false faults.OutOfMemory before (ends_first Opens _ [] tt);
+  }
 
-pub ends_read : (bytes : List ℕ) (ended : Bool) (old new before after : Option (List ℕ)) (r : Result (Unit {0}) ReplayFault) → ReaderGave script_limit bytes ended old new → ReplayWrites bytes ended before after r → IsReplay old new before after r
-ends_read bytes ended old new before after r was writes = record {
-  bytes = bytes;
-  over = was.over;
-  ended = ended;
-  consumes = was.consumes;
-  few = was.few;
-  whole = was.whole;
-  full = λ e other. was.full e;
-  writes = writes;
-}
+  pub ends_read : (bytes : List ℕ) (ended : Bool) (old new before after : Option (List ℕ)) (r : Result (Unit {0}) ReplayFault) → ReaderGave script_limit bytes ended old new → ReplayWrites Opens bytes ended before after r → IsReplayOver Opens old new before after r
+  ends_read bytes ended old new before after r was writes = record {
+    bytes = bytes;
+    over = was.over;
+    ended = ended;
+    consumes = was.consumes;
+    few = was.few;
+    whole = was.whole;
+    full = λ e other. was.full e;
+    writes = writes;
+  }
+
+-- a replay over nothing plays from the beginning
+
+abbrev entries_of : StoreReading → List Stored
+entries_of (Ok store) = store.entries
+entries_of (Err fault) = []
+
+abbrev serial_of : StoreReading → ℕ
+serial_of (Ok store) = store.next_serial
+serial_of (Err fault) = 0
+
+pub begins_empty : (table : Table) (items : List Item) (effects : List Effect) (last : Scene) (held : List Stored) (first : ℕ) → opens_empty table (Ok (contents_of held first)) → ItemsArePlayed (scene_over table held first) items effects last →
+    ItemsArePlayed (scene_over table [] 1) items effects last
+begins_empty table items effects last held first opens plays =
+    subst (λ (n : ℕ). ItemsArePlayed (scene_over table [] n) items effects last) (ap serial_of opens)
+    (subst (λ (es : List Stored). ItemsArePlayed (scene_over table es first) items effects last) (ap entries_of opens) plays)
+
+pub runs_empty : (table : Table) (items : List Item) (effects : List Effect) (last : Scene) (held : List Stored) (first : ℕ) → opens_empty table (Ok (contents_of held first)) → PlayIsAGoodRunOver table held first items effects last →
+    PlayIsAGoodRunOver table [] 1 items effects last
+runs_empty table items effects last held first opens run =
+    subst (λ (n : ℕ). PlayIsAGoodRunOver table [] n items effects last) (ap serial_of opens)
+    (subst (λ (es : List Stored). PlayIsAGoodRunOver table es first items effects last) (ap entries_of opens) run)
 
 -- over memory
 pub replayed_by : (script rest before text : List ℕ) → before ≡ [] → IsReplay (Some script) (Some rest) (Some before) (Some text) (Ok tt) → IsReplayed script text
@@ -235,8 +274,8 @@ replayed_by script rest before text none replay =
       reads = led.leads.reads;
       effects = led.effects;
       last = led.last;
-      plays = led.leads.plays;
-      run = led.leads.run;
+      plays = begins_empty led.leads.config led.items led.effects led.last led.leads.held led.leads.first led.leads.opens led.leads.plays;
+      run = runs_empty led.leads.config led.items led.effects led.last led.leads.held led.leads.first led.leads.opens led.leads.run;
       emitted = replay.writes.appends ∙ (ap (λ xs. xs ++ replay.writes.written) none ∙ led.holds.1);
     }
 

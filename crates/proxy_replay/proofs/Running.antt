@@ -2,17 +2,18 @@
 use Rattle.std.proofs.Common.{◌≡◌, ℕ, List, [], ◌∷◌, ◌++◌, refl, sym, ap, ◌∙◌, subst, Option, None, Some}
 use Rattle.std.proofs.lemmas.List.{append_assoc, append-nil}
 use Rattle.hx_allow.specs.TableLines.{Table}
+use Rattle.hx_store.specs.Stored.{Stored}
 use Rattle.proxy_core.proofs.Beginning.{nothing_stands}
-use Rattle.proxy_core.specs.Starts.{empty_store}
 use Rattle.proxy_core.specs.State.{bounds_of}
 use Rattle.proxy_script.specs.Script.{PlainItem as Item}
 use Rattle.proxy_script.specs.declared.effect_list.Effect.{Effect}
+use Rattle.proxy_engine.specs.Beginnings.{MayBeHeldAtFirst, store_with}
 use Rattle.proxy_engine.specs.Happenings.{PlainHappening as Happening}
 use Rattle.proxy_engine.specs.EngineModel.{EngineModel, model_after_happening}
 use Rattle.proxy_engine.specs.Executions.{ExecutionStep, Took, Worked, StepsLead, effects_of_steps}
 use Rattle.proxy_engine.proofs.Living.{executions_are_runs}
-use Rattle.proxy_replay.specs.Played.{DoneAct, ActsAreDoneInOrder, effects_of_acts, Scene, initial_scene, ItemsArePlayed, HappeningIfAnyIsPlayed, happening_of_item}
-use Rattle.proxy_replay.specs.Runs.{steps_of_acts, StepsFollowItem, StepsFollowItems, PlayIsAGoodRun}
+use Rattle.proxy_replay.specs.Played.{DoneAct, ActsAreDoneInOrder, effects_of_acts, Scene, scene_over, ItemsArePlayed, HappeningIfAnyIsPlayed, happening_of_item}
+use Rattle.proxy_replay.specs.Runs.{steps_of_acts, StepsFollowItem, StepsFollowItems, PlayIsAGoodRunOver}
 
 module _ (begin : EngineModel) where
   -- steps that lead from the beginning, and what they told
@@ -82,14 +83,18 @@ module _ (begin : EngineModel) where
         executed = same_end rest.steps last.model last.model ((emitted ++ h.1) ++ h.2) (emitted ++ effects) refl (ap (λ (es : List Effect). emitted ++ es) h.5 ∙ sym (append_assoc emitted h.1 h.2)) rest.executed;
       }
 
-pub plays_run : (table : Table) (items : List Item) (effects : List Effect) (last : Scene) → ItemsArePlayed (initial_scene table) items effects last → PlayIsAGoodRun table items effects last
-plays_run table items effects last h =
-    let begin = (initial_scene table).model in
-    let whole = plays begin items [] (initial_scene table) effects last [] h (record { executes = refl; emitted_is = refl }) in
+pub plays_run : (table : Table) (held : List Stored) (first : ℕ) (items : List Item) (effects : List Effect) (last : Scene) → MayBeHeldAtFirst table held first → ItemsArePlayed (scene_over table held first) items effects last → PlayIsAGoodRunOver table held first items effects last
+plays_run table held first items effects last may h =
+    let begin = (scene_over table held first).model in
+    let whole = plays begin items [] (scene_over table held first) effects last [] h (record { executes = refl; emitted_is = refl }) in
     record {
       steps = whole.steps;
       follows = whole.follows;
       executes = whole.executed.executes;
       emitted = whole.executed.emitted_is;
-      run = executions_are_runs table (empty_store table.capacity) 1 1 whole.steps last.model (nothing_stands (bounds_of table table.capacity) 1) whole.executed.executes;
+      run = executions_are_runs table (store_with table held) first 1 whole.steps last.model may whole.executed.executes;
     }
+
+-- over an empty store
+pub nothing_is_held : (table : Table) (first : ℕ) → MayBeHeldAtFirst table [] first
+nothing_is_held table first = nothing_stands (bounds_of table table.capacity) first

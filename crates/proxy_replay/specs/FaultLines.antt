@@ -10,6 +10,8 @@ use Rattle.hx_allow.specs.declared.config_faults.ConfigFault.TheVariants.{BadCac
 use Rattle.hx_allow.specs.declared.config_faults.ConfigFault.TheVariants.{StarInPath}
 use Rattle.proxy_engine.specs.declared.work.EngineFault.{EngineFault}
 use Rattle.proxy_engine.specs.declared.work.EngineFault.TheVariants as engine
+use Rattle.proxy_store_file.specs.declared.store_faults.StoreFault.{StoreFault}
+use Rattle.proxy_store_file.specs.declared.store_faults.StoreFault.TheVariants as store
 use Rattle.proxy_replay.specs.declared.replay_fault.ReplayFault.{ReplayFault}
 use Rattle.proxy_replay.specs.declared.replay_fault.ReplayFault.TheVariants as faults
 
@@ -37,6 +39,20 @@ config_fault_line (BadWord line word) = codes "config fault 12 line " ++ (decima
 config_fault_line (MethodInLowerCase line) = codes "config fault 13 line " ++ decimal line
 config_fault_line (StarInPath line) = codes "config fault 14 line " ++ decimal line
 
+-- a fault of a store's file: its number, and how many responses were whole, or which one is at fault
+abbrev pub store_fault_line : StoreFault → List ℕ
+store_fault_line store.NotAStore = codes "store fault 1"
+store_fault_line store.Version = codes "store fault 2"
+store_fault_line store.Entries = codes "store fault 3"
+store_fault_line (store.Short n) = codes "store fault 4 behind " ++ decimal n
+store_fault_line (store.Entry n part) = codes "store fault 5 response " ++ decimal n
+store_fault_line (store.Serial n) = codes "store fault 6 response " ++ decimal n
+store_fault_line (store.Weight n) = codes "store fault 7 response " ++ decimal n
+store_fault_line store.Digest = codes "store fault 8"
+store_fault_line store.Long = codes "store fault 9"
+store_fault_line store.Read = codes "store fault 10"
+store_fault_line store.OutOfMemory = codes "no memory"
+
 -- an engine's fault; out of memory isn't named as one
 abbrev pub engine_fault_line : EngineFault → List ℕ
 engine_fault_line engine.WrongNumber = codes "engine fault 1"
@@ -47,6 +63,7 @@ engine_fault_line engine.Spent = codes "engine fault 4"
 -- the line, without its LF
 abbrev pub fault_line : ReplayFault → List ℕ
 fault_line (faults.Config fault) = config_fault_line fault
+fault_line (faults.Store fault) = store_fault_line fault
 fault_line (faults.Line n) = codes "script fault line " ++ decimal n
 fault_line (faults.Engine fault) = engine_fault_line fault
 fault_line faults.Read = codes "read fault"

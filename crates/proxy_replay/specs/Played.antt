@@ -3,14 +3,17 @@
 -- ActsAreDoneInOrder, DueActsAreAllDone: acts are done one after another, until none is due
 -- effects_of_acts: what they did
 -- happening_of_item, moment_after: what an item tells the engine, and the moment behind it
--- Scene: a model and the moment that stands      initial_scene: that of a table
+-- Scene: a model and the moment that stands
+-- initial_scene: that of a table      scene_over: that of a table over a store that was kept
 -- ItemsArePlayed: items are played                        EngineStopsAtItem: why the engine stops at an item
 use Rattle.std.specs.Prelude.{◌≡◌, ◌⊎◌, ℕ, List, [], ◌∷◌, ◌++◌, Option, None, Some}
 use Rattle.std.specs.List.{flat_map}
 use Rattle.hx_allow.specs.TableLines.{Table}
+use Rattle.hx_store.specs.Stored.{Stored}
 use Rattle.proxy_script.specs.Script.{PlainItem as Item}
 use Rattle.proxy_script.specs.Script as item
 use Rattle.proxy_script.specs.declared.effect_list.Effect.{Effect}
+use Rattle.proxy_engine.specs.Beginnings.{begun_model}
 use Rattle.proxy_engine.specs.Happenings.{PlainHappening as Happening}
 use Rattle.proxy_engine.specs.EngineModel.{EngineModel, model_after_happening, happening_fault}
 use Rattle.proxy_engine.specs.Due.{Act, IsDueFirst}
@@ -68,6 +71,10 @@ initial_scene table = record {
   }) 1;
   now = 0;
 }
+
+-- the same over a store that holds these responses already: serials begin at the first that is given
+abbrev pub scene_over : Table → List Stored → ℕ → Scene
+scene_over table held first = record { model = begun_model table held first 1; now = 0 }
 
 -- a happening was taken, and then all was done that was due
 pub record HappeningIsPlayed (s : EngineModel) (now : ℕ) (h : Happening) (effects : List Effect)

@@ -1,22 +1,28 @@
 -- What a replay gives: the bytes that were read, how far they lead, and the text that was written.
 --
 -- BytesBeginWithItem, NoItemStandsInFront: an item stands at the front of bytes, or none
+-- opens_empty, StoreIsRead: how a replay may open: over nothing, or over a store that was kept
 -- BytesLeadTo: the bytes are a table and items, which were played, and a rest
 -- ReplayGives, ReplayFails: how the replay of bytes ends, and with which text written
--- IsReplay: the same over a reader and a writer     IsReplayed, ScriptIsRefused: over memory
+-- IsReplayOver, IsReplay: the same over a reader and a writer
+-- IsReplayedOver, IsReplayed, ScriptIsRefused: over memory
 use Rattle.std.specs.Prelude.{◌≡◌, ◌≢◌, ℕ, ◌+◌, ◌≤◌, List, [], ◌++◌, length, take, Bool, true, false, Option, Result}
 use Rattle.std.specs.Prelude.{Ok, Err}
 use Rattle.std.specs.Io.KnownBytes.{Consumes, Appends, IsAtEnd}
 use Rattle.hx_allow.specs.TableLines.{Table}
 use Rattle.hx_allow.specs.Tables.{BytesReadAs}
+use Rattle.hx_store.specs.Stored.{Stored}
 use Rattle.proxy_script.specs.Script.{PlainItem as Item, item_spelling, ItemHasSpelling, ItemMayStandHere, IsScript}
 use Rattle.proxy_script.specs.Script.{Cut, Wrong, item_in_front}
 use Rattle.proxy_script.specs.Script as item
 use Rattle.proxy_script.specs.Effects.{effects_text}
 use Rattle.proxy_script.specs.declared.effect_list.Effect.{Effect}
+use Rattle.proxy_engine.specs.Beginnings.{MayBeHeldAtFirst}
+use Rattle.proxy_store_file.specs.Stores.{StoreReading, read_store}
+use Rattle.proxy_store_file.specs.Streams.{IsRead, IsRefused, bounds_of, contents_of}
 use Rattle.proxy_replay.specs.Bytes.{script_limit}
-use Rattle.proxy_replay.specs.Played.{Scene, initial_scene, ItemsArePlayed, EngineStopsAtItem}
-use Rattle.proxy_replay.specs.Runs.{PlayIsAGoodRun}
+use Rattle.proxy_replay.specs.Played.{Scene, scene_over, ItemsArePlayed, EngineStopsAtItem}
+use Rattle.proxy_replay.specs.Runs.{PlayIsAGoodRunOver}
 use Rattle.proxy_replay.specs.declared.replay_fault.ReplayFault.{ReplayFault}
 use Rattle.proxy_replay.specs.declared.replay_fault.ReplayFault.TheVariants as faults
 
@@ -32,76 +38,101 @@ NoItemStandsInFront first true rest =
     (rest ≡ [] → first ≡ true) × ((item : Item) (more : List ℕ) → ¬ (BytesBeginWithItem first rest item more))
 NoItemStandsInFront first false rest = item_in_front first rest ≡ Wrong
 
--- The bytes are a table and items, spelled, and a rest; the items were played, with these effects, and the steps of the
--- core that they lead to are a good run.
-pub record BytesLeadTo (bytes : List ℕ) (items : List Item) (rest : List ℕ) (effects : List Effect)
-    (last : Scene) : Type 0 where
+-- A replay opens over a store: what is held at first, and the serial that the next stored response gets. Over nothing,
+-- serials begin at 1.
+abbrev pub opens_empty : Table → StoreReading → Type 0
+opens_empty table reading = reading ≡ Ok (contents_of [] 1)
+
+-- over what a reader gives of a store, within the bounds of the table, or refused for what it is
+abbrev pub StoreIsRead : Option (List ℕ) → Table → StoreReading → Type 0
+StoreIsRead old table (Ok store) =
+    (new : Option (List ℕ)) × IsRead (read_store (bounds_of table.capacity table.max_store)) old new (Ok store)
+StoreIsRead old table (Err fault) =
+    (new : Option (List ℕ)) × IsRefused (read_store (bounds_of table.capacity table.max_store)) old new fault
+
+-- The bytes are a table and items, spelled, and a rest; a store was opened, the items were played over it, with these
+-- effects, and the steps of the core that they lead to are a good run.
+pub record BytesLeadTo (Opens : Table → StoreReading → Type 0) (bytes : List ℕ) (items : List Item) (rest : List ℕ)
+    (effects : List Effect) (last : Scene) : Type 0 where
   pub front : List ℕ
   pub bytes_are : bytes ≡ front ++ rest
   pub table : List ℕ
   pub script : IsScript front table items
   pub config : Table
   pub reads : BytesReadAs table (Ok config)
-  pub plays : ItemsArePlayed (initial_scene config) items effects last
-  pub run : PlayIsAGoodRun config items effects last
+  pub held : List Stored
+  pub first : ℕ
+  pub opens : Opens config (Ok (contents_of held first))
+  pub may : MayBeHeldAtFirst config held first
+  pub plays : ItemsArePlayed (scene_over config held first) items effects last
+  pub run : PlayIsAGoodRunOver config held first items effects last
 
 -- they lead so far, and P holds there
-pub record BytesLeadToWhere (bytes : List ℕ) (P : List Item → List ℕ → List Effect → Scene → Type 0) : Type 0 where
+pub record BytesLeadToWhere (Opens : Table → StoreReading → Type 0) (bytes : List ℕ)
+    (P : List Item → List ℕ → List Effect → Scene → Type 0) : Type 0 where
   pub items : List Item
   pub rest : List ℕ
   pub effects : List Effect
   pub last : Scene
-  pub leads : BytesLeadTo bytes items rest effects last
+  pub leads : BytesLeadTo Opens bytes items rest effects last
   pub holds : P items rest effects last
 
 -- a place between items: in front of the table, on line 1, or behind items that were played; each item has one line
-abbrev pub ReplayReaches : List ℕ → Bool → List ℕ → ℕ → List Effect → Type 0
-ReplayReaches bytes true rest line effects = (rest ≡ bytes) × (line ≡ 1) × (effects ≡ [])
-ReplayReaches bytes false rest line effects =
-    BytesLeadToWhere bytes (λ items more emitted last. (more ≡ rest) × (emitted ≡ effects) × (line ≡ length items + 2))
+abbrev pub ReplayReaches : (Table → StoreReading → Type 0) → List ℕ → Bool → List ℕ → ℕ → List Effect → Type 0
+ReplayReaches Opens bytes true rest line effects = (rest ≡ bytes) × (line ≡ 1) × (effects ≡ [])
+ReplayReaches Opens bytes false rest line effects =
+    BytesLeadToWhere Opens bytes (λ items more emitted last. (more ≡ rest) × (emitted ≡ effects)
+    × (line ≡ length items + 2))
 
 -- the replay ended at a place between items, where P holds, and the effects up to there were written
-pub record ReplayEndsAt (bytes written : List ℕ) (P : Bool → List ℕ → ℕ → Type 0) : Type 0 where
+pub record ReplayEndsAt (Opens : Table → StoreReading → Type 0) (bytes written : List ℕ)
+    (P : Bool → List ℕ → ℕ → Type 0) : Type 0 where
   pub first : Bool
   pub rest : List ℕ
   pub line : ℕ
   pub effects : List Effect
-  pub reaches : ReplayReaches bytes first rest line effects
+  pub reaches : ReplayReaches Opens bytes first rest line effects
   pub emitted : written ≡ effects_text effects
   pub holds : P first rest line
 
 -- why the replay of these bytes ends so, with this text written
-abbrev pub ReplayFails : List ℕ → Bool → List ℕ → ReplayFault → Type 0
-ReplayFails bytes ended written (faults.Config fault) =
+abbrev pub ReplayFails : (Table → StoreReading → Type 0) → List ℕ → Bool → List ℕ → ReplayFault → Type 0
+ReplayFails Opens bytes ended written (faults.Config fault) =
     (table more : List ℕ) × BytesBeginWithItem true bytes (item.Table table) more
     × BytesReadAs table (Err fault) × (written ≡ [])
-ReplayFails bytes ended written (faults.Line n) =
-    ReplayEndsAt bytes written (λ first rest line. NoItemStandsInFront first ended rest × (n ≡ line))
-ReplayFails bytes ended written (faults.Engine fault) =
-    BytesLeadToWhere bytes (λ items rest effects last. (h : Item) × (more : List ℕ)
+ReplayFails Opens bytes ended written (faults.Store fault) =
+    (table more : List ℕ) × (config : Table) × BytesBeginWithItem true bytes (item.Table table) more
+    × BytesReadAs table (Ok config) × Opens config (Err fault) × (written ≡ [])
+ReplayFails Opens bytes ended written (faults.Line n) =
+    ReplayEndsAt Opens bytes written (λ first rest line. NoItemStandsInFront first ended rest × (n ≡ line))
+ReplayFails Opens bytes ended written (faults.Engine fault) =
+    BytesLeadToWhere Opens bytes (λ items rest effects last. (h : Item) × (more : List ℕ)
     × BytesBeginWithItem false rest h more
     × EngineStopsAtItem last h fault × (written ≡ effects_text effects))
-ReplayFails bytes ended written faults.Read =
-    (ended ≡ false) × ReplayEndsAt bytes written (λ first rest line. item_in_front first rest ≡ Cut)
-ReplayFails bytes ended written faults.Write =
-    BytesLeadToWhere bytes (λ items rest effects last. (k : ℕ) × (written ≡ take k (effects_text effects)))
-ReplayFails bytes ended written faults.OutOfMemory = ReplayEndsAt bytes written (λ first rest line. Unit {0})
+ReplayFails Opens bytes ended written faults.Read =
+    (ended ≡ false) × ReplayEndsAt Opens bytes written (λ first rest line. item_in_front first rest ≡ Cut)
+ReplayFails Opens bytes ended written faults.Write =
+    BytesLeadToWhere Opens bytes (λ items rest effects last. (k : ℕ) × (written ≡ take k (effects_text effects)))
+ReplayFails Opens bytes ended written faults.OutOfMemory =
+    ReplayEndsAt Opens bytes written (λ first rest line. Unit {0})
 
 -- how the replay of these bytes ends, with this text written; `ended` where they are the whole of the script
-abbrev pub ReplayGives : List ℕ → Bool → List ℕ → Result (Unit {0}) ReplayFault → Type 0
-ReplayGives bytes ended written (Ok _) =
-    (ended ≡ true) × BytesLeadToWhere bytes (λ items rest effects last. (rest ≡ []) × (written ≡ effects_text effects))
-ReplayGives bytes ended written (Err fault) = ReplayFails bytes ended written fault
+abbrev pub ReplayGives : (Table → StoreReading → Type 0) → List ℕ → Bool → List ℕ → Result (Unit {0}) ReplayFault
+    → Type 0
+ReplayGives Opens bytes ended written (Ok _) = (ended ≡ true)
+    × BytesLeadToWhere Opens bytes (λ items rest effects last. (rest ≡ []) × (written ≡ effects_text effects))
+ReplayGives Opens bytes ended written (Err fault) = ReplayFails Opens bytes ended written fault
 
 -- what was written, and how the replay of these bytes ends
-pub record ReplayWrites (bytes : List ℕ) (ended : Bool) (old new : Option (List ℕ))
-    (result : Result (Unit {0}) ReplayFault) : Type 0 where
+pub record ReplayWrites (Opens : Table → StoreReading → Type 0) (bytes : List ℕ) (ended : Bool)
+    (old new : Option (List ℕ)) (result : Result (Unit {0}) ReplayFault) : Type 0 where
   pub written : List ℕ
   pub appends : Appends old new written
-  pub replays : ReplayGives bytes ended written result
+  pub replays : ReplayGives Opens bytes ended written result
 
 -- Bytes were read, and more only where they are too many or memory ran out; this is how their replay ends.
-pub record IsReplay (old new before after : Option (List ℕ)) (result : Result (Unit {0}) ReplayFault) : Type 0 where
+pub record IsReplayOver (Opens : Table → StoreReading → Type 0) (old new before after : Option (List ℕ))
+    (result : Result (Unit {0}) ReplayFault) : Type 0 where
   pub bytes : List ℕ
   pub over : List ℕ
   pub ended : Bool
@@ -109,10 +140,16 @@ pub record IsReplay (old new before after : Option (List ℕ)) (result : Result 
   pub few : length bytes ≤ script_limit
   pub whole : ended ≡ true → (over ≡ []) × IsAtEnd new
   pub full : over ≢ [] → result ≢ Err faults.OutOfMemory → length bytes ≡ script_limit
-  pub writes : ReplayWrites bytes ended before after result
+  pub writes : ReplayWrites Opens bytes ended before after result
 
--- a whole script: its table and its items, and the text of the effects of their play
-pub record IsReplayed (script text : List ℕ) : Type 0 where
+-- over an empty store
+abbrev pub IsReplay : Option (List ℕ) → Option (List ℕ) → Option (List ℕ) → Option (List ℕ)
+    → Result (Unit {0}) ReplayFault → Type 0
+IsReplay old new before after result = IsReplayOver opens_empty old new before after result
+
+-- a whole script over a store that holds these responses at first: its table and its items, and the text of the
+-- effects of their play
+pub record IsReplayedOver (held : List Stored) (first : ℕ) (script text : List ℕ) : Type 0 where
   pub table : List ℕ
   pub items : List Item
   pub is_script : IsScript script table items
@@ -120,13 +157,19 @@ pub record IsReplayed (script text : List ℕ) : Type 0 where
   pub reads : BytesReadAs table (Ok config)
   pub effects : List Effect
   pub last : Scene
-  pub plays : ItemsArePlayed (initial_scene config) items effects last
-  pub run : PlayIsAGoodRun config items effects last
+  pub plays : ItemsArePlayed (scene_over config held first) items effects last
+  pub run : PlayIsAGoodRunOver config held first items effects last
   pub emitted : text ≡ effects_text effects
 
--- a script that is replayed has one text of its effects
+-- over an empty store
+abbrev pub IsReplayed : List ℕ → List ℕ → Type 0
+IsReplayed script text = IsReplayedOver [] 1 script text
+
+-- a script that is replayed over a store has one text of its effects
 abbrev pub ReplayHasOneText : Type 0
-ReplayHasOneText = (script text other : List ℕ) → IsReplayed script text → IsReplayed script other → text ≡ other
+ReplayHasOneText =
+    (held : List Stored) (first : ℕ) (script text other : List ℕ) → IsReplayedOver held first script text
+    → IsReplayedOver held first script other → text ≡ other
 
 -- why a script isn't replayed whole: the fault of it, or of the part that was read
 pub record ScriptIsRefused (script : List ℕ) (fault : ReplayFault) : Type 0 where
@@ -136,4 +179,4 @@ pub record ScriptIsRefused (script : List ℕ) (fault : ReplayFault) : Type 0 wh
   pub ended : Bool
   pub whole : ended ≡ true → more ≡ []
   pub written : List ℕ
-  pub fails : ReplayFails bytes ended written fault
+  pub fails : ReplayFails opens_empty bytes ended written fault

@@ -1,23 +1,29 @@
 -- What one step of a replay does: an engine settles, and an item is played.
-use Rattle.std.specs.Prelude.{◌≡◌, ℕ, List, [], take, true, Option, None, Some, Ok}
+use Rattle.std.specs.Prelude.{◌≡◌, ℕ, List, [], take, Bool, true, false, Option, None, Some, Ok, Err}
 use Rattle.std.specs.Io.KnownBytes.{Appends}
 use Rattle.hx_allow.specs.TableLines.{Table}
 use Rattle.hx_allow.specs.Tables.{BytesReadAs}
 use Rattle.hx_allow.specs.declared.config_faults.ConfigFault.{ConfigFault}
 use Rattle.hx_allow.specs.declared.config_faults.ConfigFault.TheVariants as config
-use Rattle.proxy_script.specs.Script.{PlainItem as Item}
+use Rattle.hx_store.specs.Stored.{Stored}
+use Rattle.proxy_store_file.specs.declared.store_faults.StoreFault.{StoreFault}
+use Rattle.proxy_store_file.specs.declared.store_faults.StoreFault.TheVariants as store
+use Rattle.proxy_store_file.specs.Stores.{StoreReading}
+use Rattle.proxy_store_file.specs.Streams.{contents_of}
+use Rattle.proxy_script.specs.Script.{PlainItem as Item, Cut, item_in_front}
 use Rattle.proxy_script.specs.Script as item
 use Rattle.proxy_script.specs.Effects.{effects_text}
 use Rattle.proxy_script.specs.declared.effect_list.Effect.{Effect}
+use Rattle.proxy_engine.specs.Beginnings.{MayBeHeldAtFirst}
 use Rattle.proxy_engine.specs.Happenings.{PlainHappening as Happening}
 use Rattle.proxy_engine.specs.EngineModel.{EngineModel}
 use Rattle.proxy_engine.specs.Due.{IsDueFirst}
 use Rattle.proxy_engine.specs.State.{State, EngineRepresents}
 use Rattle.proxy_engine.specs.declared.work.EngineFault.{EngineFault}
 use Rattle.proxy_engine.specs.declared.work.EngineFault.TheVariants as engine
-use Rattle.proxy_replay.specs.Played.{DoneAct, ActsAreDoneInOrder, effects_of_acts, HappeningIfAnyIsPlayed}
+use Rattle.proxy_replay.specs.Played.{DoneAct, ActsAreDoneInOrder, effects_of_acts, HappeningIfAnyIsPlayed, scene_over}
 use Rattle.proxy_replay.specs.Played.{EngineRefusesHappening}
-use Rattle.proxy_replay.specs.Replay.{BytesBeginWithItem}
+use Rattle.proxy_replay.specs.Replay.{BytesBeginWithItem, NoItemStandsInFront, ReplayFails}
 use Rattle.proxy_replay.specs.declared.replay_fault.ReplayFault.{ReplayFault}
 use Rattle.proxy_replay.specs.declared.replay_fault.ReplayFault.TheVariants as faults
 
@@ -33,11 +39,40 @@ replay_fault_of_engine_fault engine.NotAccepted = faults.Engine engine.NotAccept
 replay_fault_of_engine_fault engine.OutOfMemory = faults.OutOfMemory
 replay_fault_of_engine_fault engine.Spent = faults.Engine engine.Spent
 
+-- what a fault of the store's file is to a replay
+abbrev pub replay_fault_of_store_fault : StoreFault → ReplayFault
+replay_fault_of_store_fault store.OutOfMemory = faults.OutOfMemory
+replay_fault_of_store_fault fault = faults.Store fault
+
 -- the table stands first, and is read as this one
 pub record TableIsReadFirst (bytes : List ℕ) (table : Table) (rest : List ℕ) : Type 0 where
   pub text : List ℕ
   pub represents : BytesBeginWithItem true bytes (item.Table text) rest
   pub reads : BytesReadAs text (Ok table)
+
+-- or it isn't, for this fault, whatever a store would hold
+abbrev pub TableIsNotRead : List ℕ → Bool → ReplayFault → Type 0
+TableIsNotRead bytes ended (faults.Config fault) =
+    (text rest : List ℕ) × BytesBeginWithItem true bytes (item.Table text) rest × BytesReadAs text (Err fault)
+TableIsNotRead bytes ended (faults.Line n) = NoItemStandsInFront true ended bytes × (n ≡ 1)
+TableIsNotRead bytes ended faults.Read = (ended ≡ false) × (item_in_front true bytes ≡ Cut)
+TableIsNotRead bytes ended faults.OutOfMemory = Unit {0}
+TableIsNotRead bytes ended (faults.Store fault) = ⊥
+TableIsNotRead bytes ended (faults.Engine fault) = ⊥
+TableIsNotRead bytes ended faults.Write = ⊥
+
+-- an engine begins over a store that was opened so, by this table
+pub record EngineBegins (Opens : Table → StoreReading → Type 0) (table : Table) (e : State) : Type 0 where
+  pub held : List Stored
+  pub first : ℕ
+  pub opens : Opens table (Ok (contents_of held first))
+  pub may : MayBeHeldAtFirst table held first
+  pub represents : EngineRepresents e (scene_over table held first).model
+
+-- or it doesn't, wherever its table was read, for this fault
+abbrev pub BeginningFails : (Table → StoreReading → Type 0) → Table → ReplayFault → Type 0
+BeginningFails Opens table fault = (bytes rest : List ℕ) (ended : Bool) → TableIsReadFirst bytes table rest
+    → ReplayFails Opens bytes ended [] fault
 
 -- an engine did what was due, with these effects
 pub record EngineDidDueActs (s : EngineModel) (now : ℕ) (effects : List Effect) (e : State) : Type 0 where
@@ -71,6 +106,7 @@ PlayingItemFails s now h written faults.Write =
 PlayingItemFails s now h written faults.OutOfMemory = written ≡ []
 PlayingItemFails s now h written (faults.Config fault) = ⊥
 PlayingItemFails s now h written (faults.Line n) = ⊥
+PlayingItemFails s now h written (faults.Store fault) = ⊥
 PlayingItemFails s now h written faults.Read = ⊥
 
 pub record ItemWasNotPlayed (s : EngineModel) (now : ℕ) (h : Option Happening) (fault : ReplayFault)

@@ -2,11 +2,12 @@
 ghost use Rattle.std.specs.Prelude.{◌≡◌, Some, codes, ◌++◌};
 ghost use Rattle.std.specs.Fmt.{WritesOnOk};
 ghost use Rattle.proxy_replay.specs.FaultLines.{printable_byte, printable_key, config_fault_line, engine_fault_line};
-ghost use Rattle.proxy_replay.specs.FaultLines.{fault_line, exit_status_of};
+ghost use Rattle.proxy_replay.specs.FaultLines.{store_fault_line, fault_line, exit_status_of};
 
 use crate::replay_fault::ReplayFault;
 use hx_allow::ConfigFault;
 use proxy_engine::EngineFault;
+use proxy_store_file::StoreFault;
 use std::fmt;
 use std::fmt::Formatter;
 
@@ -60,6 +61,24 @@ fn write_config_fault<W: fmt::Write>(f: &mut Formatter<W>, fault: &ConfigFault) 
     }
 }
 
+fn write_store_fault<W: fmt::Write>(f: &mut Formatter<W>, fault: StoreFault) -> fmt::Result
+    ensures { WritesOnOk W.write_str_gives f.old result (store_fault_line fault) f.new }
+{
+    match fault {
+        StoreFault::NotAStore => f.write_str("store fault 1"),
+        StoreFault::Version => f.write_str("store fault 2"),
+        StoreFault::Entries => f.write_str("store fault 3"),
+        StoreFault::Short(n) => write!(f, "store fault 4 behind {n}"),
+        StoreFault::Entry(n, _) => write!(f, "store fault 5 response {n}"),
+        StoreFault::Serial(n) => write!(f, "store fault 6 response {n}"),
+        StoreFault::Weight(n) => write!(f, "store fault 7 response {n}"),
+        StoreFault::Digest => f.write_str("store fault 8"),
+        StoreFault::Long => f.write_str("store fault 9"),
+        StoreFault::Read => f.write_str("store fault 10"),
+        StoreFault::OutOfMemory => f.write_str("no memory"),
+    }
+}
+
 fn engine_text(fault: EngineFault) -> &'static str
     ensures { result.now ≡ engine_fault_line fault }
 {
@@ -80,6 +99,7 @@ impl fmt::Display for ReplayFault {
     fn fmt<W: fmt::Write>(&self, f: &mut Formatter<W>) -> fmt::Result {
         match self {
             ReplayFault::Config(fault) => write_config_fault(f, fault),
+            ReplayFault::Store(fault) => write_store_fault(f, *fault),
             ReplayFault::Line(line) => write!(f, "script fault line {line}"),
             ReplayFault::Engine(fault) => f.write_str(engine_text(*fault)),
             ReplayFault::Read => f.write_str("read fault"),
@@ -97,6 +117,7 @@ impl ReplayFault {
         match self {
             ReplayFault::Config(ConfigFault::OutOfMemory) => 1,
             ReplayFault::Config(_) => 2,
+            ReplayFault::Store(_) => 1,
             ReplayFault::Line(_) => 1,
             ReplayFault::Engine(_) => 1,
             ReplayFault::Read => 1,

@@ -1,27 +1,34 @@
 //! Laws on the definitions that the contracts cite.
-ghost use Rattle.std.specs.Prelude.{List};
+ghost use Rattle.std.specs.Prelude.{ℕ, List};
 ghost use Rattle.hx_allow.specs.TableLines.{Table};
+ghost use Rattle.hx_store.specs.Stored.{Stored};
+ghost use Rattle.proxy_engine.specs.Beginnings.{MayBeHeldAtFirst};
 ghost use Rattle.proxy_script.specs.Script.{PlainItem as Item};
 ghost use Rattle.proxy_script.specs.declared.effect_list.Effect.{Effect};
-ghost use Rattle.proxy_replay.specs.Played.{Scene, ItemsArePlayed, initial_scene};
+ghost use Rattle.proxy_replay.specs.Played.{Scene, ItemsArePlayed, initial_scene, scene_over};
 ghost use Rattle.proxy_replay.specs.Closes.{NoEffectFollowsAClose, NoEffectFollowsAGoneClient};
 ghost use Rattle.proxy_replay.specs.Closes.{EachEndedLinkIsDroppedOnce};
-ghost use Rattle.proxy_replay.specs.Runs.{PlayIsAGoodRun, ScriptHasOnePlay};
+ghost use Rattle.proxy_replay.specs.Runs.{PlayIsAGoodRun, PlayIsAGoodRunOver, ScriptHasOnePlay};
 ghost use Rattle.proxy_replay.specs.Replay.{ReplayHasOneText};
 
-use hx_allow::a_table_is_read_in_one_way;
-use proxy_engine::{
+pub use crate::replay_laws::{a_replay_refuses_other_texts, worked_items};
+use hx_allow::laws::a_table_is_read_in_one_way;
+use proxy_engine::laws::{
     an_act_has_three_effects_at_most, an_act_is_done_in_one_way, each_drop_is_emitted,
     effects_name_open_ends, one_act_is_due_first, what_ends_stays_ended,
 };
-use proxy_script::items_are_found_as_they_are_spelled;
+use proxy_script::laws::items_are_found_as_they_are_spelled;
 
 /// Whatever a script plays, the steps of the core that its items lead to, in their order and at their moments, are a
 /// good run with the headline: each outcome is that of its case over what is held by the count over the steps before
-/// it, and what was written is what the steps gave.
+/// it, and what was written is what the steps gave. So it is over a store that was kept, too.
 pub fn a_play_is_a_run()
-    ensures { (table : Table) → (items : List Item) → (effects : List Effect) → (last : Scene)
+    ensures empty { (table : Table) → (items : List Item) → (effects : List Effect) → (last : Scene)
         → ItemsArePlayed (initial_scene table) items effects last → PlayIsAGoodRun table items effects last }
+    ensures over { (table : Table) → (held : List Stored) → (first : ℕ) → (items : List Item)
+        → (effects : List Effect) → (last : Scene) → MayBeHeldAtFirst table held first
+        → ItemsArePlayed (scene_over table held first) items effects last
+        → PlayIsAGoodRunOver table held first items effects last }
 {}
 
 /// A script has one play, and so one text of its effects.

@@ -8,20 +8,16 @@
 
 mod bytes;
 mod fault_lines;
-mod laws;
+pub mod laws;
 mod memory;
 mod new_shelf;
+mod openings;
 mod play;
 mod playing_items;
 pub mod program;
 mod replay_fault;
 mod replay_laws;
 
-pub use crate::laws::{
-    a_play_is_a_run, a_script_has_one_play, each_link_is_dropped_once, nothing_follows_a_close,
-    nothing_follows_a_gone,
-};
 pub use crate::memory::replayed;
-pub use crate::play::{replay, replay_on_list};
+pub use crate::play::{replay, replay_on_list, replay_over};
 pub use crate::replay_fault::ReplayFault;
-pub use crate::replay_laws::{a_replay_refuses_other_texts, worked_items};

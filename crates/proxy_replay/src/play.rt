@@ -1,22 +1,21 @@
 //! The replay of a script: its table is read, and its items are played one by one.
 ghost use Rattle.std.specs.Prelude.{◌≡◌, ◌≤◌, length, false, [], IfOk, IfErr, MatchOption};
-ghost use Rattle.proxy_engine.specs.State.{EngineRepresents};
 ghost use Rattle.proxy_script.specs.ScriptLines.{is_config};
 ghost use Rattle.proxy_script.specs.Script.{plain_item, line_of_item, Table};
 ghost use Rattle.proxy_replay.specs.Bytes.{script_limit};
-ghost use Rattle.proxy_replay.specs.Played.{initial_scene};
-ghost use Rattle.proxy_replay.specs.Replay.{ReplayFails, ReplayWrites, IsReplay};
-ghost use Rattle.proxy_replay.specs.Steps.{TableIsReadFirst};
+ghost use Rattle.proxy_replay.specs.Replay.{ReplayWrites, IsReplay, IsReplayOver, StoreIsRead};
+ghost use Rattle.proxy_replay.specs.Steps.{TableIsReadFirst, TableIsNotRead, EngineBegins, BeginningFails};
 
 use crate::bytes::read_script;
 use crate::new_shelf::NewShelf;
+use crate::openings::{Empty, Kept, Opening};
 use crate::playing_items::{moment_after, play_item};
 use crate::replay_fault::ReplayFault;
 use hx_allow::Config;
 use hx_store::{IndexedShelf, ListShelf};
 use proxy_engine::Engine;
 use proxy_script::{FrontItem, Item, read_item};
-use std::alloc::{AllocError, Global};
+use std::alloc::Global;
 use std::io::{Read, Write};
 
 /// The bytes of a table, where the item is one.
@@ -33,7 +32,7 @@ fn table_of_item(item: Item<'_>) -> Option<&[u8]>
 /// The operator's table, which stands first, and what follows it.
 fn read_table(alloc: Global, bytes: &[u8], ended: bool) -> Result<(Config, &[u8]), ReplayFault>
     ensures ok { IfOk result (λ r. TableIsReadFirst bytes.now r.0 r.1.now) }
-    ensures fault { IfErr result (λ fault. ReplayFails bytes.now ended [] fault) }
+    ensures fault { IfErr result (TableIsNotRead bytes.now ended) }
 {
     match read_item(true, bytes) {
         FrontItem::Found(item, rest) => match table_of_item(item) {
@@ -49,31 +48,44 @@ fn read_table(alloc: Global, bytes: &[u8], ended: bool) -> Result<(Config, &[u8]
     }
 }
 
-/// The engine of a table, to which nothing has happened.
-fn begin<S: NewShelf>(alloc: Global, config: Config) -> Result<Engine<S>, AllocError>
-    ensures { IfOk result (λ engine. EngineRepresents engine (initial_scene config).model) }
+/// The engine of a table, to which nothing has happened, over a store that is opened.
+fn begin<S: NewShelf + Drop, O: Opening>(
+    alloc: Global,
+    config: Config,
+    opening: &mut O,
+) -> Result<Engine<S>, ReplayFault>
+    ensures ok { IfOk result (EngineBegins (O.opens opening.old) config) }
+    ensures fault { IfErr result (BeginningFails (O.opens opening.old) config) }
 {
-    let shelf = S::with_capacity(alloc, config.capacity())?;
-    Ok(Engine::new(alloc, config, shelf, 1, 1))
+    let mut shelf = match S::with_capacity(alloc, config.capacity()) {
+        Ok(shelf) => shelf,
+        Err(_) => return Err(ReplayFault::OutOfMemory),
+    };
+    match opening.open(alloc, &config, &mut shelf) {
+        Ok(first) => Ok(Engine::with_store(alloc, config, shelf, first, 1)),
+        Err(fault) => Err(ReplayFault::replay_fault_of_store_fault(fault)),
+    }
 }
 
 /// Plays a script, or the part of it that was read.
-fn play<S: NewShelf + Drop, W: Write>(
+fn play<S: NewShelf + Drop, O: Opening, W: Write>(
     alloc: Global,
     bytes: &[u8],
     ended: bool,
+    opening: &mut O,
     writer: &mut W,
 ) -> Result<(), ReplayFault>
     requires { length bytes.now ≤ script_limit }
-    ensures { ReplayWrites bytes.now ended (W.contents writer.old) (W.contents writer.new) result }
+    ensures { ReplayWrites (O.opens opening.old) bytes.now ended (W.contents writer.old) (W.contents writer.new)
+        result }
 {
     let (config, mut rest) = match read_table(alloc, bytes, ended) {
         Ok(opened) => opened,
         Err(fault) => return Err(fault),
     };
-    let mut engine = match begin::<S>(alloc, config) {
+    let mut engine = match begin::<S, O>(alloc, config, opening) {
         Ok(engine) => engine,
-        Err(_) => return Err(ReplayFault::OutOfMemory),
+        Err(fault) => return Err(fault),
     };
     let mut now = 0u64;
     let mut line = 2u64;
@@ -102,17 +114,18 @@ fn play<S: NewShelf + Drop, W: Write>(
     }
 }
 
-/// Replays a script over a shelf of this kind.
-fn replay_on<S: NewShelf + Drop, R: Read, W: Write>(
+/// Replays a script over a shelf of this kind, and a store that is opened.
+fn replay_on<S: NewShelf + Drop, O: Opening, R: Read, W: Write>(
     alloc: Global,
+    opening: &mut O,
     reader: &mut R,
     writer: &mut W,
 ) -> Result<(), ReplayFault>
-    ensures { IsReplay (R.remaining reader.old) (R.remaining reader.new) (W.contents writer.old)
-        (W.contents writer.new) result }
+    ensures { IsReplayOver (O.opens opening.old) (R.remaining reader.old) (R.remaining reader.new)
+        (W.contents writer.old) (W.contents writer.new) result }
 {
     match read_script(alloc, reader) {
-        Ok((bytes, ended)) => play::<S, W>(alloc, bytes.as_slice(), ended, writer),
+        Ok((bytes, ended)) => play::<S, O, W>(alloc, bytes.as_slice(), ended, opening, writer),
         Err(_) => Err(ReplayFault::OutOfMemory),
     }
 }
@@ -129,7 +142,7 @@ pub fn replay<R: Read, W: Write>(
     ensures { IsReplay (R.remaining reader.old) (R.remaining reader.new) (W.contents writer.old)
         (W.contents writer.new) result }
 {
-    replay_on::<IndexedShelf, R, W>(alloc, reader, writer)
+    replay_on::<IndexedShelf, Empty, R, W>(alloc, &mut Empty, reader, writer)
 }
 
 /// The same over a shelf that is a list, to compare what both give.
@@ -141,5 +154,21 @@ pub fn replay_on_list<R: Read, W: Write>(
     ensures { IsReplay (R.remaining reader.old) (R.remaining reader.new) (W.contents writer.old)
         (W.contents writer.new) result }
 {
-    replay_on::<ListShelf, R, W>(alloc, reader, writer)
+    replay_on::<ListShelf, Empty, R, W>(alloc, &mut Empty, reader, writer)
+}
+
+/// The same over the store that another reader gives, as a server that read it begins: what the file of the store
+/// holds is held at first, and serials go on from there. It is read behind the table, within its bounds. Where it is
+/// refused nothing is played.
+pub fn replay_over<Q: Read + Drop, R: Read, W: Write>(
+    alloc: Global,
+    store: Q,
+    reader: &mut R,
+    writer: &mut W,
+) -> Result<(), ReplayFault>
+    ensures { IsReplayOver (StoreIsRead (Q.remaining store)) (R.remaining reader.old) (R.remaining reader.new)
+        (W.contents writer.old) (W.contents writer.new) result }
+{
+    let mut kept = Kept { reader: store };
+    replay_on::<IndexedShelf, Kept<Q>, R, W>(alloc, &mut kept, reader, writer)
 }

@@ -2,10 +2,11 @@
 //!
 //! One line on standard error names a fault, and the exit status tells its kind.
 
-use crate::play::replay;
+use crate::play::{replay, replay_over};
 use crate::replay_fault::ReplayFault;
 use std::env::FillError;
 use std::io;
+use std::io::Read;
 use std::process::ExitCode;
 use std::rt::Env;
 
@@ -27,16 +28,36 @@ fn fail<R: Eprint>(rt: &R, fault: &ReplayFault) -> ExitCode {
     ExitCode::from(fault.exit_status())
 }
 
+/// The exit status of a replay, whose fault is told.
+fn ended<R: Eprint>(rt: &R, replayed: Result<(), ReplayFault>) -> ExitCode {
+    match replayed {
+        Ok(()) => ExitCode::SUCCESS,
+        Err(fault) => fail(rt, &fault),
+    }
+}
+
+/// Replays the script on standard input to standard output.
+pub fn run_script<R: Input + Print + Eprint + AllocGlobal>(rt: &R) -> ExitCode {
+    let mut reader = rt.reader();
+    let mut writer = io::writer(rt);
+    ended(rt, replay(rt.alloc(), &mut reader, &mut writer))
+}
+
+/// The same over the store that a reader gives.
+pub fn run_script_over<R: Input + Print + Eprint + AllocGlobal, Q: Read + Drop>(
+    rt: &R,
+    store: Q,
+) -> ExitCode {
+    let mut reader = rt.reader();
+    let mut writer = io::writer(rt);
+    ended(rt, replay_over(rt.alloc(), store, &mut reader, &mut writer))
+}
+
 /// Does what the command line asks for: without a word, replays standard input to standard output.
 pub fn run<R: Env + Input + Print + Eprint + AllocGlobal>(rt: &R) -> ExitCode {
     if has_words(rt) {
         let _ = rt.eprintln("usage fault");
         return ExitCode::from(USAGE);
     }
-    let mut reader = rt.reader();
-    let mut writer = io::writer(rt);
-    match replay(rt.alloc(), &mut reader, &mut writer) {
-        Ok(()) => ExitCode::SUCCESS,
-        Err(fault) => fail(rt, &fault),
-    }
+    run_script(rt)
 }

@@ -11,9 +11,9 @@ ghost use Rattle.proxy_replay.specs.Runs.{steps_of_acts};
 ghost use Rattle.proxy_replay.specs.OneReplay.{ReplayHasNoOtherText, NoWholeReplayBeforeTheEnd, NoReadFaultAtTheEnd};
 ghost use Rattle.proxy_replay.specs.OneReplay.{NothingIsWrittenForARefusedTable};
 
-use hx_allow::a_table_is_read_in_one_way;
-use proxy_engine::{an_act_is_done_in_one_way, one_act_is_due_first};
-use proxy_script::items_are_found_as_they_are_spelled;
+use hx_allow::laws::a_table_is_read_in_one_way;
+use proxy_engine::laws::{an_act_is_done_in_one_way, one_act_is_due_first};
+use proxy_script::laws::items_are_found_as_they_are_spelled;
 
 /// A whole script is replayed with no other text than that of its play, and not before its end; no read fails at the
 /// end; and nothing is written where the table is refused.

@@ -10,6 +10,7 @@ pub data PlainHappening : Type 0 where
   Hears : (l : ℕ) (bytes : List ℕ) → PlainHappening
   Ends : (n : ℕ) → PlainHappening
   Leaves : (n : ℕ) → PlainHappening
+  Retires : (n : ℕ) → PlainHappening
   Shuts : (l : ℕ) → PlainHappening
   Fails : (l : ℕ) (kind : FailKind) → PlainHappening
 
@@ -19,5 +20,6 @@ plain_happening (happenings.Client n bytes) = Sends n bytes.now
 plain_happening (happenings.Link l bytes) = Hears l bytes.now
 plain_happening (happenings.End n) = Ends n
 plain_happening (happenings.Gone n) = Leaves n
+plain_happening (happenings.Retire n) = Retires n
 plain_happening (happenings.Shut l) = Shuts l
 plain_happening (happenings.Fail l kind) = Fails l kind

@@ -15,6 +15,7 @@ pub enum Word {
     Link,
     End,
     Gone,
+    Retire,
     Shut,
     Fail,
 }
@@ -37,6 +38,8 @@ pub fn word_of(text: &[u8]) -> Option<Word>
         Some(Word::End)
     } else if text == b"gone".as_slice() {
         Some(Word::Gone)
+    } else if text == b"retire".as_slice() {
+        Some(Word::Retire)
     } else if text == b"shut".as_slice() {
         Some(Word::Shut)
     } else if text == b"fail".as_slice() {

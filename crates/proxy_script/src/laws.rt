@@ -3,6 +3,11 @@ ghost use Rattle.std.specs.Prelude.{◌≡◌, ◌++◌, List, ℕ, Bool};
 ghost use Rattle.proxy_script.specs.Script.{PlainItem, item_spelling, ItemHasSpelling, ItemMayStandHere, item_in_front};
 ghost use Rattle.proxy_script.specs.Script.{Found};
 
+pub use crate::script_cases::{
+    unfinished_items_wait, worked_effects_are_spelled, worked_items_are_read,
+    worked_items_are_spelled, wrong_items_are_refused,
+};
+
 /// What is found is spelled so and stands here, and what is spelled so and stands here is found, whatever
 /// follows it.
 pub fn items_are_found_as_they_are_spelled()

@@ -11,7 +11,7 @@ mod effect_list;
 mod first_words;
 mod happening;
 mod items;
-mod laws;
+pub mod laws;
 mod limits;
 mod line_parser;
 mod parser;
@@ -21,11 +21,6 @@ mod spelling;
 pub use effect_list::{Effect, effects_text};
 pub use happening::Happening;
 pub use items::Item;
-pub use laws::items_are_found_as_they_are_spelled;
 pub use limits::MOST_SCRIPT_BYTES;
 pub use parser::{FrontItem, read_item};
-pub use script_cases::{
-    unfinished_items_wait, worked_effects_are_spelled, worked_items_are_read,
-    worked_items_are_spelled, wrong_items_are_refused,
-};
 pub use spelling::item_text;

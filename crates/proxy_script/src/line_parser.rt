@@ -19,6 +19,7 @@ pub enum ItemLine {
     Link(u64, u64),
     End(u64),
     Gone(u64),
+    Retire(u64),
     Shut(u64),
     Fail(u64, FailKind),
 }
@@ -68,6 +69,7 @@ fn line_behind_word(word: Word, rest: &[u8]) -> Option<ItemLine>
         }
         Word::End => ItemLine::End(number_of(rest)?),
         Word::Gone => ItemLine::Gone(number_of(rest)?),
+        Word::Retire => ItemLine::Retire(number_of(rest)?),
         Word::Shut => ItemLine::Shut(number_of(rest)?),
         Word::Fail => {
             let (l, kind) = number_and_failure(rest)?;

@@ -16,6 +16,7 @@ pub fn worked_items_are_spelled()
     ensures hears { item_spelling (Happens (happening.Hears 2 (codes "HTTP"))) ≡ codes "link 2 4\nHTTP\n" }
     ensures ends { item_spelling (Happens (happening.Ends 1)) ≡ codes "end 1\n" }
     ensures leaves { item_spelling (Happens (happening.Leaves 1)) ≡ codes "gone 1\n" }
+    ensures retires { item_spelling (Happens (happening.Retires 1)) ≡ codes "retire 1\n" }
     ensures shuts { item_spelling (Happens (happening.Shuts 2)) ≡ codes "shut 2\n" }
     ensures refused { item_spelling (Happens (happening.Fails 2 Refused)) ≡ codes "fail 2 refused\n" }
     ensures timed_out { item_spelling (Happens (happening.Fails 2 TimedOut)) ≡ codes "fail 2 timed-out\n" }
@@ -37,6 +38,7 @@ pub fn worked_items_are_read()
     ensures hears { item_in_front false (codes "link 2 4\nHTTP\n") ≡ Found (Happens (happening.Hears 2 (codes "HTTP"))) [] }
     ensures ends { item_in_front false (codes "end 1\n") ≡ Found (Happens (happening.Ends 1)) [] }
     ensures leaves { item_in_front false (codes "gone 1\n") ≡ Found (Happens (happening.Leaves 1)) [] }
+    ensures retires { item_in_front false (codes "retire 1\n") ≡ Found (Happens (happening.Retires 1)) [] }
     ensures shuts { item_in_front false (codes "shut 2\n") ≡ Found (Happens (happening.Shuts 2)) [] }
     ensures refused { item_in_front false (codes "fail 2 refused\n") ≡ Found (Happens (happening.Fails 2 Refused)) [] }
     ensures timed_out { item_in_front false (codes "fail 2 timed-out\n") ≡ Found (Happens (happening.Fails 2 TimedOut)) [] }
@@ -65,6 +67,7 @@ pub fn wrong_items_are_refused()
     ensures no_space { item_in_front false (codes "end\n") ≡ Wrong }
     ensures two_spaces { item_in_front false (codes "end  1\n") ≡ Wrong }
     ensures space_behind { item_in_front false (codes "end 1 \n") ≡ Wrong }
+    ensures retired { item_in_front false (codes "retired 1\n") ≡ Wrong }
     ensures leading_zero { item_in_front false (codes "end 01\n") ≡ Wrong }
     ensures slash { item_in_front false (codes "end 1/\n") ≡ Wrong }
     ensures colon { item_in_front false (codes "end 1:\n") ≡ Wrong }

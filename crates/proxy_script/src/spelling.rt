@@ -22,6 +22,7 @@ fn word_text(word: Word) -> &'static [u8]
         Word::Link => b"link",
         Word::End => b"end",
         Word::Gone => b"gone",
+        Word::Retire => b"retire",
         Word::Shut => b"shut",
         Word::Fail => b"fail",
     }
@@ -50,6 +51,7 @@ fn word_of_line(header: ItemLine) -> Word
         ItemLine::Link(_, _) => Word::Link,
         ItemLine::End(_) => Word::End,
         ItemLine::Gone(_) => Word::Gone,
+        ItemLine::Retire(_) => Word::Retire,
         ItemLine::Shut(_) => Word::Shut,
         ItemLine::Fail(_, _) => Word::Fail,
     }
@@ -76,6 +78,7 @@ fn push_text_behind_word(text: &mut Vec<u8>, header: ItemLine) -> Result<(), All
         ItemLine::Link(l, len) => push_two_numbers(text, l, len),
         ItemLine::End(n) => push_number(text, n),
         ItemLine::Gone(n) => push_number(text, n),
+        ItemLine::Retire(n) => push_number(text, n),
         ItemLine::Shut(l) => push_number(text, l),
         ItemLine::Fail(l, kind) => {
             push_number(text, l)?;
@@ -106,6 +109,7 @@ fn line_of_item(item: Item<'_>) -> ItemLine
         Item::Happens(Happening::Link(l, bytes)) => ItemLine::Link(l, bytes.len() as u64),
         Item::Happens(Happening::End(n)) => ItemLine::End(n),
         Item::Happens(Happening::Gone(n)) => ItemLine::Gone(n),
+        Item::Happens(Happening::Retire(n)) => ItemLine::Retire(n),
         Item::Happens(Happening::Shut(l)) => ItemLine::Shut(l),
         Item::Happens(Happening::Fail(l, kind)) => ItemLine::Fail(l, kind),
     }

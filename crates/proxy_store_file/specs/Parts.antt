@@ -18,7 +18,7 @@ use Rattle.proxy_store_file.specs.declared.store_faults.EntryPart.TheVariants.{S
 use Rattle.proxy_store_file.specs.declared.store_faults.EntryPart.TheVariants.{Key as KeyPart, Times as TimesPart}
 
 -- The most bytes of a head, and so of each text in it, and the most lines.
--- That is sixteen heads of the greatest length that is read ("The head of an entry is bounded" in docs/DECISIONS.md).
+-- That is sixteen heads of the greatest length that is read ("The head of an entry is bounded" in docs/DECISIONS_STORE.md).
 abbrev pub most_head_bytes : ℕ
 most_head_bytes = 524288
 

@@ -48,7 +48,7 @@ body_spelling store =
     opening_spelling store.next_serial (length store.entries) ++ entries_spelling store.entries
 
 -- SipHash-1-3 by a key of zeros. It tells damage, and not what somebody meant to write ("The digest of a store's file" in
--- docs/DECISIONS.md).
+-- docs/DECISIONS_STORE.md).
 unfoldable pub digest_spelling : List ℕ → List ℕ
 digest_spelling body = number_spelling (finish (write initial body))
 

@@ -6,14 +6,15 @@ ghost use Rattle.hx_fields.specs.Examples.{line};
 ghost use Rattle.proxy_core.specs.Bounds.{one_was_freshened, one_was_sent, table_with_store, two_at_first};
 ghost use Rattle.proxy_core.specs.Bounds.{two_were_stored};
 ghost use Rattle.proxy_core.specs.Cases.{accept_language, cache_control, date_101, forwarded_on_miss, get_a_with};
-ghost use Rattle.proxy_core.specs.Cases.{response_with, stored_with, vary_field};
+ghost use Rattle.proxy_core.specs.Cases.{get_a_by_scheme, response_with, stored_with, varied_by_scheme, vary_field};
 ghost use Rattle.proxy_core.specs.Histories.{held_entries, held_serials};
 ghost use Rattle.proxy_core.specs.Starts.{empty_store};
 ghost use Rattle.proxy_core.specs.Storing.{answer_is_too_large, weight_of_answer};
 ghost use Rattle.proxy_core.specs.Validating.{stored_is_too_large};
 
 /// An answer to a GET of `/a` at `h` with two bytes of content, a Date of 37 bytes with its end and a Cache-Control of
-/// 27. Vary has 23 more, and what it names of the request 17; Age has 8.
+/// 27. Vary has 23 more, and what it names of the request 17; Age has 8. What the line names for Vary has a name of 17
+/// and a value of 5.
 #[tactic(auto, unfolding(httpdate::proofs::OnLiterals::httpdate_on_literals))]
 pub fn what_an_answer_weighs()
     ensures plain { weight_of_answer (forwarded_on_miss (get_a_with []))
@@ -21,6 +22,8 @@ pub fn what_an_answer_weighs()
     ensures nominating { weight_of_answer (forwarded_on_miss (get_a_with (accept_language (codes "en") ∷ [])))
         (response_with 200 (vary_field (codes "Accept-Language") ∷ date_101 ∷ cache_control (codes "max-age=60") ∷ []))
         130 ≡ 1312 }
+    ensures varied { weight_of_answer (varied_by_scheme (forwarded_on_miss (get_a_by_scheme (codes "https"))))
+        (response_with 200 (date_101 ∷ cache_control (codes "max-age=60") ∷ [])) 130 ≡ 1294 }
     ensures aged { weight_of_answer (forwarded_on_miss (get_a_with []))
         (response_with 200 (line (codes "Age") (codes "5") ∷ date_101 ∷ cache_control (codes "max-age=60") ∷ [])) 130
         ≡ 1280 }

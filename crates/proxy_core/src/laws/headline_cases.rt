@@ -23,14 +23,16 @@ ghost use Rattle.proxy_core.specs.WrongTraces.{get_a_only_if_cached, post_a, rep
 ghost use Rattle.proxy_core.specs.WrongTraces.{events_with_second_forward, reply_that_sends_stored};
 ghost use Rattle.proxy_core.specs.WrongTraces.{events_that_invalidate_a_by_a_304, delete_a};
 ghost use Rattle.proxy_core.specs.WrongTraces.{trace_with_wrong_item};
+ghost use Rattle.hx_allow.specs.Matching.{over_line};
 
 /// A request that the table denies reaches neither origin nor store, and is told its line; one that
 /// it allows isn't denied.
 pub fn the_headline_refuses_what_the_table_forbids()
     ensures forwarded { HeadlineRefuses (trace_with_wrong_item [] (Arrive 100 1 get_admin)
-        (Forward 1 (forward_text edge_table 1 get_admin None))) }
+        (Forward (over_line 1) (forward_text edge_table (over_line 1) get_admin None))) }
     ensures forwarded_by_another_line { HeadlineRefuses
-        (trace_with_wrong_item [] (Arrive 100 1 get_admin) (Forward 3 (forward_text edge_table 3 get_admin None))) }
+        (trace_with_wrong_item [] (Arrive 100 1 get_admin) (Forward (over_line 3) (forward_text edge_table
+        (over_line 3) get_admin None))) }
     ensures sent_from_the_store { HeadlineRefuses (trace_with_wrong_item events_that_store_a (Arrive 110 2 get_admin)
         (reply_that_sends_stored 1 (codes "x"))) }
     ensures named_another_line { HeadlineRefuses (trace_with_wrong_item [] (Arrive 100 1 get_admin)
@@ -48,26 +50,28 @@ pub fn the_headline_refuses_what_the_table_forbids()
 /// conditions where and when it has some.
 pub fn the_headline_refuses_other_requests()
     ensures another_target { HeadlineRefuses (trace_with_wrong_item [] (Arrive 100 1 get_a)
-        (Forward 3 (forward_text edge_table 3 get_admin None))) }
+        (Forward (over_line 3) (forward_text edge_table (over_line 3) get_admin None))) }
     ensures another_origin { HeadlineRefuses (trace_with_wrong_item [] (Arrive 100 1 get_a)
-        (Forward 2 (forward_text edge_table 2 get_a None))) }
+        (Forward (over_line 2) (forward_text edge_table (over_line 2) get_a None))) }
     ensures without_conditions { HeadlineRefuses
         (trace_with_wrong_item events_that_store_a (Arrive 200 2 get_a)
-        (Forward 3 (forward_text edge_table 3 get_a None))) }
+        (Forward (over_line 3) (forward_text edge_table (over_line 3) get_a None))) }
     ensures with_conditions_of_nothing { HeadlineRefuses (trace_with_wrong_item [] (Arrive 100 1 get_a)
-        (Forward 3 (forward_text edge_table 3 get_a
+        (Forward (over_line 3) (forward_text edge_table (over_line 3) get_a
         (Some (record { serial = 1; sent = record { etag = Some (codes "\"v\""); modified = None } }))))) }
     ensures with_conditions_a_second_time { HeadlineRefuses
         (trace_with_wrong_item events_that_revalidate (Answer 201 2 (response_304 (etag_field (codes "\"w\"") ∷ [])))
-        (Forward 3 (forward_text edge_table 3 get_a
+        (Forward (over_line 3) (forward_text edge_table (over_line 3) get_a
         (Some (record { serial = 1; sent = record { etag = Some (codes "\"v\""); modified = None } }))))) }
     ensures another_origin_at_a_wake { HeadlineRefuses
-        (trace_with_wrong_item events_before_a_wake (Wake 102 2) (Forward 2 (forward_text edge_table 2 get_a None))) }
+        (trace_with_wrong_item events_before_a_wake (Wake 102 2) (Forward (over_line 2) (forward_text edge_table
+        (over_line 2) get_a None))) }
     ensures another_target_at_a_wake { HeadlineRefuses
-        (trace_with_wrong_item events_before_a_wake (Wake 102 2) (Forward 3 (forward_text edge_table 3 get_b None))) }
+        (trace_with_wrong_item events_before_a_wake (Wake 102 2) (Forward (over_line 3) (forward_text edge_table
+        (over_line 3) get_b None))) }
     ensures one_that_takes_no_answer { HeadlineRefuses
         (trace_with_wrong_item [] (Arrive 100 1 get_a_only_if_cached)
-        (Forward 3 (forward_text edge_table 3 get_a_only_if_cached None))) }
+        (Forward (over_line 3) (forward_text edge_table (over_line 3) get_a_only_if_cached None))) }
 {}
 
 /// No client is left without its answer: its request reaches cache or origin, and each step of its
@@ -81,15 +85,15 @@ pub fn the_headline_refuses_no_answer()
         (Answer 101 1 fresh_for_a_minute) (Waits 3)) }
     ensures goes_again_for_nothing { HeadlineRefuses
         (trace_with_wrong_item (Arrive 100 1 get_a ∷ []) (Answer 101 1 fresh_for_a_minute)
-        (Forward 3 (forward_text edge_table 3 get_a None))) }
+        (Forward (over_line 3) (forward_text edge_table (over_line 3) get_a None))) }
     ensures goes_a_third_time { HeadlineRefuses (trace_with_wrong_item events_with_second_forward
         (Answer 202 2 (response_304 (etag_field (codes "\"w\"") ∷ [])))
-        (Forward 3 (forward_text edge_table 3 get_a None))) }
+        (Forward (over_line 3) (forward_text edge_table (over_line 3) get_a None))) }
     ensures ends_at_a_failure { HeadlineRefuses (trace_with_wrong_item (Arrive 100 1 get_a ∷ [])
         (Fail 101 1 kinds.Refused) Ended) }
     ensures goes_again_at_a_failure { HeadlineRefuses
         (trace_with_wrong_item (Arrive 100 1 get_a ∷ []) (Fail 101 1 kinds.Refused)
-        (Forward 3 (forward_text edge_table 3 get_a None))) }
+        (Forward (over_line 3) (forward_text edge_table (over_line 3) get_a None))) }
     ensures ends_at_its_wake { HeadlineRefuses (trace_with_wrong_item events_before_a_wake (Wake 102 2) Ended) }
     ensures answers_who_is_gone { HeadlineRefuses (trace_with_wrong_item (Arrive 100 1 get_a ∷ []) (Abandon 1)
         (reply_without_store (codes "x"))) }
@@ -98,7 +102,7 @@ pub fn the_headline_refuses_no_answer()
 /// Each event comes to an exchange that is open for it.
 pub fn the_headline_refuses_what_never_comes()
     ensures id_taken { HeadlineRefuses (trace_with_wrong_item (Arrive 100 1 get_a ∷ []) (Arrive 101 1 get_b)
-        (Forward 3 (forward_text edge_table 3 get_b None))) }
+        (Forward (over_line 3) (forward_text edge_table (over_line 3) get_b None))) }
     ensures answer_to_nobody { HeadlineRefuses (trace_with_wrong_item [] (Answer 101 1 fresh_for_a_minute)
         (reply_without_store (codes "x"))) }
     ensures two_replies { HeadlineRefuses (trace_with_wrong_item events_that_store_a (Answer 102 1 fresh_for_a_minute)
@@ -108,13 +112,15 @@ pub fn the_headline_refuses_what_never_comes()
     ensures failure_of_one_that_waits { HeadlineRefuses (trace_with_wrong_item events_where_one_waits
         (Fail 101 2 kinds.Refused) (reply_without_store (codes "x"))) }
     ensures released_while_its_leader_is_open { HeadlineRefuses
-        (trace_with_wrong_item events_where_one_waits (Wake 101 2) (Forward 3 (forward_text edge_table 3 get_a None))) }
+        (trace_with_wrong_item events_where_one_waits (Wake 101 2) (Forward (over_line 3) (forward_text edge_table
+        (over_line 3) get_a None))) }
     ensures woken_at_its_origin { HeadlineRefuses
         (trace_with_wrong_item (Arrive 100 1 get_a ∷ []) (Wake 101 1)
-        (Forward 3 (forward_text edge_table 3 get_a None))) }
+        (Forward (over_line 3) (forward_text edge_table (over_line 3) get_a None))) }
     ensures gone_though_never_there { HeadlineRefuses (trace_with_wrong_item [] (Abandon 1) Ended) }
     ensures after_the_end_of_time { HeadlineRefuses
-        (trace_with_wrong_item [] (Arrive 253402300800 1 get_a) (Forward 3 (forward_text edge_table 3 get_a None))) }
+        (trace_with_wrong_item [] (Arrive 253402300800 1 get_a) (Forward (over_line 3) (forward_text edge_table
+        (over_line 3) get_a None))) }
 {}
 
 /// A stored response is sent where the rules let it be, that one and as it is, and nowhere else.
@@ -152,7 +158,7 @@ pub fn the_headline_refuses_what_may_not_be_sent()
         (Answer 201 2 (response_with 503 [])) (reply_that_sends_stored 1 (codes "x"))) }
     ensures fresh_is_asked_about { HeadlineRefuses
         (trace_with_wrong_item events_that_store_a (Arrive 110 2 get_a)
-        (Forward 3 (forward_text edge_table 3 get_a None))) }
+        (Forward (over_line 3) (forward_text edge_table (over_line 3) get_a None))) }
     ensures error_is_passed_on { HeadlineRefuses
         (trace_with_wrong_item (Arrive 200 2 get_a ∷ Answer 101 1 fresh_or_stale_if_error
         ∷ Arrive 100 1 get_a ∷ []) (Answer 201 2 (response_with 503 []))
@@ -241,7 +247,7 @@ pub fn the_headline_refuses_wrong_storing()
 pub fn the_headline_refuses_other_waits()
     ensures forward_beside_its_leader { HeadlineRefuses
         (trace_with_wrong_item (Arrive 100 1 get_a ∷ []) (Arrive 100 2 get_a)
-        (Forward 3 (forward_text edge_table 3 get_a None))) }
+        (Forward (over_line 3) (forward_text edge_table (over_line 3) get_a None))) }
     ensures for_another_key { HeadlineRefuses (trace_with_wrong_item (Arrive 100 2 get_b ∷ Arrive 100 1 get_a ∷ [])
         (Arrive 100 3 get_b) (Waits 1)) }
     ensures for_one_that_waits { HeadlineRefuses (trace_with_wrong_item events_where_one_waits (Arrive 100 3 get_a)
@@ -255,5 +261,5 @@ pub fn the_headline_refuses_other_waits()
     ensures a_second_time { HeadlineRefuses (trace_with_wrong_item events_before_a_wake (Wake 102 2) (Waits 1)) }
     ensures behind_its_wake { HeadlineRefuses (trace_with_wrong_item (Wake 102 2 ∷ events_before_a_wake)
         (Arrive 103 3 get_a)
-        (Forward 3 (forward_text edge_table 3 get_a None))) }
+        (Forward (over_line 3) (forward_text edge_table (over_line 3) get_a None))) }
 {}

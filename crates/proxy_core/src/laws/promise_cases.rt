@@ -20,34 +20,36 @@ ghost use Rattle.proxy_core.specs.WrongTraces.{trace_sends_invalidated, trace_se
 ghost use Rattle.proxy_core.specs.WrongTraces.{trace_sends_of_the_start};
 ghost use Rattle.proxy_core.specs.WrongTraces.{trace_stores_invalidated, trace_with_three_forwards};
 ghost use Rattle.proxy_core.specs.WrongTraces.{trace_with_two_replies, GoingForwardIsWrong};
+ghost use Rattle.hx_allow.specs.Matching.{over_line};
 
 /// What goes forward is the request's text, with its conditions, to its line: no other text, no
 /// other line, no conditions that it hasn't, none at all where it has, and nothing that a failure
 /// sends.
 pub fn what_goes_forward_is_the_request()
     ensures another_target { GoingForwardIsWrong [] (Arrive 100 1 get_a)
-        (Forward 3 (forward_text edge_table 3 get_admin None)) }
+        (Forward (over_line 3) (forward_text edge_table (over_line 3) get_admin None)) }
     ensures another_line { GoingForwardIsWrong [] (Arrive 100 1 get_a)
-        (Forward 2 (forward_text edge_table 2 get_a None)) }
+        (Forward (over_line 2) (forward_text edge_table (over_line 2) get_a None)) }
     ensures denied { GoingForwardIsWrong [] (Arrive 100 1 get_admin)
-        (Forward 1 (forward_text edge_table 1 get_admin None)) }
+        (Forward (over_line 1) (forward_text edge_table (over_line 1) get_admin None)) }
     ensures conditions_of_nothing { GoingForwardIsWrong [] (Arrive 100 1 get_a)
-        (Forward 3 (forward_text edge_table 3 get_a condition_about_v)) }
+        (Forward (over_line 3) (forward_text edge_table (over_line 3) get_a condition_about_v)) }
     ensures without_conditions { GoingForwardIsWrong (trace_of_good_events events_that_store_a) (Arrive 200 2 get_a)
-        (Forward 3 (forward_text edge_table 3 get_a None)) }
+        (Forward (over_line 3) (forward_text edge_table (over_line 3) get_a None)) }
     ensures by_a_failure { GoingForwardIsWrong
-        (item_of (Arrive 100 1 get_a) (Forward 3 (forward_text edge_table 3 get_a None)) ∷ [])
-        (Fail 101 1 kinds.Refused) (Forward 3 (forward_text edge_table 3 get_a None)) }
+        (item_of (Arrive 100 1 get_a) (Forward (over_line 3) (forward_text edge_table (over_line 3) get_a None)) ∷ [])
+        (Fail 101 1 kinds.Refused) (Forward (over_line 3) (forward_text edge_table (over_line 3) get_a None)) }
     ensures conditions_a_second_time { GoingForwardIsWrong
         (trace_of_good_events (Arrive 200 2 get_a ∷ events_that_store_a)) (Answer 201 2 (response_with 304 []))
-        (Forward 3 (forward_text edge_table 3 get_a condition_about_v)) }
+        (Forward (over_line 3) (forward_text edge_table (over_line 3) get_a condition_about_v)) }
     ensures of_nobody { GoingForwardIsWrong [] (Answer 101 1 fresh_for_a_minute)
-        (Forward 3 (forward_text edge_table 3 get_a None)) }
+        (Forward (over_line 3) (forward_text edge_table (over_line 3) get_a None)) }
 {}
 
 /// A denied request neither goes forward nor waits nor is left, and its reply stores, sends and takes away nothing.
 pub fn a_denied_request_leaves_no_trace()
-    ensures forwarded { DeniedRequestsLeaveNoTrace edge_table (item_of (Arrive 100 1 get_admin) (Forward 1 []) ∷ [])
+    ensures forwarded { DeniedRequestsLeaveNoTrace edge_table (item_of (Arrive 100 1 get_admin)
+        (Forward (over_line 1) []) ∷ [])
         → ⊥ }
     ensures waits { DeniedRequestsLeaveNoTrace edge_table (item_of (Arrive 100 1 get_admin) (Waits 1) ∷ []) → ⊥ }
     ensures left { DeniedRequestsLeaveNoTrace edge_table (item_of (Arrive 100 1 get_admin) Ended ∷ []) → ⊥ }
@@ -57,8 +59,9 @@ pub fn a_denied_request_leaves_no_trace()
         (item_of (Arrive 100 1 get_admin) (reply_that_stores [] (Some 1) []) ∷ []) → ⊥ }
     ensures removed { DeniedRequestsLeaveNoTrace edge_table
         (item_of (Arrive 100 1 get_admin) (reply_that_stores [] None (1 ∷ [])) ∷ []) → ⊥ }
-    ensures an_earlier_one { DeniedRequestsLeaveNoTrace edge_table (item_of (Arrive 101 2 get_a) (Forward 3 [])
-        ∷ item_of (Arrive 100 1 get_admin) (Forward 1 []) ∷ []) → ⊥ }
+    ensures an_earlier_one { DeniedRequestsLeaveNoTrace edge_table (item_of (Arrive 101 2 get_a)
+        (Forward (over_line 3) [])
+        ∷ item_of (Arrive 100 1 get_admin) (Forward (over_line 1) []) ∷ []) → ⊥ }
 {}
 
 /// An exchange goes forward twice at most, and has one reply at most, until a request of its id arrives anew.

@@ -6,6 +6,7 @@ ghost use Rattle.std.specs.Prelude.{negsuc};
 ghost use Rattle.hx_policy.specs.Policies.{plain};
 ghost use Rattle.hx_fields.specs.Examples.{line};
 ghost use Rattle.hx_allow.specs.declared.verdicts.Verdict.TheVariants as verdict;
+ghost use Rattle.hx_allow.specs.Matching.{over_line};
 ghost use Rattle.hx_store.specs.Shelf.{serials};
 ghost use Rattle.hx_reuse.specs.declared.decision.Decision.TheVariants as decision;
 ghost use Rattle.hx_reuse.specs.declared.rule.ReuseRule.TheVariants.{UriMiss, VaryMiss, ResponseNoCache};
@@ -27,7 +28,7 @@ ghost use Rattle.proxy_core.specs.Replies.{passed_answer_text, refusal_reply_tex
 ghost use Rattle.proxy_core.specs.Storing.{answer_invalidates, is_storable, is_304_without_condition};
 ghost use Rattle.proxy_core.specs.Storing.{stored_response_made, replaced_by, storing_rule_to_explain};
 ghost use Rattle.proxy_core.specs.Validating.{condition_about_stored, stored_response_is_answered};
-ghost use Rattle.proxy_core.specs.Validating.{freshened_may_be_kept, is_validation, freshened_by_304};
+ghost use Rattle.proxy_core.specs.Validating.{freshened_may_be_kept, is_304_to_own_conditions, freshened_by_304};
 ghost use Rattle.hx_validate.specs.Cases.{many_lines};
 ghost use Rattle.proxy_core.specs.Awaiting.{leader_of_request};
 ghost use Rattle.proxy_core.specs.Outcomes.{outcome_of_answer, outcome_of_arrival, hit_status_info, fallback_for};
@@ -42,7 +43,7 @@ ghost use Rattle.proxy_core.specs.State.{entries_after_use};
 ghost use Rattle.proxy_core.specs.Cases.{response_with, revalidates_e, request_for, get_a_with_authorization};
 ghost use Rattle.proxy_core.specs.Cases.{reply_bytes, connection_field, cache_control};
 ghost use Rattle.proxy_core.specs.Cases.{keeps_conditions_policy, get_a_with_cookie, lifetime_most_15_policy};
-ghost use Rattle.proxy_core.specs.Cases.{private_lifetime_policy};
+ghost use Rattle.proxy_core.specs.Cases.{private_lifetime_policy, get_a_by_scheme, varied_by_scheme, varying_table};
 ghost use Rattle.proxy_core.specs.Cases.{set_cookie_field, date_101, explains_storing_policy, first_answer_fields};
 ghost use Rattle.proxy_core.specs.Cases.{first_stored, get_a_with, lifetime_60_policy, head_of_a};
 ghost use Rattle.proxy_core.specs.Cases.{key_of_path, wait_for_stale_policy, lines_of_304, no_cookies_policy};
@@ -136,9 +137,10 @@ pub fn which_304_was_asked_for()
     ensures of_a_range { is_304_without_condition keeps_conditions_policy (get_a_with (line (codes "Range") (codes "bytes=0-1")
         ∷ line (codes "If-None-Match") (codes "\"e\"") ∷ [])) (response_with 304 []) ≡ false }
     ensures other_status { is_304_without_condition (plain true) (get_a_with []) (response_with 200 []) ≡ false }
-    ensures by_the_proxy { is_validation (revalidates_e (get_a_with [])) (response_with 304 []) ≡ true }
-    ensures not_by_the_proxy { is_validation (forwarded_on_miss (get_a_with [])) (response_with 304 []) ≡ false }
-    ensures no_304 { is_validation (revalidates_e (get_a_with [])) (response_with 200 []) ≡ false }
+    ensures by_the_proxy { is_304_to_own_conditions (revalidates_e (get_a_with [])) (response_with 304 []) ≡ true }
+    ensures not_by_the_proxy { is_304_to_own_conditions (forwarded_on_miss (get_a_with [])) (response_with 304 [])
+        ≡ false }
+    ensures no_304 { is_304_to_own_conditions (revalidates_e (get_a_with [])) (response_with 200 []) ≡ false }
 {}
 
 /// An unsafe method that isn't refused invalidates, whatever it is called (RFC 9111, section 4.4;
@@ -213,6 +215,19 @@ pub fn what_is_made_of_an_answer()
           content = codes "hi";
           times = record { date = 101; age_value = 5; request_time = 100; response_time = 102 };
         } }
+    ensures varied { (stored_response_made 4 (varied_by_scheme (forwarded_on_miss (get_a_by_scheme (codes "https"))))
+        (response_with 200 (vary_field (codes "Accept-Language") ∷ first_answer_fields)) 102).nominated
+        ≡ record { name = codes "Accept-Language"; value = None }
+        ∷ record { name = codes "X-Forwarded-Proto"; value = Some (codes "https") } ∷ [] }
+    ensures told_as_it_came { (stored_response_made 4
+        (varied_by_scheme (forwarded_on_miss (get_a_by_scheme (codes "https"))))
+        (response_with 200 first_answer_fields) 102).fields ≡ first_answer_fields }
+    ensures other_scheme { replaced_by (stored_response_made 4
+        (varied_by_scheme (forwarded_on_miss (get_a_by_scheme (codes "https")))) (response_with 200 first_answer_fields) 102
+        ∷ []) (get_a_by_scheme (codes "http")) ≡ [] }
+    ensures same_scheme { replaced_by (stored_response_made 4
+        (varied_by_scheme (forwarded_on_miss (get_a_by_scheme (codes "https")))) (response_with 200 first_answer_fields) 102
+        ∷ []) (get_a_by_scheme (codes "https")) ≡ 4 ∷ [] }
     ensures replaced { replaced_by three_held (get_a_with (accept_language (codes "de") ∷ [])) ≡ 3 ∷ [] }
     ensures stored { serial_stored_by_outcome (outcome_of_passing_on_or_stale table [] 101
         (forwarded_on_miss (get_a_with [])) (response_with 200 first_answer_fields) (Some 4) false
@@ -238,6 +253,10 @@ pub fn what_a_304_leaves()
     ensures times { (freshened_by_304 (revalidates_e (get_a_with [])) (response_with 304 (date_101 ∷ [])) 105
         (stored_with 1 (etag_field (codes "\"e\"") ∷ []))).times
         ≡ record { date = 101; age_value = 0; request_time = 100; response_time = 105 } }
+    ensures varied { (freshened_by_304 (varied_by_scheme (revalidates_e (get_a_by_scheme (codes "https"))))
+        (response_with 304 (date_101 ∷ [])) 105
+        (stored_with 1 (etag_field (codes "\"e\"") ∷ []))).nominated
+        ≡ record { name = codes "X-Forwarded-Proto"; value = Some (codes "https") } ∷ [] }
     ensures whole { freshened_may_be_kept table (revalidates_e (get_a_with [])) (response_with 304 []) first_stored
         ≡ true }
     ensures to_head { freshened_may_be_kept table (revalidates_e head_of_a) (response_with 304 []) first_stored ≡ true }
@@ -495,28 +514,29 @@ pub fn what_an_arrival_gives()
     ensures looped { outcome_of_arrival table (first_stored ∷ []) [] 130 (get_a_with []) (verdict.Looped 3)
         ≡ outcome_of_refusal 130 (Looped 3) (get_a_with []) }
     ensures hit { serial_used_by_outcome (outcome_of_arrival table (first_stored ∷ []) [] 130 (get_a_with [])
-        (verdict.Allowed 1)) ≡ Some 1 }
+        (verdict.Allowed (over_line 1))) ≡ Some 1 }
     ensures stays { serials_removed_by_outcome (outcome_of_arrival table (first_stored ∷ []) [] 130 (get_a_with [])
-        (verdict.Allowed 1)) ≡ [] }
-    ensures without_cache { outcome_of_arrival table (first_stored ∷ []) [] 130 (get_a_with []) (verdict.Allowed 2)
-        ≡ Forward 2 (codes "GET /a HTTP/1.1\r\nHost: h\r\nVia: 1.1 edge\r\nConnection: close\r\n\r\n") }
+        (verdict.Allowed (over_line 1))) ≡ [] }
+    ensures without_cache { outcome_of_arrival table (first_stored ∷ []) [] 130 (get_a_with [])
+        (verdict.Allowed (over_line 2))
+        ≡ Forward (over_line 2) (codes "GET /a HTTP/1.1\r\nHost: h\r\nVia: 1.1 edge\r\nConnection: close\r\n\r\n") }
     ensures validates { outcome_of_arrival table (stored_without_lifetime ∷ []) [] 130 (get_a_with [])
-        (verdict.Allowed 1) ≡ Forward 1 (codes "GET /a HTTP/1.1\r\nHost: h\r\nIf-None-Match: \"e\"\r\nVia: 1.1 edge\r\nConnection: close\r\n\r\n") }
+        (verdict.Allowed (over_line 1)) ≡ Forward (over_line 1) (codes "GET /a HTTP/1.1\r\nHost: h\r\nIf-None-Match: \"e\"\r\nVia: 1.1 edge\r\nConnection: close\r\n\r\n") }
     ensures conditional { outcome_of_arrival table [] [] 130 (get_a_with (line (codes "If-None-Match") (codes "\"v0\"") ∷ []))
-        (verdict.Allowed 1) ≡ Forward 1 (codes "GET /a HTTP/1.1\r\nHost: h\r\nIf-None-Match: \"v0\"\r\nVia: 1.1 edge\r\nConnection: close\r\n\r\n") }
+        (verdict.Allowed (over_line 1)) ≡ Forward (over_line 1) (codes "GET /a HTTP/1.1\r\nHost: h\r\nIf-None-Match: \"v0\"\r\nVia: 1.1 edge\r\nConnection: close\r\n\r\n") }
     ensures conditional_kept { outcome_of_arrival (table_with_policy keeps_conditions_policy) [] [] 130
-        (get_a_with (line (codes "If-None-Match") (codes "\"v0\"") ∷ [])) (verdict.Allowed 1)
-        ≡ Forward 1 (codes "GET /a HTTP/1.1\r\nHost: h\r\nVia: 1.1 edge\r\nConnection: close\r\n\r\n") }
+        (get_a_with (line (codes "If-None-Match") (codes "\"v0\"") ∷ [])) (verdict.Allowed (over_line 1))
+        ≡ Forward (over_line 1) (codes "GET /a HTTP/1.1\r\nHost: h\r\nVia: 1.1 edge\r\nConnection: close\r\n\r\n") }
     ensures waits { outcome_of_arrival table [] (forwarded_on_miss (get_a_with []) ∷ []) 130 (get_a_with [])
-        (verdict.Allowed 1) ≡ Waits 1 }
+        (verdict.Allowed (over_line 1)) ≡ Waits 1 }
     ensures only_if_cached { outcome_of_arrival table [] [] 130
-        (get_a_with (cache_control (codes "only-if-cached") ∷ [])) (verdict.Allowed 1)
+        (get_a_with (cache_control (codes "only-if-cached") ∷ [])) (verdict.Allowed (over_line 1))
         ≡ outcome_of_refusal 130 (OnlyIfCached UriMiss) (get_a_with (cache_control (codes "only-if-cached") ∷ [])) }
     ensures woken_hit { reply_bytes (outcome_of_wake table (first_stored ∷ []) 130 waiting (decision.Hit 1))
         ≡ codes "HTTP/1.1 200 \r\nDate: Thu, 01 Jan 1970 00:01:41 GMT\r\nCache-Control: max-age=60\r\nETag: \"v1\"\r\nAge: 30\r\nCache-Status: edge;fwd=uri-miss;ttl=30;collapsed\r\nContent-Length: 2\r\n\r\nhi" }
     ensures woken_goes_forward { outcome_of_wake table (stored_without_lifetime ∷ []) 130 waiting
         (decision.Forward NoLifetime (Some 1))
-        ≡ Forward 1 (codes "GET /a HTTP/1.1\r\nHost: h\r\nIf-None-Match: \"e\"\r\nVia: 1.1 edge\r\nConnection: close\r\n\r\n") }
+        ≡ Forward (over_line 1) (codes "GET /a HTTP/1.1\r\nHost: h\r\nIf-None-Match: \"e\"\r\nVia: 1.1 edge\r\nConnection: close\r\n\r\n") }
 {}
 
 /// What an answer of the origin gives: a 304 sends the stored response that was asked about with
@@ -530,7 +550,7 @@ pub fn what_an_answer_gives()
         (Some 4) (decision.Forward NoLifetime (Some 1))) ≡ codes "HTTP/1.1 200 \r\nDate: Thu, 01 Jan 1970 00:01:41 GMT\r\nCache-Control: max-age=60\r\nETag: \"e\"\r\nAge: 5\r\nCache-Status: edge;fwd=stale;fwd-status=304;ttl=55;detail=no-lifetime\r\nContent-Length: 2\r\n\r\nhi" }
     ensures another_tag { outcome_of_answer table (stored_without_lifetime ∷ []) 105 (revalidates_e (get_a_with []))
         (response_with 304 (etag_field (codes "\"f\"") ∷ [])) (Some 4) (decision.Forward NoLifetime (Some 1))
-        ≡ Forward 1 (codes "GET /a HTTP/1.1\r\nHost: h\r\nVia: 1.1 edge\r\nConnection: close\r\n\r\n") }
+        ≡ Forward (over_line 1) (codes "GET /a HTTP/1.1\r\nHost: h\r\nVia: 1.1 edge\r\nConnection: close\r\n\r\n") }
     ensures another_response { stored_response_is_answered (revalidates_e (get_a_with []))
         (response_with 304 lines_of_304) 105
         (record stored_without_lifetime { serial = 2 }) ≡ false }
@@ -564,23 +584,27 @@ pub fn what_a_step_leaves_open()
         ∷ []) (Answer 130 1 (response_with 204 [])) Ended
         ≡ record (post_exchange 2 (codes "/a")) { overtaken = true } ∷ post_exchange 3 (codes "/b") ∷ [] }
     ensures behind { open_exchanges_after table [] (post_exchange 1 (codes "/b") ∷ []) (Arrive 130 2 (get_a_with []))
-        (Forward 1 [])
+        (Forward (over_line 1) [])
         ≡ post_exchange 1 (codes "/b") ∷ record (forwarded_on_miss (get_a_with [])) { id = 2; request_time = 130 } ∷ [] }
+    ensures varied { open_exchanges_after varying_table [] [] (Arrive 130 1 (get_a_with [])) (Forward (over_line 1) [])
+        ≡ record (varied_by_scheme (forwarded_on_miss (get_a_with []))) { request_time = 130 } ∷ [] }
     ensures waits { open_exchanges_after table [] (forwarded_on_miss (get_a_with []) ∷ [])
         (Arrive 130 2 (get_a_with [])) (Waits 1)
         ≡ forwarded_on_miss (get_a_with []) ∷ record waiting { request_time = 130 } ∷ [] }
-    ensures to_be_stored { open_exchanges_after table [] [] (Arrive 130 1 get_a_with_authorization) (Forward 1 [])
+    ensures to_be_stored { open_exchanges_after table [] [] (Arrive 130 1 get_a_with_authorization)
+        (Forward (over_line 1) [])
         ≡ record (forwarded_on_miss get_a_with_authorization) { request_time = 130; no_store = false } ∷ [] }
-    ensures not_to_be_stored { open_exchanges_after table [] [] (Arrive 130 1 get_a_with_no_store) (Forward 1 [])
+    ensures not_to_be_stored { open_exchanges_after table [] [] (Arrive 130 1 get_a_with_no_store)
+        (Forward (over_line 1) [])
         ≡ record (forwarded_on_miss get_a_with_no_store) { request_time = 130; no_store = true } ∷ [] }
     ensures names_what_is_held { open_exchanges_after table (stored_without_lifetime ∷ []) []
-        (Arrive 130 1 (get_a_with [])) (Forward 1 [])
+        (Arrive 130 1 (get_a_with [])) (Forward (over_line 1) [])
         ≡ record (revalidates_e (get_a_with [])) { request_time = 130; named = Some 1 } ∷ [] }
     ensures woken_on { open_exchanges_after table (stored_without_lifetime ∷ []) (record waiting { overtaken = true }
         ∷ []) (Wake 130 2)
-        (Forward 1 []) ≡ record (revalidates_e (get_a_with [])) { id = 2; request_time = 130 } ∷ [] }
+        (Forward (over_line 1) []) ≡ record (revalidates_e (get_a_with [])) { id = 2; request_time = 130 } ∷ [] }
     ensures again { open_exchanges_after table [] (record (revalidates_e (get_a_with [])) { overtaken = true }
-        ∷ []) (Answer 130 1 (response_with 304 [])) (Forward 1 [])
+        ∷ []) (Answer 130 1 (response_with 304 [])) (Forward (over_line 1) [])
         ≡ record (revalidates_e (get_a_with [])) { request_time = 130; condition = None } ∷ [] }
 {}
 

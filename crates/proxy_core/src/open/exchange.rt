@@ -5,16 +5,20 @@ ghost use Rattle.proxy_core.specs.State.{exchange_gone_forward, overtaken_exchan
 use crate::open::leading::waits_for;
 use crate::open::stage::Stage;
 use crate::steps::condition::Condition;
+use hx_allow::Route;
 use hx_hop::Asked;
 use hx_reuse::ReuseRule;
 use hx_target::Key;
+use hx_vary::FieldNames;
 
 /// An open exchange.
 pub struct Exchange {
     pub id: u64,
     pub asked: Asked,
-    /// The line of the table that allowed it; lines are numbered from 1.
-    pub line: u16,
+    /// The line of the table that allowed it, and whether it goes past the store over that.
+    pub line: Route,
+    /// The fields that count as if the Vary of its answer named them: those of its line when it arrived.
+    pub vary: FieldNames,
     /// The rule at arrival, or when it was woken. It is named in the answer even if the store has changed since.
     pub rule: ReuseRule,
     /// The held response that this rule names.
@@ -75,6 +79,7 @@ impl Drop for Exchange {
             id: _,
             asked: _,
             line: _,
+            vary: _,
             rule: _,
             named: _,
             request_time: _,

@@ -3,7 +3,7 @@ ghost use Rattle.std.specs.Prelude.{◌≡◌, ◌<◌, IfOk};
 ghost use Rattle.hx_hop.specs.Answering.{answered_of};
 ghost use Rattle.proxy_core.specs.Storing.{is_304_without_condition, answer_invalidates, key_invalidated};
 ghost use Rattle.proxy_core.specs.Storing.{status_invalidates};
-ghost use Rattle.proxy_core.specs.Validating.{is_validation};
+ghost use Rattle.proxy_core.specs.Validating.{is_304_to_own_conditions};
 
 use crate::open::exchange::Exchange;
 use hx_framing::Response;
@@ -39,14 +39,14 @@ impl OriginAnswer<'_> {
     }
 
     /// Whether it is a 304 to the proxy's conditions.
-    pub(crate) fn is_validation(&self) -> bool
-        ensures { result ≡ is_validation self.now.exchange.now self.now.response.now }
+    pub(crate) fn is_304_to_own_conditions(&self) -> bool
+        ensures { result ≡ is_304_to_own_conditions self.now.exchange.now self.now.response.now }
     {
         self.response.status == 304 && self.exchange.condition.is_some()
     }
 
     /// Whether it is a 304 to a request that went without a condition, over a line of this policy.
-    pub(crate) fn is_unasked(&self, policy: Policy) -> bool
+    pub(crate) fn is_304_without_condition(&self, policy: Policy) -> bool
         ensures { result ≡ is_304_without_condition policy self.now.exchange.now.asked self.now.response.now }
     {
         self.response.status == 304 && !forwards_condition(policy, &self.exchange.asked)
@@ -56,7 +56,8 @@ impl OriginAnswer<'_> {
     pub(crate) fn invalidates(&self) -> bool
         ensures { result ≡ answer_invalidates self.now.exchange.now self.now.response.now }
     {
-        status_invalidates(&self.exchange.asked, self.response.status) && !self.is_validation()
+        status_invalidates(&self.exchange.asked, self.response.status)
+            && !self.is_304_to_own_conditions()
     }
 
     /// The key that it invalidates.

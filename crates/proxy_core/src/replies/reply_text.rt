@@ -7,20 +7,21 @@ ghost use Rattle.hx_status.specs.Member.{member_text};
 ghost use Rattle.proxy_core.specs.Replies.{passed_answer_text, fields_of_passed_answer, length_of_passed_answer};
 ghost use Rattle.proxy_core.specs.Replies.{whole_answer_text, client_has_answer, fields_of_304_sent};
 ghost use Rattle.proxy_core.specs.Replies.{not_modified_answer_text};
-ghost use Rattle.proxy_core.specs.Replies.{cache_status_of_passed_answer};
+ghost use Rattle.proxy_core.specs.Replies.{cache_status_of_passed_answer, detail_past_store};
 ghost use Rattle.proxy_core.specs.Replies.{ttl_of_passed_answer, refusal_reply_text};
 ghost use Rattle.proxy_core.specs.Replies.{fields_of_refusal, content_unless_head, is_head, length_unless_forbidden};
 
 use crate::replies::origin_answer::OriginAnswer;
 use http::Method;
 use hx_age::{Times, current_age, ttl};
+use hx_allow::Route;
 use hx_directives::Directives;
 use hx_fields::{Bytes, Fields};
 use hx_framing::{Response, write_response};
 use hx_hop::{Answered, Asked, date_text};
 use hx_policy::Policy;
 use hx_reuse::{keeps_conditions, lifetime_under};
-use hx_status::{Cause, How, Status, member, refusal};
+use hx_status::{Cause, Detail, How, Status, member, refusal};
 use hx_storable::StoreRule;
 use hx_validate::{answer_not_modified, client_has_answer};
 use std::alloc::{AllocError, Global};
@@ -82,6 +83,17 @@ fn ttl_of_passed_answer(
     Ok(Some(ttl(lifetime, age)))
 }
 
+/// The word of a request that goes past the store for its cookies.
+fn detail_past_store(route: Route) -> Option<Detail>
+    ensures { result ≡ detail_past_store route }
+{
+    if route.past_store {
+        Some(Detail::SessionCookie)
+    } else {
+        None
+    }
+}
+
 /// The member of Cache-Status of an answer that is passed on, with the status that came where another one is sent.
 fn member_of_passed_answer(
     alloc: Global,
@@ -101,7 +113,7 @@ fn member_of_passed_answer(
         ttl: ttl_of_passed_answer(alloc, answer, head, shown)?,
         stored: shown.stored,
         collapsed: false,
-        detail: None,
+        detail: detail_past_store(answer.exchange.line),
         not_stored: shown.rule,
     };
     member(alloc, name, &status)

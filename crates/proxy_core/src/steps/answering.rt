@@ -3,7 +3,7 @@ ghost use Rattle.std.specs.Prelude.{◌≡◌, ◌<◌, Some, None, IfOk, IfErr,
 ghost use Rattle.hx_hop.specs.Answering.{answered_of};
 ghost use Rattle.hx_allow.specs.Matching.{policy_of};
 ghost use Rattle.hx_reuse.specs.Rules.{decision_of};
-ghost use Rattle.hx_vary.specs.Vary.{kept_values};
+ghost use Rattle.hx_vary.specs.Vary.{kept_values_with};
 ghost use Rattle.proxy_core.specs.Replies.{passed_answer_text};
 ghost use Rattle.proxy_core.specs.Storing.{storing_rule_to_explain};
 ghost use Rattle.proxy_core.specs.Outcomes.{is_error_status, outcome_of_passing_on, outcome_of_passing_on_or_stale};
@@ -95,7 +95,8 @@ impl<S: Shelf> Core<S> {
         new_entry: NewEntry,
     ) -> Result<PendingReply, AllocError>
         requires head { head ≡ answered_of answer.now.response.now answer.now.response_time }
-        requires nominated { new_entry.nominated ≡ kept_values head.fields answer.now.exchange.now.asked.fields }
+        requires nominated { new_entry.nominated ≡ kept_values_with answer.now.exchange.now.vary head.fields
+            answer.now.exchange.now.asked.fields }
         ensures outcome { IfOk result (λ pending. outcome_of_pending_reply pending
             ≡ outcome_of_passing_on self.now.table self.now.entries
             answer.now.response_time answer.now.exchange.now answer.now.response.now rule (Some new_entry.serial)) }
@@ -194,10 +195,10 @@ impl<S: Shelf> Core<S> {
             (Answer answer.now.response_time answer.now.exchange.now.id answer.now.response.now) after) }
         ensures fits { IfOk result (λ after. AnswerChangeFits self.now.next self.now.entries after) }
     {
-        if answer.is_validation() {
+        if answer.is_304_to_own_conditions() {
             return self.follow_304(alloc, answer);
         }
-        if answer.is_unasked(self.config.policy(answer.exchange.line)) {
+        if answer.is_304_without_condition(self.config.policy(answer.exchange.line)) {
             let kind = FailKind::BadAnswer;
             let came = Some(answer.response.status);
             let exchange = answer.exchange;

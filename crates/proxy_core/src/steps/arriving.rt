@@ -4,16 +4,21 @@ ghost use Rattle.hx_directives.specs.Occurrences.{occurrences_of};
 ghost use Rattle.hx_allow.specs.Matching.{policy_of};
 ghost use Rattle.proxy_core.specs.Allowing.{verdict_of_asked, exchanges_to_wait_for};
 ghost use Rattle.hx_allow.specs.declared.verdicts.Verdict.TheVariants.{Allowed};
+ghost use Rattle.hx_store.specs.Shelf.{with_promoted};
+ghost use Rattle.hx_store.specs.Weights.{cut_to_bounds};
 ghost use Rattle.hx_reuse.specs.Rules.{decision_of};
 ghost use Rattle.hx_reuse.specs.declared.decision.Decision.TheVariants as decision;
 ghost use Rattle.proxy_core.specs.Leading.{leader_if_awaited};
 ghost use Rattle.proxy_core.specs.Awaiting.{awaited_of};
-ghost use Rattle.proxy_core.specs.Outcomes.{hit_status_info, find_exchange, outcome_of_refusal};
+ghost use Rattle.proxy_core.specs.Revalidating.{may_be_sent_at_serial, sent_while_awaited, sent_beside};
+ghost use Rattle.proxy_core.specs.Outcomes.{hit_status_info, revalidating_status_info, find_exchange};
+ghost use Rattle.proxy_core.specs.Outcomes.{outcome_of_refusal, outcome_of_sending_stored};
 ghost use Rattle.proxy_core.specs.Outcomes.{outcome_of_allowed_request, outcome_of_waiting_or_forwarding, forward_text};
 ghost use Rattle.proxy_core.specs.Outcomes.{is_only_if_cached};
 ghost use Rattle.proxy_core.specs.declared.event.Event.TheVariants.{Arrive};
 ghost use Rattle.proxy_core.specs.declared.open.stage.Stage.TheVariants.{Forwarded};
 ghost use Rattle.proxy_core.specs.State.{StepIsAccepted, StepIsRefusedWith, state_after, exchange_with_leader};
+ghost use Rattle.proxy_core.specs.State.{bounds_of};
 
 use crate::core_fault::CoreFault;
 use crate::core_state::Core;
@@ -27,13 +32,14 @@ use crate::replies::stored_reply::CacheStatusInfo;
 use crate::steps::condition::condition_about_serial;
 use crate::steps::finishing::cut;
 use crate::steps::sending::{forward_text, refuse};
-use hx_allow::Verdict;
+use hx_allow::{Route, Verdict};
 use hx_directives::{Directive, Directives};
 use hx_hop::Asked;
 use hx_policy::Policy;
-use hx_reuse::{Decision, ReuseRule, decide};
-use hx_status::{Cause, How};
+use hx_reuse::{Decision, ReuseRule, decide, may_serve_while_revalidating};
+use hx_status::{Cause, Detail, How};
 use hx_store::Shelf;
+use hx_vary::FieldNames;
 use std::alloc::{AllocError, Global};
 
 /// Why a request isn't sent what is held: over a line of this policy this rule stands, which names that held response.
@@ -53,6 +59,19 @@ fn hit_status_info(policy: Policy) -> CacheStatusInfo
         how: How::Hit,
         came: None,
         detail: None,
+        collapsed: false,
+    }
+}
+
+/// A stale response that is sent while one asks the origin about it.
+fn revalidating_status_info(policy: Policy) -> CacheStatusInfo
+    ensures { result ≡ revalidating_status_info policy }
+{
+    CacheStatusInfo {
+        policy,
+        how: How::Hit,
+        came: None,
+        detail: Some(Detail::StaleWhileRevalidate),
         collapsed: false,
     }
 }
@@ -113,7 +132,7 @@ impl<S: Shelf> Core<S> {
         now: u64,
         id: u64,
         asked: &Asked,
-        line: u16,
+        line: Route,
     ) -> Result<Outcome, AllocError>
         requires early { now < 253_402_300_800 }
         requires free { find_exchange id self.old.exchanges ≡ None }
@@ -128,10 +147,7 @@ impl<S: Shelf> Core<S> {
         let policy = self.config.policy(line);
         match decide(alloc, asked, &directives, &self.shelf, now, policy)? {
             Decision::Hit(serial) => {
-                let pending = self.send(alloc, serial, now, hit_status_info(policy), asked)?;
-                self.shelf.promote(serial);
-                cut(&mut self.shelf, self.config.max_store());
-                Ok(pending.into_outcome())
+                self.serve_stored(alloc, now, serial, hit_status_info(policy), asked)
             }
             Decision::Forward(rule, named) => {
                 if is_only_if_cached(&directives, asked) {
@@ -144,10 +160,16 @@ impl<S: Shelf> Core<S> {
                     named,
                 };
                 let awaited = self.awaited(alloc, now, asked, &directives, judged)?;
+                let beside = self.sent_beside(now, asked, &directives, policy, awaited, line);
+                if let Some(serial) = beside {
+                    let info = revalidating_status_info(policy);
+                    return self.serve_stored(alloc, now, serial, info, asked);
+                }
                 let exchange = Exchange {
                     id,
                     asked: asked.copy(alloc)?,
                     line,
+                    vary: FieldNames::copy_of(alloc, self.config.vary(line.number))?,
                     rule,
                     named,
                     request_time: now,
@@ -158,6 +180,93 @@ impl<S: Shelf> Core<S> {
                 };
                 self.wait_or_forward(alloc, policy, awaited, exchange)
             }
+        }
+    }
+
+    /// A stored response is sent to a request that arrives, and is the latest used.
+    fn serve_stored(
+        &mut self,
+        alloc: Global,
+        now: u64,
+        serial: u64,
+        info: CacheStatusInfo,
+        asked: &Asked,
+    ) -> Result<Outcome, AllocError>
+        ensures outcome { IfOk result (λ outcome. outcome
+            ≡ outcome_of_sending_stored self.old.table self.old.entries serial now info asked.now) }
+        ensures after { OnOk result (self.new ≡ record self.old {
+          entries = cut_to_bounds (bounds_of self.old.table self.old.limit) (with_promoted serial self.old.entries);
+        }) }
+        ensures unchanged { OnErr result (self.new ≡ self.old) }
+    {
+        let pending = self.send(alloc, serial, now, info, asked)?;
+        self.shelf.promote(serial);
+        cut(&mut self.shelf, self.config.max_store());
+        Ok(pending.into_outcome())
+    }
+
+    /// Whether the held response of a serial may be sent while one asks the origin about it.
+    fn may_be_sent_at_serial(
+        &self,
+        now: u64,
+        asked: &Asked,
+        directives: &Directives,
+        policy: Policy,
+        serial: u64,
+    ) -> bool
+        requires { directives.now ≡ occurrences_of asked.now.fields }
+        ensures { result ≡ may_be_sent_at_serial policy self.now.entries asked.now now serial }
+    {
+        match self.shelf.peek(serial) {
+            Some(entry) => may_serve_while_revalidating(directives, entry, now, policy),
+            None => false,
+        }
+    }
+
+    /// What is awaited, where it may be sent while one asks the origin about it.
+    fn sent_while_awaited(
+        &self,
+        now: u64,
+        asked: &Asked,
+        directives: &Directives,
+        policy: Policy,
+        awaited: Option<Awaited>,
+    ) -> Option<u64>
+        requires { directives.now ≡ occurrences_of asked.now.fields }
+        ensures { result ≡ sent_while_awaited policy self.now.entries asked.now now awaited }
+    {
+        match awaited {
+            Some(Awaited::Expired(serial)) => {
+                if self.may_be_sent_at_serial(now, asked, directives, policy, serial) {
+                    Some(serial)
+                } else {
+                    None
+                }
+            }
+            Some(Awaited::Missing) => None,
+            None => None,
+        }
+    }
+
+    /// The stale response that is sent in place of waiting for the exchange that leads over this line (RFC 5861,
+    /// section 3).
+    fn sent_beside(
+        &self,
+        now: u64,
+        asked: &Asked,
+        directives: &Directives,
+        policy: Policy,
+        awaited: Option<Awaited>,
+        line: Route,
+    ) -> Option<u64>
+        requires { directives.now ≡ occurrences_of asked.now.fields }
+        ensures { result ≡ sent_beside policy self.now.entries asked.now now awaited
+            (leader_if_awaited policy asked.now
+            (exchanges_to_wait_for self.now.table line asked.now self.now.exchanges) awaited) }
+    {
+        match self.leader_for(policy, awaited, asked, line) {
+            Some(_) => self.sent_while_awaited(now, asked, directives, policy, awaited),
+            None => None,
         }
     }
 
@@ -195,7 +304,7 @@ impl<S: Shelf> Core<S> {
         policy: Policy,
         awaited: Option<Awaited>,
         asked: &Asked,
-        line: u16,
+        line: Route,
     ) -> Option<u64>
         ensures { result ≡ leader_if_awaited policy asked.now
             (exchanges_to_wait_for self.now.table line asked.now self.now.exchanges) awaited }

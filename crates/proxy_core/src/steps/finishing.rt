@@ -11,6 +11,7 @@ use crate::core_state::Core;
 use crate::open::serial_numbers::serial_after;
 use crate::outcome::{Outcome, Reply};
 use crate::replies::pending::{Change, PendingReply};
+use hx_allow::Route;
 use hx_fields::Bytes;
 use hx_store::{Entry, Shelf, shed_to};
 use hx_target::Key;
@@ -133,7 +134,7 @@ impl<S: Shelf> Core<S> {
         &mut self,
         id: u64,
         now: u64,
-        line: u16,
+        line: Route,
         bytes: Bytes,
     ) -> Result<Outcome, AllocError>
         ensures outcome { IfOk result (λ outcome. outcome ≡ Outcome.Forward line bytes) }

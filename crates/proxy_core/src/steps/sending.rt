@@ -9,7 +9,7 @@ use crate::replies::pending::{Change, PendingReply};
 use crate::replies::reply_text::{is_head, refused};
 use crate::replies::stored_reply::{CacheStatusInfo, StoredReply};
 use crate::steps::condition::Condition;
-use hx_allow::Config;
+use hx_allow::{Config, Route};
 use hx_fields::Bytes;
 use hx_framing::write_request;
 use hx_hop::{Asked, Conditions, forward_request};
@@ -88,7 +88,7 @@ fn conditions_to_send(condition: Option<&Condition>) -> Option<&Conditions>
 pub(crate) fn forward_text(
     alloc: Global,
     config: &Config,
-    line: u16,
+    line: Route,
     asked: &Asked,
     condition: Option<&Condition>,
 ) -> Result<Bytes, AllocError>

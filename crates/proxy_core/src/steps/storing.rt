@@ -2,7 +2,7 @@
 ghost use Rattle.std.specs.Prelude.{◌≡◌, ◌<◌, ◌-◌, ◌^◌, ℕ, min, Some, None, IfOk, IfSome, option_map};
 ghost use Rattle.hx_directives.specs.Occurrences.{occurrences_of};
 ghost use Rattle.hx_hop.specs.Answering.{answered_of};
-ghost use Rattle.hx_vary.specs.Vary.{kept_values, nominated_of};
+ghost use Rattle.hx_vary.specs.Vary.{kept_values_with, nominated_with};
 ghost use Rattle.hx_storable.specs.Rules.{storage_rule_of};
 ghost use Rattle.proxy_core.specs.Storing.{nominates_a_star, storing_facts_of_answer, storing_rule_to_explain};
 ghost use Rattle.proxy_core.specs.Storing.{stored_response_made, replaced_by, answer_is_too_large};
@@ -15,7 +15,8 @@ use hx_age::Times;
 use hx_directives::Directives;
 use hx_hop::{Answered, Asked, lists_cache_field};
 use hx_reuse::lifetime_under;
-use hx_storable::{StoreRule, StoringFacts, first_rule_against, the_least_storage_rule_is_named};
+use hx_storable::laws::the_least_storage_rule_is_named;
+use hx_storable::{StoreRule, StoringFacts, first_rule_against};
 use hx_store::{Entry, Serials, Shelf, weight_of_parts};
 use hx_validate::has_validator;
 use hx_vary::{Nominated, Nomination};
@@ -58,7 +59,8 @@ impl NewEntry {
         head: Answered,
     ) -> Result<Entry, AllocError>
         requires head { head ≡ answered_of answer.now.response.now answer.now.response_time }
-        requires nominated { self.nominated ≡ kept_values head.fields answer.now.exchange.now.asked.fields }
+        requires nominated { self.nominated ≡ kept_values_with answer.now.exchange.now.vary head.fields
+            answer.now.exchange.now.asked.fields }
         ensures { IfOk result (λ entry. entry
             ≡ stored_response_made self.serial answer.now.exchange.now answer.now.response.now
             answer.now.response_time) }
@@ -117,7 +119,8 @@ impl<S: Shelf> Core<S> {
         nomination: &Nomination,
     ) -> bool
         requires head { head.now ≡ answered_of answer.now.response.now answer.now.response_time }
-        requires nomination { nomination.now ≡ nominated_of head.now.fields answer.now.exchange.now.asked.fields }
+        requires nomination { nomination.now ≡ nominated_with answer.now.exchange.now.vary head.now.fields
+            answer.now.exchange.now.asked.fields }
         ensures { result ≡ answer_is_too_large self.now.table answer.now.exchange.now answer.now.response.now
             answer.now.response_time }
     {
@@ -145,7 +148,8 @@ impl<S: Shelf> Core<S> {
     ) -> StoringFacts
         requires head { head.now ≡ answered_of answer.now.response.now answer.now.response_time }
         requires directives { directives.now ≡ occurrences_of head.now.fields }
-        requires nomination { nomination.now ≡ nominated_of head.now.fields answer.now.exchange.now.asked.fields }
+        requires nomination { nomination.now ≡ nominated_with answer.now.exchange.now.vary head.now.fields
+            answer.now.exchange.now.asked.fields }
         ensures { result ≡ storing_facts_of_answer self.now.table answer.now.exchange.now answer.now.response.now
             answer.now.response_time self.now.next }
     {
@@ -173,7 +177,8 @@ impl<S: Shelf> Core<S> {
         nomination: &Nomination,
     ) -> Result<Option<StoreRule>, AllocError>
         requires head { head.now ≡ answered_of answer.now.response.now answer.now.response_time }
-        requires nomination { nomination.now ≡ nominated_of head.now.fields answer.now.exchange.now.asked.fields }
+        requires nomination { nomination.now ≡ nominated_with answer.now.exchange.now.vary head.now.fields
+            answer.now.exchange.now.asked.fields }
         ensures { IfOk result (λ rule. rule ≡ storage_rule_of answer.now.exchange.now.asked head.now
             (storing_facts_of_answer self.now.table answer.now.exchange.now answer.now.response.now
             answer.now.response_time
@@ -218,9 +223,16 @@ impl<S: Shelf> Core<S> {
             ≡ serial_of_stored_answer
             self.now.table answer.now.exchange.now answer.now.response.now answer.now.response_time self.now.next) }
         ensures nominated { IfOk result (λ admission. IfSome admission.new_entry
-            (λ n. n.nominated ≡ kept_values head.now.fields answer.now.exchange.now.asked.fields)) }
+            (λ n. n.nominated ≡ kept_values_with answer.now.exchange.now.vary head.now.fields
+            answer.now.exchange.now.asked.fields)) }
     {
-        let nomination = Nominated::of(alloc, &head.fields, &answer.exchange.asked.fields)?;
+        let exchange = answer.exchange;
+        let nomination = Nominated::with(
+            alloc,
+            &exchange.vary,
+            &head.fields,
+            &exchange.asked.fields,
+        )?;
         let rule = self.rule_against(alloc, answer, head, &nomination)?;
         let shown = self.rule_shown(answer, rule);
         if rule.is_some() {

@@ -32,7 +32,7 @@ use hx_reuse::{Decision, lifetime_under};
 use hx_status::Detail;
 use hx_storable::{StoringFacts, first_rule_against};
 use hx_store::{Entry, Serials, Shelf};
-use hx_target::equal_keys_are_one;
+use hx_target::laws::equal_keys_are_one;
 use hx_validate::{answers, freshened, has_validator, head_leaves_room};
 use hx_vary::{Nominated, Nomination};
 use std::alloc::{AllocError, Global};
@@ -93,7 +93,7 @@ fn freshened_by_304(
 {
     let exchange = answer.exchange;
     let times = Times::of(&head.fields, exchange.request_time, answer.response_time);
-    freshened(alloc, entry, head, &exchange.asked, times)
+    freshened(alloc, &exchange.vary, entry, head, &exchange.asked, times)
 }
 
 /// The same request, of method GET.

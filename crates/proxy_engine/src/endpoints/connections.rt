@@ -13,7 +13,7 @@ ghost use Rattle.proxy_engine.specs.Room.{ConnectionHasSpare, ConnectionRoomIsGi
 ghost use Rattle.proxy_engine.specs.Activities.{link_place_of_activity, has_exchange};
 ghost use Rattle.proxy_engine.specs.Pairing.{activity_at, activity_of, activities_of};
 ghost use Rattle.proxy_engine.specs.State.{RelatesLists, ConnectionRepresents, is_gone_at, NoConnectionIsLost};
-ghost use Rattle.proxy_engine.specs.State.{IsFirstFoundConnection};
+ghost use Rattle.proxy_engine.specs.State.{IsFirstFoundConnection, is_retired_at};
 ghost use Rattle.proxy_engine.specs.State.{connection_load};
 
 use crate::endpoints::ends::Connection;
@@ -90,6 +90,16 @@ impl Connections {
     {
         match self.ends.get(i) {
             Some(connection) => connection.activity.has_exchange(),
+            None => false,
+        }
+    }
+
+    /// Whether the connection at a place is to end.
+    pub(crate) fn is_retired(&self, i: ConnectionPlace) -> bool
+        ensures { result ≡ is_retired_at (slice_index_or self.now.items i None) }
+    {
+        match self.ends.get(i) {
+            Some(connection) => connection.retired,
             None => false,
         }
     }

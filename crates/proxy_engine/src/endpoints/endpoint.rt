@@ -84,6 +84,7 @@ impl Endpoint for Connection {
             reader: Peeked::new(RequestReader::new(alloc, 0)),
             ended: false,
             gone: true,
+            retired: false,
             activity: Activity::Free,
         }
     }

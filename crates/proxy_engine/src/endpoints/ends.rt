@@ -13,6 +13,8 @@ pub(crate) struct Connection {
     pub(crate) ended: bool,
     /// The client went away.
     pub(crate) gone: bool,
+    /// It is to end: the answer to its next request closes it.
+    pub(crate) retired: bool,
     /// Whether its exchange is open, and on which link.
     pub(crate) activity: Activity,
 }
@@ -24,6 +26,7 @@ impl Drop for Connection {
             reader: _,
             ended: _,
             gone: _,
+            retired: _,
             activity: _,
         } = self;
     }

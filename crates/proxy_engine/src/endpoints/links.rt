@@ -4,13 +4,13 @@ ghost use Rattle.std.specs.Prelude.{None, slice_index_or};
 ghost use Rattle.proxy_engine.specs.EngineModel.{LinkModel, no_link, keeps_answer};
 ghost use Rattle.proxy_engine.specs.Reading.{places_with_flag, link_has_failed, link_end_at};
 ghost use Rattle.proxy_engine.specs.Room.{LinkHasSpare, most_bytes_of_read};
-ghost use Rattle.proxy_engine.specs.Pairing.{owners_of};
+ghost use Rattle.proxy_engine.specs.Pairing.{owner_of, owners_of};
 ghost use Rattle.proxy_engine.specs.State.{RelatesLists, LinkRepresents, IsFirstFoundLink, link_load};
 ghost use Rattle.proxy_engine.specs.Exhausted.{LookStoppedForMemory};
 
 use crate::endpoints::ends::Link;
 use crate::endpoints::marked_ends::MarkedEnds;
-use crate::endpoints::numbers::LinkPlace;
+use crate::endpoints::numbers::{ConnectionPlace, LinkPlace};
 use crate::readable_ends;
 use crate::work::End;
 use std::alloc::{AllocError, Global};
@@ -27,6 +27,16 @@ impl MarkedEnds<Link> {
         match self.get(j) {
             Some(link) => readable_ends::answers(link),
             None => false,
+        }
+    }
+
+    /// The place of the connection whose request is open on the link at a place.
+    pub(crate) fn owner_at(&self, j: LinkPlace) -> Option<ConnectionPlace>
+        ensures { result ≡ owner_of (slice_index_or self.now.items j None) }
+    {
+        match self.get(j) {
+            Some(link) => Some(link.connection),
+            None => None,
         }
     }
 

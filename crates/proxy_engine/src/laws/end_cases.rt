@@ -7,6 +7,7 @@ ghost use Rattle.hx_framing.specs.declared.frame_fault.FrameFault.TheVariants as
 ghost use Rattle.hx_framing.specs.declared.messages.Request.{Request};
 ghost use Rattle.hx_status.specs.declared.cause.Cause.TheVariants as cause;
 ghost use Rattle.hx_status.specs.declared.cause.FailKind.TheVariants as kinds;
+ghost use Rattle.hx_allow.specs.Matching.{over_line};
 ghost use Rattle.proxy_core.specs.declared.outcome.Outcome.TheVariants as outcomes;
 ghost use Rattle.proxy_engine.specs.Activities.{forwarded_or_waiting, has_exchange, link_place_of_activity};
 ghost use Rattle.proxy_engine.specs.Actions.{IsActionForNext, IsFaultOfFinishing, action_of_fault};
@@ -14,12 +15,13 @@ ghost use Rattle.proxy_engine.specs.Actions.{acts_due_after_outcome, is_whole_an
 ghost use Rattle.proxy_engine.specs.ConnectionNumbers.{connection_number, connection_place, link_number, link_place};
 ghost use Rattle.proxy_engine.specs.Due.{Breaks, Gives};
 ghost use Rattle.proxy_engine.specs.EndCases.{kept_client, kept_link, model_with_the_third_closed};
-ghost use Rattle.proxy_engine.specs.EndCases.{model_with_three_clients, model_with_two_links};
+ghost use Rattle.proxy_engine.specs.EndCases.{model_with_three_clients, model_with_two_lines, model_with_two_links};
 ghost use Rattle.proxy_engine.specs.EndCases.{model_without_the_third};
-ghost use Rattle.proxy_engine.specs.EngineModel.{connection_at, link_at, model_after_happening};
+ghost use Rattle.proxy_engine.specs.Acts.{with_dropped};
+ghost use Rattle.proxy_engine.specs.EngineModel.{connection_at, link_at, model_after_happening, with_link};
 ghost use Rattle.proxy_engine.specs.Exhausted.{IsKeptWithFlag, connection_unknown, link_unknown, lookahead_is_unknown};
 ghost use Rattle.proxy_engine.specs.Happenings.{Ends, Fails, Shuts, happening_takes_memory, Accepts, Sends, Hears};
-ghost use Rattle.proxy_engine.specs.Happenings.{Leaves};
+ghost use Rattle.proxy_engine.specs.Happenings.{Leaves, Retires};
 ghost use Rattle.proxy_engine.specs.Held.{connection_is_open, connection_may_send, flagged_places, has_flag};
 ghost use Rattle.proxy_engine.specs.Held.{is_kept, link_failed, link_may_send};
 ghost use Rattle.proxy_engine.specs.Lookahead.{lookahead_after_input, lookahead_is_due, lookahead_may_be_due};
@@ -31,12 +33,14 @@ ghost use Rattle.proxy_engine.specs.ModelCases.{model_with_dropped_link, model_w
 ghost use Rattle.proxy_engine.specs.Pairing.{activities_after, activity_at, activity_of, owner_at, owner_of};
 ghost use Rattle.proxy_engine.specs.Pairing.{owners_after};
 ghost use Rattle.proxy_engine.specs.Reading.{connection_is_open_in_model, connection_may_send_request, end_may_send};
-ghost use Rattle.proxy_engine.specs.Reading.{failed_links, link_has_failed, next_connection_number};
+ghost use Rattle.proxy_engine.specs.Reading.{failed_links, line_of_link, link_has_failed, next_connection_number};
+ghost use Rattle.proxy_engine.specs.Reading.{origin_timeout_of_link};
 ghost use Rattle.proxy_engine.specs.Reading.{open_connection_count, places_with_flag, readable_ends_of};
 ghost use Rattle.proxy_engine.specs.Room.{most_bytes_of_read};
 ghost use Rattle.proxy_engine.specs.State.{connection_load, due_request_at, engine_load, link_load, link_result_at};
 ghost use Rattle.proxy_engine.specs.State.{engine_state};
-ghost use Rattle.proxy_engine.specs.State.{connection_is_free_at, is_gone_at, load_of_due_request, load_of_waiting};
+ghost use Rattle.proxy_engine.specs.State.{connection_is_free_at, is_gone_at, is_retired_at, load_of_due_request};
+ghost use Rattle.proxy_engine.specs.State.{load_of_waiting};
 ghost use Rattle.proxy_engine.specs.declared.endpoints.activities.Activity.TheVariants.{Forwarded, Free, Waiting};
 ghost use Rattle.proxy_engine.specs.declared.endpoints.lookahead.Lookahead.{Lookahead};
 ghost use Rattle.proxy_engine.specs.declared.endpoints.lookahead.Lookahead.TheVariants.{Unknown, Quiet, Due};
@@ -57,6 +61,21 @@ pub fn worked_numbers()
     ensures next_of_none { next_connection_number empty_model ≡ Some 1 }
     ensures next_of_three { next_connection_number model_with_three_clients ≡ Some 4 }
     ensures read { most_bytes_of_read ≡ 4096 }
+{}
+
+/// Over which line the request of a link went forward, and the seconds that this line gives its origin.
+pub fn worked_lines_of_links()
+    ensures first { line_of_link model_with_two_lines 5 ≡ Some 2 }
+    ensures second { line_of_link model_with_two_lines 6 ≡ Some 1 }
+    ensures before_the_first { line_of_link model_with_two_lines 4 ≡ None }
+    ensures behind_the_last { line_of_link model_with_two_lines 7 ≡ None }
+    ensures dropped { line_of_link (with_link model_with_two_lines 0 with_dropped) 5 ≡ None }
+    ensures of_a_failed_one { line_of_link (model_after_happening model_with_two_lines (Fails 5 kinds.TimedOut)) 5
+        ≡ Some 2 }
+    ensures seconds { origin_timeout_of_link model_with_two_lines 5 ≡ Some 7 }
+    ensures no_seconds { origin_timeout_of_link model_with_two_lines 6 ≡ None }
+    ensures of_none { origin_timeout_of_link model_with_two_lines 4 ≡ None }
+    ensures of_a_dropped_one { origin_timeout_of_link (with_link model_with_two_lines 0 with_dropped) 5 ≡ None }
 {}
 
 /// From whom bytes may come: from links that aren't dropped, failed or shut, and from clients that are open, have no
@@ -180,6 +199,9 @@ pub fn worked_marks()
     ensures is_gone { is_gone_at (Some (kept_client [] Quiet true Free)) ≡ Some true }
     ensures is_there { is_gone_at (Some (kept_client [] Quiet false Free)) ≡ Some false }
     ensures is_over { is_gone_at None ≡ None }
+    ensures is_to_end { is_retired_at (Some (record (kept_client [] Quiet false Free) { retired = true })) ≡ true }
+    ensures goes_on { is_retired_at (Some (kept_client [] Quiet false Free)) ≡ false }
+    ensures who_is_over_is_not_to_end { is_retired_at None ≡ false }
     ensures unknown_client { connection_unknown (kept_client [] Unknown false Free) ≡ true }
     ensures known_link { link_unknown (kept_link Quiet None false) ≡ false }
 {}
@@ -203,8 +225,8 @@ pub fn worked_loads()
     ensures of_none { map load_of_due_request (None ∷ Some next.More ∷ Some (next.Refused frame.Head) ∷ Some next.End
         ∷ []) ≡ 0 ∷ 0 ∷ 0 ∷ 0 ∷ [] }
     ensures of_waiting { map load_of_waiting (Free ∷ Forwarded 2 ∷ Waiting ∷ []) ≡ 0 ∷ 0 ∷ 2 ∷ [] }
-    ensures after_outcomes { map acts_due_after_outcome (outcomes.Forward 1 [] ∷ outcomes.Waits 1 ∷ outcomes.Ended
-        ∷ []) ≡ 1 ∷ 2 ∷ 0 ∷ [] }
+    ensures after_outcomes { map acts_due_after_outcome (outcomes.Forward (over_line 1) [] ∷ outcomes.Waits 1
+        ∷ outcomes.Ended ∷ []) ≡ 1 ∷ 2 ∷ 0 ∷ [] }
 {}
 
 /// What is done where something is due: a cut stream is closed without an answer, any other fault is refused; only what
@@ -219,7 +241,7 @@ pub fn worked_actions()
     ensures continues { (w : Action) → IsActionForNext next.NeedsContinue w → w ≡ action.Continue }
     ensures ended { (w : Action) → IsActionForNext next.End w → w ≡ action.Close }
     ensures asks { IsActionForNext (next.Message request_of_a) action.Close → ⊥ }
-    ensures needs { map outcome_needs_link (outcomes.Forward 1 [] ∷ outcomes.Waits 1 ∷ outcomes.Ended ∷ [])
+    ensures needs { map outcome_needs_link (outcomes.Forward (over_line 1) [] ∷ outcomes.Waits 1 ∷ outcomes.Ended ∷ [])
         ≡ true ∷ false ∷ false ∷ [] }
     ensures whole { is_whole_answer (Gives answer_200) ≡ true }
     ensures broken { is_whole_answer (Breaks kinds.Closed) ≡ false }
@@ -244,15 +266,16 @@ pub fn worked_activities()
     ensures dropped { owner_of None ≡ None }
     ensures owner_there { owner_at (Some 4 ∷ []) 0 ≡ Some 4 }
     ensures owner_beyond { owner_at (Some 4 ∷ []) 1 ≡ None }
-    ensures forward { activities_after 1 7 (outcomes.Forward 1 []) (Waiting ∷ Free ∷ []) ≡ Waiting ∷ Forwarded 7 ∷ [] }
+    ensures forward { activities_after 1 7 (outcomes.Forward (over_line 1) []) (Waiting ∷ Free ∷ [])
+        ≡ Waiting ∷ Forwarded 7 ∷ [] }
     ensures waits { activities_after 0 7 (outcomes.Waits 1) (Free ∷ Free ∷ []) ≡ Waiting ∷ Free ∷ [] }
     ensures ended { activities_after 0 7 outcomes.Ended (Waiting ∷ []) ≡ Waiting ∷ [] }
-    ensures opens { owners_after 3 (outcomes.Forward 1 []) (Some 1 ∷ []) ≡ Some 1 ∷ Some 3 ∷ [] }
+    ensures opens { owners_after 3 (outcomes.Forward (over_line 1) []) (Some 1 ∷ []) ≡ Some 1 ∷ Some 3 ∷ [] }
     ensures opens_none { owners_after 3 (outcomes.Waits 1) (Some 1 ∷ []) ≡ Some 1 ∷ [] }
     ensures takes_memory { map happening_takes_memory (Accepts 1 ∷ Sends 1 [] ∷ Hears 1 [] ∷ [])
         ≡ true ∷ true ∷ true ∷ [] }
-    ensures takes_none { map happening_takes_memory (Ends 1 ∷ Leaves 1 ∷ Shuts 1 ∷ Fails 1 kinds.Closed ∷ [])
-        ≡ false ∷ false ∷ false ∷ false ∷ [] }
+    ensures takes_none { map happening_takes_memory (Ends 1 ∷ Leaves 1 ∷ Retires 1 ∷ Shuts 1 ∷ Fails 1 kinds.Closed
+        ∷ []) ≡ false ∷ false ∷ false ∷ false ∷ false ∷ [] }
     ensures none_is_kept { IsKeptWithFlag (λ b. b) None → ⊥ }
     ensures without_flag { IsKeptWithFlag (λ b. b) (Some false) → ⊥ }
 {}

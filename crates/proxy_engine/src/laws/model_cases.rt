@@ -6,9 +6,10 @@ ghost use Rattle.hx_framing.specs.declared.messages.Next.TheVariants as next;
 ghost use Rattle.hx_framing.specs.declared.frame_fault.FrameFault.TheVariants as frame;
 ghost use Rattle.hx_status.specs.declared.cause.FailKind.TheVariants as kinds;
 ghost use Rattle.hx_allow.specs.Addresses.{address_of_numbers};
+ghost use Rattle.hx_allow.specs.Matching.{over_line};
 ghost use Rattle.proxy_core.specs.declared.outcome.Outcome.TheVariants as outcomes;
 ghost use Rattle.proxy_script.specs.declared.effect_list.Effect.TheVariants as effects;
-ghost use Rattle.proxy_engine.specs.Happenings.{Accepts, Sends, Hears, Ends, Leaves, Shuts, Fails};
+ghost use Rattle.proxy_engine.specs.Happenings.{Accepts, Sends, Hears, Ends, Leaves, Retires, Shuts, Fails};
 ghost use Rattle.proxy_engine.specs.EngineModel.{connection_at, happening_fault, model_after_happening};
 ghost use Rattle.proxy_engine.specs.EngineModel.{happening_is_kept, link_at};
 ghost use Rattle.proxy_engine.specs.Due.{Breaks, Gives, Abandons, Finishes, Serves, Wakes, link_result_of};
@@ -35,6 +36,8 @@ pub fn worked_faults_of_happenings()
     ensures sends_2 { happening_fault model_with_connection (Sends 2 []) ≡ Some NotAccepted }
     ensures ends { happening_fault model_with_connection (Ends 2) ≡ Some NotAccepted }
     ensures leaves { happening_fault model_with_connection (Leaves 2) ≡ Some NotAccepted }
+    ensures retires { happening_fault model_with_connection (Retires 1) ≡ None }
+    ensures retires_2 { happening_fault model_with_connection (Retires 2) ≡ Some NotAccepted }
     ensures hears { happening_fault model_with_link (Hears 5 []) ≡ None }
     ensures hears_4 { happening_fault model_with_link (Hears 4 []) ≡ Some WrongNumber }
     ensures hears_6 { happening_fault model_with_link (Hears 6 []) ≡ Some WrongNumber }
@@ -55,6 +58,9 @@ pub fn worked_happenings()
         (model_after_happening (model_after_happening model_after_two_sends (Ends 1))
         (Sends 1 (codes "c"))) 0).progress.stream ≡ codes "ab" }
     ensures gone { (connection_at (model_after_happening model_after_two_sends (Leaves 1)) 0).gone ≡ true }
+    ensures to_end { (connection_at (model_after_happening model_after_two_sends (Retires 1)) 0).retired ≡ true }
+    ensures not_to_end { (connection_at model_after_two_sends 0).retired ≡ false }
+    ensures is_there { (connection_at (model_after_happening model_after_two_sends (Retires 1)) 0).gone ≡ false }
     ensures not_closed { (connection_at (model_after_happening model_after_two_sends (Leaves 1)) 0).closed ≡ false }
     ensures heard { (link_at (model_after_happening model_with_link (Hears 5 (codes "x"))) 0).progress.stream
         ≡ codes "x" }
@@ -78,6 +84,7 @@ pub fn worked_happenings()
     ensures keeps_an_answer { happening_is_kept model_with_link (Hears 5 []) ≡ true }
     ensures keeps_none_of_a_dropped_link { happening_is_kept model_with_dropped_link (Hears 5 []) ≡ false }
     ensures a_mark_takes_none { happening_is_kept model_with_connection (Leaves 1) ≡ false }
+    ensures nor_does_an_end { happening_is_kept model_with_connection (Retires 1) ≡ false }
 {}
 
 /// What is due: a fault of an answer is its failure, an answer or a fault counts before a failure that came behind it,
@@ -108,11 +115,11 @@ pub fn worked_due_acts()
 /// A request goes forward to the origin of the line that its outcome names.
 #[tactic(auto, unfolding(hx_allow::specs::Addresses::address_of, hx_target::specs::Hosts::short_number))]
 pub fn worked_addresses_of_outcomes()
-    ensures first { outcome_by_table table_of_two_origins (outcomes.Forward 1 (codes "x"))
+    ensures first { outcome_by_table table_of_two_origins (outcomes.Forward (over_line 1) (codes "x"))
         ≡ Forwards (address_of_numbers 127 0 0 1 8081) (codes "x") }
-    ensures second { outcome_by_table table_of_two_origins (outcomes.Forward 2 (codes "x"))
+    ensures second { outcome_by_table table_of_two_origins (outcomes.Forward (over_line 2) (codes "x"))
         ≡ Forwards (address_of_numbers 10 0 0 2 80) (codes "x") }
-    ensures no_line { origin_address_of_line table_of_two_origins 3 ≡ address_of_numbers 0 0 0 0 0 }
+    ensures no_line { origin_address_of_line table_of_two_origins (over_line 3) ≡ address_of_numbers 0 0 0 0 0 }
 {}
 
 /// What acts tell: a reply to its connection, with a close behind it where it says so; a forward on the next link;

@@ -3,7 +3,7 @@ ghost use Rattle.proxy_engine.specs.OneRun.{RunHasNoOtherEffects, RunHasNoOtherA
 ghost use Rattle.proxy_engine.specs.OneRun.{RunHasNoUntakenHappening, RunHasNoMoreItems};
 ghost use Rattle.proxy_engine.specs.OneRun.{RunHasNoItemWithoutStep};
 
-use hx_hop::a_request_is_asked_in_one_way;
+use hx_hop::laws::a_request_is_asked_in_one_way;
 
 /// No run has effects that its step didn't tell, one more, one less or other bytes, nor an act that wasn't the first
 /// due, nor a step of the core at another moment than its act's, nor a happening that the engine doesn't take, nor more

@@ -26,7 +26,7 @@ use crate::endpoints::marks;
 use crate::endpoints::numbers::{ConnectionPlace, LinkPlace};
 use crate::endpoints::open_ends::Ends;
 use crate::endpoints::peeked::Peeked;
-use hx_allow::Config;
+use hx_allow::{Config, Route};
 use hx_fields::Bytes;
 use hx_framing::ResponseReader;
 use proxy_core::{CoreFault, Outcome};
@@ -123,10 +123,10 @@ fn open_link(
 }
 
 /// Where the requests of a line go. Each comes by a line that has an origin.
-fn origin_address(config: &Config, line: u16) -> SocketAddrV4
+fn origin_address(config: &Config, line: Route) -> SocketAddrV4
     ensures { result ≡ origin_address_of_line config.now line }
 {
-    match config.origin_address(line) {
+    match config.origin_address(line.number) {
         Some(address) => address,
         None => SocketAddrV4::new(Ipv4Addr::new(0, 0, 0, 0), 0),
     }

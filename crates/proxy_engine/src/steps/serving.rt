@@ -5,13 +5,14 @@ ghost use Rattle.hx_fields.specs.declared.limits.TheConstants.{END_OF_TIME};
 ghost use Rattle.hx_framing.specs.declared.messages.Request.{Request};
 ghost use Rattle.hx_framing.specs.declared.messages.Next.{Next};
 ghost use Rattle.hx_framing.specs.declared.messages.Next.TheVariants as next;
-ghost use Rattle.proxy_engine.specs.Admitted.{RequestIsAdmittedOrRefused};
+ghost use Rattle.proxy_engine.specs.Admitted.{asked_on_connection, RequestIsHandedOver};
 ghost use Rattle.hx_hop.specs.Moments.{date_text_of};
 ghost use Rattle.proxy_core.specs.Replies.{refusal_reply_text};
 ghost use Rattle.proxy_core.specs.State.{State as CoreState};
 ghost use Rattle.proxy_engine.specs.EngineModel.{EngineModel};
 ghost use Rattle.proxy_engine.specs.Due.{Serves, IsDueFirst};
 ghost use Rattle.proxy_engine.specs.State.{EngineRepresents, engine_state, due_request_at, connection_is_free_at};
+ghost use Rattle.proxy_engine.specs.State.{is_retired_at};
 ghost use Rattle.proxy_engine.specs.State.{connection_load, load_of_state, EngineDoesAct};
 ghost use Rattle.proxy_engine.specs.State.{NoActWasDoneSince};
 ghost use Rattle.proxy_engine.specs.Pairing.{activities_of};
@@ -116,6 +117,14 @@ fn shut(
     Ok(effects)
 }
 
+/// A request of a connection that is to end, or isn't: its answer closes one that is.
+fn asked_on_connection(mut asked: Asked, retired: bool) -> Asked
+    ensures { result ≡ asked_on_connection retired asked }
+{
+    asked.close = asked.close || retired;
+    asked
+}
+
 impl<S: Shelf> Engine<S> {
     /// A request arrives at the core, where a link number is left for it. All that can fail comes before the core's
     /// step, or is that step.
@@ -129,8 +138,8 @@ impl<S: Shelf> Engine<S> {
         requires due { is_some (due_request_at (slice_index_or self.old.connections i None)) ≡ true }
         requires left { self.old.first + length self.old.links < 2 ^ 64 }
         requires early { now < END_OF_TIME }
-        ensures ok { IfOk result (λ effects. (s : EngineModel) → (r : Request) → RequestIsAdmittedOrRefused r
-            (Ok asked.now)
+        ensures ok { IfOk result (λ effects. (s : EngineModel) → (r : Request)
+            → RequestIsHandedOver (is_retired_at (slice_index_or self.old.connections i None)) r asked.now
             → due_request_at (slice_index_or self.old.connections i None) ≡ Some (next.Message r)
             → EngineRepresents self.old s → EngineDoesAct s now (Serves i (next.Message r)) effects.items self.new) }
         ensures less { OnOk result ((r : Request) → due_request_at (slice_index_or self.old.connections i None)
@@ -163,16 +172,16 @@ impl<S: Shelf> Engine<S> {
     ) -> Result<Vec<Effect>, EngineFault>
         requires due { is_some (due_request_at (slice_index_or self.old.connections i None)) ≡ true }
         requires early { now < END_OF_TIME }
-        ensures ok { IfOk result (λ effects. (s : EngineModel) → (r : Request) → RequestIsAdmittedOrRefused r
-            (Ok asked.now)
+        ensures ok { IfOk result (λ effects. (s : EngineModel) → (r : Request)
+            → RequestIsHandedOver (is_retired_at (slice_index_or self.old.connections i None)) r asked.now
             → due_request_at (slice_index_or self.old.connections i None) ≡ Some (next.Message r)
             → EngineRepresents self.old s → EngineDoesAct s now (Serves i (next.Message r)) effects.items self.new) }
         ensures less { OnOk result ((r : Request) → due_request_at (slice_index_or self.old.connections i None)
             ≡ Some (next.Message r)
             → load_of_state self.new < load_of_state self.old) }
         ensures exhausted { result ≡ Err EngineFault.OutOfMemory → self.old.first + length self.old.links < 2 ^ 64 }
-        ensures fault { IfErr result (λ fault. (s : EngineModel) → (r : Request) → RequestIsAdmittedOrRefused r
-            (Ok asked.now)
+        ensures fault { IfErr result (λ fault. (s : EngineModel) → (r : Request)
+            → RequestIsHandedOver (is_retired_at (slice_index_or self.old.connections i None)) r asked.now
             → IsDueFirst s (Some (Serves i (next.Message r)))
             → EngineRepresents self.old s → NoActWasDoneSince s fault) }
         ensures err { OnErr result (self.new ≡ self.old) }
@@ -213,7 +222,11 @@ impl<S: Shelf> Engine<S> {
                 Ok(effects) => Ok(effects),
                 Err(_) => Err(EngineFault::OutOfMemory),
             },
-            Action::Arrive(asked) => self.arrive(alloc, now, i, &asked),
+            Action::Arrive(asked) => {
+                let retired = self.ends.connections.is_retired(i);
+                let asked = asked_on_connection(asked, retired);
+                self.arrive(alloc, now, i, &asked)
+            }
             Action::Refuse(why, head) => match refuse(
                 &mut self.ends.connections,
                 alloc,

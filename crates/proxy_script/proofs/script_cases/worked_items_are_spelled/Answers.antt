@@ -34,6 +34,10 @@ pub returns-clause-leaves : goal.returns-clause-leaves
 unfolding digits
 returns-clause-leaves c = refl
 
+pub returns-clause-retires : goal.returns-clause-retires
+unfolding digits
+returns-clause-retires c = refl
+
 pub returns-clause-shuts : goal.returns-clause-shuts
 unfolding digits
 returns-clause-shuts c = refl

@@ -1,5 +1,5 @@
-use Rattle.std.proofs.Common.{rules, false, sym, subst, ◌≡◌, ◌∷◌, [], ◌++◌, IfOk, OnOk}
-use Rattle.hx_allow.specs.Matching.{policy_of}
+use Rattle.std.proofs.Common.{rules, false, ◌≡◌, ◌∙◌, ◌∷◌, [], ◌++◌, IfOk, OnOk}
+use Rattle.hx_allow.specs.Matching.{policy_of, vary_of}
 use Rattle.hx_reuse.specs.Rules.{decision_of}
 use Rattle.hx_reuse.specs.declared.decision.Decision.TheVariants as decision
 use Rattle.proxy_core.specs.Allowing.{exchanges_to_wait_for}
@@ -10,26 +10,22 @@ use Rattle.proxy_core.specs.declared.outcome.Outcome.{Outcome}
 use Rattle.proxy_core.specs.Leading.{leader_if_awaited}
 use Rattle.proxy_core.specs.Validating.{condition_about_serial}
 use Rattle.proxy_core.specs.Outcomes.{outcome_of_waiting_or_forwarding}
-use Rattle.proxy_core.specs.State.{State, NoSerialIsHeldFrom, exchange_with_leader}
-use Rattle.proxy_core.proofs.Held.{NoneFrom-promoted, NoneFrom-cut}
+use Rattle.proxy_core.specs.State.{State, exchange_with_leader}
 use Rattle.proxy_core.proofs.Openings.{both, opens_by}
 use Rattle.proxy_core.proofs.core_state.Core.serve_allowed.Goals as goal
-
-pub invariant_of-self : goal.invariant_of-self
-invariant_of-self g c =
-    subst (NoSerialIsHeldFrom c.self.inside.next) (sym c.cut.ensures.entries)
-    (NoneFrom-cut c.self.inside.next _ _ (NoneFrom-promoted c.self.inside.next _ _ _ c.promote.ensures.entries c.self.invariant))
 
 pub returns-clause-after : goal.returns-clause-after
 returns-clause-after g c =
     let s : State = c.args.self.now in
     let rule = c.in-Forward.rule in
     let named = c.in-Forward.named in
-    let x : Exchange = record { id = c.args.id; asked = c.in_ok-copy-in-Forward.field-0; line = c.args.line; rule = rule; named = named; request_time = c.args.now; condition = c.in_ok-condition_about_serial-in-Forward.field-0; overtaken = false; no_store = c.has_no_store.result; stage = Forwarded } in
+    let x : Exchange = record { id = c.args.id; asked = c.in_ok-copy-in-Forward.field-0; line = c.args.line; vary = c.in_ok-copy_of-in-Forward.field-0; rule = rule; named = named; request_time = c.args.now; condition = c.in_ok-condition_about_serial-in-Forward.field-0; overtaken = false; no_store = c.has_no_store.result; stage = Forwarded } in
     let outcome : IfOk c.wait_or_forward.result (λ (o : Outcome). o ≡ outcome_of_waiting_or_forwarding s.table x.line x.asked x.condition (leader_if_awaited c.policy-policy.result x.asked (exchanges_to_wait_for s.table x.line x.asked s.exchanges) c.in_ok-awaited-in-Forward.awaited)) = c.wait_or_forward.ensures.outcome in
     let leaves : OnOk c.wait_or_forward.result (c.wait_or_forward.new.self ≡ record s { exchanges = s.exchanges ++ exchange_with_leader (leader_if_awaited c.policy-policy.result x.asked (exchanges_to_wait_for s.table x.line x.asked s.exchanges) c.in_ok-awaited-in-Forward.awaited) x ∷ [] }) = c.wait_or_forward.ensures.after in
     let decided : decision_of (policy_of s.table.lines c.args.line) s.entries c.args.asked.now c.args.now ≡ decision.Forward rule named = search rules in
+    let told : c.vary.result.now ≡ vary_of s.table.lines c.args.line.number = search rules in
+    let names : x.vary ≡ vary_of s.table.lines c.args.line.number = c.in_ok-copy_of-in-Forward.ensures ∙ told in
     let asks : x.condition ≡ condition_about_serial s.entries named = search rules in
     both s (Arrive c.args.now c.args.id c.args.asked.now) c.wait_or_forward.new.self _ _ c.wait_or_forward.result outcome leaves
-    (opens_by s c.args.now c.args.id c.args.line c.args.asked.now x.asked rule named (leader_if_awaited c.policy-policy.result x.asked (exchanges_to_wait_for s.table x.line x.asked s.exchanges) c.in_ok-awaited-in-Forward.awaited) x.condition x.no_store c.requires.line decided
-    c.in_ok-copy-in-Forward.ensures asks c.has_no_store.ensures)
+    (opens_by s c.args.now c.args.id c.args.line c.args.asked.now x.asked rule named (leader_if_awaited c.policy-policy.result x.asked (exchanges_to_wait_for s.table x.line x.asked s.exchanges) c.in_ok-awaited-in-Forward.awaited) x.condition x.no_store x.vary c.requires.line decided
+    c.in_ok-copy-in-Forward.ensures asks c.has_no_store.ensures names)

@@ -4,7 +4,7 @@ use Rattle.std.specs.Fmt.{digits}
 use Rattle.httpdate.proofs.OnLiterals.{httpdate_on_literals}
 use Rattle.hx_hop.specs.Forwarding.{forwarded_of}
 use Rattle.hx_hop.specs.Moments.{part_holding_day}
-use Rattle.hx_allow.specs.Matching.{verdict_of, verdict_of_request, policy_of, matches_line}
+use Rattle.hx_allow.specs.Matching.{verdict_of, verdict_of_request, policy_of, matches_line, over_line}
 use Rattle.hx_reuse.specs.ErrorRules.{error_rule_on}
 use Rattle.hx_reuse.specs.Rules.{decision_of, reuse_rule_of}
 use Rattle.hx_storable.specs.Rules.{storage_rule_of}
@@ -37,11 +37,11 @@ returns-clause-waits_behind_its_answer c = refuse (Arrive 100 1 get_a ∷ []) (A
 
 pub returns-clause-goes_again_for_nothing : goal.returns-clause-goes_again_for_nothing
 unfolding digits httpdate_on_literals matches_line verdict_of verdict_of_request policy_of decision_of reuse_rule_of storage_rule_of forwarded_of part_holding_day freshened_of error_rule_on
-returns-clause-goes_again_for_nothing c = refuse (Arrive 100 1 get_a ∷ []) (Answer 101 1 fresh_for_a_minute) (Forward 3 (forward_text edge_table 3 get_a None)) outcome_goes_forward refl refl refl
+returns-clause-goes_again_for_nothing c = refuse (Arrive 100 1 get_a ∷ []) (Answer 101 1 fresh_for_a_minute) (Forward (over_line 3) (forward_text edge_table (over_line 3) get_a None)) outcome_goes_forward refl refl refl
 
 pub returns-clause-goes_a_third_time : goal.returns-clause-goes_a_third_time
 unfolding digits httpdate_on_literals matches_line verdict_of verdict_of_request policy_of decision_of reuse_rule_of storage_rule_of forwarded_of part_holding_day freshened_of error_rule_on
-returns-clause-goes_a_third_time c = refuse events_with_second_forward (Answer 202 2 (response_304 (etag_field (codes "\"w\"") ∷ []))) (Forward 3 (forward_text edge_table 3 get_a None)) outcome_goes_forward refl refl refl
+returns-clause-goes_a_third_time c = refuse events_with_second_forward (Answer 202 2 (response_304 (etag_field (codes "\"w\"") ∷ []))) (Forward (over_line 3) (forward_text edge_table (over_line 3) get_a None)) outcome_goes_forward refl refl refl
 
 pub returns-clause-ends_at_a_failure : goal.returns-clause-ends_at_a_failure
 unfolding digits httpdate_on_literals matches_line verdict_of verdict_of_request policy_of decision_of reuse_rule_of storage_rule_of forwarded_of part_holding_day freshened_of error_rule_on
@@ -49,7 +49,7 @@ returns-clause-ends_at_a_failure c = refuse (Arrive 100 1 get_a ∷ []) (Fail 10
 
 pub returns-clause-goes_again_at_a_failure : goal.returns-clause-goes_again_at_a_failure
 unfolding digits httpdate_on_literals matches_line verdict_of verdict_of_request policy_of decision_of reuse_rule_of storage_rule_of forwarded_of part_holding_day freshened_of error_rule_on
-returns-clause-goes_again_at_a_failure c = refuse (Arrive 100 1 get_a ∷ []) (Fail 101 1 kinds.Refused) (Forward 3 (forward_text edge_table 3 get_a None)) outcome_goes_forward refl refl refl
+returns-clause-goes_again_at_a_failure c = refuse (Arrive 100 1 get_a ∷ []) (Fail 101 1 kinds.Refused) (Forward (over_line 3) (forward_text edge_table (over_line 3) get_a None)) outcome_goes_forward refl refl refl
 
 pub returns-clause-ends_at_its_wake : goal.returns-clause-ends_at_its_wake
 unfolding digits httpdate_on_literals matches_line verdict_of verdict_of_request policy_of decision_of reuse_rule_of storage_rule_of forwarded_of part_holding_day freshened_of error_rule_on

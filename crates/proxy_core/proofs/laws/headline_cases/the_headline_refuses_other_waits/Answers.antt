@@ -4,7 +4,7 @@ use Rattle.std.specs.Fmt.{digits}
 use Rattle.httpdate.proofs.OnLiterals.{httpdate_on_literals}
 use Rattle.hx_hop.specs.Forwarding.{forwarded_of}
 use Rattle.hx_hop.specs.Moments.{part_holding_day}
-use Rattle.hx_allow.specs.Matching.{verdict_of, verdict_of_request, policy_of, matches_line}
+use Rattle.hx_allow.specs.Matching.{verdict_of, verdict_of_request, policy_of, matches_line, over_line}
 use Rattle.hx_reuse.specs.ErrorRules.{error_rule_on}
 use Rattle.hx_reuse.specs.Rules.{decision_of, reuse_rule_of}
 use Rattle.hx_storable.specs.Rules.{storage_rule_of}
@@ -19,7 +19,7 @@ use Rattle.proxy_core.proofs.laws.headline_cases.the_headline_refuses_other_wait
 
 pub returns-clause-forward_beside_its_leader : goal.returns-clause-forward_beside_its_leader
 unfolding digits httpdate_on_literals matches_line verdict_of verdict_of_request policy_of decision_of reuse_rule_of storage_rule_of forwarded_of part_holding_day freshened_of error_rule_on
-returns-clause-forward_beside_its_leader c = refuse (Arrive 100 1 get_a ∷ []) (Arrive 100 2 get_a) (Forward 3 (forward_text edge_table 3 get_a None)) outcome_goes_forward refl refl refl
+returns-clause-forward_beside_its_leader c = refuse (Arrive 100 1 get_a ∷ []) (Arrive 100 2 get_a) (Forward (over_line 3) (forward_text edge_table (over_line 3) get_a None)) outcome_goes_forward refl refl refl
 
 pub returns-clause-for_another_key : goal.returns-clause-for_another_key
 unfolding digits httpdate_on_literals matches_line verdict_of verdict_of_request policy_of decision_of reuse_rule_of storage_rule_of forwarded_of part_holding_day freshened_of error_rule_on
@@ -47,4 +47,4 @@ returns-clause-a_second_time c = refuse events_before_a_wake (Wake 102 2) (Waits
 
 pub returns-clause-behind_its_wake : goal.returns-clause-behind_its_wake
 unfolding digits httpdate_on_literals matches_line verdict_of verdict_of_request policy_of decision_of reuse_rule_of storage_rule_of forwarded_of part_holding_day freshened_of error_rule_on
-returns-clause-behind_its_wake c = refuse (Wake 102 2 ∷ events_before_a_wake) (Arrive 103 3 get_a) (Forward 3 (forward_text edge_table 3 get_a None)) outcome_goes_forward refl refl refl
+returns-clause-behind_its_wake c = refuse (Wake 102 2 ∷ events_before_a_wake) (Arrive 103 3 get_a) (Forward (over_line 3) (forward_text edge_table (over_line 3) get_a None)) outcome_goes_forward refl refl refl

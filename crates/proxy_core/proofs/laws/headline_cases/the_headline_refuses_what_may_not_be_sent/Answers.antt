@@ -5,7 +5,7 @@ use Rattle.httpdate.proofs.OnLiterals.{httpdate_on_literals}
 use Rattle.hx_policy.specs.Policies.{plain}
 use Rattle.hx_hop.specs.Forwarding.{forwarded_of}
 use Rattle.hx_hop.specs.Moments.{part_holding_day}
-use Rattle.hx_allow.specs.Matching.{verdict_of, verdict_of_request, policy_of, matches_line}
+use Rattle.hx_allow.specs.Matching.{verdict_of, verdict_of_request, policy_of, matches_line, over_line}
 use Rattle.hx_reuse.specs.ErrorRules.{error_rule_on}
 use Rattle.hx_reuse.specs.Rules.{decision_of, reuse_rule_of}
 use Rattle.hx_storable.specs.Rules.{storage_rule_of}
@@ -71,7 +71,7 @@ returns-clause-in_place_of_an_error c = refuse events_that_revalidate (Answer 20
 
 pub returns-clause-fresh_is_asked_about : goal.returns-clause-fresh_is_asked_about
 unfolding digits httpdate_on_literals matches_line verdict_of verdict_of_request policy_of decision_of reuse_rule_of storage_rule_of forwarded_of part_holding_day freshened_of error_rule_on
-returns-clause-fresh_is_asked_about c = refuse events_that_store_a (Arrive 110 2 get_a) (Forward 3 (forward_text edge_table 3 get_a None)) outcome_goes_forward refl refl refl
+returns-clause-fresh_is_asked_about c = refuse events_that_store_a (Arrive 110 2 get_a) (Forward (over_line 3) (forward_text edge_table (over_line 3) get_a None)) outcome_goes_forward refl refl refl
 
 pub returns-clause-error_is_passed_on : goal.returns-clause-error_is_passed_on
 unfolding digits httpdate_on_literals matches_line verdict_of verdict_of_request policy_of decision_of reuse_rule_of storage_rule_of forwarded_of part_holding_day freshened_of error_rule_on

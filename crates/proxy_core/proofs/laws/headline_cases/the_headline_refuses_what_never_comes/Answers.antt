@@ -4,7 +4,7 @@ use Rattle.std.specs.Fmt.{digits}
 use Rattle.httpdate.proofs.OnLiterals.{httpdate_on_literals}
 use Rattle.hx_hop.specs.Forwarding.{forwarded_of}
 use Rattle.hx_hop.specs.Moments.{part_holding_day}
-use Rattle.hx_allow.specs.Matching.{verdict_of, verdict_of_request, policy_of, matches_line}
+use Rattle.hx_allow.specs.Matching.{verdict_of, verdict_of_request, policy_of, matches_line, over_line}
 use Rattle.hx_reuse.specs.ErrorRules.{error_rule_on}
 use Rattle.hx_reuse.specs.Rules.{decision_of, reuse_rule_of}
 use Rattle.hx_storable.specs.Rules.{storage_rule_of}
@@ -20,7 +20,7 @@ use Rattle.proxy_core.proofs.laws.headline_cases.the_headline_refuses_what_never
 
 pub returns-clause-id_taken : goal.returns-clause-id_taken
 unfolding digits httpdate_on_literals matches_line verdict_of verdict_of_request policy_of decision_of reuse_rule_of storage_rule_of forwarded_of part_holding_day freshened_of error_rule_on
-returns-clause-id_taken c = never_comes (Arrive 100 1 get_a ∷ []) (Arrive 101 1 get_b) (Forward 3 (forward_text edge_table 3 get_b None)) IdTaken refl refl
+returns-clause-id_taken c = never_comes (Arrive 100 1 get_a ∷ []) (Arrive 101 1 get_b) (Forward (over_line 3) (forward_text edge_table (over_line 3) get_b None)) IdTaken refl refl
 
 pub returns-clause-answer_to_nobody : goal.returns-clause-answer_to_nobody
 unfolding digits httpdate_on_literals matches_line verdict_of verdict_of_request policy_of decision_of reuse_rule_of storage_rule_of forwarded_of part_holding_day freshened_of error_rule_on
@@ -40,11 +40,11 @@ returns-clause-failure_of_one_that_waits c = never_comes events_where_one_waits 
 
 pub returns-clause-released_while_its_leader_is_open : goal.returns-clause-released_while_its_leader_is_open
 unfolding digits httpdate_on_literals matches_line verdict_of verdict_of_request policy_of decision_of reuse_rule_of storage_rule_of forwarded_of part_holding_day freshened_of error_rule_on
-returns-clause-released_while_its_leader_is_open c = never_comes events_where_one_waits (Wake 101 2) (Forward 3 (forward_text edge_table 3 get_a None)) NotReady refl refl
+returns-clause-released_while_its_leader_is_open c = never_comes events_where_one_waits (Wake 101 2) (Forward (over_line 3) (forward_text edge_table (over_line 3) get_a None)) NotReady refl refl
 
 pub returns-clause-woken_at_its_origin : goal.returns-clause-woken_at_its_origin
 unfolding digits httpdate_on_literals matches_line verdict_of verdict_of_request policy_of decision_of reuse_rule_of storage_rule_of forwarded_of part_holding_day freshened_of error_rule_on
-returns-clause-woken_at_its_origin c = never_comes (Arrive 100 1 get_a ∷ []) (Wake 101 1) (Forward 3 (forward_text edge_table 3 get_a None)) NotReady refl refl
+returns-clause-woken_at_its_origin c = never_comes (Arrive 100 1 get_a ∷ []) (Wake 101 1) (Forward (over_line 3) (forward_text edge_table (over_line 3) get_a None)) NotReady refl refl
 
 pub returns-clause-gone_though_never_there : goal.returns-clause-gone_though_never_there
 unfolding digits httpdate_on_literals matches_line verdict_of verdict_of_request policy_of decision_of reuse_rule_of storage_rule_of forwarded_of part_holding_day freshened_of error_rule_on
@@ -52,4 +52,4 @@ returns-clause-gone_though_never_there c = never_comes [] (Abandon 1) Ended Unkn
 
 pub returns-clause-after_the_end_of_time : goal.returns-clause-after_the_end_of_time
 unfolding digits httpdate_on_literals matches_line verdict_of verdict_of_request policy_of decision_of reuse_rule_of storage_rule_of forwarded_of part_holding_day freshened_of error_rule_on
-returns-clause-after_the_end_of_time c = never_comes [] (Arrive 253402300800 1 get_a) (Forward 3 (forward_text edge_table 3 get_a None)) MomentTooLate refl refl
+returns-clause-after_the_end_of_time c = never_comes [] (Arrive 253402300800 1 get_a) (Forward (over_line 3) (forward_text edge_table (over_line 3) get_a None)) MomentTooLate refl refl

@@ -4,7 +4,7 @@ use Rattle.std.specs.Fmt.{digits}
 use Rattle.httpdate.proofs.OnLiterals.{httpdate_on_literals}
 use Rattle.hx_hop.specs.Forwarding.{forwarded_of}
 use Rattle.hx_hop.specs.Moments.{part_holding_day}
-use Rattle.hx_allow.specs.Matching.{verdict_of, verdict_of_request, policy_of, matches_line}
+use Rattle.hx_allow.specs.Matching.{verdict_of, verdict_of_request, policy_of, matches_line, over_line}
 use Rattle.hx_reuse.specs.ErrorRules.{error_rule_on}
 use Rattle.hx_reuse.specs.Rules.{decision_of, reuse_rule_of}
 use Rattle.hx_storable.specs.Rules.{storage_rule_of}
@@ -21,11 +21,11 @@ use Rattle.proxy_core.proofs.laws.headline_cases.the_headline_refuses_what_the_t
 
 pub returns-clause-forwarded : goal.returns-clause-forwarded
 unfolding digits httpdate_on_literals matches_line verdict_of verdict_of_request policy_of decision_of reuse_rule_of storage_rule_of forwarded_of part_holding_day freshened_of error_rule_on
-returns-clause-forwarded c = refuse [] (Arrive 100 1 get_admin) (Forward 1 (forward_text edge_table 1 get_admin None)) outcome_goes_forward refl refl refl
+returns-clause-forwarded c = refuse [] (Arrive 100 1 get_admin) (Forward (over_line 1) (forward_text edge_table (over_line 1) get_admin None)) outcome_goes_forward refl refl refl
 
 pub returns-clause-forwarded_by_another_line : goal.returns-clause-forwarded_by_another_line
 unfolding digits httpdate_on_literals matches_line verdict_of verdict_of_request policy_of decision_of reuse_rule_of storage_rule_of forwarded_of part_holding_day freshened_of error_rule_on
-returns-clause-forwarded_by_another_line c = refuse [] (Arrive 100 1 get_admin) (Forward 3 (forward_text edge_table 3 get_admin None)) outcome_goes_forward refl refl refl
+returns-clause-forwarded_by_another_line c = refuse [] (Arrive 100 1 get_admin) (Forward (over_line 3) (forward_text edge_table (over_line 3) get_admin None)) outcome_goes_forward refl refl refl
 
 pub returns-clause-sent_from_the_store : goal.returns-clause-sent_from_the_store
 unfolding digits httpdate_on_literals matches_line verdict_of verdict_of_request policy_of decision_of reuse_rule_of storage_rule_of forwarded_of part_holding_day freshened_of error_rule_on

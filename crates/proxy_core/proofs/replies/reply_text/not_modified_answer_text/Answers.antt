@@ -1,4 +1,4 @@
-use Rattle.std.proofs.Common.{◌≡◌, IfOk, List, [], None, subst, ℕ}
+use Rattle.std.proofs.Common.{◌≡◌, IfOk, List, [], None, subst}
 use Rattle.hx_fields.specs.declared.field_line.Field.{Field}
 use Rattle.hx_framing.specs.Text.{response_text}
 use Rattle.hx_hop.specs.declared.response_view.Answered.{Answered}

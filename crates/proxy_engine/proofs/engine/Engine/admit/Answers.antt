@@ -1,15 +1,20 @@
-use Rattle.std.proofs.Common.{◌≡◌, ℕ, sum_by, ◌+◌, ◌∙◌, ◌++◌, List, Option, length, sym, ap, subst, arith}
+use Rattle.std.proofs.Common.{◌≡◌, ℕ, Bool, sum_by, ◌+◌, ◌∙◌, ◌++◌, List, Option, length, sym, ap, subst, arith}
 use Rattle.proxy_script.specs.declared.effect_list.Effect.{Effect}
 use Rattle.hx_framing.specs.declared.messages.Next.TheVariants.{Message}
-use Rattle.proxy_core.specs.State.{State as CoreState}
+use Rattle.hx_hop.specs.declared.request_view.Asked.{Asked}
+use Rattle.proxy_core.specs.Replies.{is_head}
+use Rattle.proxy_core.specs.declared.event.Event.TheVariants.{Arrive}
+use Rattle.proxy_core.specs.State.{State as CoreState, StepIsAccepted}
 use Rattle.proxy_core.specs.declared.open.exchange.Exchange.{Exchange}
+use Rattle.proxy_engine.specs.Admitted.{asked_on_connection}
+use Rattle.proxy_engine.specs.EngineModel.{connection_at}
 use Rattle.proxy_engine.specs.Acts.{effects_of_outcome, outcome_by_table, model_after_outcome}
 use Rattle.proxy_engine.specs.State.{EngineRepresents, EngineDoesAct, engine_state, load_of_due_request, link_load}
 use Rattle.proxy_engine.specs.Due.{Serves}
 use Rattle.proxy_engine.specs.Pairing.{ConnectionsAndLinksArePaired, activities_of, owners_of}
 use Rattle.proxy_engine.specs.declared.endpoints.ends.Link.{Link}
 use Rattle.proxy_engine.proofs.Keeping.{inside}
-use Rattle.proxy_engine.proofs.Changes.{free_there, action_free}
+use Rattle.proxy_engine.proofs.Changes.{free_there, action_free, retired_in_model}
 use Rattle.proxy_engine.proofs.Pairs.{not_open, paired_arrived, arrival_refused}
 use Rattle.proxy_engine.proofs.Ending.{two_more}
 use Rattle.proxy_engine.proofs.Stepping.{arrived_done}
@@ -27,7 +32,12 @@ returns-clause-less g c = rw (← c.self.view_is) (
 
 pub returns-clause-ok : goal.returns-clause-ok
 returns-clause-ok g c = rw (← c.self.view_is) (
-    λ s r asked due h.
+    λ s r came due h.
+    let sent = came.0 in
+    let cs = c.self.inside.ends.connections.items in
+    let there = free_there _ (action_free _ (rw (← c.self.view_is) at c.requires.due)) in
+    let retired = retired_in_model cs c.self.inside.ends.links.items c.self.inside.core c.self.inside.ends.first_link s c.args.i (inside cs c.args.i there) there h in
+    let asked : c.args.asked.now ≡ asked_on_connection (connection_at s c.args.i).retired sent = came.2 ∙ ap (λ (b : Bool). asked_on_connection b sent) retired in
     let ks = c.reserve_one.new.self.items in
     let same = c.reserve_one.ensures.items in
     let core = c.self.inside.core in
@@ -35,9 +45,10 @@ returns-clause-ok g c = rw (← c.self.view_is) (
     let table_is : table ≡ core.table = c.config-config.ensures ∙ ap (λ (k : CoreState). k.table) (rw c.number_at-id.ensures at c.in-Ok.ensures.ok).leaves in
     let here = subst (λ (ls : List (Option Link)). EngineRepresents (engine_state c.self.inside.ends.connections.items ls core c.self.inside.ends.first_link) s) (sym same) h in
     subst (λ (n : ℕ). EngineDoesAct s c.args.now (Serves c.args.i (Message r)) c.carry_out.new.effects.items (engine_state c.carry_out.new.self.connections.items c.carry_out.new.self.links.items c.arrive.new.self n)) (sym c.carry_out.ensures.first)
-    (arrived_done s c.pass_next_at.new.connections.items c.carry_out.new.self.connections.items ks c.carry_out.new.self.links.items core c.arrive.new.self c.self.inside.ends.first_link c.args.now c.args.i r c.args.asked.now c.in-Ok.outcome
-    table c.is_head.result c.carry_out.new.effects.items asked (rw c.number_at-id.ensures at c.in-Ok.ensures.ok) (omega (arith, (rw (← c.self.view_is) at c.requires.left), ap length same))
-    table_is c.is_head.ensures
+    (arrived_done s c.pass_next_at.new.connections.items c.carry_out.new.self.connections.items ks c.carry_out.new.self.links.items core c.arrive.new.self c.self.inside.ends.first_link c.args.now c.args.i r sent c.in-Ok.outcome
+    table c.is_head.result c.carry_out.new.effects.items came.1
+    (subst (λ (a : Asked). StepIsAccepted core (Arrive c.args.now (c.args.i + 1) a) c.in-Ok.outcome c.arrive.new.self) asked (rw c.number_at-id.ensures at c.in-Ok.ensures.ok)) (omega (arith, (rw (← c.self.view_is) at c.requires.left), ap length same))
+    table_is (c.is_head.ensures ∙ ap is_head asked)
     (c.carry_out.ensures.effects ∙ ap (λ (b : List Effect). b ++ effects_of_outcome c.args.i (c.self.inside.ends.first_link + length ks) (outcome_by_table table c.in-Ok.outcome)) c.in_ok-effects.ensures.items)
     (λ t k most represents. subst (λ (n : ℕ). EngineRepresents (engine_state c.carry_out.new.self.connections.items c.carry_out.new.self.links.items k n) (model_after_outcome c.args.i c.is_head.result (outcome_by_table table c.in-Ok.outcome) t)) c.carry_out.ensures.first (c.carry_out.ensures.represents t k most represents))
     (c.pass_next_at.ensures.represents s (Message r) ks core c.self.inside.ends.first_link due here))

@@ -12,5 +12,5 @@ returns-then-is_exhausted-clause-fault g c = rw (← c.self.view_is) (
     let links = both_length LinkRepresents c.self.inside.ends.links.items s.links h.links in
     let first_is : c.self.inside.ends.first_link ≡ s.first = h.first in
     let many = leb-true (2 ^ 64) (c.self.inside.ends.first_link + length c.self.inside.ends.links.items) (sym c.is_exhausted.ensures ∙ c.if-is_exhausted.true) in
-    (Serves c.args.i (Message r), due, (c.args.asked.now, asked), omega (arith, many, links))
+    (Serves c.args.i (Message r), due, (asked.0, asked.1), omega (arith, many, links))
     )

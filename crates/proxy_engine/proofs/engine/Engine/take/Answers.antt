@@ -33,6 +33,11 @@ returns-in-Gone-clause-ok g c = on_ok c.disconnect_client.result _ _
     (λ k s h. subst (λ (x : Happening). EngineTakesHappening s (plain_happening x) (engine_state c.disconnect_client.new.connections.items c.self.inside.ends.links.items c.self.inside.core c.self.inside.ends.first_link)) (sym c.in-Gone.is) (k s c.self.inside.ends.links.items c.self.inside.core c.self.inside.ends.first_link (subst (λ (e : State). EngineRepresents e s) (sym c.self.view_is) h)))
     c.disconnect_client.ensures.ok
 
+pub returns-in-Retire-clause-ok : goal.returns-in-Retire-clause-ok
+returns-in-Retire-clause-ok g c = on_ok c.retire_client.result _ _
+    (λ k s h. subst (λ (x : Happening). EngineTakesHappening s (plain_happening x) (engine_state c.retire_client.new.connections.items c.self.inside.ends.links.items c.self.inside.core c.self.inside.ends.first_link)) (sym c.in-Retire.is) (k s c.self.inside.ends.links.items c.self.inside.core c.self.inside.ends.first_link (subst (λ (e : State). EngineRepresents e s) (sym c.self.view_is) h)))
+    c.retire_client.ensures.ok
+
 pub returns-in-Link-clause-ok : goal.returns-in-Link-clause-ok
 returns-in-Link-clause-ok g c = on_ok c.take_link_bytes.result _ _
     (λ k s h. subst (λ (x : Happening). EngineTakesHappening s (plain_happening x) (engine_state c.self.inside.ends.connections.items c.take_link_bytes.new.links.items c.self.inside.core c.self.inside.ends.first_link)) (sym c.in-Link.is) (k s c.self.inside.ends.connections.items c.self.inside.core (subst (λ (e : State). EngineRepresents e s) (sym c.self.view_is) h)))

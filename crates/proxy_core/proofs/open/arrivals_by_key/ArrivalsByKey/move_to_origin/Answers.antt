@@ -1,5 +1,4 @@
-use Rattle.std.proofs.Common.{◌≡◌, ℕ, Bool, true, false, not, ◌&&◌, ◌||◌, eqb, refl, sym, ◌∙◌, ap, ◌==◌}
-use Rattle.hx_target.specs.declared.keys.Key.{Key}
+use Rattle.std.proofs.Common.{◌≡◌, Bool, true, false, not, ◌&&◌, ◌||◌, eqb, refl, sym, ◌∙◌, ap}
 use Rattle.hx_target.specs.Keys.{same_key}
 use Rattle.proxy_core.specs.ByKey.{is_get_not_at_origin, is_in_key_index}
 use Rattle.proxy_core.proofs.open.arrivals_by_key.ArrivalsByKey.move_to_origin.Goals as goal

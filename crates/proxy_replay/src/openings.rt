@@ -1,0 +1,73 @@
+//! What a replay begins over: an empty store, or one that was kept.
+ghost use Rattle.std.specs.Prelude.{◌≡◌, ℕ, [], Ok, Err, IfOk, IfErr};
+ghost use Rattle.hx_allow.specs.TableLines.{Table};
+ghost use Rattle.proxy_engine.specs.Beginnings.{MayBeHeldAtFirst};
+ghost use Rattle.proxy_store_file.specs.Stores.{StoreReading};
+ghost use Rattle.proxy_store_file.specs.Streams.{contents_of};
+ghost use Rattle.proxy_replay.specs.Replay.{opens_empty, StoreIsRead};
+
+use hx_allow::Config;
+use hx_store::Shelf;
+use proxy_kept_store::{a_server_may_begin_empty, read_kept_store};
+use proxy_store_file::StoreFault;
+use std::alloc::Global;
+use std::io::Read;
+
+/// What fills the store of a replay before anything happens.
+pub(crate) trait Opening {
+    /// What the store of a table holds then, with the serial that the next stored response gets, or why it isn't
+    /// opened.
+    ghost opens: { Self → Table → StoreReading → Type 0 };
+
+    /// Fills the empty store of a table; answers the serial that the first response gets that is stored.
+    fn open<S: Shelf>(
+        &mut self,
+        alloc: Global,
+        config: &Config,
+        shelf: &mut S,
+    ) -> Result<u64, StoreFault>
+        requires empty { S.entries shelf.old ≡ [] }
+        requires capacity { S.limit shelf.old ≡ config.now.capacity }
+        ensures opens { IfOk result (λ first. opens self.old config.now
+            (Ok (contents_of (S.entries shelf.new) first))) }
+        ensures may { IfOk result (λ first. MayBeHeldAtFirst config.now (S.entries shelf.new) first) }
+        ensures refused { IfErr result (λ fault. opens self.old config.now (Err fault)) }
+        ensures limit { S.limit shelf.new ≡ S.limit shelf.old };
+}
+
+/// Nothing is held at first, and serials begin at 1.
+#[derive(Clone, Copy)]
+pub(crate) struct Empty;
+
+impl Opening for Empty {
+    ghost opens = { λ empty. opens_empty };
+
+    fn open<S: Shelf>(
+        &mut self,
+        alloc: Global,
+        config: &Config,
+        shelf: &mut S,
+    ) -> Result<u64, StoreFault> {
+        a_server_may_begin_empty();
+        Ok(1)
+    }
+}
+
+/// What the file of a store says, which a reader gives.
+#[derive(Drop)]
+pub(crate) struct Kept<Q: Read + Drop> {
+    pub(crate) reader: Q,
+}
+
+impl<Q: Read + Drop> Opening for Kept<Q> {
+    ghost opens = { λ kept. StoreIsRead (Q.remaining kept.reader) };
+
+    fn open<S: Shelf>(
+        &mut self,
+        alloc: Global,
+        config: &Config,
+        shelf: &mut S,
+    ) -> Result<u64, StoreFault> {
+        read_kept_store(alloc, config, shelf, &mut self.reader)
+    }
+}
