@@ -1,4 +1,4 @@
--- Answers that weren't stored, by the storing rule that they name (docs/WORDS.md, `explain`).
+-- Answers that weren't stored, by the storing rule that they name (docs/LINE_OPTIONS.md, `explain`).
 --
 -- storing_rules: all of them, in their order      storing_rule_place: where those of a rule are counted
 -- named_storing_rule: the rule that a detail names, if it names one

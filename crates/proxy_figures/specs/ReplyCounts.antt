@@ -48,11 +48,13 @@ detail_column detail.MinFresh = 11
 detail_column detail.StaleIfError = 12
 detail_column detail.ReuseAfterError = 13
 detail_column detail.ReuseAfter304 = 14
-detail_column detail.Other = 15
+detail_column detail.StaleWhileRevalidate = 15
+detail_column detail.SessionCookie = 16
+detail_column detail.Other = 17
 
 -- where replies of a reason with a detail are counted: no two pairs have one place
 abbrev pub reply_place : Reason → Detail → ℕ
-reply_place reason detail = 16 * reason_row reason + detail_column detail
+reply_place reason detail = 18 * reason_row reason + detail_column detail
 
 -- where replies of a cause are counted
 abbrev pub cause_place : Cause → ℕ

@@ -49,6 +49,8 @@ detail_name detail.MinFresh = codes "min-fresh"
 detail_name detail.StaleIfError = codes "stale-if-error"
 detail_name detail.ReuseAfterError = codes "reuse-after-error"
 detail_name detail.ReuseAfter304 = codes "reuse-after-304"
+detail_name detail.StaleWhileRevalidate = codes "stale-while-revalidate"
+detail_name detail.SessionCookie = codes "cookie"
 detail_name detail.Other = codes "other"
 
 -- what tells rules of one reason apart
@@ -58,9 +60,12 @@ details_of_rules =
     ∷ (detail.MustRevalidate ∷ (detail.NoLifetime ∷ (detail.NoCache ∷ (detail.MaxStale ∷ (detail.MaxAge
     ∷ (detail.MinFresh ∷ []))))))))))
 
--- what tells that a stored response was sent after all
+-- what tells that a stored response was sent after all, or while it is validated, or that a cookie kept the request
+-- from the store
 abbrev pub details_of_steps : List Detail
-details_of_steps = detail.StaleIfError ∷ (detail.ReuseAfterError ∷ (detail.ReuseAfter304 ∷ []))
+details_of_steps =
+    detail.StaleIfError ∷ (detail.ReuseAfterError ∷ (detail.ReuseAfter304 ∷ (detail.StaleWhileRevalidate
+    ∷ (detail.SessionCookie ∷ []))))
 
 abbrev pub detail_of_step : List ℕ → Detail
 detail_of_step word = unwrap_or (find (λ detail. bytes_eq word (detail_name detail)) details_of_steps) detail.Other

@@ -1,8 +1,8 @@
 //! Which origin was asked for a reply.
 //!
-//! What an engine makes of an answer goes out right behind the end of its link. The end of a link that has failed isn't
-//! told: so these are kept in the order in which the engine takes them, the least first. Where some of them may have no
-//! reply that order tells nothing, and a reply is of an origin only where it can be of no other.
+//! A reply follows the drop of its link, which names the origin. A link that failed has no drop: its origin is queued
+//! here, in the order in which the engine takes failures, the least number first. Some of these have no reply, and then
+//! the order tells nothing: so an origin is named only where no other can be meant.
 ghost use Rattle.std.specs.Prelude.{◌≡◌, ◌≤◌, ℕ, [], length, slice_get, option_map, Some, None, true, false, IfOk};
 ghost use Rattle.std.specs.Prelude.{IfErr};
 ghost use Rattle.std.specs.Bool.{OnFalse, OnTrue};

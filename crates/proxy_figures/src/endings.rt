@@ -1,4 +1,4 @@
-//! How connections of clients ended that had not come to their end, and how many bytes have come and gone.
+//! Why connections of clients were cut, and how many bytes they received and were sent.
 ghost use Rattle.std.specs.Prelude.{◌≡◌};
 ghost use Rattle.proxy_figures.specs.EndingCounts.{endings_with_cut, endings_with_lateness};
 ghost use Rattle.proxy_figures.specs.EndingCounts.{endings_with_received, endings_with_written};

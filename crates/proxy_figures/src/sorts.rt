@@ -44,6 +44,8 @@ pub enum Detail {
     StaleIfError,
     ReuseAfterError,
     ReuseAfter304,
+    StaleWhileRevalidate,
+    SessionCookie,
     /// Any other word.
     Other,
 }
@@ -79,7 +81,7 @@ pub enum Cause {
 }
 
 /// How many details there are.
-pub(crate) const DETAIL_COUNT: usize = 16;
+pub(crate) const DETAIL_COUNT: usize = 18;
 
 pub(crate) const ALL_REASONS: [Reason; 11] = [
     Reason::Hit,
@@ -95,7 +97,7 @@ pub(crate) const ALL_REASONS: [Reason; 11] = [
     Reason::Refused,
 ];
 
-pub(crate) const ALL_DETAILS: [Detail; 16] = [
+pub(crate) const ALL_DETAILS: [Detail; 18] = [
     Detail::Nothing,
     Detail::Operator,
     Detail::Content,
@@ -111,6 +113,8 @@ pub(crate) const ALL_DETAILS: [Detail; 16] = [
     Detail::StaleIfError,
     Detail::ReuseAfterError,
     Detail::ReuseAfter304,
+    Detail::StaleWhileRevalidate,
+    Detail::SessionCookie,
     Detail::Other,
 ];
 
@@ -203,6 +207,8 @@ impl Detail {
             Detail::StaleIfError => "stale-if-error",
             Detail::ReuseAfterError => "reuse-after-error",
             Detail::ReuseAfter304 => "reuse-after-304",
+            Detail::StaleWhileRevalidate => "stale-while-revalidate",
+            Detail::SessionCookie => "cookie",
             Detail::Other => "other",
         }
     }
@@ -248,7 +254,8 @@ impl Detail {
         }
     }
 
-    /// The detail of this word, where a stored response was sent after all; another word is `Other`.
+    /// The detail of this word, where a stored response was sent after all, or while it is validated, or where a cookie
+    /// kept the request from the store; another word is `Other`.
     fn of_step(word: &[u8]) -> Detail
         ensures { result ≡ detail_of_step word.now }
     {
@@ -258,6 +265,10 @@ impl Detail {
             Detail::ReuseAfterError
         } else if word == b"reuse-after-304".as_slice() {
             Detail::ReuseAfter304
+        } else if word == b"stale-while-revalidate".as_slice() {
+            Detail::StaleWhileRevalidate
+        } else if word == b"cookie".as_slice() {
+            Detail::SessionCookie
         } else {
             Detail::Other
         }
@@ -482,7 +493,12 @@ fn refused(text: &[u8]) -> Option<ReplySort> {
 /// What a reply counts as, by what it says of itself.
 pub fn sort_of(text: &[u8]) -> Option<ReplySort> {
     if let [b'h', b'i', b't', ..] = text {
-        return Some(ReplySort::plain(Reason::Hit));
+        let mut sort = ReplySort::plain(Reason::Hit);
+        // Of hits these alone have a detail.
+        if text.ends_with(b";detail=stale-while-revalidate".as_slice()) {
+            sort.detail = Detail::StaleWhileRevalidate;
+        }
+        return Some(sort);
     }
     match text.strip_prefix(b"fwd=".as_slice()) {
         Some(rest) => forwarded(rest),

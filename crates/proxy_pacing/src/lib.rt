@@ -2,13 +2,12 @@
 //! closed. No socket is used here.
 #![tactic(auto)]
 
-mod laws;
+pub mod laws;
 mod moments;
 mod pieces;
 mod rest;
 mod stream_queues;
 
-pub use crate::laws::{worked_moments, worked_queues};
 pub use crate::moments::{Moment, Moments};
 pub use crate::pieces::{LEAST_HANDED_IN, head_end};
 pub use crate::rest::Rest;

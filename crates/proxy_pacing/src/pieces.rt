@@ -12,8 +12,8 @@ use memchr::memchr;
 /// The bytes of a version, as `HTTP/1.1`.
 const VERSION: usize = 8;
 
-/// A request that was begun goes on by so many bytes at least, where so many have come: no more than a dozen requests
-/// stand in them.
+/// Inside a request a piece has at least this many bytes, if as many have come. They hold no more than a dozen
+/// requests.
 pub const LEAST_HANDED_IN: usize = 256;
 
 /// Whether a line ends in a version, as a request line does that isn't refused (RFC 9112, section 3).

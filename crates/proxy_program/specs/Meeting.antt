@@ -8,7 +8,7 @@ use Rattle.proxy_program.specs.declared.questions.Expected.{Expected}
 use Rattle.proxy_program.specs.declared.questions.Expected.TheVariants as expected
 
 abbrev pub met_by_verdict : Verdict → Met
-met_by_verdict (verdict.Allowed line) = Allowed line
+met_by_verdict (verdict.Allowed route) = Allowed route.number
 met_by_verdict (verdict.DeniedBy line) = DeniedBy line
 met_by_verdict verdict.NoLine = NoLine
 met_by_verdict (verdict.Looped line) = Looped line

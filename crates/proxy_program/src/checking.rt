@@ -8,6 +8,7 @@ use crate::questions::stored_word;
 use crate::trial::{Trial, try_answer};
 use http::Method;
 use hx_allow::{Config, MOST_LINES, Verdict};
+use hx_fields::Bytes;
 use hx_policy::Policy;
 use hx_target::{Key, Target, TargetFault};
 use std::alloc::AllocError;
@@ -24,24 +25,38 @@ fn withholds_from_cookies(policy: Policy) -> bool {
     gives && !policy.gives_to_cookies
 }
 
+/// Tells a word of a line that has seconds.
+fn print_seconds<R: Print>(rt: &R, key: &str, seconds: Option<u32>) -> io::Result<()> {
+    match seconds {
+        Some(seconds) => println!(rt; "    {key} = {seconds}"),
+        None => Ok(()),
+    }
+}
+
+/// Tells how stale what is sent may be while one asks the origin about it, and where that is nothing.
+fn print_stale_while_revalidate<R: Print>(rt: &R, policy: Policy) -> io::Result<()> {
+    match policy.stale_while_revalidate {
+        Some(seconds) if policy.sends_while_revalidating => {
+            println!(rt; "    stale-while-revalidate = {seconds}")
+        }
+        Some(seconds) => println!(rt;
+            "    stale-while-revalidate = {seconds}, which has no effect without wait = \"missing-or-stale\""
+        ),
+        None => Ok(()),
+    }
+}
+
 /// Tells the words of a line that allows.
 fn print_policy<R: Print>(rt: &R, policy: Policy) -> io::Result<()> {
     if !policy.caches {
         return println!(rt; "    cache = \"off\"");
     }
     println!(rt; "    cache = \"on\"")?;
-    if let Some(seconds) = policy.lifetime {
-        println!(rt; "    lifetime = {seconds}")?;
-    }
-    if let Some(seconds) = policy.error_lifetime {
-        println!(rt; "    error-lifetime = {seconds}")?;
-    }
-    if let Some(seconds) = policy.lifetime_most {
-        println!(rt; "    lifetime-most = {seconds}")?;
-    }
-    if let Some(seconds) = policy.stale_if_error {
-        println!(rt; "    stale-if-error = {seconds}")?;
-    }
+    print_seconds(rt, "lifetime", policy.lifetime)?;
+    print_seconds(rt, "error-lifetime", policy.error_lifetime)?;
+    print_seconds(rt, "lifetime-most", policy.lifetime_most)?;
+    print_seconds(rt, "stale-if-error", policy.stale_if_error)?;
+    print_stale_while_revalidate(rt, policy)?;
     for word in [
         default_or_word(policy.stores_cookies, "set-cookie = \"not-stored\""),
         default_or_word(!withholds_from_cookies(policy), "cookies = \"private\""),
@@ -56,6 +71,21 @@ fn print_policy<R: Print>(rt: &R, policy: Policy) -> io::Result<()> {
         }
     }
     Ok(())
+}
+
+/// Tells a word of a line that has names.
+fn print_names<R: Print>(rt: &R, key: &str, names: &[Bytes]) -> io::Result<()> {
+    if names.is_empty() {
+        return Ok(());
+    }
+    print!(rt; "    {key} = [")?;
+    let mut front = "";
+    for name in names {
+        let name = str::from_utf8(name.as_slice()).unwrap_or("-");
+        print!(rt; "{front}\"{name}\"")?;
+        front = ", ";
+    }
+    println!(rt; "]")
 }
 
 /// Tells where a line refuses requests that loop.
@@ -75,13 +105,17 @@ fn print_verdict<R: Print>(
     target: &Target,
 ) -> io::Result<()> {
     match config.judge_target(method, target) {
-        Verdict::Allowed(line) => {
+        Verdict::Allowed(route) => {
+            let line = route.number;
             println!(rt;
                 "{text} is allowed by line {line}, origin {}",
                 config.origin(line)
             )?;
-            print_policy(rt, config.policy(line))?;
-            print_loops(rt, config, line)
+            print_policy(rt, config.line_policy(line))?;
+            print_names(rt, "session-cookies", config.session_cookies(line))?;
+            print_names(rt, "vary", config.vary(line))?;
+            print_loops(rt, config, line)?;
+            print_seconds(rt, "origin-timeout", config.origin_timeout(line))
         }
         Verdict::DeniedBy(line) => println!(rt; "{text} is denied by line {line}"),
         Verdict::NoLine => println!(rt; "{text} is denied: no line allows it"),

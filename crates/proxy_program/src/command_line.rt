@@ -1,4 +1,4 @@
-//! The three forms of the command line.
+//! The forms of the command line.
 
 use crate::fault::Fault;
 use crate::meeting::{Question, question_of};
@@ -48,6 +48,8 @@ pub(crate) struct Service<'a> {
     pub(crate) log: Option<&'a str>,
     /// The file that has the figures.
     pub(crate) stats: Option<&'a str>,
+    /// The file that keeps the store over a restart.
+    pub(crate) store: Option<&'a str>,
 }
 
 /// How a table is to be checked.
@@ -69,6 +71,8 @@ pub(crate) struct Checking<'a> {
 pub(crate) enum Form<'a> {
     /// A script is replayed.
     Replay,
+    /// A script is replayed over the store of this file, if one is named.
+    ReplayOver(Option<&'a str>),
     /// A table is checked.
     Check(Checking<'a>),
     /// Clients are served.
@@ -339,7 +343,7 @@ fn with_files<'a>(alloc: Global, command: Command<'a>) -> Result<Command<'a>, Er
             alloc,
             "record",
             "FILE",
-            "writes what happens into a new file as a script, up to 16777216 bytes; %s is the moment of the start",
+            "writes what happens into a new file as a script, up to 16777216 bytes; %s is the moment of the start. What --store holds at first stays beside it, as FILE.store",
         ))?
         .arg(option_with_value(
             alloc,
@@ -352,6 +356,12 @@ fn with_files<'a>(alloc: Global, command: Command<'a>) -> Result<Command<'a>, Er
             "stats",
             "FILE",
             "writes figures once a second, in Prometheus' text format",
+        ))?
+        .arg(option_with_value(
+            alloc,
+            "store",
+            "FILE",
+            "keeps what is stored over a restart: written at the end of a drain, read and taken away at the start",
         ))?;
     Ok(command)
 }
@@ -360,6 +370,22 @@ fn serve<'a>(alloc: Global) -> Result<Command<'a>, Error> {
     let command = with_client_times(alloc, served(alloc)?)?;
     let command = with_origin_times(alloc, command)?;
     with_files(alloc, command)
+}
+
+/// A replay over a store, as a server that read one records.
+fn replay<'a>(alloc: Global) -> Result<Command<'a>, Error> {
+    let command = command(alloc, "replay")
+        .about(
+            "Replays the script on standard input, as without a command, over a store that was kept",
+        )
+        .arg(option_with_value(
+            alloc,
+            "store",
+            "FILE",
+            "what is held at first: the file that stands beside a record, as RECORD.store; it is only read",
+        ))?
+        .after_help(STATUSES);
+    Ok(command)
 }
 
 fn program<'a>(alloc: Global) -> Result<Command<'a>, Error> {
@@ -371,7 +397,8 @@ fn program<'a>(alloc: Global) -> Result<Command<'a>, Error> {
         )
         .after_help(STATUSES)
         .subcommand(check)?
-        .subcommand(serve(alloc)?)?;
+        .subcommand(serve(alloc)?)?
+        .subcommand(replay(alloc)?)?;
     Ok(command)
 }
 
@@ -449,6 +476,7 @@ fn service_of<'a>(matches: &ArgMatches<'a>, listen: ListenAt) -> Option<Service<
         record: matches.get_str("record"),
         log: matches.get_str("log"),
         stats: matches.get_str("stats"),
+        store: matches.get_str("store"),
     })
 }
 
@@ -532,6 +560,7 @@ fn question_fault(alloc: Global, text: &str) -> Fault {
 pub(crate) fn form_of<'a>(alloc: Global, matches: &ArgMatches<'a>) -> Result<Form<'a>, Fault> {
     match matches.subcommand() {
         None => Ok(Form::Replay),
+        Some(("replay", inner)) => Ok(Form::ReplayOver(inner.get_str("store"))),
         Some(("check", inner)) => check_of(alloc, inner),
         Some((_, inner)) => serve_of(alloc, inner),
     }

@@ -3,6 +3,7 @@
 use crate::fault::{Fault, fault_of, system_call_words};
 use crate::meeting::{Met, Question, met_in, question_of};
 use hx_allow::Config;
+use hx_fields::Bytes;
 use hx_policy::Policy;
 use std::alloc::Global;
 use std::collections::BTreeMap;
@@ -26,7 +27,7 @@ enum Way {
 fn way_of(config: &Config, met: Met) -> Way {
     match met {
         Met::Allowed(line) => match config.origin_address(line) {
-            Some(origin) => Way::To(origin, config.policy(line)),
+            Some(origin) => Way::To(origin, config.line_policy(line)),
             None => Way::Denied,
         },
         Met::DeniedBy(_) => Way::Denied,
@@ -74,6 +75,37 @@ struct Tables<'a> {
     old: &'a Config,
 }
 
+/// The cookies whose requests go past the store, where they go on.
+fn session_cookies(config: &Config, met: Met) -> &[Bytes] {
+    match met {
+        Met::Allowed(line) => config.session_cookies(line),
+        _ => &[],
+    }
+}
+
+/// The fields that count as if the Vary of its answer named them.
+fn vary(config: &Config, met: Met) -> &[Bytes] {
+    match met {
+        Met::Allowed(line) => config.vary(line),
+        _ => &[],
+    }
+}
+
+fn are_same(names: &[Bytes], others: &[Bytes]) -> bool {
+    let mut pairs = names.iter().zip(others.iter());
+    names.len() == others.len() && pairs.all(|(name, other)| name.as_slice() == other.as_slice())
+}
+
+/// Whether a request goes the same way in both tables, whatever its cookies, and its answer varies alike.
+fn goes_alike(tables: Tables<'_>, new: Met, old: Met) -> bool {
+    way_of(tables.new, new) == way_of(tables.old, old)
+        && are_same(
+            session_cookies(tables.new, new),
+            session_cookies(tables.old, old),
+        )
+        && are_same(vary(tables.new, new), vary(tables.old, old))
+}
+
 /// Compares what a request meets in the two tables.
 fn compare_question(
     alloc: Global,
@@ -83,7 +115,7 @@ fn compare_question(
 ) -> Result<(), Fault> {
     let new = met_in(alloc, tables.new, question)?;
     let old = met_in(alloc, tables.old, question)?;
-    if way_of(tables.new, new) == way_of(tables.old, old) {
+    if goes_alike(tables, new, old) {
         return Ok(());
     }
     if let Some(change) = found.changes.get_mut(&(old, new)) {

@@ -3,7 +3,8 @@ ghost use Rattle.std.specs.Prelude.{IfOk, IfSome};
 ghost use Rattle.proxy_program.specs.TableFiles.{IsWholeOrTooLong, NoTableIsCut};
 
 use crate::fault::{Fault, fault_of, system_call_words};
-use hx_allow::{MOST_TABLE_BYTES, a_table_is_toml_within_the_limit};
+use hx_allow::MOST_TABLE_BYTES;
+use hx_allow::laws::a_table_is_toml_within_the_limit;
 use std::alloc::Global;
 use std::io::{ErrorKind, Read};
 use std::rt::Files;

@@ -14,6 +14,7 @@ mod fault;
 mod figures;
 mod files;
 mod journal;
+mod kept_store;
 mod meeting;
 mod memory;
 mod mistakes;

@@ -84,7 +84,7 @@ impl Met {
         ensures { result ≡ met_by_verdict verdict }
     {
         match verdict {
-            Verdict::Allowed(line) => Met::Allowed(line),
+            Verdict::Allowed(route) => Met::Allowed(route.number),
             Verdict::DeniedBy(line) => Met::DeniedBy(line),
             Verdict::NoLine => Met::NoLine,
             Verdict::Looped(line) => Met::Looped(line),

@@ -4,7 +4,7 @@ use crate::checking::print_checked;
 use crate::command_line::{Checking, Form, Service, VERSION, form_of, read};
 use crate::commit::commit_of;
 use crate::comparing::print_compared;
-use crate::fault::{Fault, fault_of};
+use crate::fault::{Fault, fault_of, system_call_words};
 use crate::files::{read_questions, read_table};
 use crate::mistakes::config_of;
 use crate::questions::ask_all;
@@ -13,12 +13,12 @@ use crate::trial::Trial;
 use clap::Error;
 use clap::error::ErrorKind;
 use hx_allow::Config;
-use std::io::IsTerminal;
+use std::io::{BufReader, IsTerminal};
 use std::net::Net;
 use std::process::ExitCode;
 use std::random::RandomSource;
 use std::rt::{Clock, Env, Files};
-use std::{env, io};
+use std::{env, fs, io};
 
 /// Unix seconds now; 0 where the clock can't be read, or before 1970.
 fn seconds_now<R: Clock>(rt: &R) -> u64 {
@@ -143,6 +143,37 @@ where
     }
 }
 
+/// Replays standard input to standard output, over the store of a file if one is named.
+fn replayed<R: Files + Input + Print + Eprint + AllocGlobal>(
+    rt: &R,
+    store: Option<&str>,
+) -> Result<ExitCode, EndedEarly> {
+    let Some(path) = store else {
+        return Ok(proxy_replay::program::run_script(rt));
+    };
+    match store_reader(rt, path) {
+        Ok(reader) => Ok(proxy_replay::program::run_script_over(rt, reader)),
+        Err(fault) => Err(EndedEarly {
+            fault,
+            is_quiet: true,
+        }),
+    }
+}
+
+/// What gives the bytes of a store's file.
+fn store_reader<R: Files + AllocGlobal>(rt: &R, path: &str) -> Result<BufReader<R::File>, Fault> {
+    match fs::open(rt, path) {
+        Ok(file) => match BufReader::new(rt.alloc(), file) {
+            Ok(reader) => Ok(reader),
+            Err(_) => Err(Fault::NoMemory),
+        },
+        Err(e) => {
+            let words = system_call_words(rt.alloc(), "the store ", path, " can't be opened", &e);
+            Err(fault_of(&e, Fault::Read(words)))
+        }
+    }
+}
+
 /// Does what the words ask for; a replay tells its own exit status.
 fn do_command<R>(rt: &R, words: &[String]) -> Result<ExitCode, EndedEarly>
 where
@@ -160,6 +191,10 @@ where
         Form::Replay => {
             print_what_is_awaited(rt);
             return Ok(proxy_replay::program::run(rt));
+        }
+        Form::ReplayOver(store) => {
+            print_what_is_awaited(rt);
+            return replayed(rt, store);
         }
         Form::Check(checking) => checked(rt, &checking)?,
         Form::Serve(service) => served(rt, &service)?,

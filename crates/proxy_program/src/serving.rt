@@ -1,5 +1,6 @@
 //! Serving: the table, the listener, the record and the log, and then turn after turn.
-ghost use Rattle.std.specs.Prelude.{IfOk};
+ghost use Rattle.std.specs.Prelude.{◌≡◌, [], IfOk, None};
+ghost use Rattle.proxy_engine.specs.Beginnings.{MayBeHeldAtFirst};
 ghost use Rattle.proxy_program.specs.Seeds.{SeedIsOfKeys};
 
 use crate::command_line::Service;
@@ -9,6 +10,7 @@ use crate::fault::{Fault, fault_of, system_call_words};
 use crate::figures::{Figures, FixedFacts};
 use crate::files::read_table;
 use crate::journal::{Journal, Target, log_file};
+use crate::kept_store::KeptStore;
 use crate::memory::{megabytes, memory_allowed, most_held, most_stored};
 use crate::mistakes::config_of;
 use crate::process::process_start;
@@ -17,9 +19,11 @@ use crate::warnings::Warnings;
 use crate::watch::{ServerState, Watch};
 use hx_allow::{Config, MOST_LINES};
 use hx_store::{IndexedShelf, Shelf};
+use proxy_kept_store::a_server_may_begin_empty;
 use proxy_server::{
     CountedShelf, Limits, ListenAt, LiveSockets, Recorder, ServeFault, Server, StoreCounts,
 };
+use std::alloc::AllocError;
 use std::fs::OpenOptions;
 use std::hash::{BuildHasher, Hasher, RandomState};
 use std::io;
@@ -29,34 +33,39 @@ use std::os::unix::fs::OpenOptionsExt;
 use std::random::RandomSource;
 use std::rt::{Clock, Files};
 
-/// The name of a record: `%s` in it is the moment, in Unix seconds.
-fn record_name<R: Clock + AllocGlobal>(rt: &R, path: &str) -> Result<String, Fault> {
+/// The name of a record, if one is asked for: `%s` in it is the moment, in Unix seconds.
+fn record_name<R: Clock + AllocGlobal>(
+    rt: &R,
+    path: Option<&str>,
+) -> Result<Option<String>, Fault> {
+    let Some(path) = path else {
+        return Ok(None);
+    };
     let Some((front, back)) = path.split_once("%s") else {
-        return Ok(String::from_str(rt.alloc(), path)?);
+        return Ok(Some(String::from_str(rt.alloc(), path)?));
     };
     let Ok(now) = rt.since_1970() else {
         return Err(Fault::from(ServeFault::Clock));
     };
     let seconds = now.as_secs();
-    Ok(format!(in rt.alloc(); "{front}{seconds}{back}")?)
+    Ok(Some(format!(in rt.alloc(); "{front}{seconds}{back}")?))
 }
 
-/// A record in a new file, if one is asked for. A file that is there stays as it is.
-fn record_of<R: Files + Clock + AllocGlobal>(
+/// A record in a new file of this name, if one is asked for. A file that is there stays as it is.
+fn record_of<R: Files + AllocGlobal>(
     rt: &R,
-    path: Option<&str>,
+    name: Option<&str>,
     table: &[u8],
 ) -> Result<Option<Recorder<R::File>>, Fault> {
-    let Some(path) = path else {
+    let Some(name) = name else {
         return Ok(None);
     };
-    let name = record_name(rt, path)?;
     let mut how = OpenOptions::new();
     // It holds what was sent, passwords included: nobody else is to read it.
     how.write(true).create_new(true).mode(0o600);
-    match how.open(rt, name.as_str()) {
+    match how.open(rt, name) {
         Ok(file) => Ok(Some(Recorder::begin(rt.alloc(), file, table)?)),
-        Err(e) => Err(record_fault(rt, name.as_str(), &e)),
+        Err(e) => Err(record_fault(rt, name, &e)),
     }
 }
 
@@ -301,13 +310,39 @@ fn sockets_of<'n, R: Net + AllocGlobal>(
 
 /// What is told of a server at its start.
 #[derive(Clone, Copy)]
-struct Start {
+struct Start<'a> {
     address: SocketAddr,
     /// Bytes that the store takes at most, and those that are held beside it.
     stored: u64,
     held: u64,
     /// The descriptors that are allowed, where the system tells.
     allows: Option<u64>,
+    /// The name of the record, if one is written.
+    record: Option<&'a str>,
+}
+
+/// What is written about the replies and the server, where it is asked for.
+#[derive(Drop)]
+struct Reports<'a, F: Write + Drop, P: Write + Drop> {
+    journal: Option<Journal<F, P>>,
+    figures: Option<Figures<'a>>,
+}
+
+/// Opens the files of the log and the figures, and has the sockets count for them.
+fn reports_of<'a, 'n, R: Net + Clock + Files + AllocGlobal, P: Write + Drop>(
+    rt: &R,
+    service: &Service<'a>,
+    config: &Config,
+    store: &'a StoreCounts,
+    sockets: &mut LiveSockets<'n, R>,
+    print: P,
+) -> Result<Reports<'a, R::File, P>, Fault> {
+    let journal = journal_of(rt, service.log, print)?;
+    if journal.is_some() {
+        sockets.keep_log();
+    }
+    let figures = figures_of(rt, service.stats, config, store, sockets)?;
+    Ok(Reports { journal, figures })
 }
 
 /// Serves until its end, and tells then how many lines of the log were lost.
@@ -315,24 +350,142 @@ fn serve_to_its_end<'a, R, S: Shelf + Drop, P: Write + Drop>(
     rt: &R,
     service: &Service<'_>,
     server: &mut Server<'a, S, R, R::File>,
-    journal: &mut Option<Journal<R::File, P>>,
-    figures: &mut Option<Figures<'_>>,
+    reports: &mut Reports<'_, R::File, P>,
 ) -> Result<(), Fault>
 where
     R: Net + Clock + Files + Print + Eprint + AllocGlobal,
 {
     let turns = service.turns.map_or(u64::MAX, u64::from);
     let watch = Watch::new(service.drain, service.drain_timeout, service.log);
-    let served = serve_turns(rt, turns, watch, server, journal, figures);
-    let lost = write_log(server, journal);
+    let served = serve_turns(
+        rt,
+        turns,
+        watch,
+        server,
+        &mut reports.journal,
+        &mut reports.figures,
+    );
+    let lost = write_log(server, &mut reports.journal);
     if lost > 0 {
         let _ = eprintln!(rt; "log fault {lost}");
     }
-    if let Some(figures) = figures {
+    if let Some(figures) = &mut reports.figures {
         // They have the last turn, too.
         let _ = figures.write(rt, server, lost);
     }
     served
+}
+
+/// The file of the store, if one is asked for.
+fn kept_store_of<'a, R: AllocGlobal>(
+    rt: &R,
+    path: Option<&'a str>,
+    record: Option<&str>,
+) -> Result<Option<KeptStore<'a>>, AllocError> {
+    match path {
+        Some(path) => Ok(Some(KeptStore::new(rt, path, record)?)),
+        None => Ok(None),
+    }
+}
+
+/// Fills an empty shelf with what was kept, if a file is asked for and can be used; answers the serial that the next
+/// stored response gets. With no file it is 1, and the shelf stays empty.
+fn first_serial<R: Files + Eprint + AllocGlobal, S: Shelf>(
+    rt: &R,
+    kept: &Option<KeptStore<'_>>,
+    config: &Config,
+    shelf: &mut S,
+) -> Result<u64, Fault>
+    requires empty { S.entries shelf.old ≡ [] }
+    requires capacity { S.limit shelf.old ≡ config.now.capacity }
+    ensures may { IfOk result (λ first. MayBeHeldAtFirst config.now (S.entries shelf.new) first) }
+    ensures unasked { kept.now ≡ None → IfOk result (λ first. first ≡ 1) }
+    ensures stays { kept.now ≡ None → S.entries shelf.new ≡ [] }
+    ensures limit { S.limit shelf.new ≡ S.limit shelf.old }
+{
+    a_server_may_begin_empty();
+    match kept {
+        Some(kept) => kept.restore(rt, config, shelf),
+        None => Ok(1),
+    }
+}
+
+/// Writes the store of a server that ends, if a file is asked for. Where a request is still open it isn't written: its
+/// answer may be one that drops what is held.
+fn keep_store<'a, R: Net + Files + Eprint + AllocGlobal, S: Shelf + Drop>(
+    rt: &R,
+    kept: &Option<KeptStore<'_>>,
+    server: Server<'a, S, R, R::File>,
+) -> Result<(), Fault> {
+    let Some(kept) = kept else {
+        return Ok(());
+    };
+    let open = server.open_requests();
+    if open > 0 {
+        let _ = eprintln!(rt; "warning: the store isn't kept: {open} requests were still open");
+        return Ok(());
+    }
+    let (mut shelf, next) = server.into_store();
+    match next {
+        Some(next) => kept.write(rt, &mut shelf, next),
+        None => Ok(()),
+    }
+}
+
+/// A server over an empty shelf, or over what was kept: the file is taken away then, so nothing else may keep the
+/// server from its start.
+fn server_of<'n, R: Net + Files + Eprint + AllocGlobal, S: Shelf + Drop>(
+    rt: &'n R,
+    kept: &Option<KeptStore<'_>>,
+    config: Config,
+    shelf: S,
+    sockets: LiveSockets<'n, R>,
+    record: Option<Recorder<R::File>>,
+) -> Result<Server<'n, S, R, R::File>, Fault>
+    requires empty { S.entries shelf ≡ [] }
+    requires capacity { S.limit shelf ≡ config.capacity }
+{
+    let mut shelf = shelf;
+    let first = first_serial(rt, kept, &config, &mut shelf)?;
+    Ok(Server::with_store(rt.alloc(), config, shelf, first, sockets, record))
+}
+
+/// Tells of a server at its start. What was read of a kept store is removed before the first request is read.
+fn open_doors<'n, R: Net + Files + Eprint + AllocGlobal, S: Shelf + Drop>(
+    rt: &R,
+    service: &Service<'_>,
+    start: &Start<'_>,
+    kept: &Option<KeptStore<'_>>,
+    server: &Server<'n, S, R, R::File>,
+    figures: &Option<Figures<'_>>,
+) {
+    if let Some(figures) = figures {
+        // Where they can't be written, as on a full disk, that is told behind the first turn.
+        let _ = figures.write(rt, server, 0);
+    }
+    announce_memory(rt, start.stored, start.held);
+    if let Some(kept) = kept {
+        kept.forget(rt);
+    }
+    announce(rt, start.address, &service.limits, start.allows);
+}
+
+/// Runs a server from its start to its end, and keeps its store then.
+fn run_server<'n, R, S: Shelf + Drop, P: Write + Drop>(
+    rt: &R,
+    service: &Service<'_>,
+    start: &Start<'_>,
+    kept: &Option<KeptStore<'_>>,
+    server: Server<'n, S, R, R::File>,
+    reports: &mut Reports<'_, R::File, P>,
+) -> Result<(), Fault>
+where
+    R: Net + Clock + Files + Print + Eprint + AllocGlobal,
+{
+    let mut server = server;
+    open_doors(rt, service, start, kept, &server, &reports.figures);
+    serve_to_its_end(rt, service, &mut server, reports)?;
+    keep_store(rt, kept, server)
 }
 
 /// Serves by a table over sockets, once its files are open.
@@ -342,27 +495,18 @@ fn serve_table<'n, R: Net + Clock + Files + Print + Eprint + AllocGlobal + Rando
     config: Config,
     sockets: LiveSockets<'n, R>,
     record: Option<Recorder<R::File>>,
-    start: Start,
+    start: &Start<'_>,
 ) -> Result<(), Fault> {
     let mut sockets = sockets;
     let store = StoreCounts::new();
-    let shelf = IndexedShelf::seeded(rt.alloc(), config.capacity(), seed_of(rt)?)?;
-    let shelf = CountedShelf::new(shelf, &store);
-    let mut journal = journal_of(rt, service.log, io::writer(rt))?;
-    if journal.is_some() {
-        sockets.keep_log();
-    }
-    let mut figures = figures_of(rt, service.stats, &config, &store, &mut sockets)?;
+    let mut reports = reports_of(rt, service, &config, &store, &mut sockets, io::writer(rt))?;
     warn_of_loops(rt, &config, start.address);
     warn_of_other_writer(rt, service.stats, start.address);
-    let mut server = Server::new(rt.alloc(), config, shelf, sockets, record);
-    if let Some(figures) = &figures {
-        // Where they can't be written, as on a full disk, that is told behind the first turn.
-        let _ = figures.write(rt, &server, 0);
-    }
-    announce_memory(rt, start.stored, start.held);
-    announce(rt, start.address, &service.limits, start.allows);
-    serve_to_its_end(rt, service, &mut server, &mut journal, &mut figures)
+    let kept = kept_store_of(rt, service.store, start.record)?;
+    let shelf = IndexedShelf::seeded(rt.alloc(), config.capacity(), seed_of(rt)?)?;
+    let shelf = CountedShelf::new(shelf, &store);
+    let server = server_of(rt, &kept, config, shelf, sockets, record)?;
+    run_server(rt, service, start, &kept, server, &mut reports)
 }
 
 /// Serves as the command line says.
@@ -376,12 +520,18 @@ pub(crate) fn serve<R: Net + Clock + Files + Print + Eprint + AllocGlobal + Rand
     let mut limits = within_descriptors(service.limits, allows);
     limits.max_body = config.max_body();
     let sockets = sockets_of(rt, service.listen, limits)?;
-    let record = record_of(rt, service.record, table.as_slice())?;
+    let name = record_name(rt, service.record)?;
+    let name = match &name {
+        Some(name) => Some(name.as_str()),
+        None => None,
+    };
+    let record = record_of(rt, name, table.as_slice())?;
     let start = Start {
         address: sockets.address(),
         stored: most_stored(&config),
         held: most_held(&limits, service.log.is_some()),
         allows,
+        record: name,
     };
-    serve_table(rt, service, config, sockets, record, start)
+    serve_table(rt, service, config, sockets, record, &start)
 }

@@ -4,10 +4,10 @@
 //! own.
 #![tactic(auto)]
 
+pub mod laws;
 mod record_laws;
 mod recorder;
 mod recording;
 
-pub use crate::record_laws::{a_record_is_a_script, what_a_turn_takes_is_recorded};
 pub use crate::recorder::{RecordFault, Recorder};
 pub use crate::recording::Recording;

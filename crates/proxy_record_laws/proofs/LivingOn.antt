@@ -3,6 +3,7 @@ use Rattle.std.proofs.Common.{◌≡◌, ◌⊎◌, inl, inr, ℕ, List, [], ◌
 use Rattle.std.specs.Prelude.{not, ◌||◌, nat_lt}
 use Rattle.std.proofs.lemmas.Bool.{false≢true, true≢false}
 use Rattle.hx_allow.specs.TableLines.{Table}
+use Rattle.hx_store.specs.Stored.{Stored}
 use Rattle.proxy_script.specs.Happenings.{PlainHappening as Happening}
 use Rattle.proxy_script.specs.declared.effect_list.Effect.{Effect}
 use Rattle.proxy_engine.specs.EngineModel.{EngineModel}
@@ -69,8 +70,8 @@ is_not true is = absurd (false≢true is)
 
 -- ---- the play
 
-pub record Stands (table : Table) (l : ServerLife) : Type 0 where
-  pub played : IsPlayedSoFar table l.happened (effects_of_steps l.steps) l.model l.server.moment
+pub record Stands (table : Table) (held : List Stored) (serial : ℕ) (l : ServerLife) : Type 0 where
+  pub played : IsPlayedSoFar table held serial l.happened (effects_of_steps l.steps) l.model l.server.moment
   pub settled : l.server.settled ≡ true → IsDueFirst l.model None
 
 module _ (recorded : TurnsAreRecorded) (due : (s : EngineModel) → (a b : Option Act) → IsDueFirst s a → IsDueFirst s b → a ≡ b) (in_order : RoundsAreActsInOrder) (emit : TurnOverStepsEmitTheirEffects) where
@@ -78,8 +79,8 @@ module _ (recorded : TurnsAreRecorded) (due : (s : EngineModel) → (a b : Optio
   SettledOrTaken l now s taken = (taken ≡ false → IsDueFirst s None) × (taken ≡ true → now ≡ l.server.moment)
 
   -- what may be taken in front of a turn, and at which moment
-  begins_so : (table : Table) (l : ServerLife) (now : ℕ) → Stands table l → is_recording l.server.recorder ≡ true → SettledOrTaken l (turn_begun now l.server).moment l.model (turn_begun now l.server).taken
-  begins_so table l now stands writes =
+  begins_so : (table : Table) (held : List Stored) (serial : ℕ) (l : ServerLife) (now : ℕ) → Stands table held serial l → is_recording l.server.recorder ≡ true → SettledOrTaken l (turn_begun now l.server).moment l.model (turn_begun now l.server).taken
+  begins_so table held serial l now stands writes =
       let a = l.server in (
         λ is. stands.settled (isnt a.settled is),
         λ is. ap (λ (b : Bool). cond (b || not (is_recording a.recorder)) now a.moment) (is_not a.settled is) ∙ ap (λ (b : Bool). cond (false || not b) now a.moment) writes,
@@ -90,8 +91,8 @@ module _ (recorded : TurnsAreRecorded) (due : (s : EngineModel) → (a b : Optio
   due_behind taken later s after now lost (inl a) none is = subst (λ (m : EngineModel). IsDueFirst m None) (sym a.works) (none (sym a.later_is ∙ is))
   due_behind taken later s after now lost (inr a) none is = absurd (true≢false (sym a.later_is ∙ is))
 
-  turn_stands : (table : Table) (l : ServerLife) (reported : Result Report TurnFault) (m : ServerLife) (on : LifeGoesOn l reported m) (r : Record) → Stands table l → l.server.recorder ≡ Some r → m.server.failed ≡ false → is_recording m.server.recorder ≡ true → Stands table m
-  turn_stands table l reported m on r stands held fine writes =
+  turn_stands : (table : Table) (held : List Stored) (serial : ℕ) (l : ServerLife) (reported : Result Report TurnFault) (m : ServerLife) (on : LifeGoesOn l reported m) (r : Record) → Stands table held serial l → l.server.recorder ≡ Some r → m.server.failed ≡ false → is_recording m.server.recorder ≡ true → Stands table held serial m
+  turn_stands table held serial l reported m on r stands kept_at fine writes =
       let moment = (turn_begun on.now l.server).moment in
       let taken = (turn_begun on.now l.server).taken in
       let lost = on.served.handed_in.losses.lost in
@@ -101,49 +102,49 @@ module _ (recorded : TurnsAreRecorded) (due : (s : EngineModel) → (a b : Optio
       let turns = on.served.turn.turns in
       let made = calls_of_turn_over after turns.accepts turns.reads turns.rounds in
       let took = happenings_of_steps (steps_of_turn_over moment after turns.accepts turns.reads turns.rounds []) in
-      let noted = turn_noted recorded l reported m on r held fine in
+      let noted = turn_noted recorded l reported m on r kept_at fine in
       let writes_last : is_recording last.recorder ≡ true = ap (λ (a : ServerState). is_recording a.recorder) (sym on.server) ∙ writes in
       let unended : noted.behind.over ≡ false = is_not noted.behind.over (ap is_recording (sym noted.held_last) ∙ writes) in
       let unended_mid : noted.behind_losses.over ≡ false = open_before (noted_at_moment moment took) noted.behind_losses noted.behind noted.turn unended in
       let unended_first : r.over ≡ false = open_before (noted_at_moment moment lost) r noted.behind_losses noted.losses unended_mid in
       let writes_mid : is_recording mid.recorder ≡ true = ap is_recording noted.held_then ∙ ap not unended_mid in
-      let writes_first : is_recording l.server.recorder ≡ true = ap is_recording held ∙ ap not unended_first in
-      let begins = begins_so table l on.now stands writes_first in
+      let writes_first : is_recording l.server.recorder ≡ true = ap is_recording kept_at ∙ ap not unended_first in
+      let begins = begins_so table held serial l on.now stands writes_first in
       let few = losses_take lost taken mid.taken moment l.model after on.served.handed_in.losses.takes (on.served.handed_in.takes (mid_fine recorded l reported m on fine) writes_mid) in
-      let lost_played = plays_on due table l.happened (effects_of_steps l.steps) l.model after l.server.moment moment taken mid.taken lost [] stands.played begins.0 begins.1 few in
+      let lost_played = plays_on due table held serial l.happened (effects_of_steps l.steps) l.model after l.server.moment moment taken mid.taken lost [] stands.played begins.0 begins.1 few in
       let past = steps_of_taking lost l.steps in
       let happened = l.happened ++ noted_at_moment moment lost in
-      let mid_played : IsPlayedSoFar table happened (effects_of_steps past) after moment =
-      subst (λ (es : List Effect). IsPlayedSoFar table happened es after moment) (append-nil (effects_of_steps l.steps) ∙ sym (losses_emit lost l.steps)) lost_played in
+      let mid_played : IsPlayedSoFar table held serial happened (effects_of_steps past) after moment =
+      subst (λ (es : List Effect). IsPlayedSoFar table held serial happened es after moment) (append-nil (effects_of_steps l.steps) ∙ sym (losses_emit lost l.steps)) lost_played in
       let own : TurnIsNoted mid.moment mid.recorder mid.taken made last.moment last.recorder last.taken = on.served.turn.calls.notes (last_fine recorded l reported m on fine) in
-      let played = turns_play_on due in_order emit table happened past moment moment server_bounds after on.served.given turns.accepts turns.reads turns.rest turns.rounds turns.last mid.taken last.taken mid_played
+      let played = turns_play_on due in_order emit table held serial happened past moment moment server_bounds after on.served.given turns.accepts turns.reads turns.rest turns.rounds turns.last mid.taken last.taken mid_played
       (due_behind taken mid.taken l.model after moment lost few begins.0) (λ is. refl) turns.turn (own.whole writes_last) (own.takes writes_last) in
       let all : happened ++ noted_at_moment moment took ≡ m.happened =
       append_assoc l.happened (noted_at_moment moment lost) (noted_at_moment moment took) ∙ (ap (λ (ns : List NotedHappening). l.happened ++ ns) (sym (moments_joined moment lost took)) ∙ sym on.happened) in
       let steps_are : effects_of_steps (steps_of_server_turn on.served l.steps) ≡ effects_of_steps m.steps = ap effects_of_steps (sym on.steps) in
       let moment_is : moment ≡ m.server.moment = sym on.served.handed_in.moment ∙ (sym on.served.turn.calls.stays ∙ ap (λ (a : ServerState). a.moment) (sym on.server)) in
       record {
-        played = subst (λ (n : ℕ). IsPlayedSoFar table m.happened (effects_of_steps m.steps) m.model n) moment_is
-            (subst (λ (s : EngineModel). IsPlayedSoFar table m.happened (effects_of_steps m.steps) s moment) (sym on.model)
-            (subst (λ (es : List Effect). IsPlayedSoFar table m.happened es turns.last moment) steps_are
-            (subst (λ (ns : List NotedHappening). IsPlayedSoFar table ns (effects_of_steps (steps_of_server_turn on.served l.steps)) turns.last moment) all played)));
+        played = subst (λ (n : ℕ). IsPlayedSoFar table held serial m.happened (effects_of_steps m.steps) m.model n) moment_is
+            (subst (λ (s : EngineModel). IsPlayedSoFar table held serial m.happened (effects_of_steps m.steps) s moment) (sym on.model)
+            (subst (λ (es : List Effect). IsPlayedSoFar table held serial m.happened es turns.last moment) steps_are
+            (subst (λ (ns : List NotedHappening). IsPlayedSoFar table held serial ns (effects_of_steps (steps_of_server_turn on.served l.steps)) turns.last moment) all played)));
         settled = λ is. subst (λ (s : EngineModel). IsDueFirst s None) (sym on.model)
             (settles_due reported server_bounds turns.accepts turns.turn.begun turns.reads turns.rest turns.rounds turns.last turns.reports (ap (λ (a : ServerState). a.settled) (sym on.server) ∙ is));
       }
 
   -- a record that is still being written was so before
   writes_before : (turns : List (Result Report TurnFault)) (l m : ServerLife) (r : Record) → LifeLeadsTo l turns m → l.server.recorder ≡ Some r → m.server.failed ≡ false → is_recording m.server.recorder ≡ true → is_recording l.server.recorder ≡ true
-  writes_before turns l m r leads held fine writes =
-      let since = life_noted recorded turns l m r leads held fine in
+  writes_before turns l m r leads kept_at fine writes =
+      let since = life_noted recorded turns l m r leads kept_at fine in
       let unended : since.later.over ≡ false = is_not since.later.over (ap is_recording (sym since.held) ∙ writes) in
-      ap is_recording held ∙ ap not (open_before since.since r since.later since.noted unended)
+      ap is_recording kept_at ∙ ap not (open_before since.since r since.later since.noted unended)
 
-  pub life_stands : (turns : List (Result Report TurnFault)) (table : Table) (begin l : ServerLife) (r : Record) → Stands table begin → LifeLeadsTo begin turns l → begin.server.recorder ≡ Some r → l.server.failed ≡ false → is_recording l.server.recorder ≡ true → Stands table l
-  life_stands [] table begin l r stands same held fine writes = subst (Stands table) (sym same) stands
-  life_stands (reported ∷ past) table begin l r stands leads held fine writes =
+  pub life_stands : (turns : List (Result Report TurnFault)) (table : Table) (held : List Stored) (serial : ℕ) (begin l : ServerLife) (r : Record) → Stands table held serial begin → LifeLeadsTo begin turns l → begin.server.recorder ≡ Some r → l.server.failed ≡ false → is_recording l.server.recorder ≡ true → Stands table held serial l
+  life_stands [] table held serial begin l r stands same kept_at fine writes = subst (Stands table held serial) (sym same) stands
+  life_stands (reported ∷ past) table held serial begin l r stands leads kept_at fine writes =
       let before = leads.0 in
       let fine_before = first_fine recorded before reported l leads.2 fine in
-      let since = life_noted recorded past begin before r leads.1 held fine_before in
+      let since = life_noted recorded past begin before r leads.1 kept_at fine_before in
       let one : LifeLeadsTo before (reported ∷ []) l = (before, refl, leads.2) in
       let writes_then = writes_before (reported ∷ []) before l since.later one since.held fine writes in
-      turn_stands table before reported l leads.2 since.later (life_stands past table begin before r stands leads.1 held fine_before writes_then) since.held fine writes
+      turn_stands table held serial before reported l leads.2 since.later (life_stands past table held serial begin before r stands leads.1 kept_at fine_before writes_then) since.held fine writes

@@ -4,11 +4,12 @@ use Rattle.std.specs.Prelude.{◌<◌}
 use Rattle.std.specs.List.{All}
 use Rattle.hx_fields.specs.declared.limits.TheConstants.{END_OF_TIME}
 use Rattle.hx_allow.specs.TableLines.{Table}
+use Rattle.hx_store.specs.Stored.{Stored}
 use Rattle.proxy_core.specs.State.{State as CoreState}
 use Rattle.proxy_core.specs.Starts.{EachHeldAtFirst}
 use Rattle.proxy_core_laws.specs.SentMessages.{CanBeSent}
 use Rattle.hx_allow.specs.Tables.{TableWasRead}
-use Rattle.proxy_engine.specs.Happenings.{PlainHappening, Accepts, Sends, Hears, Ends, Leaves, Shuts, Fails}
+use Rattle.proxy_engine.specs.Happenings.{PlainHappening, Accepts, Sends, Hears, Ends, Leaves, Retires, Shuts, Fails}
 use Rattle.proxy_engine.specs.EngineModel.{EngineModel, model_after_happening}
 use Rattle.proxy_engine.specs.Executions.{ExecutionStep, Took, StepsLead}
 use Rattle.proxy_engine.specs.Beginnings.{MayBeHeldAtFirst, begun_model, store_with}
@@ -31,6 +32,7 @@ core_heard s (Sends n bytes) = refl
 core_heard s (Hears l bytes) = refl
 core_heard s (Ends n) = refl
 core_heard s (Leaves n) = refl
+core_heard s (Retires n) = refl
 core_heard s (Shuts l) = refl
 core_heard s (Fails l kind) = refl
 
@@ -65,35 +67,31 @@ writes_messages messages a b held first link steps s reported read begins execut
     subst (λ (table : Table). All (CallWritesOneMessage table.name) (calls_of_turn_over losses.after turns.accepts turns.reads turns.rounds)) (sym same) all
 
 pub replies_follow : RepliesFollowRequests → ALifeIsExecuted → RepliesOfAServerFollowRequests
-replies_follow follow executed bytes table begin l turns i begins leads =
+replies_follow follow executed bytes table kept serial begin l turns i begins leads =
     let e = l.server.engine in
-    follow e.core.table (store_with e.core.table []) 1 1 l.steps l.model i (executed bytes table begin l turns begins leads).executes
+    follow e.core.table (store_with e.core.table kept) serial 1 l.steps l.model i (executed bytes table kept serial begin l turns begins leads).executes
 
 -- ---- of a life
 
--- nothing is held at first
-none_held : (table : Table) → EachHeldAtFirst CanBeSent (store_with table [])
-none_held table s e found = absurd cc
-
 -- its table stays
-life_keeps_table : EngineGoesOnByTurn → EngineKeepsItsTable → ALifeIsExecuted → (bytes : List ℕ) (table : Table) (begin l : ServerLife) (turns : List (Result Report TurnFault)) → ServerBegins bytes table begin → LifeLeadsTo begin turns l → l.server.engine.core.table ≡ table
-life_keeps_table by_turn keeps executed bytes table begin l [] begins same = ap (λ (k : ServerLife). k.server.engine.core.table) same ∙ begins.table_is
-life_keeps_table by_turn keeps executed bytes table begin l (reported ∷ past) begins leads =
+life_keeps_table : EngineGoesOnByTurn → EngineKeepsItsTable → ALifeIsExecuted → (bytes : List ℕ) (table : Table) (kept : List Stored) (serial : ℕ) (begin l : ServerLife) (turns : List (Result Report TurnFault)) → ServerBegins bytes table kept serial begin → LifeLeadsTo begin turns l → l.server.engine.core.table ≡ table
+life_keeps_table by_turn keeps executed bytes table kept serial begin l [] begins same = ap (λ (k : ServerLife). k.server.engine.core.table) same ∙ begins.table_is
+life_keeps_table by_turn keeps executed bytes table kept serial begin l (reported ∷ past) begins leads =
     let before = leads.0 in
     let on = leads.2 in
     let begun = turn_begun on.now before.server in
     let serves : EngineServesTurn begun.moment server_bounds before.server.engine on.last.engine reported =
     λ s represents orderly. turn_of_engine s begun on.last reported (on.serves s represents orderly) in
     let goes_on = by_turn before.server.engine on.last.engine begun.moment server_bounds reported serves in
-    let lived = executed bytes table begin before past begins leads.1 in
-    let stays = (keeps before.server.engine on.last.engine goes_on (record { held = []; first = 1; link = 1; steps = before.steps; last = before.model; executed = lived })).0 in
-    ap (λ (a : ServerState). a.engine.core.table) on.server ∙ (stays ∙ life_keeps_table by_turn keeps executed bytes table begin before past begins leads.1)
+    let lived = executed bytes table kept serial begin before past begins leads.1 in
+    let stays = (keeps before.server.engine on.last.engine goes_on (record { held = kept; first = serial; link = 1; steps = before.steps; last = before.model; executed = lived })).0 in
+    ap (λ (a : ServerState). a.engine.core.table) on.server ∙ (stays ∙ life_keeps_table by_turn keeps executed bytes table kept serial begin before past begins leads.1)
 
 pub life_writes_messages : EachWriteOfATurnIsOneMessage → EngineGoesOnByTurn → EngineKeepsItsTable → ALifeIsExecuted → EachWriteOfALifeIsOneMessage
-life_writes_messages messages by_turn keeps executed bytes table begin l m turns reported begins leads on =
+life_writes_messages messages by_turn keeps executed bytes table kept serial begin l m turns reported can begins leads on =
     let begun = turn_begun on.now l.server in
-    let same : table ≡ begun.engine.core.table = sym (life_keeps_table by_turn keeps executed bytes table begin l turns begins leads) in
+    let same : table ≡ begun.engine.core.table = sym (life_keeps_table by_turn keeps executed bytes table kept serial begin l turns begins leads) in
     let made = calls_of_turn_over on.served.handed_in.losses.after on.served.turn.turns.accepts on.served.turn.turns.reads on.served.turn.turns.rounds in
-    let lived = executed bytes table begin l turns begins leads in
-    let all = writes_messages messages begun on.last [] 1 1 l.steps l.model reported (subst TableWasRead same (bytes, begins.reads)) (none_held begun.engine.core.table) lived on.early on.served in
+    let lived = executed bytes table kept serial begin l turns begins leads in
+    let all = writes_messages messages begun on.last kept serial 1 l.steps l.model reported (subst TableWasRead same (bytes, begins.reads)) (subst (λ (t : Table). EachHeldAtFirst CanBeSent (store_with t kept)) same can) lived on.early on.served in
     subst (λ (t : Table). All (CallWritesOneMessage t.name) made) (sym same) all

@@ -9,7 +9,7 @@ use Rattle.proxy_engine.specs.EngineModel.{EngineModel, model_after_happening}
 use Rattle.proxy_engine.specs.Due.{Act, IsDueFirst}
 use Rattle.proxy_engine.specs.Acts.{ActIsDone}
 use Rattle.proxy_engine.specs.Executions.{ActIsDoneInOneWay}
-use Rattle.proxy_replay.specs.Played.{DoneAct, ActsAreDoneInOrder, effects_of_acts, HappeningIsPlayed, Scene, initial_scene, ItemIsPlayed, ItemsArePlayed}
+use Rattle.proxy_replay.specs.Played.{DoneAct, ActsAreDoneInOrder, effects_of_acts, HappeningIsPlayed, Scene, scene_over, ItemIsPlayed, ItemsArePlayed}
 use Rattle.proxy_replay.specs.Runs.{ScriptHasOnePlay}
 use Rattle.proxy_record.specs.Records.{NotedHappening, items_of_happening, items_of_noted}
 use Rattle.proxy_record_laws.specs.PlaysOfARecord.{ThePlayGoesOn}
@@ -128,11 +128,11 @@ module _ (due : (s : EngineModel) → (a b : Option Act) → IsDueFirst s a → 
     -- ---- the play of all that was noted
 
     pub play_goes_on : ScriptHasOnePlay → ThePlayGoesOn
-    play_goes_on once table all_noted effects all_effects last now end (inl yet) plays =
-        let none : ItemsArePlayed (initial_scene table) [] all_effects end = subst (λ (ns : List NotedHappening). ItemsArePlayed (initial_scene table) (items_of_noted 0 ns) all_effects end) yet.0 plays in
+    play_goes_on once table held serial all_noted effects all_effects last now end (inl yet) plays =
+        let none : ItemsArePlayed (scene_over table held serial) [] all_effects end = subst (λ (ns : List NotedHappening). ItemsArePlayed (scene_over table held serial) (items_of_noted 0 ns) all_effects end) yet.0 plays in
         (all_effects, ap (λ (es : List Effect). es ++ all_effects) (sym yet.1), λ due_none. none.0)
-    play_goes_on once table all_noted effects all_effects last now end (inr so_far) plays =
-        let begin = initial_scene table in
+    play_goes_on once table held serial all_noted effects all_effects last now end (inr so_far) plays =
+        let begin = scene_over table held serial in
         let front = so_far.front in
         let one = so_far.one in
         let before = so_far.before in

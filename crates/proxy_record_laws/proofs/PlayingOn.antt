@@ -1,12 +1,13 @@
 -- The play of a record comes as far as the turns and the losses that were recorded.
 use Rattle.std.proofs.Common.{◌≡◌, ◌⊎◌, inl, inr, ℕ, ◌==◌, ◌<◌, List, [], ◌∷◌, ◌++◌, refl, sym, ap, ◌∙◌, subst, arith, append-nil, append_assoc, Bool, true, false, Option, None}
 use Rattle.hx_allow.specs.TableLines.{Table}
+use Rattle.hx_store.specs.Stored.{Stored}
 use Rattle.proxy_script.specs.Happenings.{PlainHappening as Happening}
 use Rattle.proxy_script.specs.Script.{PlainItem as Item}
 use Rattle.proxy_script.specs.declared.effect_list.Effect.{Effect}
 use Rattle.proxy_engine.specs.EngineModel.{EngineModel, model_after_happening, happening_fault}
 use Rattle.proxy_engine.specs.Due.{Act, IsDueFirst}
-use Rattle.proxy_replay.specs.Played.{DoneAct, ActsAreDoneInOrder, effects_of_acts, HappeningIsPlayed, Scene, initial_scene, ItemsArePlayed}
+use Rattle.proxy_replay.specs.Played.{DoneAct, ActsAreDoneInOrder, effects_of_acts, HappeningIsPlayed, Scene, scene_over, ItemsArePlayed}
 use Rattle.proxy_turn.specs.Turn.{ActRound}
 use Rattle.proxy_turn.specs.TurnSteps.{effects_of_rounds}
 use Rattle.proxy_turn.specs.OverSteps.{steps_of_turn_over, TurnOverStepsEmitTheirEffects}
@@ -35,18 +36,18 @@ effects_of_done (r ∷ rs) = ap (λ (es : List Effect). r.emitted ++ es) (effect
 
 -- ---- nothing is due of an engine to which nothing has happened
 
-pub nothing_due : (table : Table) → IsDueFirst (initial_scene table).model None
-nothing_due table = ((λ i few. tt_of i few), (λ i few. tt_of i few), refl, (λ i few. tt_of i few))
+pub nothing_due : (table : Table) (held : List Stored) (serial : ℕ) → IsDueFirst (scene_over table held serial).model None
+nothing_due table held serial = ((λ i few. tt_of i few), (λ i few. tt_of i few), refl, (λ i few. tt_of i few))
   where
     tt_of : {P : Type 0} (i : ℕ) → i < 0 → P
     tt_of {P} i few = absurd (omega (arith, few))
 
 module _ (due : (s : EngineModel) → (a b : Option Act) → IsDueFirst s a → IsDueFirst s b → a ≡ b) where
   -- the last of what was noted was played whole
-  whole : (table : Table) (all_noted : List NotedHappening) (effects : List Effect) (s : EngineModel) (then : ℕ) (so_far : LastIsBeingPlayed table all_noted effects s then) → IsDueFirst s None
-      → ItemsArePlayed (initial_scene table) (items_of_noted 0 all_noted) effects (record { model = s; now = so_far.one.moment })
-  whole table all_noted effects s then so_far none =
-      let begin = initial_scene table in
+  whole : (table : Table) (held : List Stored) (serial : ℕ) (all_noted : List NotedHappening) (effects : List Effect) (s : EngineModel) (then : ℕ) (so_far : LastIsBeingPlayed table held serial all_noted effects s then) → IsDueFirst s None
+      → ItemsArePlayed (scene_over table held serial) (items_of_noted 0 all_noted) effects (record { model = s; now = so_far.one.moment })
+  whole table held serial all_noted effects s then so_far none =
+      let begin = scene_over table held serial in
       let one = so_far.one in
       let before = so_far.before in
       let last : Scene = record { model = s; now = one.moment } in
@@ -65,9 +66,9 @@ module _ (due : (s : EngineModel) → (a b : Option Act) → IsDueFirst s a → 
       (subst (λ (is : List Item). ItemsArePlayed begin is (so_far.first ++ effects_of_acts so_far.done_acts) last) all both)
 
   -- one more thing, behind a play of all that was noted before
-  one_more_played : (table : Table) (all_noted : List NotedHappening) (effects : List Effect) (begun : Scene) (now : ℕ) (h : Happening) (acts : List DoneAct) (t : EngineModel) → ItemsArePlayed (initial_scene table) (items_of_noted 0 all_noted) effects begun
-      → happening_fault begun.model h ≡ None → ActsAreDoneInOrder (model_after_happening begun.model h) now acts t → IsPlayedSoFar table (all_noted ++ noted_at_moment now (h ∷ [])) (effects ++ effects_of_acts acts) t now
-  one_more_played table all_noted effects begun now h acts t plays free works = inr (record {
+  one_more_played : (table : Table) (held : List Stored) (serial : ℕ) (all_noted : List NotedHappening) (effects : List Effect) (begun : Scene) (now : ℕ) (h : Happening) (acts : List DoneAct) (t : EngineModel) → ItemsArePlayed (scene_over table held serial) (items_of_noted 0 all_noted) effects begun
+      → happening_fault begun.model h ≡ None → ActsAreDoneInOrder (model_after_happening begun.model h) now acts t → IsPlayedSoFar table held serial (all_noted ++ noted_at_moment now (h ∷ [])) (effects ++ effects_of_acts acts) t now
+  one_more_played table held serial all_noted effects begun now h acts t plays free works = inr (record {
     front = all_noted;
     one = record { moment = now; happening = h };
     noted_are = refl;
@@ -82,17 +83,17 @@ module _ (due : (s : EngineModel) → (a b : Option Act) → IsDueFirst s a → 
   })
 
   -- nothing more, and no act
-  still_played : (table : Table) (all_noted : List NotedHappening) (effects : List Effect) (s t : EngineModel) (then now : ℕ) (hs : List Happening) (acts : List DoneAct) → IsPlayedSoFar table all_noted effects s then → IsDueFirst s None → hs ≡ [] → ActsAreDoneInOrder s now acts t
-      → IsPlayedSoFar table (all_noted ++ noted_at_moment now hs) (effects ++ effects_of_acts acts) t now
-  still_played table all_noted effects s t then now hs acts so_far none no_more works =
+  still_played : (table : Table) (held : List Stored) (serial : ℕ) (all_noted : List NotedHappening) (effects : List Effect) (s t : EngineModel) (then now : ℕ) (hs : List Happening) (acts : List DoneAct) → IsPlayedSoFar table held serial all_noted effects s then → IsDueFirst s None → hs ≡ [] → ActsAreDoneInOrder s now acts t
+      → IsPlayedSoFar table held serial (all_noted ++ noted_at_moment now hs) (effects ++ effects_of_acts acts) t now
+  still_played table held serial all_noted effects s t then now hs acts so_far none no_more works =
       let no_acts = no_act due acts s now t none works in
       let ns : all_noted ≡ all_noted ++ noted_at_moment now hs = sym (append-nil all_noted) ∙ ap (λ (xs : List Happening). all_noted ++ noted_at_moment now xs) (sym no_more) in
       let es : effects ≡ effects ++ effects_of_acts acts = sym (append-nil effects) ∙ ap (λ (xs : List DoneAct). effects ++ effects_of_acts xs) (sym no_acts.0) in
-      subst (λ (m : EngineModel). IsPlayedSoFar table (all_noted ++ noted_at_moment now hs) (effects ++ effects_of_acts acts) m now) (sym no_acts.1)
-      (subst (λ (xs : List Effect). IsPlayedSoFar table (all_noted ++ noted_at_moment now hs) xs s now) es
-      (subst (λ (xs : List NotedHappening). IsPlayedSoFar table xs effects s now) ns (later so_far)))
+      subst (λ (m : EngineModel). IsPlayedSoFar table held serial (all_noted ++ noted_at_moment now hs) (effects ++ effects_of_acts acts) m now) (sym no_acts.1)
+      (subst (λ (xs : List Effect). IsPlayedSoFar table held serial (all_noted ++ noted_at_moment now hs) xs s now) es
+      (subst (λ (xs : List NotedHappening). IsPlayedSoFar table held serial xs effects s now) ns (later so_far)))
     where
-      later : IsPlayedSoFar table all_noted effects s then → IsPlayedSoFar table all_noted effects s now
+      later : IsPlayedSoFar table held serial all_noted effects s then → IsPlayedSoFar table held serial all_noted effects s now
       later (inl yet) = inl yet
       later (inr some) = inr (record {
         front = some.front;
@@ -109,10 +110,10 @@ module _ (due : (s : EngineModel) → (a b : Option Act) → IsDueFirst s a → 
       })
 
   -- more acts behind the last thing, at its moment
-  more_acts : (table : Table) (all_noted : List NotedHappening) (effects : List Effect) (s t : EngineModel) (then now : ℕ) (hs : List Happening) (acts : List DoneAct) (some : LastIsBeingPlayed table all_noted effects s then) → now ≡ some.one.moment → hs ≡ [] → ActsAreDoneInOrder s now acts t
-      → IsPlayedSoFar table (all_noted ++ noted_at_moment now hs) (effects ++ effects_of_acts acts) t now
-  more_acts table all_noted effects s t then now hs acts some is no_more works =
-      subst (λ (xs : List Happening). IsPlayedSoFar table (all_noted ++ noted_at_moment now xs) (effects ++ effects_of_acts acts) t now) (sym no_more) (inr (record {
+  more_acts : (table : Table) (held : List Stored) (serial : ℕ) (all_noted : List NotedHappening) (effects : List Effect) (s t : EngineModel) (then now : ℕ) (hs : List Happening) (acts : List DoneAct) (some : LastIsBeingPlayed table held serial all_noted effects s then) → now ≡ some.one.moment → hs ≡ [] → ActsAreDoneInOrder s now acts t
+      → IsPlayedSoFar table held serial (all_noted ++ noted_at_moment now hs) (effects ++ effects_of_acts acts) t now
+  more_acts table held serial all_noted effects s t then now hs acts some is no_more works =
+      subst (λ (xs : List Happening). IsPlayedSoFar table held serial (all_noted ++ noted_at_moment now xs) (effects ++ effects_of_acts acts) t now) (sym no_more) (inr (record {
         front = some.front;
         one = some.one;
         noted_are = append-nil all_noted ∙ some.noted_are;
@@ -135,38 +136,38 @@ module _ (due : (s : EngineModel) → (a b : Option Act) → IsDueFirst s a → 
   due_or_at true s then now m none same (inl due_none) = inl due_none
   due_or_at true s then now m none same (inr is) = inr (same refl ∙ is)
 
-  pub plays_on : (table : Table) (all_noted : List NotedHappening) (effects : List Effect) (s t : EngineModel) (then now : ℕ) (taken later : Bool) (hs : List Happening) (acts : List DoneAct) → IsPlayedSoFar table all_noted effects s then
-      → (taken ≡ false → IsDueFirst s None) → (taken ≡ true → now ≡ then) → AtMostOneThingHappens taken s now hs acts t later → IsPlayedSoFar table (all_noted ++ noted_at_moment now hs) (effects ++ effects_of_acts acts) t now
-  plays_on table all_noted effects s t then now taken later hs acts (inl yet) none same (inl no_more) =
-      still_played table all_noted effects s t then now hs acts (inl yet) (subst (λ (m : EngineModel). IsDueFirst m None) (sym yet.2) (nothing_due table)) no_more.none no_more.works
-  plays_on table all_noted effects s t then now taken later hs acts (inl yet) none same (inr one) =
-      let begin = initial_scene table in
+  pub plays_on : (table : Table) (held : List Stored) (serial : ℕ) (all_noted : List NotedHappening) (effects : List Effect) (s t : EngineModel) (then now : ℕ) (taken later : Bool) (hs : List Happening) (acts : List DoneAct) → IsPlayedSoFar table held serial all_noted effects s then
+      → (taken ≡ false → IsDueFirst s None) → (taken ≡ true → now ≡ then) → AtMostOneThingHappens taken s now hs acts t later → IsPlayedSoFar table held serial (all_noted ++ noted_at_moment now hs) (effects ++ effects_of_acts acts) t now
+  plays_on table held serial all_noted effects s t then now taken later hs acts (inl yet) none same (inl no_more) =
+      still_played table held serial all_noted effects s t then now hs acts (inl yet) (subst (λ (m : EngineModel). IsDueFirst m None) (sym yet.2) (nothing_due table held serial)) no_more.none no_more.works
+  plays_on table held serial all_noted effects s t then now taken later hs acts (inl yet) none same (inr one) =
+      let begin = scene_over table held serial in
       let plays : ItemsArePlayed begin (items_of_noted 0 all_noted) effects begin =
       subst (λ (es : List Effect). ItemsArePlayed begin (items_of_noted 0 all_noted) es begin) (sym yet.1)
       (subst (λ (ns : List NotedHappening). ItemsArePlayed begin (items_of_noted 0 ns) [] begin) (sym yet.0) (refl, refl)) in
-      subst (λ (xs : List Happening). IsPlayedSoFar table (all_noted ++ noted_at_moment now xs) (effects ++ effects_of_acts acts) t now) (sym one.one)
-      (one_more_played table all_noted effects begin now one.happening acts t plays (subst (λ (m : EngineModel). happening_fault m one.happening ≡ None) yet.2 one.free)
+      subst (λ (xs : List Happening). IsPlayedSoFar table held serial (all_noted ++ noted_at_moment now xs) (effects ++ effects_of_acts acts) t now) (sym one.one)
+      (one_more_played table held serial all_noted effects begin now one.happening acts t plays (subst (λ (m : EngineModel). happening_fault m one.happening ≡ None) yet.2 one.free)
       (subst (λ (m : EngineModel). ActsAreDoneInOrder (model_after_happening m one.happening) now acts t) yet.2 one.works))
-  plays_on table all_noted effects s t then now taken later hs acts (inr some) none same (inl no_more) = by_moment (due_or_at taken s then now some.one.moment none same some.moment)
+  plays_on table held serial all_noted effects s t then now taken later hs acts (inr some) none same (inl no_more) = by_moment (due_or_at taken s then now some.one.moment none same some.moment)
     where
-      by_moment : DueOrAt s now some.one.moment → IsPlayedSoFar table (all_noted ++ noted_at_moment now hs) (effects ++ effects_of_acts acts) t now
-      by_moment (inl due_none) = still_played table all_noted effects s t then now hs acts (inr some) due_none no_more.none no_more.works
-      by_moment (inr is) = more_acts table all_noted effects s t then now hs acts some is no_more.none no_more.works
-  plays_on table all_noted effects s t then now taken later hs acts (inr some) none same (inr one) =
-      subst (λ (xs : List Happening). IsPlayedSoFar table (all_noted ++ noted_at_moment now xs) (effects ++ effects_of_acts acts) t now) (sym one.one)
-      (one_more_played table all_noted effects (record { model = s; now = some.one.moment }) now one.happening acts t (whole table all_noted effects s then some (none one.first)) one.free one.works)
+      by_moment : DueOrAt s now some.one.moment → IsPlayedSoFar table held serial (all_noted ++ noted_at_moment now hs) (effects ++ effects_of_acts acts) t now
+      by_moment (inl due_none) = still_played table held serial all_noted effects s t then now hs acts (inr some) due_none no_more.none no_more.works
+      by_moment (inr is) = more_acts table held serial all_noted effects s t then now hs acts some is no_more.none no_more.works
+  plays_on table held serial all_noted effects s t then now taken later hs acts (inr some) none same (inr one) =
+      subst (λ (xs : List Happening). IsPlayedSoFar table held serial (all_noted ++ noted_at_moment now xs) (effects ++ effects_of_acts acts) t now) (sym one.one)
+      (one_more_played table held serial all_noted effects (record { model = s; now = some.one.moment }) now one.happening acts t (whole table held serial all_noted effects s then some (none one.first)) one.free one.works)
 
   pub losses_play_on : ALossPlaysOn
-  losses_play_on table all_noted steps then now s h so_far none free =
-      subst (λ (es : List Effect). IsPlayedSoFar table (all_noted ++ noted_at_moment now (h ∷ [])) es (model_after_happening s h) now) (append-nil (effects_of_steps steps))
-      (plays_on table all_noted (effects_of_steps steps) s (model_after_happening s h) then now false true (h ∷ []) [] so_far (λ is. none) (λ is. absurd (cc))
+  losses_play_on table held serial all_noted steps then now s h so_far none free =
+      subst (λ (es : List Effect). IsPlayedSoFar table held serial (all_noted ++ noted_at_moment now (h ∷ [])) es (model_after_happening s h) now) (append-nil (effects_of_steps steps))
+      (plays_on table held serial all_noted (effects_of_steps steps) s (model_after_happening s h) then now false true (h ∷ []) [] so_far (λ is. none) (λ is. absurd (cc))
       (inr (record { happening = h; one = refl; first = refl; later_is = refl; free = free; works = refl })))
 
   pub turns_play_on : RoundsAreActsInOrder → TurnOverStepsEmitTheirEffects → ATurnPlaysOn
-  turns_play_on in_order emit table all_noted steps then now bounds s given accepts reads rest rounds t taken later so_far none same turn fine some =
+  turns_play_on in_order emit table held serial all_noted steps then now bounds s given accepts reads rest rounds t taken later so_far none same turn fine some =
       let hs = happenings_of_steps (steps_of_turn_over now s accepts reads rounds []) in
       let happens = turn_takes_one_thing in_order now bounds s given accepts reads rest rounds t taken later turn fine some in
-      let on = plays_on table all_noted (effects_of_steps steps) s t then now taken later hs (done_acts_of rounds) so_far none same happens in
+      let on = plays_on table held serial all_noted (effects_of_steps steps) s t then now taken later hs (done_acts_of rounds) so_far none same happens in
       let emitted : effects_of_steps steps ++ effects_of_acts (done_acts_of rounds) ≡ effects_of_steps (steps_of_turn_over now s accepts reads rounds steps) =
       ap (λ (es : List Effect). effects_of_steps steps ++ es) (effects_of_done rounds) ∙ sym (emit steps now s accepts reads rounds) in
-      subst (λ (es : List Effect). IsPlayedSoFar table (all_noted ++ noted_at_moment now hs) es t now) emitted on
+      subst (λ (es : List Effect). IsPlayedSoFar table held serial (all_noted ++ noted_at_moment now hs) es t now) emitted on

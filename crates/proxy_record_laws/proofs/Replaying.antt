@@ -7,6 +7,7 @@ use Rattle.std.specs.List.{AllByRecursion}
 use Rattle.hx_allow.specs.TableLines.{Table}
 use Rattle.hx_allow.specs.Tables.{BytesReadAs}
 use Rattle.hx_allow.specs.declared.config_faults.ConfigFault.{ConfigFault}
+use Rattle.hx_store.specs.Stored.{Stored}
 use Rattle.proxy_script.specs.Effects.{effects_text}
 use Rattle.proxy_script.specs.Happenings.{PlainHappening as Happening}
 use Rattle.proxy_script.specs.Script.{PlainItem as Item, Moment, Happens, line_of_item, block_of_item, item_spelling, ItemHasSpelling, ItemMayStandHere, IsScript, Found, item_in_front}
@@ -17,12 +18,11 @@ use Rattle.proxy_script.specs.declared.effect_list.Effect.{Effect}
 use Rattle.proxy_engine.specs.EngineModel.{EngineModel}
 use Rattle.proxy_engine.specs.Due.{Act, IsDueFirst}
 use Rattle.proxy_engine.specs.Executions.{ExecutionStep, StepsLead, effects_of_steps}
+use Rattle.proxy_engine.specs.Beginnings.{MayBeHeldAtFirst, begun_model}
 use Rattle.proxy_engine.specs.State.{EngineRepresents}
-use Rattle.proxy_replay.specs.Played.{Scene, initial_scene, ItemsArePlayed}
-use Rattle.proxy_replay.specs.Replay.{IsReplayed}
+use Rattle.proxy_replay.specs.Played.{Scene, scene_over, ItemsArePlayed}
+use Rattle.proxy_replay.specs.Replay.{IsReplayedOver}
 use Rattle.proxy_turn.specs.OverSteps.{TurnOverStepsEmitTheirEffects}
-use Rattle.proxy_core.specs.State.{bounds_of}
-use Rattle.proxy_core.proofs.Beginning.{nothing_stands}
 use Rattle.proxy_turn.specs.Served.{initial_model_of, EngineExecuted, TurnIsServedBehindLosses, TurnExecutesItsSteps, ExecutedEngineIsServing}
 use Rattle.proxy_turn.specs.declared.report.Report.{Report}
 use Rattle.proxy_turn.specs.declared.report.TurnFault.{TurnFault}
@@ -44,11 +44,12 @@ use Rattle.proxy_record_laws.proofs.Spelling.{one_script}
 -- ---- a life is lived by steps
 
 pub server_begins : AServerBegins
-server_begins bytes table a reads table_is represents = (
-  record { server = a; model = (initial_scene table).model; steps = []; happened = [] },
+server_begins bytes table kept serial a reads table_is may represents = (
+  record { server = a; model = begun_model table kept serial 1; steps = []; happened = [] },
   refl,
   record {
     reads = reads;
+    may = may;
     table_is = table_is;
     represents = represents;
     model = refl;
@@ -59,16 +60,16 @@ server_begins bytes table a reads table_is represents = (
 
 pub new_server_begins : ANewServerBegins
 unfolding server_begins
-new_server_begins bytes table a begun reads table_is represents recorder begins unended =
-    let server = server_begins bytes table a reads table_is represents in
+new_server_begins bytes table kept serial a begun reads table_is may represents recorder begins unended =
+    let server = server_begins bytes table kept serial a reads table_is may represents in
     (server.0, server.1, record { server = server.2; begun = begun; recorder = recorder; begins = begins; unended = unended })
 
-begins_with_no_step : (bytes : List ℕ) (table : Table) (l : ServerLife) → ServerBegins bytes table l → EngineExecuted l.server.engine [] 1 1 l.steps l.model
-begins_with_no_step bytes table l begins =
-    let begin = initial_model_of l.server.engine [] 1 1 in
-    let same : (initial_scene table).model ≡ begin = ap (λ (t : Table). (initial_scene t).model) (sym begins.table_is) in
+begins_with_no_step : (bytes : List ℕ) (table : Table) (kept : List Stored) (serial : ℕ) (l : ServerLife) → ServerBegins bytes table kept serial l → EngineExecuted l.server.engine kept serial 1 l.steps l.model
+begins_with_no_step bytes table kept serial l begins =
+    let begin = initial_model_of l.server.engine kept serial 1 in
+    let same : begun_model table kept serial 1 ≡ begin = ap (λ (t : Table). begun_model t kept serial 1) (sym begins.table_is) in
     record {
-      begins = nothing_stands (bounds_of l.server.engine.core.table l.server.engine.core.table.capacity) 1;
+      begins = subst (λ (t : Table). MayBeHeldAtFirst t kept serial) (sym begins.table_is) begins.may;
       executes = subst (λ (ss : List ExecutionStep). StepsLead begin ss l.model) (sym begins.steps) (begins.model ∙ same);
       represents = subst (EngineRepresents l.server.engine) (sym begins.model) begins.represents;
     }
@@ -88,22 +89,22 @@ turn_of_engine s a b reported turn = record {
 }
 
 pub life_is_executed : TurnExecutesItsSteps → ALifeIsExecuted
-life_is_executed by_steps bytes table begin l [] begins same = subst (λ (k : ServerLife). EngineExecuted k.server.engine [] 1 1 k.steps k.model) (sym same) (begins_with_no_step bytes table begin begins)
-life_is_executed by_steps bytes table begin l (reported ∷ past) begins leads =
+life_is_executed by_steps bytes table kept serial begin l [] begins same = subst (λ (k : ServerLife). EngineExecuted k.server.engine kept serial 1 k.steps k.model) (sym same) (begins_with_no_step bytes table kept serial begin begins)
+life_is_executed by_steps bytes table kept serial begin l (reported ∷ past) begins leads =
     let before = leads.0 in
     let on = leads.2 in
     let begun = turn_begun on.now before.server in
-    let executed = life_is_executed by_steps bytes table begin before past begins leads.1 in
-    let lived : EngineExecuted on.last.engine [] 1 1 (steps_of_server_turn on.served before.steps) on.served.turn.turns.last =
-    by_steps before.server.engine on.last.engine [] 1 1 before.steps before.model begun.moment server_bounds reported executed (turn_of_engine before.model begun on.last reported on.served) in
-    subst (λ (a : ServerState). EngineExecuted a.engine [] 1 1 l.steps l.model) (sym on.server)
-    (subst (λ (s : EngineModel). EngineExecuted on.last.engine [] 1 1 l.steps s) (sym on.model)
-    (subst (λ (ss : List ExecutionStep). EngineExecuted on.last.engine [] 1 1 ss on.served.turn.turns.last) (sym on.steps) lived))
+    let executed = life_is_executed by_steps bytes table kept serial begin before past begins leads.1 in
+    let lived : EngineExecuted on.last.engine kept serial 1 (steps_of_server_turn on.served before.steps) on.served.turn.turns.last =
+    by_steps before.server.engine on.last.engine kept serial 1 before.steps before.model begun.moment server_bounds reported executed (turn_of_engine before.model begun on.last reported on.served) in
+    subst (λ (a : ServerState). EngineExecuted a.engine kept serial 1 l.steps l.model) (sym on.server)
+    (subst (λ (s : EngineModel). EngineExecuted on.last.engine kept serial 1 l.steps s) (sym on.model)
+    (subst (λ (ss : List ExecutionStep). EngineExecuted on.last.engine kept serial 1 ss on.served.turn.turns.last) (sym on.steps) lived))
 
-settled_turn_is_lived : ExecutedEngineIsServing → (l : ServerLife) (b : ServerState) (reported : Result Report TurnFault) → EngineExecuted l.server.engine [] 1 1 l.steps l.model → TurnIsServedAndSettled l.server b reported → (m : ServerLife) × (m.server ≡ b) × LifeGoesOn l reported m
-settled_turn_is_lived runs l b reported executed settled =
+settled_turn_is_lived : ExecutedEngineIsServing → (kept : List Stored) (serial : ℕ) (l : ServerLife) (b : ServerState) (reported : Result Report TurnFault) → EngineExecuted l.server.engine kept serial 1 l.steps l.model → TurnIsServedAndSettled l.server b reported → (m : ServerLife) × (m.server ≡ b) × LifeGoesOn l reported m
+settled_turn_is_lived runs kept serial l b reported executed settled =
     let begun = turn_begun settled.served.now l.server in
-    let orderly = (runs l.server.engine [] 1 1 l.steps l.model executed).0 in
+    let orderly = (runs l.server.engine kept serial 1 l.steps l.model executed).0 in
     let turn : ServerTurn l.model begun settled.last reported = settled.served.serves l.model executed.represents orderly in (
       record {
         server = b;
@@ -116,10 +117,10 @@ settled_turn_is_lived runs l b reported executed settled =
     )
 
 pub turn_is_lived : ExecutedEngineIsServing → ATurnIsLived
-turn_is_lived runs l b turned executed answers = settled_turn_is_lived runs l b turned.reported executed answers.1.0
+turn_is_lived runs kept serial l b turned executed answers = settled_turn_is_lived runs kept serial l b turned.reported executed answers.1.0
 
 pub spent_turn_is_lived : ExecutedEngineIsServing → ASpentTurnIsLived
-spent_turn_is_lived runs l b executed answers = settled_turn_is_lived runs l b (Err faults.Spent) executed answers
+spent_turn_is_lived runs kept serial l b executed answers = settled_turn_is_lived runs kept serial l b (Err faults.Spent) executed answers
 
 -- ---- lists
 
@@ -215,14 +216,14 @@ life_fine recorded (reported ∷ past) l m leads fine = life_fine recorded past 
 module _ (recorded : TurnsAreRecorded) (due : (s : EngineModel) → (a b : Option Act) → IsDueFirst s a → IsDueFirst s b → a ≡ b) (in_order : RoundsAreActsInOrder) (emit : TurnOverStepsEmitTheirEffects) (goes_on : ThePlayGoesOn) where
   module _ (one_table : (bytes : List ℕ) (r s : Result Table ConfigFault) → BytesReadAs bytes r → BytesReadAs bytes s → r ≡ s) (again : (first : Bool) (h : Item) (rest : List ℕ) → ItemHasSpelling h → ItemMayStandHere first h → item_in_front first (item_spelling h ++ rest) ≡ Found h rest)
       (scripts : RecordsAreScripts) (spelled : ScriptsAreSpelled) where
-    record PlaysNoted (table : Table) (ns : List NotedHappening) (text : List ℕ) : Type 0 where
+    record PlaysNoted (table : Table) (kept : List Stored) (serial : ℕ) (ns : List NotedHappening) (text : List ℕ) : Type 0 where
       effects : List Effect
       end : Scene
-      plays : ItemsArePlayed (initial_scene table) (items_of_noted 0 ns) effects end
+      plays : ItemsArePlayed (scene_over table kept serial) (items_of_noted 0 ns) effects end
       text_is : text ≡ effects_text effects
 
-    replay_plays : (table : Table) (bytes : List ℕ) (ns : List NotedHappening) (script text : List ℕ) → BytesReadAs bytes (Ok table) → script ≡ script_of_noted bytes ns → ItemHasSpelling (item.Table bytes) → AllByRecursion HasSpelling ns → IsReplayed script text → PlaysNoted table ns text
-    replay_plays table bytes ns script text reads is fits all replayed =
+    replay_plays : (table : Table) (kept : List Stored) (serial : ℕ) (bytes : List ℕ) (ns : List NotedHappening) (script text : List ℕ) → BytesReadAs bytes (Ok table) → script ≡ script_of_noted bytes ns → ItemHasSpelling (item.Table bytes) → AllByRecursion HasSpelling ns → IsReplayedOver kept serial script text → PlaysNoted table kept serial ns text
+    replay_plays table kept serial bytes ns script text reads is fits all replayed =
         let here : IsScript script bytes (items_of_noted 0 ns) = subst (λ (bs : List ℕ). IsScript bs bytes (items_of_noted 0 ns)) (sym is) (spelled bytes ns fits all) in
         let same = one_script again script bytes replayed.table (items_of_noted 0 ns) replayed.items here replayed.is_script in
         let read : Ok table ≡ Ok replayed.config = one_table bytes (Ok table) (Ok replayed.config) reads (subst (λ (bs : List ℕ). BytesReadAs bs (Ok replayed.config)) (sym same.table_is) replayed.reads) in
@@ -230,15 +231,15 @@ module _ (recorded : TurnsAreRecorded) (due : (s : EngineModel) → (a b : Optio
         record {
           effects = replayed.effects;
           end = replayed.last;
-          plays = subst (λ (t : Table). ItemsArePlayed (initial_scene t) (items_of_noted 0 ns) replayed.effects replayed.last) (sym config)
-              (subst (λ (is : List Item). ItemsArePlayed (initial_scene replayed.config) is replayed.effects replayed.last) (sym same.items_are) replayed.plays);
+          plays = subst (λ (t : Table). ItemsArePlayed (scene_over t kept serial) (items_of_noted 0 ns) replayed.effects replayed.last) (sym config)
+              (subst (λ (is : List Item). ItemsArePlayed (scene_over replayed.config kept serial) is replayed.effects replayed.last) (sym same.items_are) replayed.plays);
           text_is = replayed.emitted;
         }
 
-    begin_stands : (bytes : List ℕ) (table : Table) (begin : ServerLife) → LifeBegins bytes table begin → Stands table begin
-    begin_stands bytes table begin begins = record {
+    begin_stands : (bytes : List ℕ) (table : Table) (kept : List Stored) (serial : ℕ) (begin : ServerLife) → LifeBegins bytes table kept serial begin → Stands table kept serial begin
+    begin_stands bytes table kept serial begin begins = record {
       played = inl (begins.server.happened, ap effects_of_steps begins.server.steps, begins.server.model);
-      settled = λ is. subst (λ (s : EngineModel). IsDueFirst s None) (sym begins.server.model) (nothing_due table);
+      settled = λ is. subst (λ (s : EngineModel). IsDueFirst s None) (sym begins.server.model) (nothing_due table kept serial);
     }
 
     -- all that happened since the beginning was noted
@@ -248,8 +249,8 @@ module _ (recorded : TurnsAreRecorded) (due : (s : EngineModel) → (a b : Optio
       noted : IsNotedOrEnds begun l.happened r
       of : IsRecordOfNoted (Some []) bytes l.happened r
 
-    all_noted : (bytes : List ℕ) (table : Table) (begin l : ServerLife) (turns : List (Result Report TurnFault)) (begins : LifeBegins bytes table begin) → LifeLeadsTo begin turns l → l.server.failed ≡ false → Noted bytes begins.begun l
-    all_noted bytes table begin l turns begins leads fine =
+    all_noted : (bytes : List ℕ) (table : Table) (kept : List Stored) (serial : ℕ) (begin l : ServerLife) (turns : List (Result Report TurnFault)) (begins : LifeBegins bytes table kept serial begin) → LifeLeadsTo begin turns l → l.server.failed ≡ false → Noted bytes begins.begun l
+    all_noted bytes table kept serial begin l turns begins leads fine =
         let since = life_noted recorded turns begin l begins.begun leads begins.recorder fine in
         let all : since.since ≡ l.happened = sym (since.happened ∙ ap (λ (ns : List NotedHappening). ns ++ since.since) begins.server.happened) in
         let noted : IsNotedOrEnds begins.begun l.happened since.later = subst (λ (ns : List NotedHappening). IsNotedOrEnds begins.begun ns since.later) all since.noted in
@@ -262,16 +263,16 @@ module _ (recorded : TurnsAreRecorded) (due : (s : EngineModel) → (a b : Optio
     whole_front bytes ns r of is = sym (append-nil of.front) ∙ (ap (λ (ks : List NotedHappening). of.front ++ ks) (sym (of.all is)) ∙ sym of.split)
 
     pub record_replays : ARecordReplaysWhatWasServed
-    record_replays bytes table begin l turns r script text begins leads fine is unended held all replayed =
-        let noted = all_noted bytes table begin l turns begins leads fine in
+    record_replays bytes table kept serial begin l turns r script text begins leads fine is unended held all replayed =
+        let noted = all_noted bytes table kept serial begin l turns begins leads fine in
         let same : noted.r ≡ r = same_record noted.r r l.server.recorder noted.held is in
         let of : IsRecordOfNoted (Some []) bytes l.happened r = subst (IsRecordOfNoted (Some []) bytes l.happened) same noted.of in
         let front : of.front ≡ l.happened = whole_front bytes l.happened r of unended in
         let script_is : script ≡ script_of_noted bytes l.happened = held_is r.held script (script_of_noted bytes of.front) held of.held ∙ ap (script_of_noted bytes) front in
         let writes : is_recording l.server.recorder ≡ true = ap is_recording is ∙ ap not unended in
-        let stands = life_stands recorded due in_order emit turns table begin l begins.begun (begin_stands bytes table begin begins) leads begins.recorder fine writes in
-        let plays = replay_plays table bytes l.happened script text begins.server.reads script_is (table_has_spelling bytes begins.begun begins.begins begins.unended) all replayed in
-        let more = goes_on table l.happened (effects_of_steps l.steps) plays.effects l.model l.server.moment plays.end stands.played plays.plays in
+        let stands = life_stands recorded due in_order emit turns table kept serial begin l begins.begun (begin_stands bytes table kept serial begin begins) leads begins.recorder fine writes in
+        let plays = replay_plays table kept serial bytes l.happened script text begins.server.reads script_is (table_has_spelling bytes begins.begun begins.begins begins.unended) all replayed in
+        let more = goes_on table kept serial l.happened (effects_of_steps l.steps) plays.effects l.model l.server.moment plays.end stands.played plays.plays in
         record { rest = more.0; text_is = plays.text_is ∙ ap effects_text more.1; due = more.2; settled = λ settled. more.2 (stands.settled settled) }
 
     -- what was noted while a record was written stands in front, whatever follows
@@ -290,9 +291,9 @@ module _ (recorded : TurnsAreRecorded) (due : (s : EngineModel) → (a b : Optio
             absurd (omega (arith, longer, is_us, first_len, last_len, grows))
 
     pub ended_record_replays : AnEndedRecordReplaysWhatWasServed
-    ended_record_replays bytes table begin l m turns more k script text begins leads writes later fine is held all replayed =
+    ended_record_replays bytes table kept serial begin l m turns more k script text begins leads writes later fine is held all replayed =
         let first_fine_is = life_fine recorded more l m later fine in
-        let noted = all_noted bytes table begin l turns begins leads first_fine_is in
+        let noted = all_noted bytes table kept serial begin l turns begins leads first_fine_is in
         let since = life_noted recorded more l m noted.r later noted.held fine in
         let same : since.later ≡ k = same_record since.later k m.server.recorder since.held is in
         let both : IsNotedOrEnds begins.begun (l.happened ++ since.since) since.later = noted_joined l.happened since.since begins.begun noted.r since.later noted.noted since.noted in
@@ -302,12 +303,12 @@ module _ (recorded : TurnsAreRecorded) (due : (s : EngineModel) → (a b : Optio
         let front = stays_in_front bytes l.happened (l.happened ++ since.since) noted.r k since.since noted.of unended (subst (IsNotedOrEnds noted.r since.since) same since.noted) of refl in
         let script_is : script ≡ script_of_noted bytes of.front = held_is k.held script (script_of_noted bytes of.front) held of.held in
         let all_front : AllByRecursion HasSpelling of.front = all_in_front HasSpelling of.front of.rest (subst (AllByRecursion HasSpelling) (since.happened ∙ of.split) all) in
-        let plays = replay_plays table bytes of.front script text begins.server.reads script_is (table_has_spelling bytes begins.begun begins.begins begins.unended) all_front replayed in
-        let items : ItemsArePlayed (initial_scene table) (items_of_noted 0 l.happened ++ items_of_noted (moment_behind 0 l.happened) front.0) plays.effects plays.end =
-        subst (λ (is : List Item). ItemsArePlayed (initial_scene table) is plays.effects plays.end) (ap (items_of_noted 0) front.1 ∙ items_joined 0 l.happened front.0) plays.plays in
-        let parts = played_in_two (items_of_noted 0 l.happened) (items_of_noted (moment_behind 0 l.happened) front.0) (initial_scene table) plays.end plays.effects items in
-        let stands = life_stands recorded due in_order emit turns table begin l begins.begun (begin_stands bytes table begin begins) leads begins.recorder first_fine_is writes in
-        let on = goes_on table l.happened (effects_of_steps l.steps) parts.1 l.model l.server.moment parts.0 stands.played parts.3 in (
+        let plays = replay_plays table kept serial bytes of.front script text begins.server.reads script_is (table_has_spelling bytes begins.begun begins.begins begins.unended) all_front replayed in
+        let items : ItemsArePlayed (scene_over table kept serial) (items_of_noted 0 l.happened ++ items_of_noted (moment_behind 0 l.happened) front.0) plays.effects plays.end =
+        subst (λ (is : List Item). ItemsArePlayed (scene_over table kept serial) is plays.effects plays.end) (ap (items_of_noted 0) front.1 ∙ items_joined 0 l.happened front.0) plays.plays in
+        let parts = played_in_two (items_of_noted 0 l.happened) (items_of_noted (moment_behind 0 l.happened) front.0) (scene_over table kept serial) plays.end plays.effects items in
+        let stands = life_stands recorded due in_order emit turns table kept serial begin l begins.begun (begin_stands bytes table kept serial begin begins) leads begins.recorder first_fine_is writes in
+        let on = goes_on table kept serial l.happened (effects_of_steps l.steps) parts.1 l.model l.server.moment parts.0 stands.played parts.3 in (
           on.0 ++ parts.2,
           plays.text_is ∙ ap effects_text (parts.5 ∙ (ap (λ (es : List Effect). es ++ parts.2) on.1 ∙ append_assoc (effects_of_steps l.steps) on.0 parts.2)),
         )

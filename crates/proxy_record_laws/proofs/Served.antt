@@ -64,15 +64,15 @@ lost_alone now s e counts losses = record {
 }
 
 pub recorded_turn_writes : ATurnWritesItsEffects → TurnExecutesItsSteps → TurnOverStepsEmitTheirEffects → TurnsAreRecorded → ARecordedTurnWritesItsEffects
-recorded_turn_writes writes by_steps emit recorded bytes table begin l m past reported begins leads on fine recording =
+recorded_turn_writes writes by_steps emit recorded bytes table kept serial begin l m past reported begins leads on fine recording =
     let moment = (turn_begun on.now l.server).moment in
     let mid = on.served.mid in
     let losses = on.served.handed_in.losses in
     let turns = on.served.turn.turns in
     let rounds = turns.rounds in
-    let executed = life_is_executed by_steps bytes table begin l past begins.server leads in
-    let then_executed : EngineExecuted mid.engine [] 1 1 (steps_of_taking losses.lost l.steps) losses.after =
-    by_steps l.server.engine mid.engine [] 1 1 l.steps l.model moment server_bounds (Err faults.NoMemory) executed (lost_alone moment l.model mid.engine mid.calls losses) in
+    let executed = life_is_executed by_steps bytes table kept serial begin l past begins.server leads in
+    let then_executed : EngineExecuted mid.engine kept serial 1 (steps_of_taking losses.lost l.steps) losses.after =
+    by_steps l.server.engine mid.engine kept serial 1 l.steps l.model moment server_bounds (Err faults.NoMemory) executed (lost_alone moment l.model mid.engine mid.calls losses) in
     let recording_last : is_recording on.last.recorder ≡ true = ap (λ (a : ServerState). is_recording a.recorder) (sym on.server) ∙ recording in
     let own = on.served.turn.calls.notes (last_fine recorded l reported m on fine) in
     let asked = calls_of_accepts (length losses.after.connections + 1) turns.accepts in
@@ -83,5 +83,5 @@ recorded_turn_writes writes by_steps emit recorded bytes table begin l m past re
       ap effects_of_steps on.steps
           ∙ (emit (steps_of_taking losses.lost l.steps) moment losses.after turns.accepts turns.reads rounds
           ∙ ap (λ (es : List Effect). es ++ effects_of_rounds rounds) (losses_emit losses.lost l.steps)),
-      writes mid.engine [] 1 1 (steps_of_taking losses.lost l.steps) moment server_bounds losses.after on.served.given turns.accepts turns.reads turns.rest rounds turns.last then_executed whole turns.turn,
+      writes mid.engine kept serial 1 (steps_of_taking losses.lost l.steps) moment server_bounds losses.after on.served.given turns.accepts turns.reads turns.rest rounds turns.last then_executed whole turns.turn,
     )

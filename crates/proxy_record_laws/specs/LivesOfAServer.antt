@@ -13,16 +13,16 @@ use Rattle.std.specs.List.{AllByRecursion}
 use Rattle.hx_fields.specs.declared.limits.TheConstants.{END_OF_TIME}
 use Rattle.hx_allow.specs.TableLines.{Table}
 use Rattle.hx_allow.specs.Tables.{BytesReadAs}
+use Rattle.hx_store.specs.Stored.{Stored}
 use Rattle.proxy_script.specs.Effects.{effects_text}
 use Rattle.proxy_script.specs.Happenings.{PlainHappening as Happening}
 use Rattle.proxy_script.specs.declared.effect_list.Effect.{Effect}
 use Rattle.proxy_engine.specs.EngineModel.{EngineModel}
 use Rattle.proxy_engine.specs.Due.{IsDueFirst}
 use Rattle.proxy_engine.specs.Executions.{ExecutionStep, effects_of_steps}
-use Rattle.proxy_engine.specs.Beginnings.{begun_model}
+use Rattle.proxy_engine.specs.Beginnings.{MayBeHeldAtFirst, begun_model}
 use Rattle.proxy_engine.specs.State.{EngineRepresents}
-use Rattle.proxy_replay.specs.Played.{initial_scene}
-use Rattle.proxy_replay.specs.Replay.{IsReplayed}
+use Rattle.proxy_replay.specs.Replay.{IsReplayedOver}
 use Rattle.proxy_turn.specs.Turn.{calls_of_rounds}
 use Rattle.proxy_turn.specs.TurnSteps.{effects_of_rounds}
 use Rattle.proxy_turn.specs.OverSteps.{steps_of_turn_over}
@@ -65,18 +65,22 @@ pub record ServerLife : Type 0 where
   pub steps : List ExecutionStep
   pub happened : List NotedHappening
 
--- Nothing has happened to a server by the table that these bytes say.
-pub record ServerBegins (bytes : List ℕ) (table : Table) (l : ServerLife) : Type 0 where
+-- Nothing has happened to a server by the table that these bytes say, over a store that holds these responses, from
+-- this serial on: none, from 1 on, where no store was kept.
+pub record ServerBegins (bytes : List ℕ) (table : Table) (kept : List Stored) (serial : ℕ)
+    (l : ServerLife) : Type 0 where
   pub reads : BytesReadAs bytes (Ok table)
+  pub may : MayBeHeldAtFirst table kept serial
   pub table_is : l.server.engine.core.table ≡ table
-  pub represents : EngineRepresents l.server.engine (initial_scene table).model
-  pub model : l.model ≡ (initial_scene table).model
+  pub represents : EngineRepresents l.server.engine (begun_model table kept serial 1)
+  pub model : l.model ≡ begun_model table kept serial 1
   pub steps : l.steps ≡ []
   pub happened : l.happened ≡ []
 
 -- It keeps a record, which begins with them.
-pub record LifeBegins (bytes : List ℕ) (table : Table) (l : ServerLife) : Type 0 where
-  pub server : ServerBegins bytes table l
+pub record LifeBegins (bytes : List ℕ) (table : Table) (kept : List Stored) (serial : ℕ)
+    (l : ServerLife) : Type 0 where
+  pub server : ServerBegins bytes table kept serial l
   pub begun : Record
   pub recorder : l.server.recorder ≡ Some begun
   pub begins : RecordBegins (Some []) bytes begun
@@ -102,38 +106,44 @@ LifeLeadsTo begin [] l = l ≡ begin
 LifeLeadsTo begin (reported ∷ past) l =
     (before : ServerLife) × LifeLeadsTo begin past before × LifeGoesOn before reported l
 
--- A server as `Server::new` makes it by a table that was read is at its beginning,
+-- A server as `Server::new` or `Server::with_store` makes it by a table that was read is at its beginning,
 abbrev pub AServerBegins : Type 0
 AServerBegins =
-    (bytes : List ℕ) (table : Table) (a : ServerState) → BytesReadAs bytes (Ok table) → a.engine.core.table ≡ table
-    → EngineRepresents a.engine (begun_model table [] 1 1)
-    → (l : ServerLife) × (l.server ≡ a) × ServerBegins bytes table l
+    (bytes : List ℕ) (table : Table) (kept : List Stored) (serial : ℕ) (a : ServerState)
+    → BytesReadAs bytes (Ok table) → a.engine.core.table ≡ table → MayBeHeldAtFirst table kept serial
+    → EngineRepresents a.engine (begun_model table kept serial 1)
+    → (l : ServerLife) × (l.server ≡ a) × ServerBegins bytes table kept serial l
 
 -- also one whose record begins with that table.
 abbrev pub ANewServerBegins : Type 0
 ANewServerBegins =
-    (bytes : List ℕ) (table : Table) (a : ServerState) (begun : Record) → BytesReadAs bytes (Ok table)
-    → a.engine.core.table ≡ table → EngineRepresents a.engine (begun_model table [] 1 1)
+    (bytes : List ℕ) (table : Table) (kept : List Stored) (serial : ℕ) (a : ServerState) (begun : Record)
+    → BytesReadAs bytes (Ok table) → a.engine.core.table ≡ table → MayBeHeldAtFirst table kept serial
+    → EngineRepresents a.engine (begun_model table kept serial 1)
     → a.recorder ≡ Some begun → RecordBegins (Some []) bytes begun → begun.over ≡ false
-    → (l : ServerLife) × (l.server ≡ a) × LifeBegins bytes table l
+    → (l : ServerLife) × (l.server ≡ a) × LifeBegins bytes table kept serial l
 
 -- What an engine has lived through from the beginning on are the steps of its server's life.
 abbrev pub ALifeIsExecuted : Type 0
 ALifeIsExecuted =
-    (bytes : List ℕ) (table : Table) (begin l : ServerLife) (turns : List (Result Report TurnFault))
-    → ServerBegins bytes table begin → LifeLeadsTo begin turns l → EngineExecuted l.server.engine [] 1 1 l.steps l.model
+    (bytes : List ℕ) (table : Table) (kept : List Stored) (serial : ℕ) (begin l : ServerLife)
+    (turns : List (Result Report TurnFault))
+    → ServerBegins bytes table kept serial begin → LifeLeadsTo begin turns l
+    → EngineExecuted l.server.engine kept serial 1 l.steps l.model
 
 -- Then what a call of `serve_turn` did is one more turn, whole or as far as it came,
 abbrev pub ATurnIsLived : Type 0
 ATurnIsLived =
-    (l : ServerLife) (b : ServerState) (turned : Turned) → EngineExecuted l.server.engine [] 1 1 l.steps l.model
+    (kept : List Stored) (serial : ℕ) (l : ServerLife) (b : ServerState) (turned : Turned)
+    → EngineExecuted l.server.engine kept serial 1 l.steps l.model
     → ServeTurnAnswers l.server b (Ok turned)
     → (m : ServerLife) × (m.server ≡ b) × LifeGoesOn l turned.reported m
 
 -- also where the last number of a link is used.
 abbrev pub ASpentTurnIsLived : Type 0
 ASpentTurnIsLived =
-    (l : ServerLife) (b : ServerState) → EngineExecuted l.server.engine [] 1 1 l.steps l.model
+    (kept : List Stored) (serial : ℕ) (l : ServerLife) (b : ServerState)
+    → EngineExecuted l.server.engine kept serial 1 l.steps l.model
     → ServeTurnAnswers l.server b (Err Spent)
     → (m : ServerLife) × (m.server ≡ b) × LifeGoesOn l (Err faults.Spent) m
 
@@ -142,9 +152,10 @@ ASpentTurnIsLived =
 -- more than the shutting of a link that had failed.
 abbrev pub ARecordedTurnWritesItsEffects : Type 0
 ARecordedTurnWritesItsEffects =
-    (bytes : List ℕ) (table : Table) (begin l m : ServerLife) (past : List (Result Report TurnFault))
+    (bytes : List ℕ) (table : Table) (kept : List Stored) (serial : ℕ) (begin l m : ServerLife)
+    (past : List (Result Report TurnFault))
     (reported : Result Report TurnFault)
-    → LifeBegins bytes table begin → LifeLeadsTo begin past l → (on : LifeGoesOn l reported m)
+    → LifeBegins bytes table kept serial begin → LifeLeadsTo begin past l → (on : LifeGoesOn l reported m)
     → m.server.failed ≡ false → is_recording m.server.recorder ≡ true
     → (effects_of_steps m.steps ≡ effects_of_steps l.steps ++ effects_of_rounds on.served.turn.turns.rounds)
     × (without_link_shuts (calls_of_rounds on.served.turn.turns.rounds)
@@ -163,21 +174,22 @@ pub record ReplayTellsWhatWasServed (l : ServerLife) (text : List ℕ) : Type 0 
 -- order. More only where something is still due. A script can spell what happened.
 abbrev pub ARecordReplaysWhatWasServed : Type 0
 ARecordReplaysWhatWasServed =
-    (bytes : List ℕ) (table : Table) (begin l : ServerLife) (turns : List (Result Report TurnFault)) (r : Record)
-    (script text : List ℕ)
-    → LifeBegins bytes table begin → LifeLeadsTo begin turns l
+    (bytes : List ℕ) (table : Table) (kept : List Stored) (serial : ℕ) (begin l : ServerLife)
+    (turns : List (Result Report TurnFault)) (r : Record) (script text : List ℕ)
+    → LifeBegins bytes table kept serial begin → LifeLeadsTo begin turns l
     → l.server.failed ≡ false → l.server.recorder ≡ Some r → r.over ≡ false → r.held ≡ Some script
     → AllByRecursion HasSpelling l.happened
-    → IsReplayed script text → ReplayTellsWhatWasServed l text
+    → IsReplayedOver kept serial script text → ReplayTellsWhatWasServed l text
 
 -- A record that has ended, or goes on, replays first all that was served while it was being written.
 abbrev pub AnEndedRecordReplaysWhatWasServed : Type 0
 AnEndedRecordReplaysWhatWasServed =
-    (bytes : List ℕ) (table : Table) (begin l m : ServerLife) (turns more : List (Result Report TurnFault))
+    (bytes : List ℕ) (table : Table) (kept : List Stored) (serial : ℕ) (begin l m : ServerLife)
+    (turns more : List (Result Report TurnFault))
     (r : Record) (script text : List ℕ)
-    → LifeBegins bytes table begin → LifeLeadsTo begin turns l → is_recording l.server.recorder ≡ true
+    → LifeBegins bytes table kept serial begin → LifeLeadsTo begin turns l → is_recording l.server.recorder ≡ true
     → LifeLeadsTo l more m
     → m.server.failed ≡ false → m.server.recorder ≡ Some r → r.held ≡ Some script
     → AllByRecursion HasSpelling m.happened
-    → IsReplayed script text
+    → IsReplayedOver kept serial script text
     → (rest : List Effect) × (text ≡ effects_text (effects_of_steps l.steps ++ rest))

@@ -39,12 +39,14 @@ EachWriteOfAServerIsOneMessage =
     (calls_of_turn_over served.handed_in.losses.after served.turn.turns.accepts served.turn.turns.reads
     served.turn.turns.rounds)
 
--- So a server that began with a table that was read has written one message each, in each turn that it served.
+-- So a server that began with a table that was read, over a store whose responses can be sent, has written one message
+-- each, in each turn that it served.
 abbrev pub EachWriteOfALifeIsOneMessage : Type 0
 EachWriteOfALifeIsOneMessage =
-    (bytes : List ℕ) (table : Table) (begin l m : ServerLife) (turns : List (Result Report TurnFault))
-    (reported : Result Report TurnFault)
-    → ServerBegins bytes table begin → LifeLeadsTo begin turns l → (on : LifeGoesOn l reported m)
+    (bytes : List ℕ) (table : Table) (kept : List Stored) (serial : ℕ) (begin l m : ServerLife)
+    (turns : List (Result Report TurnFault)) (reported : Result Report TurnFault)
+    → EachHeldAtFirst CanBeSent (store_with table kept)
+    → ServerBegins bytes table kept serial begin → LifeLeadsTo begin turns l → (on : LifeGoesOn l reported m)
     → All (CallWritesOneMessage table.name)
     (calls_of_turn_over on.served.handed_in.losses.after on.served.turn.turns.accepts on.served.turn.turns.reads
     on.served.turn.turns.rounds)
@@ -52,7 +54,8 @@ EachWriteOfALifeIsOneMessage =
 -- Whatever a server lives through, on each connection each reply follows its own request (RFC 9112, section 9.3.2).
 abbrev pub RepliesOfAServerFollowRequests : Type 0
 RepliesOfAServerFollowRequests =
-    (bytes : List ℕ) (table : Table) (begin l : ServerLife) (turns : List (Result Report TurnFault)) (i : ℕ)
-    → ServerBegins bytes table begin → LifeLeadsTo begin turns l
+    (bytes : List ℕ) (table : Table) (kept : List Stored) (serial : ℕ) (begin l : ServerLife)
+    (turns : List (Result Report TurnFault)) (i : ℕ)
+    → ServerBegins bytes table kept serial begin → LifeLeadsTo begin turns l
     → (standing : Standing) × StandsAt standing (said_by_steps i l.steps)
     × LastRequestIsOpen standing (said_by_steps i l.steps) (find_exchange (connection_number i) l.model.core.exchanges)

@@ -6,13 +6,14 @@
 -- ThePlayGoesOn: who plays the whole record plays this, and more only where something is due
 use Rattle.std.specs.Prelude.{◌≡◌, ◌⊎◌, ℕ, Bool, true, false, List, [], ◌∷◌, ◌++◌, None}
 use Rattle.hx_allow.specs.TableLines.{Table}
+use Rattle.hx_store.specs.Stored.{Stored}
 use Rattle.proxy_script.specs.Happenings.{PlainHappening as Happening}
 use Rattle.proxy_script.specs.declared.effect_list.Effect.{Effect}
 use Rattle.proxy_engine.specs.EngineModel.{EngineModel, model_after_happening, happening_fault}
 use Rattle.proxy_engine.specs.Due.{IsDueFirst}
 use Rattle.proxy_engine.specs.Executions.{ExecutionStep, Took, effects_of_steps}
 use Rattle.proxy_engine.specs.declared.work.End.{End}
-use Rattle.proxy_replay.specs.Played.{DoneAct, ActsAreDoneInOrder, effects_of_acts, Scene, initial_scene}
+use Rattle.proxy_replay.specs.Played.{DoneAct, ActsAreDoneInOrder, effects_of_acts, Scene, scene_over}
 use Rattle.proxy_replay.specs.Played.{ItemsArePlayed}
 use Rattle.proxy_turn.specs.Calls.{AcceptOutcome}
 use Rattle.proxy_turn.specs.Turn.{EndRead, ActRound}
@@ -23,63 +24,67 @@ use Rattle.proxy_record.specs.Recorded.{AtMostOneThingIsTaken, NoCallFailed}
 use Rattle.proxy_record.specs.RecordedTurns.{happenings_of_steps, noted_at_moment}
 use Rattle.proxy_record.specs.Records.{NotedHappening, items_of_noted}
 
--- nothing was noted, and nothing done
-abbrev pub NothingIsPlayedYet : Table → List NotedHappening → List Effect → EngineModel → Type 0
-NothingIsPlayedYet table all_noted effects last =
-    (all_noted ≡ []) × (effects ≡ []) × (last ≡ (initial_scene table).model)
+-- nothing was noted, and nothing done, over a store that holds these responses, from this serial on
+abbrev pub NothingIsPlayedYet : Table → List Stored → ℕ → List NotedHappening → List Effect → EngineModel → Type 0
+NothingIsPlayedYet table held serial all_noted effects last =
+    (all_noted ≡ []) × (effects ≡ []) × (last ≡ (scene_over table held serial).model)
 
 -- Of what was noted all but the last was played, each with all that was then due. The last one was taken, and acts were
 -- done behind it, at its moment. This led to the model, with these effects; and where something is still due, `now` is
 -- the moment of the last one.
-pub record LastIsBeingPlayed (table : Table) (all_noted : List NotedHappening) (effects : List Effect)
-    (last : EngineModel) (now : ℕ) : Type 0 where
+pub record LastIsBeingPlayed (table : Table) (held : List Stored) (serial : ℕ) (all_noted : List NotedHappening)
+    (effects : List Effect) (last : EngineModel) (now : ℕ) : Type 0 where
   pub front : List NotedHappening
   pub one : NotedHappening
   pub noted_are : all_noted ≡ front ++ one ∷ []
   pub before : Scene
   pub first : List Effect
-  pub plays : ItemsArePlayed (initial_scene table) (items_of_noted 0 front) first before
+  pub plays : ItemsArePlayed (scene_over table held serial) (items_of_noted 0 front) first before
   pub free : happening_fault before.model one.happening ≡ None
   pub done_acts : List DoneAct
   pub works : ActsAreDoneInOrder (model_after_happening before.model one.happening) one.moment done_acts last
   pub emitted : effects ≡ first ++ effects_of_acts done_acts
   pub moment : IsDueFirst last None ⊎ (now ≡ one.moment)
 
-abbrev pub IsPlayedSoFar : Table → List NotedHappening → List Effect → EngineModel → ℕ → Type 0
-IsPlayedSoFar table all_noted effects last now =
-    NothingIsPlayedYet table all_noted effects last ⊎ LastIsBeingPlayed table all_noted effects last now
+abbrev pub IsPlayedSoFar : Table → List Stored → ℕ → List NotedHappening → List Effect → EngineModel → ℕ → Type 0
+IsPlayedSoFar table held serial all_noted effects last now =
+    NothingIsPlayedYet table held serial all_noted effects last
+    ⊎ LastIsBeingPlayed table held serial all_noted effects last now
 
 -- A turn of which one thing at most is recorded, and amid which no call failed, plays on: what happened in it was noted
 -- at its moment. It comes where nothing is due, or at the moment at which something is.
 abbrev pub ATurnPlaysOn : Type 0
 ATurnPlaysOn =
-    (table : Table) (all_noted : List NotedHappening) (steps : List ExecutionStep) (before now : ℕ)
+    (table : Table) (held : List Stored) (serial : ℕ) (all_noted : List NotedHappening)
+    (steps : List ExecutionStep) (before now : ℕ)
     (bounds : TurnBounds) (s : EngineModel) (given : List End) (accepts : List AcceptOutcome) (reads : List EndRead)
     (rest : List End) (rounds : List ActRound) (t : EngineModel) (taken later : Bool)
-    → IsPlayedSoFar table all_noted (effects_of_steps steps) s before
+    → IsPlayedSoFar table held serial all_noted (effects_of_steps steps) s before
     → (taken ≡ false → IsDueFirst s None) → (taken ≡ true → now ≡ before)
     → TurnOverAsFarAsItCame now bounds s given accepts reads rest rounds t
     → NoCallFailed (calls_of_turn_over s accepts reads rounds)
     → AtMostOneThingIsTaken taken (calls_of_turn_over s accepts reads rounds) later
-    → IsPlayedSoFar table
+    → IsPlayedSoFar table held serial
     (all_noted ++ noted_at_moment now (happenings_of_steps (steps_of_turn_over now s accepts reads rounds [])))
     (effects_of_steps (steps_of_turn_over now s accepts reads rounds steps)) t now
 
 -- So does an end that is lost where nothing is due.
 abbrev pub ALossPlaysOn : Type 0
 ALossPlaysOn =
-    (table : Table) (all_noted : List NotedHappening) (steps : List ExecutionStep) (before now : ℕ)
+    (table : Table) (held : List Stored) (serial : ℕ) (all_noted : List NotedHappening)
+    (steps : List ExecutionStep) (before now : ℕ)
     (s : EngineModel) (h : Happening)
-    → IsPlayedSoFar table all_noted (effects_of_steps steps) s before
+    → IsPlayedSoFar table held serial all_noted (effects_of_steps steps) s before
     → IsDueFirst s None → happening_fault s h ≡ None
-    → IsPlayedSoFar table (all_noted ++ noted_at_moment now (h ∷ [])) (effects_of_steps (Took h ∷ steps))
+    → IsPlayedSoFar table held serial (all_noted ++ noted_at_moment now (h ∷ [])) (effects_of_steps (Took h ∷ steps))
     (model_after_happening s h) now
 
 -- The play of all that was noted has these effects first, and more only where something is due.
 abbrev pub ThePlayGoesOn : Type 0
 ThePlayGoesOn =
-    (table : Table) (all_noted : List NotedHappening) (effects all_effects : List Effect) (last : EngineModel)
+    (table : Table) (held : List Stored) (serial : ℕ) (all_noted : List NotedHappening)
+    (effects all_effects : List Effect) (last : EngineModel)
     (now : ℕ) (end : Scene)
-    → IsPlayedSoFar table all_noted effects last now
-    → ItemsArePlayed (initial_scene table) (items_of_noted 0 all_noted) all_effects end
+    → IsPlayedSoFar table held serial all_noted effects last now
+    → ItemsArePlayed (scene_over table held serial) (items_of_noted 0 all_noted) all_effects end
     → (rest : List Effect) × (all_effects ≡ effects ++ rest) × (IsDueFirst last None → rest ≡ [])

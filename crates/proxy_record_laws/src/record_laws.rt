@@ -10,12 +10,12 @@ ghost use Rattle.proxy_record_laws.specs.MessagesOfAServer.{RepliesOfAServerFoll
 ghost use Rattle.proxy_record_laws.specs.OneThing.{ATurnTakesOneThing, ATurnTakesNoSecondThing};
 ghost use Rattle.proxy_record_laws.specs.PlaysOfARecord.{ATurnPlaysOn, ALossPlaysOn, ThePlayGoesOn};
 
-use hx_allow::a_table_is_read_in_one_way;
-use proxy_engine::{an_act_is_done_in_one_way, one_act_is_due_first};
-use proxy_record::{a_record_is_a_script, what_a_turn_takes_is_recorded};
-use proxy_replay::a_script_has_one_play;
-use proxy_script::items_are_found_as_they_are_spelled;
-use proxy_turn::{engines_go_on, turns_are_executed};
+use hx_allow::laws::a_table_is_read_in_one_way;
+use proxy_engine::laws::{an_act_is_done_in_one_way, one_act_is_due_first};
+use proxy_record::laws::{a_record_is_a_script, what_a_turn_takes_is_recorded};
+use proxy_replay::laws::a_script_has_one_play;
+use proxy_script::laws::items_are_found_as_they_are_spelled;
+use proxy_turn::laws::{engines_go_on, turns_are_executed};
 use proxy_turn_laws::{
     a_turn_does_its_acts_in_order, a_turn_writes_its_effects, each_write_of_a_turn_is_one_message,
     replies_follow_requests,

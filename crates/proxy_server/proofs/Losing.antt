@@ -164,6 +164,7 @@ loss_takes_none (happened.Sends n bytes) loss is = loss
 loss_takes_none (happened.Hears l bytes) loss is = loss
 loss_takes_none (happened.Ends n) loss is = loss
 loss_takes_none (happened.Leaves n) loss is = absurd (false≢true is)
+loss_takes_none (happened.Retires n) loss is = absurd (false≢true is)
 loss_takes_none (happened.Shuts l) loss is = loss
 loss_takes_none (happened.Fails l kind) loss is = absurd (false≢true is)
 
@@ -216,3 +217,27 @@ lost_from_view end kind seen a b is lost = subst (λ (x : ServerState). EndIsLos
 pub did_well : {T : Type 0} (r : Result (Unit {0}) EngineFault) → is_ok r ≡ true → OnOk r T → T
 did_well (Ok done) ok did = did
 did_well (Err fault) ok did = absurd (false≢true ok)
+
+-- ---- one that is named
+
+pub one_taken : (h : PlainHappening) (seen a b : ServerState) (r : Result (Unit {0}) EngineFault) → seen ≡ a → is_ok r ≡ true
+    → OnOk r ((s : EngineModel) → EngineRepresents seen.engine s → EngineTakesHappening s h b.engine)
+    → (seen.failed ≡ true → b.failed ≡ true) → (b.failed ≡ false → HappeningIfAnyIsNoted seen.moment (Some h) seen.recorder b.recorder)
+    → b.taken ≡ true → b.moment ≡ seen.moment → b.settled ≡ seen.settled → b.calls ≡ seen.calls → LossIfAnyIsTaken (Some h) a b
+one_taken h seen a b (Ok done) is ok takes fails notes taken moment settled calls =
+    subst (λ (x : ServerState). LossIfAnyIsTaken (Some h) x b) is
+    (inl (record { takes = takes; fails = fails; notes = notes; taken = taken; moment = moment; settled = settled; calls = calls }))
+one_taken h seen a b (Err fault) is ok takes fails notes taken moment settled calls = absurd (false≢true ok)
+
+pub one_refused : (h : PlainHappening) (seen a : ServerState) (e : State) (r : Result (Unit {0}) EngineFault) → seen ≡ a → is_ok r ≡ false → IsLostEnd h
+    → (r ≡ Err OutOfMemory → happening_takes_memory h ≡ true) → IfErr r (λ (fault : EngineFault). (s : EngineModel) → EngineRepresents seen.engine s → IsFaultOfTaking s h fault)
+    → OnErr r (e ≡ seen.engine) → LossIfAnyIsTaken (Some h) a (record seen { engine = e })
+one_refused h seen a e (Ok done) is failed loss memory faults same = absurd (true≢false failed)
+one_refused h seen a e (Err fault) is failed loss memory faults same =
+    subst (λ (x : ServerState). LossIfAnyIsTaken (Some h) x (record seen { engine = e })) is
+    (subst (λ (x : State). LossIfAnyIsTaken (Some h) seen (record seen { engine = x })) (sym same)
+    (inr (refused_where_gone h seen (Err fault) fault loss refl memory faults)))
+
+pub one_taken_on : (h : PlainHappening) (a b : ServerState) → IsLostEnd h → may a → LossIfAnyIsTaken (Some h) a b → ServerTakesLosses a b
+one_taken_on h a b loss free (inl taken) = one_on h a b loss free taken
+one_taken_on h a b loss free (inr refused) = none_on a b refused.same

@@ -43,7 +43,16 @@ link_begun_at_90 connecting = record {
   admission = admission.Yes;
   is_listed = false;
   look = 0;
+  seconds = None;
 }
+
+-- the same, where the line of its request gives its origin a second
+abbrev pub link_given_a_second : Bool → Link ℕ
+link_given_a_second connecting = record (link_begun_at_90 connecting) { seconds = Some 1 }
+
+-- limits that end no exchange before its origin's silence does
+abbrev pub long_limits : Limits
+long_limits = record limits { exchange_timeout = 100000; origin_timeout = 60000 }
 
 -- one that had no stream
 abbrev pub link_without_stream : Link ℕ

@@ -9,7 +9,7 @@ pub mod Logging
 pub mod Losses
 pub mod OtherEntries
 pub mod Paces
-pub mod Patience
+pub mod Timeouts
 pub mod ServerState
 pub mod Serving
 pub mod Streams

@@ -8,6 +8,7 @@ ghost use Rattle.std.specs.Option.{option_copied_mut, option_and_then};
 ghost use Rattle.std.specs.Bool.{OnTrue, OnFalse};
 ghost use Rattle.std.specs.Ordering.{nat_cmp};
 ghost use Rattle.std.specs.BTreeMap.{get, btree_map_len};
+ghost use Rattle.proxy_pacing.specs.Queues.{first_from};
 ghost use Rattle.slab.specs.Slab as slab;
 ghost use Rattle.slab.specs.Slab.{slab_len};
 ghost use Rattle.proxy_turn.specs.Received.{FitsTheBuffer};
@@ -19,7 +20,7 @@ ghost use Rattle.proxy_server.specs.Streams.{ClientIsRead, IsDoneToClient, numbe
 ghost use Rattle.proxy_server.specs.Streams.{unlisted_client, looked_at_next};
 ghost use Rattle.proxy_server.specs.Closing.{ClientStandsInQueue, ClientLeavesItsPlace, QueuesOrGoes};
 ghost use Rattle.proxy_server.specs.Closing.{FirstLingeringGoes};
-ghost use Rattle.proxy_server.specs.Patience.{milliseconds_since, IsIdleSince, IsUnmarkedClient};
+ghost use Rattle.proxy_server.specs.Timeouts.{milliseconds_since, IsIdleSince, IsUnmarkedClient};
 ghost use Rattle.proxy_figures.specs.Counts.{counts_with_one_more};
 ghost use Rattle.proxy_figures.specs.EndingCounts.{endings_with_cut};
 ghost use Rattle.proxy_figures.specs.Unanswered.{cause_of_cut, unanswered_place};
@@ -29,7 +30,7 @@ pub(crate) mod client;
 mod closing;
 pub(crate) mod departures;
 mod giving_way;
-mod patience;
+mod timeouts;
 
 use crate::clients::client::{Client, Place};
 use crate::clients::departures::{Departure, LostClient};
@@ -136,6 +137,14 @@ impl<S: Stream + Drop> Clients<S> {
         ensures { result ≡ get nat_cmp self.now.open n }
     {
         self.open.get(&n).copied()
+    }
+
+    /// The least number of those that the engine knows, from this one on.
+    pub(crate) fn next_number(&self, from: u64) -> Option<u64>
+        ensures { result ≡ option_map (λ entry. entry.0) (first_from from self.now.open.entries) }
+    {
+        let (n, _) = self.open.range(from..).next()?;
+        Some(*n)
     }
 
     pub(crate) fn get(&self, n: u64) -> Option<&Client<S>>
@@ -315,21 +324,8 @@ impl<S: Stream + Drop> Clients<S> {
         }
     }
 
-    /// Drops a stream, wherever it stands. The engine is told before the next turn where it knows it.
-    pub(crate) fn drop_stream(&mut self, key: usize)
-        ensures counts { self.new.endings ≡ self.old.endings }
-        ensures gone { slab.get self.new.streams key ≡ None }
-        ensures open { ClientLeavesItsPlace (client_at self.old.streams key) self.old.open self.new.open }
-        ensures unsent { self.new.unsent ≡ self.old.unsent - unsent_of_client (client_at self.old.streams key) }
-        ensures handed { self.new.handed ≡ self.old.handed - handed_of_client (client_at self.old.streams key) }
-        ensures told { LossIsTold UnansweredCause.Closed (client_at self.old.streams key) self.old self.new }
-        ensures others { OtherSlabKeysStay key self.old.streams self.new.streams }
-    {
-        self.drop_stream_for(key, UnansweredCause::Closed);
-    }
-
-    /// Drops a stream, wherever it stands, for this cause.
-    fn drop_stream_for(&mut self, key: usize, cause: UnansweredCause)
+    /// Drops a stream, wherever it stands, for this cause. The engine is told before the next turn where it knows it.
+    pub(crate) fn drop_stream(&mut self, key: usize, cause: UnansweredCause)
         ensures counts { self.new.endings ≡ self.old.endings }
         ensures gone { slab.get self.new.streams key ≡ None }
         ensures open { ClientLeavesItsPlace (client_at self.old.streams key) self.old.open self.new.open }
@@ -381,7 +377,7 @@ impl<S: Stream + Drop> Clients<S> {
         ensures others { OtherSlabKeysStay key self.old.streams self.new.streams }
     {
         self.endings.count_cut(cut);
-        self.drop_stream_for(key, UnansweredCause::of_cut(cut));
+        self.drop_stream(key, UnansweredCause::of_cut(cut));
     }
 
     /// Bytes that are kept for clients.
@@ -455,7 +451,7 @@ impl<S: Stream + Drop> Clients<S> {
         }
         client.place = Place::In(queue, stamp);
         if !self.queues.put(queue, stamp, key) {
-            self.drop_stream(key);
+            self.drop_stream(key, UnansweredCause::Closed);
         }
     }
 
@@ -534,7 +530,7 @@ impl<S: Stream + Drop> Clients<S> {
         if self.write(key, bytes, now) {
             return true;
         }
-        self.drop_stream(key);
+        self.drop_stream(key, UnansweredCause::Closed);
         false
     }
 
@@ -646,7 +642,7 @@ impl<S: Stream + Drop> Clients<S> {
             return true;
         }
         if let Some(key) = self.queues.first(StreamQueue::Lingering) {
-            self.drop_stream(key);
+            self.drop_stream(key, UnansweredCause::Closed);
             return true;
         }
         self.drop_idle(now)
@@ -703,7 +699,7 @@ impl<S: Stream + Drop> Clients<S> {
         // A client that is being closed may still be read to its end.
         let failed = event.is_error() && !is_closed;
         if failed || event.is_writable() && !self.flush(key, now) {
-            self.drop_stream(key);
+            self.drop_stream(key, UnansweredCause::Closed);
             return;
         }
         if is_closed {

@@ -10,6 +10,7 @@
 
 mod clients;
 mod fault_texts;
+pub mod laws;
 mod limits;
 mod links;
 mod pace;
@@ -20,9 +21,6 @@ mod stats;
 
 pub use crate::limits::Limits;
 pub use crate::server::{ServeFault, Server, Turned};
-pub use crate::server_cases::{
-    worked_streams, worked_times_of_clients, worked_times_of_links, worked_turns,
-};
 pub use crate::sockets::live_sockets::LiveSockets;
 pub use proxy_figures::{CountedShelf, ProcessFigures, ServerFacts, StoreCounts, Troubles};
 pub use proxy_listener::ListenAt;

@@ -20,7 +20,7 @@ pub struct Limits {
     pub abandon_timeout: u64,
     /// A connection to an origin has to be made within so long.
     pub connect_timeout: u64,
-    /// An origin may send no byte for so long.
+    /// An origin may send no byte for so long, where the line over which its request went forward says nothing of it.
     pub origin_timeout: u64,
     /// A link to an origin is given so long in all.
     pub exchange_timeout: u64,
@@ -40,17 +40,16 @@ impl Limits {
         self.client_timeout
             .min(self.request_timeout)
             .min(self.abandon_timeout)
-            .min(QUIET_MILLISECONDS)
+            .min(LINGER_MILLISECONDS)
             .max(SECOND)
     }
 
-    /// The same of a link.
-    pub(crate) fn link_look(&self) -> u64
-        ensures { result ≡ max
-            (min (min self.now.connect_timeout self.now.origin_timeout) self.now.exchange_timeout) 1000 }
+    /// The same of a link whose origin may send no byte for so long.
+    pub(crate) fn link_look(&self, silence: u64) -> u64
+        ensures { result ≡ max (min (min self.now.connect_timeout silence) self.now.exchange_timeout) 1000 }
     {
         self.connect_timeout
-            .min(self.origin_timeout)
+            .min(silence)
             .min(self.exchange_timeout)
             .max(SECOND)
     }
@@ -78,11 +77,11 @@ pub(crate) const FIRST_REQUEST_MILLISECONDS: u64 = 1000;
 pub(crate) const MOST_LINGERING: usize = 256;
 
 /// A closed connection whose client has taken everything and sends nothing more is given so many milliseconds.
-pub(crate) const QUIET_MILLISECONDS: u64 = 5000;
+pub(crate) const LINGER_MILLISECONDS: u64 = 5000;
 
 /// One whose client goes on sending is given so many milliseconds in all, and one whose client has something to take so
 /// many without a byte taken.
-pub(crate) const PATIENCE_MILLISECONDS: u64 = 30_000;
+pub(crate) const CLOSE_TIMEOUT_MILLISECONDS: u64 = 30_000;
 
 /// The most events of one wait.
 pub(crate) const MOST_EVENTS: usize = 1024;

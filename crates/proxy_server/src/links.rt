@@ -8,7 +8,7 @@ ghost use Rattle.std.specs.Bool.{OnTrue, OnFalse};
 ghost use Rattle.proxy_turn.specs.Received.{FitsTheBuffer};
 ghost use Rattle.proxy_server.specs.Connecting.{link_is_connecting};
 ghost use Rattle.proxy_server.specs.OtherEntries.{OtherEntriesStay};
-ghost use Rattle.proxy_server.specs.Patience.{link_time_is_over, age_of_link};
+ghost use Rattle.proxy_server.specs.Timeouts.{link_time_is_over, link_with_seconds, age_of_link};
 ghost use Rattle.proxy_streams.specs.PeerCalls.{PeerIsRead, PeerIsWritten};
 ghost use Rattle.proxy_server.specs.Streams.{IsDoneToLinksPeer, peer_is_broken, peer_is_lost, peer_of_link};
 ghost use Rattle.proxy_server.specs.Streams.{link_is_to_be_listed, listed_link, unlisted_link};
@@ -201,6 +201,17 @@ impl<S: Stream + Drop> Links<S> {
         self.looks.take_due(now)
     }
 
+    /// The line over which the request of a link went forward gives its origin so many seconds, or says nothing of it.
+    pub(crate) fn give_seconds(&mut self, number: u64, seconds: Option<u32>)
+        ensures given { get nat_cmp self.new.items number
+            ≡ option_map (link_with_seconds seconds) (get nat_cmp self.old.items number) }
+        ensures others { OtherEntriesStay number self.old.items self.new.items }
+    {
+        if let Some(link) = self.items.get_mut(&number) {
+            link.seconds = seconds;
+        }
+    }
+
     /// A link was looked at, and its time isn't over: it is looked at once that may be, and no later than a time that
     /// begins now may be. Without memory for that, it is looked at no more.
     pub(crate) fn look_again(&mut self, number: u64, now: u64, limits: &Limits)
@@ -212,7 +223,7 @@ impl<S: Stream + Drop> Links<S> {
         let look = link
             .next_time(limits)
             .max(now.saturating_add(SECOND))
-            .min(now.saturating_add(limits.link_look()));
+            .min(now.saturating_add(limits.link_look(link.silence(limits))));
         self.looks.remove(link.look, number);
         link.look = look;
         let _ = self.looks.add(look, number);

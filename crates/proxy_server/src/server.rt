@@ -1,10 +1,12 @@
 //! A server: a wait, what failed or was silent since the last turn, and a turn, again and again.
-ghost use Rattle.std.specs.Prelude.{◌≡◌, ◌<◌, ◌||◌, Bool, true, false, [], Some, IfOk, IfSome};
+ghost use Rattle.std.specs.Prelude.{◌≡◌, ◌<◌, ◌||◌, Bool, true, false, [], length, Some, IfOk, IfSome};
+ghost use Rattle.proxy_engine.specs.Happenings.{Retires};
 ghost use Rattle.hx_allow.specs.Tables.{TableWasRead};
 ghost use Rattle.hx_fields.specs.declared.limits.TheConstants.{END_OF_TIME};
+ghost use Rattle.proxy_engine.specs.Beginnings.{MayBeHeldAtFirst, begun_model};
 ghost use Rattle.proxy_engine.specs.State.{EngineRepresents, new_engine_model};
 ghost use Rattle.proxy_turn.specs.Served.{EngineIsServing, EngineGoesOn};
-ghost use Rattle.proxy_server.specs.Losses.{EndIsLost, ServerTakesLosses};
+ghost use Rattle.proxy_server.specs.Losses.{EndIsLost, LossIfAnyIsTaken, ServerTakesLosses};
 ghost use Rattle.proxy_server.specs.Paces.{next_turn_must_not_wait};
 ghost use Rattle.proxy_server.specs.ServerState.{may_take_one};
 ghost use Rattle.proxy_server.specs.Serving.{turn_settles, ServeTurnAnswers, ServerServesTurn};
@@ -20,10 +22,9 @@ use proxy_engine::Engine;
 use proxy_figures::Troubles;
 use proxy_log::Lines;
 use proxy_record::{RecordFault, Recorder, Recording};
-use proxy_turn::{
-    End, PIECE, Report, TurnBounds, TurnFault, a_turn_is_served_behind_losses, engines_go_on,
-    happening_of_lost_end, turn_over,
-};
+use proxy_script::Happening;
+use proxy_turn::laws::{a_turn_is_served_behind_losses, engines_go_on};
+use proxy_turn::{End, PIECE, Report, TurnBounds, TurnFault, happening_of_lost_end, turn_over};
 use std::alloc::Global;
 use std::io::{ErrorKind, Write};
 use std::marker::Model;
@@ -33,6 +34,21 @@ use std::time::Clock;
 /// Ends that are looked at in a turn, at most: whether a time of theirs is over. Each that is handed in costs the
 /// others some 30 microseconds.
 const MOST_LOOKS: u64 = 256;
+
+/// What is looked for between two turns.
+#[derive(Clone, Copy)]
+enum Sweep {
+    /// Ends of which a time is over.
+    Overdue,
+    /// Clients that have sent their end, where links to an origin are short: their answers are given up.
+    Departed,
+    /// Incomplete requests, where a connection waits to be taken for which there is no room: one gives way to it.
+    GiveWay,
+    /// Connections that are open once no more are taken: each is to end.
+    Retire,
+    /// Clients between two requests, once no more connections are taken.
+    LetGo,
+}
 
 /// Why a server ends.
 #[derive(Clone, Copy, Debug, PartialEq, Eq)]
@@ -125,6 +141,35 @@ fn look_ahead<R: Net, W: Write + Drop>(
     pace.note(reported, free || ends.has_passed());
 }
 
+/// The client that a sweep finds next.
+fn next_client<R: Net>(sockets: &mut LiveSockets<'_, R>, sweep: Sweep) -> Option<u64>
+    ensures { sockets.new.calls ≡ sockets.old.calls }
+{
+    match sweep {
+        Sweep::Overdue => None,
+        Sweep::Departed => sockets.next_departed(),
+        Sweep::GiveWay => sockets.next_to_give_way(),
+        Sweep::Retire => sockets.next_to_retire(),
+        Sweep::LetGo => sockets.next_to_let_go(),
+    }
+}
+
+/// The end that a sweep finds next.
+fn next_end<R: Net>(pace: &mut Pace, sockets: &mut LiveSockets<'_, R>, sweep: Sweep) -> Option<End>
+    ensures pace { pace.new ≡ record pace.old { sweeping = pace.new.sweeping } }
+    ensures calls { sockets.new.calls ≡ sockets.old.calls }
+{
+    if let Sweep::Overdue = sweep {
+        if pace.sweeping {
+            let end = sockets.next_to_look_at();
+            pace.sweeping = end.is_some();
+            return end;
+        }
+    }
+    let n = next_client(sockets, sweep)?;
+    Some(End::Client(n))
+}
+
 impl<'a, S: Shelf + Drop, R: Net, W: Write + Drop> Server<'a, S, R, W> {
     /// A server to which nothing has happened. The shelf is empty and has the capacity of the operator's table; serials
     /// of stored responses and numbers of links begin at 1. The first turn doesn't wait.
@@ -165,6 +210,67 @@ impl<'a, S: Shelf + Drop, R: Net, W: Write + Drop> Server<'a, S, R, W> {
             ready: Vec::new(alloc),
             piece: [0; PIECE],
         }
+    }
+
+    /// The same over a shelf that holds what was read of a store: no serial twice, each below `first_serial`, from
+    /// which the serials go on, and within the bounds of the table.
+    pub fn with_store(
+        alloc: Global,
+        config: Config,
+        shelf: S,
+        first_serial: u64,
+        sockets: LiveSockets<'a, R>,
+        recorder: Option<Recorder<W>>,
+    ) -> Server<'a, S, R, W>
+        requires held { MayBeHeldAtFirst config (S.entries shelf) first_serial }
+        requires capacity { S.limit shelf ≡ config.capacity }
+        ensures table { result.engine.core.table ≡ config }
+        ensures read { TableWasRead result.engine.core.table }
+        ensures record { result.recorder ≡ recorder }
+        ensures free { (result.failed ≡ false) × (result.taken ≡ false) × (result.settled ≡ true) }
+        ensures begins { EngineRepresents result.engine (begun_model config (S.entries shelf) first_serial 1) }
+    {
+        engines_go_on();
+        config.was_read();
+        let ends = Recording::new(sockets, recorder);
+        Server {
+            alloc,
+            engine: Engine::with_store(alloc, config, shelf, first_serial, 1),
+            ends,
+            pace: Pace {
+                busy: true,
+                settled: true,
+                sweeping: false,
+                starved: false,
+            },
+            ready: Vec::new(alloc),
+            piece: [0; PIECE],
+        }
+    }
+
+    /// How many requests are open: forwarded, or waiting for another's answer.
+    pub fn open_requests(&self) -> usize
+        ensures { result ≡ length self.now.engine.core.exchanges }
+    {
+        self.engine.open_exchanges()
+    }
+
+    /// Ends the server, and gives its shelf with what it holds, and the next serial if one is left: what another server
+    /// may begin with, where no request is open.
+    pub fn into_store(self) -> (S, Option<u64>)
+        ensures entries { S.entries result.0 ≡ self.entry.engine.core.entries }
+        ensures limit { S.limit result.0 ≡ self.entry.engine.core.limit }
+        ensures next { result.1 ≡ self.entry.engine.core.next }
+    {
+        let Server {
+            alloc: _,
+            engine,
+            ends: _,
+            pace: _,
+            ready: _,
+            piece: _,
+        } = self;
+        engine.into_store()
     }
 
     /// Seconds of the clock that never goes back, at the last turn.
@@ -331,6 +437,20 @@ impl<'a, S: Shelf + Drop, R: Net, W: Write + Drop> Server<'a, S, R, W> {
         }
     }
 
+    /// The engine takes that a client's connection is to end, and that is recorded.
+    fn retire(&mut self, n: u64)
+        requires { may_take_one self.old ≡ true }
+        ensures retires { LossIfAnyIsTaken (Some (Retires n)) self.old self.new }
+        ensures on { ServerTakesLosses self.old self.new }
+    {
+        engines_go_on();
+        a_turn_is_served_behind_losses();
+        // It takes no memory, and the client was there.
+        if self.engine.take(self.alloc, Happening::Retire(n)).is_ok() {
+            self.ends.note_between(Happening::Retire(n));
+        }
+    }
+
     /// A client of which no byte waits gives the room for its next ones back.
     fn release_room(&mut self, end: End)
         ensures { ServerTakesLosses self.old self.new }
@@ -361,7 +481,7 @@ impl<'a, S: Shelf + Drop, R: Net, W: Write + Drop> Server<'a, S, R, W> {
         ensures { ServerTakesLosses self.old self.new }
     {
         a_turn_is_served_behind_losses();
-        for _ in 0..self.ends.sockets.lost_of_a_turn() {
+        for _ in 0..self.ends.sockets.lost_count().min(MOST_READ) {
             if !self.ends.may_happen() {
                 return;
             }
@@ -371,33 +491,37 @@ impl<'a, S: Shelf + Drop, R: Net, W: Write + Drop> Server<'a, S, R, W> {
         }
     }
 
-    /// Hands in what is lost, whose time is over, and who is let go.
+    /// Hands in what is lost, whose time is over, and who is to end or let go.
     fn hand_in(&mut self)
         ensures { ServerTakesLosses self.old self.new }
     {
         a_turn_is_served_behind_losses();
         self.release_rooms();
         self.hand_in_lost();
-        self.hand_in_overdue();
-        self.give_up_departed();
-        self.give_way();
-        self.let_go();
+        self.hand_in_found(Sweep::Overdue);
+        self.hand_in_found(Sweep::Departed);
+        self.hand_in_found(Sweep::GiveWay);
+        self.hand_in_found(Sweep::Retire);
+        self.hand_in_found(Sweep::LetGo);
     }
 
     /// Whether the time of an end is over.
     fn is_over(&mut self, end: End) -> bool
         ensures { self.new ≡ self.old }
     {
+        let (now, limits) = (self.ends.sockets.now, self.ends.sockets.limits);
         match end {
             End::Listener => false,
-            End::Link(l) => self.engine.may_read(end) && self.ends.sockets.is_over(l),
+            End::Link(l) => {
+                self.engine.may_read(end) && self.ends.sockets.links.is_over(l, now, &limits)
+            }
             End::Client(n) => {
                 if self.engine.is_between_requests(n) {
-                    self.ends.sockets.is_silent(n)
+                    self.ends.sockets.clients.is_silent(n, now)
                 } else if self.engine.may_read(end) {
-                    self.ends.sockets.is_late(n)
+                    self.ends.sockets.clients.is_late(n, now)
                 } else {
-                    self.ends.sockets.has_left(n)
+                    self.ends.sockets.clients.has_left(n, now)
                 }
             }
         }
@@ -413,17 +537,25 @@ impl<'a, S: Shelf + Drop, R: Net, W: Write + Drop> Server<'a, S, R, W> {
         self.disconnect(end, FailKind::TimedOut);
     }
 
-    /// The next end whose time may be over, if it can be handed in.
-    fn next_to_look_at(&mut self) -> Option<End>
+    /// The end that a sweep finds next, if it can be handed in.
+    fn next_found(&mut self, sweep: Sweep) -> Option<End>
         ensures same { self.new ≡ self.old }
         ensures may { IfSome result (λ end. may_take_one self.old ≡ true) }
     {
-        if !self.pace.sweeping || !self.ends.may_happen() {
+        if !self.ends.may_happen() {
             return None;
         }
-        let end = self.ends.sockets.next_to_look_at();
-        self.pace.sweeping = end.is_some();
-        end
+        next_end(&mut self.pace, &mut self.ends.sockets, sweep)
+    }
+
+    /// The origin of a link is given the seconds that the line says over which its request went forward.
+    fn give_seconds(&mut self, end: End)
+        ensures { self.new ≡ self.old }
+    {
+        if let End::Link(l) = end {
+            let seconds = self.engine.origin_timeout(l);
+            self.ends.sockets.links.give_seconds(l, seconds);
+        }
     }
 
     /// Hands in an end whose time is over: a link as timed out, a client as gone.
@@ -432,35 +564,12 @@ impl<'a, S: Shelf + Drop, R: Net, W: Write + Drop> Server<'a, S, R, W> {
         ensures { ServerTakesLosses self.old self.new }
     {
         a_turn_is_served_behind_losses();
+        self.give_seconds(end);
         if self.is_over(end) {
             self.release(end);
         } else {
             self.ends.sockets.look_again_at(end);
         }
-    }
-
-    /// Looks at the ends whose times may be over, and hands in those of which one is.
-    fn hand_in_overdue(&mut self)
-        ensures { ServerTakesLosses self.old self.new }
-    {
-        a_turn_is_served_behind_losses();
-        for _ in 0..MOST_LOOKS {
-            let Some(end) = self.next_to_look_at() else {
-                return;
-            };
-            self.look_at(end);
-        }
-    }
-
-    /// The next client that has sent its end, where links are short and it can be handed in.
-    fn next_departed(&mut self) -> Option<u64>
-        ensures same { self.new ≡ self.old }
-        ensures may { IfSome result (λ n. may_take_one self.old ≡ true) }
-    {
-        if !self.ends.may_happen() {
-            return None;
-        }
-        self.ends.sockets.next_departed()
     }
 
     /// Gives up the answer of a client that has sent its end, if it waits for one.
@@ -476,40 +585,6 @@ impl<'a, S: Shelf + Drop, R: Net, W: Write + Drop> Server<'a, S, R, W> {
         }
     }
 
-    /// Where links to an origin are short, the answers of clients that have sent their end are given up.
-    fn give_up_departed(&mut self)
-        ensures { ServerTakesLosses self.old self.new }
-    {
-        a_turn_is_served_behind_losses();
-        for _ in 0..MOST_LOOKS {
-            let Some(n) = self.next_departed() else {
-                return;
-            };
-            self.give_up(n);
-        }
-    }
-
-    /// The next client that may give its place to one that waits to be taken, if it can be handed in.
-    fn next_to_give_way(&mut self) -> Option<u64>
-        ensures same { self.new ≡ self.old }
-        ensures may { IfSome result (λ n. may_take_one self.old ≡ true) }
-    {
-        if !self.ends.may_happen() {
-            return None;
-        }
-        self.ends.sockets.next_to_give_way()
-    }
-
-    /// Drops the stream of a client that gives its place to another: the engine takes that it is gone.
-    fn release_place(&mut self, n: u64)
-        requires { may_take_one self.old ≡ true }
-        ensures loses { EndIsLost (End.Client n) FailKind.Closed self.old self.new }
-        ensures on { ServerTakesLosses self.old self.new }
-    {
-        self.ends.sockets.cut_off(n);
-        self.disconnect(End::Client(n), FailKind::Closed);
-    }
-
     /// Closes the connection of a client whose request isn't whole. One whose request is whole waits for its answer:
     /// that one stays.
     fn cut_incomplete(&mut self, n: u64)
@@ -518,50 +593,53 @@ impl<'a, S: Shelf + Drop, R: Net, W: Write + Drop> Server<'a, S, R, W> {
     {
         a_turn_is_served_behind_losses();
         if self.engine.may_read(End::Client(n)) {
-            self.release_place(n);
-        }
-    }
-
-    /// Where a connection waits to be taken for which there is no room, an incomplete request gives way to it.
-    fn give_way(&mut self)
-        ensures { ServerTakesLosses self.old self.new }
-    {
-        a_turn_is_served_behind_losses();
-        for _ in 0..MOST_LOOKS {
-            let Some(n) = self.next_to_give_way() else {
-                return;
-            };
-            self.cut_incomplete(n);
-        }
-    }
-
-    /// Closes the next client that is let go since no more connections are taken, if it can be handed in.
-    fn next_to_let_go(&mut self) -> Option<u64>
-        ensures same { self.new ≡ self.old }
-        ensures may { IfSome result (λ n. may_take_one self.old ≡ true) }
-    {
-        if !self.ends.may_happen() {
-            return None;
-        }
-        let n = self.ends.sockets.next_to_let_go()?;
-        self.ends.sockets.close_idle(n);
-        Some(n)
-    }
-
-    /// Once no more connections are taken, clients between two requests are let go.
-    fn let_go(&mut self)
-        ensures { ServerTakesLosses self.old self.new }
-    {
-        a_turn_is_served_behind_losses();
-        for _ in 0..MOST_LOOKS {
-            let Some(n) = self.next_to_let_go() else {
-                return;
-            };
+            self.ends.sockets.cut_off(n);
             self.disconnect(End::Client(n), FailKind::Closed);
         }
     }
 
-    /// No more connections are taken but those that wait now; who is between two requests is let go.
+    /// Lets a client go that is between two requests.
+    fn let_go(&mut self, n: u64)
+        requires { may_take_one self.old ≡ true }
+        ensures { ServerTakesLosses self.old self.new }
+    {
+        let now = self.ends.sockets.now;
+        self.ends.sockets.clients.close(n, now);
+        self.disconnect(End::Client(n), FailKind::Closed);
+    }
+
+    /// Hands in an end that a sweep has found. A link is found by its time alone.
+    fn take_found(&mut self, sweep: Sweep, end: End)
+        requires { may_take_one self.old ≡ true }
+        ensures { ServerTakesLosses self.old self.new }
+    {
+        let End::Client(n) = end else {
+            return self.look_at(end);
+        };
+        match sweep {
+            Sweep::Overdue => self.look_at(end),
+            Sweep::Departed => self.give_up(n),
+            Sweep::GiveWay => self.cut_incomplete(n),
+            Sweep::Retire => self.retire(n),
+            Sweep::LetGo => self.let_go(n),
+        }
+    }
+
+    /// Hands in what a sweep finds.
+    fn hand_in_found(&mut self, sweep: Sweep)
+        ensures { ServerTakesLosses self.old self.new }
+    {
+        a_turn_is_served_behind_losses();
+        for _ in 0..MOST_LOOKS {
+            let Some(end) = self.next_found(sweep) else {
+                return;
+            };
+            self.take_found(sweep, end);
+        }
+    }
+
+    /// No more connections are taken but those that wait now. The answer to the next request on each says that it
+    /// closes; who is between two requests for a second is let go.
     pub fn drain(&mut self)
         ensures { self.new ≡ self.old }
     {

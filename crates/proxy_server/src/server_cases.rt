@@ -10,16 +10,16 @@ ghost use Rattle.proxy_figures.specs.declared.turn_counts.TurnEnd.TheVariants as
 ghost use Rattle.proxy_turn.specs.declared.report.TurnFault.TheVariants as faults;
 ghost use Rattle.proxy_turn.specs.declared.sockets.Received.TheVariants as received;
 ghost use Rattle.proxy_server.specs.Cases.{client_heard_at_100, limits, link_begun_at_90, link_without_stream};
-ghost use Rattle.proxy_server.specs.Cases.{peer_heard_at_100};
+ghost use Rattle.proxy_server.specs.Cases.{link_given_a_second, long_limits, peer_heard_at_100};
 ghost use Rattle.proxy_server.specs.Closing.{StandsInQueue};
 ghost use Rattle.proxy_streams.specs.Peers.{Bytes, Ended};
 ghost use Rattle.proxy_server.specs.Connecting.{link_is_connecting};
 ghost use Rattle.proxy_server.specs.Losses.{AtMostOneLoss};
 ghost use Rattle.proxy_server.specs.Paces.{milliseconds_of_moment, next_turn_must_not_wait, turn_end_of};
-ghost use Rattle.proxy_server.specs.Patience.{age_of_link, client_has_left, client_has_left_or_gone, client_is_silent};
-ghost use Rattle.proxy_server.specs.Patience.{closed_time_is_over, has_lasted_longer, incomplete_since};
-ghost use Rattle.proxy_server.specs.Patience.{link_overtime, link_time_is_over, link_time_may_be_over_at};
-ghost use Rattle.proxy_server.specs.Patience.{milliseconds_since};
+ghost use Rattle.proxy_server.specs.Timeouts.{age_of_link, client_has_left, client_has_left_or_gone, client_is_silent};
+ghost use Rattle.proxy_server.specs.Timeouts.{closed_time_is_over, has_lasted_longer, incomplete_since};
+ghost use Rattle.proxy_server.specs.Timeouts.{link_overtime, link_time_is_over, link_time_may_be_over_at};
+ghost use Rattle.proxy_server.specs.Timeouts.{milliseconds_since};
 ghost use Rattle.proxy_server.specs.Serving.{TurnHadLinkNumbersLeft, turn_settles};
 ghost use Rattle.proxy_server.specs.Streams.{OneReadIsTold, bytes_held_of_peer, bytes_of_outcomes, client_has_rest};
 ghost use Rattle.proxy_server.specs.Streams.{client_is_cut, client_is_idle, client_may_give, link_is_to_be_listed};
@@ -76,6 +76,14 @@ pub fn worked_times_of_links()
     ensures first { link_time_may_be_over_at limits (link_begun_at_90 true) ≡ 101 }
     ensures first_silence { link_time_may_be_over_at limits (link_begun_at_90 false) ≡ 121 }
     ensures first_of_none { link_time_may_be_over_at limits link_without_stream ≡ 191 }
+    ensures by_its_line { link_overtime (link_given_a_second false) long_limits 1101 ≡ Some Silence }
+    ensures by_its_line_just { link_overtime (link_given_a_second false) long_limits 1100 ≡ None }
+    ensures without_a_word { link_overtime (link_begun_at_90 false) long_limits 60100 ≡ None }
+    ensures without_a_word_over { link_overtime (link_begun_at_90 false) long_limits 60101 ≡ Some Silence }
+    ensures longer_than_all { link_overtime (link_given_a_second false) limits 1101 ≡ Some Exchange }
+    ensures connects_as_others { link_overtime (link_given_a_second true) long_limits 101 ≡ Some Connect }
+    ensures first_by_its_line { link_time_may_be_over_at long_limits (link_given_a_second false) ≡ 1101 }
+    ensures first_of_all { link_time_may_be_over_at limits (link_given_a_second false) ≡ 191 }
     ensures connecting { link_is_connecting (Some (link_begun_at_90 true)) ≡ true }
     ensures connected { link_is_connecting (Some (link_begun_at_90 false)) ≡ false }
     ensures without_stream { link_is_connecting (Some link_without_stream) ≡ false }

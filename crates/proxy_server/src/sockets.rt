@@ -3,6 +3,7 @@
 mod accepting;
 mod call_counts;
 mod connecting;
+mod draining;
 mod holding;
 pub(crate) mod live_sockets;
 pub(crate) mod reply_log;

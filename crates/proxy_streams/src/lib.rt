@@ -4,6 +4,7 @@
 //! What passes between a peer and its stream is said over the trait `Stream`; the system answers for its own.
 #![tactic(auto)]
 
+pub mod laws;
 mod peer;
 mod peer_cases;
 mod socket;
@@ -11,6 +12,5 @@ mod stream;
 mod unsent;
 
 pub use crate::peer::{Peer, held_after};
-pub use crate::peer_cases::worked_peers;
 pub use crate::socket::Socket;
 pub use crate::stream::Stream;

@@ -312,9 +312,9 @@ impl<S: Stream + Drop> Peer<S> {
         Ok(())
     }
 
-    /// Reads what has come, if anything may have. That something may be left to be read is forgotten only where the
-    /// stream said that nothing is, where its end was read, or where it gave fewer bytes than there was room for and no
-    /// event told of its end. Fails where the stream does, but for an interruption, or where nothing has come.
+    /// Reads what has come, if anything may have. The mark that bytes may be left is cleared only where the stream said
+    /// that there are none, where its end was read, or where it gave fewer bytes than there was room for and no event
+    /// told of its end. Fails where the stream does, but for an interruption, or where nothing has come.
     pub fn read(&mut self, buf: &mut [u8], now: u64) -> io::Result<Received>
         ensures within { IfOk result (FitsTheBuffer (length buf.old)) }
         ensures length { length buf.new ≡ length buf.old }

@@ -14,7 +14,7 @@ use Rattle.proxy_core.specs.Traces.{initial_state as core_begun}
 use Rattle.proxy_core.specs.declared.event.Event.{Event}
 use Rattle.proxy_script.specs.declared.effect_list.Effect.{Effect}
 use Rattle.proxy_engine.specs.Admitted.{Refusal}
-use Rattle.proxy_engine.specs.Happenings.{PlainHappening, Accepts, Sends, Hears, Ends, Leaves, Shuts, Fails}
+use Rattle.proxy_engine.specs.Happenings.{PlainHappening, Accepts, Sends, Hears, Ends, Leaves, Retires, Shuts, Fails}
 use Rattle.proxy_engine.specs.EngineModel.{EngineModel, model_after_happening, with_core}
 use Rattle.proxy_engine.specs.Due.{Act, Abandons, Finishes, Wakes, Serves, Gives, Breaks}
 use Rattle.proxy_engine.specs.Acts.{ActIsDone, CoreIsStepped, RequestIsRefused, ConnectionIsClosed, ConnectionIsServed, RequestArrives, OutcomeOnConnection, Replies, Forwards, Queues, Nothing, outcome_by_table, model_after_outcome}
@@ -43,6 +43,7 @@ core_heard s (Sends n bytes) = refl
 core_heard s (Hears l bytes) = refl
 core_heard s (Ends n) = refl
 core_heard s (Leaves n) = refl
+core_heard s (Retires n) = refl
 core_heard s (Shuts l) = refl
 core_heard s (Fails l kind) = refl
 

@@ -38,7 +38,7 @@ sum_more f xs x = let both = sum_by-append f xs (x ∷ []) in omega (arith, both
 -- ---- what stays
 
 stays_same : (s : EngineModel) → EndedStaysEnded s s
-stays_same s = record { closed = λ i l e. e; gone = λ i l e. e; dropped = λ j l e. e; connections = omega arith; links = omega arith; first = refl }
+stays_same s = record { closed = λ i l e. e; gone = λ i l e. e; retired = λ i l e. e; dropped = λ j l e. e; connections = omega arith; links = omega arith; first = refl }
 
 pub stays_on : (r s t : EngineModel) → EndedStaysEnded r s → EndedStaysEnded s t → EndedStaysEnded r t
 stays_on r s t f g =
@@ -49,6 +49,7 @@ stays_on r s t f g =
     record {
       closed = λ i l e. g.closed i (omega (arith, l, connections)) (f.closed i l e);
       gone = λ i l e. g.gone i (omega (arith, l, connections)) (f.gone i l e);
+      retired = λ i l e. g.retired i (omega (arith, l, connections)) (f.retired i l e);
       dropped = λ j l e. g.dropped j (omega (arith, l, links)) (f.dropped j l e);
       connections = omega (arith, connections, more_connections);
       links = omega (arith, links, more_links);

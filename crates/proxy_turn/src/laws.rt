@@ -9,7 +9,12 @@ ghost use Rattle.proxy_turn.specs.Served.{EngineGoesOnByHappening, EngineGoesOnB
 ghost use Rattle.proxy_turn.specs.Served.{ReachableEngineIsServing, TurnExecutesItsSteps, ExecutedEngineIsServing};
 ghost use Rattle.proxy_turn.specs.Served.{EngineKeepsItsTable};
 
-use proxy_engine::{effects_name_open_ends, executions_are_runs};
+pub use crate::over_cases::{a_turn_over_ends_refuses_what_is_not_done, worked_accepts};
+pub use crate::turn_cases::{
+    a_turn_refuses_what_is_not_done, worked_calls_of_effects, worked_happenings_of_reads,
+    worked_order_of_steps,
+};
+use proxy_engine::laws::{effects_name_open_ends, executions_are_runs};
 
 /// A turn is lived by its own steps, behind whatever was lived before it: it takes the connections that came and what
 /// its reads gave, does its acts at its moment, and takes the ends on which a call failed. The effects of these steps

@@ -9,7 +9,7 @@
 mod bounds;
 mod effects;
 mod happenings;
-mod laws;
+pub mod laws;
 mod limits;
 mod logged;
 mod over_cases;
@@ -22,15 +22,9 @@ pub use crate::bounds::TurnBounds;
 pub use crate::happenings::{
     happening_of_bytes_from, happening_of_end_of_input, happening_of_lost_end, happening_of_read,
 };
-pub use crate::laws::{a_turn_is_served_behind_losses, engines_go_on, turns_are_executed};
 pub use crate::limits::{MOST_WORKS, PIECE};
 pub use crate::logged::{LoggedCall, LoggedReadOutcome, LoggedSockets, turn_with_log};
-pub use crate::over_cases::{a_turn_over_ends_refuses_what_is_not_done, worked_accepts};
 pub use crate::report::{Report, TurnFault};
 pub use crate::sockets::{Received, SocketFailed, Sockets};
-pub use crate::turn_cases::{
-    a_turn_refuses_what_is_not_done, worked_calls_of_effects, worked_happenings_of_reads,
-    worked_order_of_steps,
-};
 pub use crate::turns::{turn, turn_over, turn_through};
 pub use proxy_engine::End;

@@ -19,10 +19,11 @@ use crate::limits::{MOST_EFFECTS, MOST_OPEN, MOST_WORKS, PIECE};
 use crate::report::{Report, TurnFault};
 use crate::sockets::Sockets;
 use hx_store::Shelf;
-use proxy_engine::{
-    End, Engine, Happening, Work, an_act_has_three_effects_at_most, effects_name_open_ends,
-    readable_ends_may_send, what_ends_stays_ended,
+use proxy_engine::laws::{
+    an_act_has_three_effects_at_most, effects_name_open_ends, readable_ends_may_send,
+    what_ends_stays_ended,
 };
+use proxy_engine::{End, Engine, Happening, Work};
 use std::alloc::Global;
 
 /// Asks for a connection, where fewer than `most_open` are open and a number is left; answers whether one came. Its end

@@ -43,16 +43,17 @@ use Rattle.proxy_core.specs.Replies.{is_head}
 use Rattle.proxy_core.specs.State.{State as CoreState, state_after, released_exchange, overtaken_exchange, forwarded_exchange, waiting_exchange}
 use Rattle.proxy_core.specs.Starts.{StoreAtStart}
 use Rattle.proxy_core.specs.Traces.{initial_state as core_begun}
+use Rattle.proxy_core.proofs.SentBeside.{led_over, sent_over, unless_sent}
 use Rattle.proxy_core.proofs.ExchangeLists.{changed_by}
 use Rattle.proxy_core.proofs.Moves.{Move, apart, opens, queues, passes, again, wakes, closes, move_of, out_again, woken_form, forward_goes_on, is_either, answer_either}
 use Rattle.proxy_script.specs.declared.effect_list.Effect.{Effect}
 use Rattle.proxy_script.specs.declared.effect_list.Effect.TheVariants as effects
 use Rattle.proxy_engine.specs.Activities.{has_exchange, link_place_of_activity, forwarded_or_waiting}
 use Rattle.proxy_engine.specs.Acts.{OutcomeOnConnection, Replies, Forwards, Queues, Nothing, outcome_by_table, effects_of_outcome, model_after_outcome, next_link_number, CoreIsStepped, RequestIsRefused, ConnectionIsClosed, RequestArrives, ConnectionIsServed, ActIsDone, drop_effects}
-use Rattle.proxy_engine.specs.Admitted.{Refusal, RequestIsAdmittedOrRefused}
+use Rattle.proxy_engine.specs.Admitted.{Refusal, RequestIsAdmittedOrRefused, asked_on_connection}
 use Rattle.proxy_engine.specs.Due.{Act, Abandons, Finishes, Wakes, Serves, Gives, Breaks, IsDueFirst, ConnectionActionUnlessBusy, takes_no_request}
 use Rattle.proxy_engine.specs.EngineModel.{EngineModel, ConnectionModel, no_connection, connection_at, link_at, with_core, model_after_happening}
-use Rattle.proxy_engine.specs.Happenings.{PlainHappening, Accepts, Sends, Hears, Ends, Leaves, Shuts, Fails}
+use Rattle.proxy_engine.specs.Happenings.{PlainHappening, Accepts, Sends, Hears, Ends, Leaves, Retires, Shuts, Fails}
 use Rattle.proxy_engine.specs.Orderly.{ModelIsOrderly, activity_of_model, EndedStaysEnded, NewModelIsOrderly, HappeningKeepsOrder, ActKeepsOrder, HappeningKeepsEnded, ActKeepsEnded}
 use Rattle.proxy_engine.specs.Pairing.{activity_at}
 use Rattle.proxy_engine.specs.State.{new_engine_model}
@@ -60,7 +61,7 @@ use Rattle.proxy_engine.specs.Executions.{ExecutionStep, Took, Worked, StepLeads
 use Rattle.proxy_engine.specs.declared.endpoints.activities.Activity.{Activity}
 use Rattle.proxy_engine.specs.declared.endpoints.activities.Activity.TheVariants.{Free, Forwarded, Waiting}
 use Rattle.proxy_engine.proofs.Shown.{lost_by}
-use Rattle.proxy_turn_laws.specs.Dialogue.{Said, RequestCame, ReplyWent, ClientLeft, replies_to, final_replies_to, said_by_act, said_by_steps, Standing, Answered, Awaited, Left, StandsAt, LastRequestIsOpen, requests_in, replies_in, RepliesFollowRequests, EachRequestHasOneReply, NoRequestIsAnsweredTwice, NoReplyComesUnasked, NoRequestIsPassedOver, NothingIsSaidBehindALeave, NoActAnswersTwice}
+use Rattle.proxy_turn_laws.specs.Dialogue.{Said, RequestCame, ReplyWent, ClientLeft, replies_to, final_replies_to, said_by_act, said_by_steps, Standing, Answered, Awaited, Left, StandsAt, RequestCameAs, LastRequestIsOpen, requests_in, replies_in, RepliesFollowRequests, EachRequestHasOneReply, NoRequestIsAnsweredTwice, NoReplyComesUnasked, NoRequestIsPassedOver, NothingIsSaidBehindALeave, NoActAnswersTwice}
 
 -- ---- the replies among effects
 
@@ -114,7 +115,9 @@ arrival_tells table es xs now asked (verdict.Allowed line) = by_decision (decisi
 
     by_only : (rule : ReuseRule) (condition : Option Condition) (only : Bool) → is_end (outcome_without_stored_response table es xs line now asked rule condition only) ≡ false
     by_only rule condition true = refl
-    by_only rule condition false = by_leader condition (leader_of_request (policy_of table.lines line) es (exchanges_to_wait_for table line asked xs) asked rule)
+    by_only rule condition false =
+        unless_sent (λ (o : Outcome). is_end o ≡ false) table es line now asked (sent_over table es xs line now asked rule) (outcome_of_waiting_or_forwarding table line asked condition (led_over table es xs line asked rule))
+        (λ s is. refl) (by_leader condition (led_over table es xs line asked rule))
 
     by_decision : (d : Decision) → is_end (outcome_of_allowed_request table es xs line now asked d) ≡ false
     by_decision (decision.Hit serial) = refl
@@ -167,7 +170,7 @@ record IsAwaited (said : List Said) (z : Exchange) : Type 0 where
   request : Request
   past : List Said
   said_is : said ≡ RequestCame (next.Message request) ∷ past
-  admitted : RequestIsAdmittedOrRefused request (Ok z.asked)
+  admitted : RequestCameAs request z.asked
   stands : StandsAt Awaited said
 
 awaited_there : (G : Type 0) (said : List Said) (x : Option Exchange) (z : Exchange) → Here G said x → x ≡ Some z → IsAwaited said z
@@ -179,19 +182,19 @@ awaited_there G said x z here is = by_standing here.standing here.stands here.la
     by_standing Awaited stands (r, past, y, said_is, found, admitted) =
         let seen : Some y ≡ Some z = sym found ∙ is in
         let same : y ≡ z = cc in
-        record { request = r; past = past; said_is = said_is; admitted = subst (λ (v : Exchange). RequestIsAdmittedOrRefused r (Ok v.asked)) same admitted; stands = stands }
+        record { request = r; past = past; said_is = said_is; admitted = subst (λ (v : Exchange). RequestCameAs r v.asked) same admitted; stands = stands }
 
 -- a request arrives where none is open
-module _ (G : Type 0) (id now : ℕ) (asked : Asked) (r : Request) (v x y : Option Exchange) (said : List Said) (admitted : RequestIsAdmittedOrRefused r (Ok asked)) (stands : StandsAt Answered said) where
+module _ (G : Type 0) (id now : ℕ) (asked : Asked) (r : Request) (v x y : Option Exchange) (said : List Said) (admitted : RequestCameAs r asked) (stands : StandsAt Answered said) where
   abbrev After : Outcome → Type 0
   After o = Here G (told_by o ++ (RequestCame (next.Message r) ∷ said)) y
 
   waiting : (o : Outcome) → outcome_ends_exchange o ≡ false → (z : Exchange) → z.asked ≡ asked → y ≡ Some z → After o
   waiting (outcomes.Reply p) e z same is = absurd (false≢true (sym e))
   waiting (outcomes.Forward line bytes) e z same is =
-      record { standing = Awaited; stands = (refl, stands); last = (r, said, z, refl, is, subst (λ (a : Asked). RequestIsAdmittedOrRefused r (Ok a)) (sym same) admitted); gone = λ e. absurd (cc) }
+      record { standing = Awaited; stands = (refl, stands); last = (r, said, z, refl, is, subst (λ (a : Asked). RequestCameAs r a) (sym same) admitted); gone = λ e. absurd (cc) }
   waiting (outcomes.Waits leader) e z same is =
-      record { standing = Awaited; stands = (refl, stands); last = (r, said, z, refl, is, subst (λ (a : Asked). RequestIsAdmittedOrRefused r (Ok a)) (sym same) admitted); gone = λ e. absurd (cc) }
+      record { standing = Awaited; stands = (refl, stands); last = (r, said, z, refl, is, subst (λ (a : Asked). RequestCameAs r a) (sym same) admitted); gone = λ e. absurd (cc) }
   waiting outcomes.Ended e z same is = absurd (false≢true (sym e))
 
   answered : (o : Outcome) → outcome_ends_exchange o ≡ true → is_end o ≡ false → y ≡ None → After o
@@ -219,10 +222,10 @@ module _ (G : Type 0) (id : ℕ) (event : Event) (v x y : Option Exchange) (said
   waits_on (outcomes.Reply p) e z z2 xi same yi = absurd (false≢true (sym e))
   waits_on (outcomes.Forward line bytes) e z z2 xi same yi =
       let f = awaited_there G said x z here xi in
-      record { standing = Awaited; stands = f.stands; last = (f.request, f.past, z2, f.said_is, yi, subst (λ (a : Asked). RequestIsAdmittedOrRefused f.request (Ok a)) (sym same) f.admitted); gone = λ e. absurd (cc) }
+      record { standing = Awaited; stands = f.stands; last = (f.request, f.past, z2, f.said_is, yi, subst (λ (a : Asked). RequestCameAs f.request a) (sym same) f.admitted); gone = λ e. absurd (cc) }
   waits_on (outcomes.Waits leader) e z z2 xi same yi =
       let f = awaited_there G said x z here xi in
-      record { standing = Awaited; stands = f.stands; last = (f.request, f.past, z2, f.said_is, yi, subst (λ (a : Asked). RequestIsAdmittedOrRefused f.request (Ok a)) (sym same) f.admitted); gone = λ e. absurd (cc) }
+      record { standing = Awaited; stands = f.stands; last = (f.request, f.past, z2, f.said_is, yi, subst (λ (a : Asked). RequestCameAs f.request a) (sym same) f.admitted); gone = λ e. absurd (cc) }
   waits_on outcomes.Ended e z z2 xi same yi = absurd (false≢true (sym e))
 
   is_answered : (o : Outcome) → outcome_ends_exchange o ≡ true → is_end o ≡ false → (z : Exchange) → x ≡ Some z → y ≡ None → Here G (told_by o ++ said) y
@@ -287,7 +290,7 @@ changed_here G key i x said here = record { standing = here.standing; stands = h
     by_standing Left last = none last
     by_standing Awaited (r, past, y, said_is, found, admitted) =
         let c = changed_some key i y in
-        (r, past, c.0, said_is, ap (changed_by key i) found ∙ c.1, subst (λ (a : Asked). RequestIsAdmittedOrRefused r (Ok a)) (sym c.2) admitted)
+        (r, past, c.0, said_is, ap (changed_by key i) found ∙ c.1, subst (λ (a : Asked). RequestCameAs r a) (sym c.2) admitted)
 
 away_here : (G : Type 0) (id : ℕ) (event : Event) (o : Outcome) (v x y : Option Exchange) (said : List Said) → eqb (exchange_id_of_event event) id ≡ false → Here G said x → Move id v event o x y → Here G said y
 away_here G id event o v x y said off here (apart n e) = subst (Here G said) (sym e) (changed_here G _ _ x said here)
@@ -312,6 +315,7 @@ heard_core s (Sends n bytes) = refl
 heard_core s (Hears l bytes) = refl
 heard_core s (Ends n) = refl
 heard_core s (Leaves n) = refl
+heard_core s (Retires n) = refl
 heard_core s (Shuts l) = refl
 heard_core s (Fails l kind) = refl
 
@@ -411,7 +415,7 @@ module _ (i : ℕ) where
             (subst (λ (told : List Said). Here (IsGone s) (told ++ said) (open_at t)) (says_away off) (away_step (IsGone s) off here)))
 
   -- a request arrives at the core
-  arrived_step : (G : Type 0) (s base t : EngineModel) (p now : ℕ) (r : Request) (asked : Asked) (emitted : List Effect) (said : List Said) → RequestIsAdmittedOrRefused r (Ok asked) → CoreIsStepped s base p (is_head asked) (events.Arrive now (p + 1) asked) [] emitted t
+  arrived_step : (G : Type 0) (s base t : EngineModel) (p now : ℕ) (r : Request) (asked : Asked) (emitted : List Effect) (said : List Said) → RequestCameAs r asked → CoreIsStepped s base p (is_head asked) (events.Arrive now (p + 1) asked) [] emitted t
       → (p ≡ i → StandsAt Answered said) → Here G said (open_at s) → Here G ((replies_to (i + 1) emitted ++ cond (p == i) (RequestCame (next.Message r) ∷ []) []) ++ said) (open_at t)
   arrived_step G s base t p now r asked emitted said admitted d ready here = by_place (cases_Bool (p == i))
     where
@@ -501,7 +505,7 @@ module _ (i : ℕ) where
         by_standing Left stands last gone = absurd (false≢true (sym still ∙ (gone refl).1))
 
     arrives : (p : ℕ) (r : Request) (judged : Result Asked Refusal) → IsDueFirst s (Some (Serves p (next.Message r))) → RequestIsAdmittedOrRefused r judged → RequestArrives s now p r judged emitted t → Goes (Serves p (next.Message r))
-    arrives p r (Ok asked) due admitted h = arrived_step (IsGone s) s _ t p now r asked emitted said admitted h.1 (λ same. (ready p (next.Message r) due same).0) here
+    arrives p r (Ok asked) due admitted h = arrived_step (IsGone s) s _ t p now r (asked_on_connection (connection_at s p).retired asked) emitted said ((connection_at s p).retired, (asked, admitted, refl)) h.1 (λ same. (ready p (next.Message r) due same).0) here
     arrives p r (Err refusal) due admitted h = refused_step (IsGone s) s t p (next.Message r) _ emitted said h.emitted_is (ap (λ (u : EngineModel). u.core) h.after_is) (ready p (next.Message r) due) here
 
     refused : (p : ℕ) (fault : FrameFault) (why : Cause) → IsDueFirst s (Some (Serves p (next.Refused fault))) → RequestIsRefused s now p why false emitted t → Here (IsGone s) ((replies_to (i + 1) emitted ++ cond (p == i) (RequestCame (next.Refused fault) ∷ []) []) ++ said) (open_at t)

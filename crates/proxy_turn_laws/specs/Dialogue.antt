@@ -4,9 +4,9 @@
 --
 -- Said, said_by_act, said_by_steps: what is said            replies_to, final_replies_to: the replies among effects
 -- Standing, StandsAt: how a connection stands behind what was said
--- LastRequestIsOpen: the exchange of the core that is open on it is that of its last request
+-- RequestCameAs, LastRequestIsOpen: the exchange of the core that is open on it is that of its last request
 -- requests_in, replies_in: how many                          RepliesFollowRequests and the others: the statements
-use Rattle.std.specs.Prelude.{◌≡◌, ℕ, ◌+◌, ◌≤◌, ◌==◌, List, [], ◌∷◌, ◌++◌, Option, None, Some, Ok, cond, bytes_eq}
+use Rattle.std.specs.Prelude.{◌≡◌, ℕ, Bool, ◌+◌, ◌≤◌, ◌==◌, List, [], ◌∷◌, ◌++◌, Option, None, Some, Ok, cond, bytes_eq}
 use Rattle.hx_allow.specs.TableLines.{Table}
 use Rattle.hx_framing.specs.declared.messages.Request.{Request}
 use Rattle.hx_framing.specs.declared.frame_fault.FrameFault.{FrameFault}
@@ -20,7 +20,8 @@ use Rattle.proxy_core.specs.Traces.{initial_state as core_begun}
 use Rattle.proxy_core.specs.declared.open.exchange.Exchange.{Exchange}
 use Rattle.proxy_script.specs.declared.effect_list.Effect.{Effect}
 use Rattle.proxy_script.specs.declared.effect_list.Effect.TheVariants as effects
-use Rattle.proxy_engine.specs.Admitted.{RequestIsAdmittedOrRefused}
+use Rattle.hx_hop.specs.declared.request_view.Asked.{Asked}
+use Rattle.proxy_engine.specs.Admitted.{RequestIsHandedOver}
 use Rattle.proxy_engine.specs.ConnectionNumbers.{connection_number}
 use Rattle.proxy_engine.specs.EngineModel.{EngineModel}
 use Rattle.proxy_engine.specs.Due.{Act, Abandons, Finishes, Wakes, Serves}
@@ -99,13 +100,17 @@ StandsAt standing (RequestCame what ∷ past) = (standing ≡ Awaited) × Stands
 StandsAt standing (ReplyWent bytes ∷ past) = (standing ≡ Answered) × StandsAt Awaited past
 StandsAt standing (ClientLeft ∷ past) = (standing ≡ Left) × StandsAt Awaited past
 
+-- what the core was handed of a request, on a connection that is to end or isn't
+abbrev pub RequestCameAs : Request → Asked → Type 0
+RequestCameAs r asked = (retired : Bool) × RequestIsHandedOver retired r asked
+
 -- The exchange of the core that is open on the connection is that of the last request, which came and has no answer;
 -- where none waits for an answer, none is open. So what the core gives for that exchange answers that request.
 abbrev pub LastRequestIsOpen : Standing → List Said → Option Exchange → Type 0
 LastRequestIsOpen Answered said exchange = exchange ≡ None
 LastRequestIsOpen Awaited said exchange =
     (r : Request) × (past : List Said) × (x : Exchange) × (said ≡ RequestCame (next.Message r) ∷ past)
-    × (exchange ≡ Some x) × RequestIsAdmittedOrRefused r (Ok x.asked)
+    × (exchange ≡ Some x) × RequestCameAs r x.asked
 LastRequestIsOpen Left said exchange = exchange ≡ None
 
 abbrev pub requests_in : List Said → ℕ

@@ -3,7 +3,7 @@ ghost use Rattle.proxy_turn_laws.specs.Dialogue.{RepliesFollowRequests, EachRequ
 ghost use Rattle.proxy_turn_laws.specs.Dialogue.{NoRequestIsAnsweredTwice, NoReplyComesUnasked};
 ghost use Rattle.proxy_turn_laws.specs.Dialogue.{NoRequestIsPassedOver, NothingIsSaidBehindALeave, NoActAnswersTwice};
 
-use proxy_engine::{effects_name_open_ends, what_ends_stays_ended};
+use proxy_engine::laws::{effects_name_open_ends, what_ends_stays_ended};
 
 /// Whatever an engine lives through, on each connection each reply follows its own request (RFC 9112, section 9.3.2):
 /// a request is served only where each before it was answered, the nth reply answers the nth request, none is answered

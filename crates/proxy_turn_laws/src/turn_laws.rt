@@ -5,9 +5,9 @@ ghost use Rattle.proxy_turn_laws.specs.WritesOfATurn.{ATurnWritesNothingElse, No
 ghost use Rattle.proxy_turn_laws.specs.WritesOfATurn.{NothingIsWrittenToTheListener};
 
 use proxy_core_laws::a_core_sends_one_message_each_time;
-use proxy_engine::{effects_name_open_ends, what_ends_stays_ended};
+use proxy_engine::laws::{effects_name_open_ends, what_ends_stays_ended};
 use proxy_engine_laws::{what_a_client_gets_is_one_response, what_goes_forward_is_one_request};
-use proxy_turn::turns_are_executed;
+use proxy_turn::laws::turns_are_executed;
 
 /// Where an engine whose table was read has lived by some steps, each write of its next turn is one message: on a link
 /// one request, to a client a continue or one response (RFC 9112, sections 11.1 and 11.2).

@@ -1,7 +1,7 @@
 //! A client's stream: where it stands, what it asks for, and what a log needs of it.
 ghost use Rattle.std.specs.Prelude.{◌≡◌, ◌<◌, ◌≤◌, ◌++◌, length, take, drop, false, [], Some, None, Ok, IfOk, OnOk};
 ghost use Rattle.std.specs.Prelude.{OnErr};
-ghost use Rattle.proxy_server.specs.Patience.{client_has_left, has_lasted_longer, milliseconds_since};
+ghost use Rattle.proxy_server.specs.Timeouts.{client_has_left, has_lasted_longer, milliseconds_since};
 ghost use Rattle.proxy_server.specs.GivingWay.{client_is_quiet, client_takes_nothing};
 ghost use Rattle.proxy_turn.specs.Received.{FitsTheBuffer};
 ghost use Rattle.proxy_server.specs.Departures.{departure_of, departed_client};

@@ -13,6 +13,7 @@ ghost use Rattle.proxy_server.specs.Streams.{client_at, stream_at_number};
 use crate::clients::Clients;
 use crate::clients::client::Client;
 use crate::limits::MOST_LINGERING;
+use proxy_figures::UnansweredCause;
 use proxy_pacing::StreamQueue;
 use proxy_streams::Stream;
 use proxy_turn::{PIECE, Received};
@@ -100,7 +101,7 @@ impl<S: Stream + Drop> Clients<S> {
             return;
         };
         if advance(&mut **client, now) == StillToWait::No {
-            self.drop_stream(key);
+            self.drop_stream(key, UnansweredCause::Closed);
             return;
         }
         if client.peer.has_unsent() {
@@ -126,7 +127,7 @@ impl<S: Stream + Drop> Clients<S> {
     {
         if self.queues.len(StreamQueue::Lingering) > MOST_LINGERING {
             if let Some(first) = self.queues.first(StreamQueue::Lingering) {
-                self.drop_stream(first);
+                self.drop_stream(first, UnansweredCause::Closed);
             }
         }
     }

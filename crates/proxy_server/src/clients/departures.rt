@@ -1,7 +1,7 @@
 //! Clients that go with a request that isn't answered, and what is told of them.
 ghost use Rattle.std.specs.Prelude.{◌≡◌, IfOk, None, Ok};
 ghost use Rattle.proxy_server.specs.Departures.{IsLineAboutDeparture};
-ghost use Rattle.proxy_server.specs.Patience.{milliseconds_since};
+ghost use Rattle.proxy_server.specs.Timeouts.{milliseconds_since};
 
 use crate::clients::client::Logged;
 use proxy_figures::UnansweredCause;

@@ -1,9 +1,9 @@
 //! A link to an origin, and its times.
 ghost use Rattle.std.specs.Prelude.{◌≡◌, false};
-ghost use Rattle.proxy_server.specs.Patience.{link_overtime, link_time_may_be_over_at};
+ghost use Rattle.proxy_server.specs.Timeouts.{link_overtime, link_time_may_be_over_at, silence_of_link};
 ghost use Rattle.proxy_server.specs.Streams.{bytes_held_of_peer};
 
-use crate::limits::Limits;
+use crate::limits::{Limits, SECOND};
 use mio::event::Event;
 use proxy_figures::{Admission, Overtime};
 use proxy_streams::{Peer, Socket, Stream};
@@ -24,6 +24,9 @@ pub(crate) struct Link<S: Stream + Drop = Socket> {
     pub(crate) is_listed: bool,
     /// When it is looked at next.
     pub(crate) look: u64,
+    /// The seconds for which its origin may send no byte, where the line of its request says so. That is known from the
+    /// first look on: no such time is shorter than what that waits.
+    pub(crate) seconds: Option<u32>,
 }
 
 impl<S: Stream + Drop> Link<S> {
@@ -41,6 +44,7 @@ impl<S: Stream + Drop> Link<S> {
           admission = admission;
           is_listed = false;
           look = 0;
+          seconds = None;
         } }
     {
         Link {
@@ -50,6 +54,7 @@ impl<S: Stream + Drop> Link<S> {
             admission,
             is_listed: false,
             look: 0,
+            seconds: None,
         }
     }
 
@@ -63,6 +68,16 @@ impl<S: Stream + Drop> Link<S> {
         }
     }
 
+    /// For how long its origin may send no byte.
+    pub(crate) fn silence(&self, limits: &Limits) -> u64
+        ensures { result ≡ silence_of_link limits.now self.now }
+    {
+        match self.seconds {
+            Some(seconds) => u64::from(seconds) * SECOND,
+            None => limits.origin_timeout,
+        }
+    }
+
     /// The first moment at which a time of it may be over.
     pub(crate) fn next_time(&self, limits: &Limits) -> u64
         ensures { result ≡ link_time_may_be_over_at limits.now self.now }
@@ -70,7 +85,7 @@ impl<S: Stream + Drop> Link<S> {
         let last = self.began.saturating_add(limits.exchange_timeout);
         let next = match &self.peer {
             Some(peer) if peer.connecting => self.began.saturating_add(limits.connect_timeout),
-            Some(peer) => peer.heard.saturating_add(limits.origin_timeout),
+            Some(peer) => peer.heard.saturating_add(self.silence(limits)),
             None => last,
         };
         last.min(next).saturating_add(1)
@@ -94,7 +109,7 @@ impl<S: Stream + Drop> Link<S> {
                 None
             };
         }
-        if peer.is_silent(now, limits.origin_timeout) {
+        if peer.is_silent(now, self.silence(limits)) {
             return Some(Overtime::Silence);
         }
         None

@@ -42,17 +42,10 @@ impl<'a, R: Net> LiveSockets<'a, R> {
         match self.accept_stream() {
             Ok((stream, address)) => self.take_new_stream(n, stream, address),
             Err(e) => {
-                self.note_no_connection(&e);
+                self.acceptable = self.may_try_again(&e);
                 false
             }
         }
-    }
-
-    /// No connection could be taken.
-    fn note_no_connection(&mut self, e: &io::Error)
-        ensures calls { self.new.calls ≡ self.old.calls }
-    {
-        self.acceptable = self.may_try_again(e);
     }
 
     /// Takes a stream that came now as a client; that there is no room for it is counted.

@@ -10,14 +10,12 @@ ghost use Rattle.proxy_server.specs.OtherEntries.{OtherEntriesStay, ChangesOnlyA
 ghost use Rattle.proxy_server.specs.Forgetting.{ClientIsForgotten, LinkIsForgotten};
 ghost use Rattle.proxy_server.specs.Closing.{StreamIsClosedByNumber};
 ghost use Rattle.proxy_server.specs.Paces.{milliseconds_of_moment};
-ghost use Rattle.proxy_server.specs.Patience.{link_time_is_over, client_is_silent, client_has_left_or_gone};
-ghost use Rattle.proxy_server.specs.Streams.{stream_at_number};
 ghost use Rattle.std.specs.Prelude.{nat_lt};
 ghost use Rattle.slab.specs.Slab.{slab_len};
 
 use crate::clients::Clients;
 use crate::clients::departures::Departure;
-use crate::limits::{LONGEST_WAIT, Limits, MOST_EVENTS, MOST_READ, SECOND};
+use crate::limits::{LONGEST_WAIT, Limits, MOST_EVENTS, SECOND};
 use crate::links::Links;
 use crate::pace::turn_end_of;
 use crate::sockets::call_counts::CallCounts;
@@ -58,6 +56,8 @@ pub struct LiveSockets<'a, R: Net> {
     pub(crate) may_give_way: bool,
     /// Who waits now is taken, and nobody else.
     pub(crate) is_draining: bool,
+    /// The connections below this number are to end.
+    pub(crate) not_retired: u64,
     pub(crate) clients: Clients,
     pub(crate) links: Links,
     /// Ends that may give something, and are read next; each stands there once.
@@ -175,6 +175,7 @@ impl<'a, R: Net> LiveSockets<'a, R> {
             may_have_room: false,
             may_give_way: false,
             is_draining: false,
+            not_retired: 0,
             clients: Clients::new(alloc, limits),
             links: Links::new(alloc, &limits),
             ready: VecDeque::new(alloc),
@@ -245,29 +246,6 @@ impl<'a, R: Net> LiveSockets<'a, R> {
         if moment == now {
             self.moment = now.saturating_mul(SECOND).saturating_add(milliseconds);
         }
-    }
-
-    /// Takes no more connections but those that wait now. Who is idle is let go.
-    pub fn drain(&mut self)
-        ensures { self.new ≡ record self.old { is_draining = true; acceptable = true } }
-    {
-        self.is_draining = true;
-        self.acceptable = true;
-    }
-
-    /// Whether no more connections are taken but those that wait.
-    pub fn is_draining(&self) -> bool
-        ensures { result ≡ self.entry.now.is_draining }
-    {
-        self.is_draining
-    }
-
-    /// Whether no connection waits, no client waits for anything, and no link is open.
-    pub fn is_drained(&self) -> bool {
-        self.listener.is_none()
-            && self.in_hand.is_none()
-            && self.clients.is_done()
-            && self.links.is_empty()
     }
 
     /// Seconds of the clock that never goes back, at the last wait.
@@ -387,9 +365,9 @@ impl<'a, R: Net> LiveSockets<'a, R> {
         self.asked.disconnect_client();
     }
 
-    /// Whether an end is read next, or a connection may be taken, of which no event will tell.
+    /// Whether an end is read next, a connection may be taken, or one is to end, of which no event will tell.
     pub fn has_more(&self) -> bool {
-        if !self.ready.is_empty() {
+        if !self.ready.is_empty() || self.first_not_retired().is_some() {
             return true;
         }
         match &self.in_hand {
@@ -422,14 +400,6 @@ impl<'a, R: Net> LiveSockets<'a, R> {
         ensures { result ≡ min (vec_len self.entry.now.lost + vec_len self.entry.now.clients.lost) (2 ^ 64 - 1) }
     {
         self.lost.len().saturating_add(self.clients.lost_count())
-    }
-
-    /// How many of them are handed in before a turn.
-    pub fn lost_of_a_turn(&self) -> usize
-        ensures { result ≡ min (min (vec_len self.entry.now.lost + vec_len self.entry.now.clients.lost) (2 ^ 64 - 1))
-            256 }
-    {
-        self.lost_count().min(MOST_READ)
     }
 
     /// An end that failed since it was last asked, and how. Its stream is gone.
@@ -526,17 +496,6 @@ impl<'a, R: Net> LiveSockets<'a, R> {
         }
     }
 
-    /// While no more connections are taken: a client that is let go since it is between two requests.
-    pub fn next_to_let_go(&mut self) -> Option<u64>
-        ensures draining { self.old.is_draining ≡ false → result ≡ None }
-        ensures rest { self.new ≡ record self.old { clients = self.new.clients } }
-    {
-        if !self.is_draining {
-            return None;
-        }
-        self.clients.next_to_let_go(self.now)
-    }
-
     /// A client that has sent its end, where nearly as many links to an origin are open as may be: if it waits for an
     /// answer, that is given up for those who still listen.
     pub fn next_departed(&mut self) -> Option<u64>
@@ -558,37 +517,6 @@ impl<'a, R: Net> LiveSockets<'a, R> {
         }
     }
 
-    /// Whether the time of a link is over.
-    pub fn is_over(&self, l: u64) -> bool
-        ensures { result ≡ link_time_is_over (get nat_cmp self.entry.now.links.items l) self.entry.now.limits
-            self.entry.now.now }
-    {
-        self.links.is_over(l, self.now, &self.limits)
-    }
-
-    /// Whether a client that is between two requests has been silent for too long.
-    pub fn is_silent(&self, n: u64) -> bool
-        ensures { result ≡ client_is_silent self.entry.now.clients.limits.client_timeout self.entry.now.now
-            (stream_at_number self.entry.now.clients.open self.entry.now.clients.streams n) }
-    {
-        self.clients.is_silent(n, self.now)
-    }
-
-    /// Whether the request of a client has taken too long to come, or the client is silent.
-    pub fn is_late(&mut self, n: u64) -> bool
-        ensures { self.new ≡ record self.old { clients = self.new.clients } }
-    {
-        self.clients.is_late(n, self.now)
-    }
-
-    /// Whether a client has sent its end, and waits for its answer for too long.
-    pub fn has_left(&self, n: u64) -> bool
-        ensures { result ≡ client_has_left_or_gone self.entry.now.clients.limits.abandon_timeout self.entry.now.now
-            (stream_at_number self.entry.now.clients.open self.entry.now.clients.streams n) }
-    {
-        self.clients.has_left(n, self.now)
-    }
-
     /// What couldn't be done that was asked, since the start.
     pub fn troubles(&self) -> Troubles {
         let origins = &self.links.origins;
@@ -604,15 +532,6 @@ impl<'a, R: Net> LiveSockets<'a, R> {
                 0
             },
         }
-    }
-
-    /// Closes a client that is let go between two requests, once it has taken what waits for it.
-    pub fn close_idle(&mut self, n: u64)
-        ensures closed { StreamIsClosedByNumber (get nat_cmp self.old.clients.open n) self.old.clients.streams
-            self.new.clients.streams }
-        ensures rest { self.new ≡ record self.old { clients = self.new.clients } }
-    {
-        self.clients.close(n, self.now);
     }
 
     /// Drops the stream of an end whose time is over.

@@ -1,14 +1,5 @@
-use Rattle.std.proofs.Common.{refl, sym, subst}
-use Rattle.proxy_server.specs.Losses.{ServerTakesLosses}
-use Rattle.proxy_server.proofs.Losing.{on_from, none_on}
+use Rattle.proxy_server.proofs.Losing.{from_view}
 use Rattle.proxy_server.proofs.server.Server.let_go.Goals as goal
 
-pub loop-init : goal.loop-init
-loop-init g c = none_on c.args.self.now _ refl
-
-pub loop-preserved : goal.loop-preserved
-loop-preserved g c =
-    on_from c.a_turn_is_served_behind_losses.ensures.joined c.args.self.now c.loop.self c.next_to_let_go.new.self c.disconnect.new.self c.next_to_let_go.ensures.same c.loop.invariant c.disconnect.ensures.on
-
-pub returns-in_default : goal.returns-in_default
-returns-in_default g c = subst (ServerTakesLosses c.args.self.now) (sym c.next_to_let_go.ensures.same) c.loop.invariant
+pub returns : goal.returns
+returns g c = from_view _ c.args.self.now c.disconnect.new.self c.self.view_is c.disconnect.ensures.on

@@ -5,19 +5,20 @@
 -- milliseconds_since: for how long something is so, if at all
 -- client_is_silent, client_has_left_or_gone: of the client of a number; who isn't there is, and has
 -- age_of_link: of a link, 0 where there is none
+-- silence_of_link: for how long the origin of a link may send no byte
 -- link_time_may_be_over_at: the first moment of a link at which a time of it may be
 -- link_overtime: which time of a link is over
 -- IsIdleSince, IsIdleNumber, IsUnmarkedClient: of who may be let go
-use Rattle.std.specs.Prelude.{◌≡◌, ℕ, ◌-◌, min, max, nat_lt, Bool, true, false, not, ◌&&◌, ◌||◌}
-use Rattle.std.specs.Prelude.{Option, None, Some, is_some, cond, if◌then◌else◌}
+use Rattle.std.specs.Prelude.{◌≡◌, ℕ, ◌-◌, ◌*◌, min, max, nat_lt, Bool, true, false, not, ◌&&◌, ◌||◌}
+use Rattle.std.specs.Prelude.{Option, None, Some, is_some, cond, if◌then◌else◌, unwrap_or, option_map}
 use Rattle.std.specs.Option.{option_and_then}
 use Rattle.proxy_figures.specs.Counts.{count_plus}
 use Rattle.proxy_streams.specs.Silence.{end_is_silent}
 use Rattle.proxy_server.specs.Streams.{client_may_give, client_is_idle, number_of_place}
 use Rattle.proxy_server.specs.declared.clients.client.Client.{Client}
 use Rattle.proxy_server.specs.declared.limits.Limits.{Limits}
-use Rattle.proxy_server.specs.declared.limits.TheConstants.{PATIENCE_MILLISECONDS}
-use Rattle.proxy_server.specs.declared.limits.TheConstants.{QUIET_MILLISECONDS}
+use Rattle.proxy_server.specs.declared.limits.TheConstants.{CLOSE_TIMEOUT_MILLISECONDS}
+use Rattle.proxy_server.specs.declared.limits.TheConstants.{LINGER_MILLISECONDS}
 use Rattle.proxy_server.specs.declared.links.link.Link.{Link}
 use Rattle.proxy_streams.specs.declared.peer.Peer.{Peer}
 use Rattle.proxy_figures.specs.declared.link_timeouts.Overtime.{Overtime}
@@ -38,14 +39,23 @@ client_has_left now (Some left) heard limit = nat_lt limit (now - max left heard
 -- What was closed has something to take and is silent, or has taken all and is quiet, or goes on sending for too long.
 abbrev pub closed_time_is_over : StreamQueue → Limits → ℕ → ℕ → ℕ → Bool
 closed_time_is_over Leaving limits now heard closed =
-    nat_lt (min limits.client_timeout PATIENCE_MILLISECONDS) (now - heard)
+    nat_lt (min limits.client_timeout CLOSE_TIMEOUT_MILLISECONDS) (now - heard)
 closed_time_is_over Lingering limits now heard closed =
-    nat_lt QUIET_MILLISECONDS (now - heard) || nat_lt PATIENCE_MILLISECONDS (now - closed)
+    nat_lt LINGER_MILLISECONDS (now - heard) || nat_lt CLOSE_TIMEOUT_MILLISECONDS (now - closed)
 
 -- a request that comes has been incomplete since it was asked for first
 abbrev pub incomplete_since : ℕ → Option ℕ → Option ℕ
 incomplete_since now None = Some now
 incomplete_since now (Some since) = Some since
+
+-- For how long its origin may send no byte: so many seconds where the line over which its request went forward says so,
+-- else what is said of all.
+abbrev pub silence_of_link : {S : Type 0} → Limits → Link S → ℕ
+silence_of_link limits link = unwrap_or (option_map (λ seconds. seconds * 1000) link.seconds) limits.origin_timeout
+
+-- a link whose request went forward over a line that says so many seconds, or nothing of it
+abbrev pub link_with_seconds : {S : Type 0} → Option ℕ → Link S → Link S
+link_with_seconds seconds link = record link { seconds = seconds }
 
 -- Which time is over: of a link as a whole, else, while its connection isn't made, of that, else of
 -- the origin's silence.
@@ -59,7 +69,7 @@ overtime_by_limits limits now began connecting silent =
 abbrev pub link_overtime : {S : Type 0} → Link S → Limits → ℕ → Option Overtime
 link_overtime link limits now =
     option_and_then (λ peer. overtime_by_limits limits now link.began peer.connecting
-    (end_is_silent peer.readable peer.unsent.bytes now peer.heard limits.origin_timeout)) link.peer
+    (end_is_silent peer.readable peer.unsent.bytes now peer.heard (silence_of_link limits link))) link.peer
 
 -- The time of a link is over, also where it has no stream, or isn't there.
 abbrev pub link_time_is_over : {S : Type 0} → Option (Link S) → Limits → ℕ → Bool
@@ -84,15 +94,18 @@ age_of_link now None = 0
 age_of_link now (Some link) = now - link.began
 
 -- the end of the time for its connection, or for its silence
-abbrev pub end_of_time_of_peer : {S : Type 0} → Limits → ℕ → Option (Peer S) → ℕ
-end_of_time_of_peer limits began None = count_plus began limits.exchange_timeout
-end_of_time_of_peer limits began (Some peer) =
-    if peer.connecting then count_plus began limits.connect_timeout else count_plus peer.heard limits.origin_timeout
+abbrev pub end_of_time_of_peer : {S : Type 0} → Limits → ℕ → ℕ → Option (Peer S) → ℕ
+end_of_time_of_peer limits silence began None = count_plus began limits.exchange_timeout
+end_of_time_of_peer limits silence began (Some peer) =
+    if peer.connecting then count_plus began limits.connect_timeout else count_plus peer.heard silence
+
+abbrev pub end_of_time_of_link : {S : Type 0} → Limits → Link S → ℕ
+end_of_time_of_link limits link = end_of_time_of_peer limits (silence_of_link limits link) link.began link.peer
 
 -- the first moment at which that, or all of its time, is over
 abbrev pub link_time_may_be_over_at : {S : Type 0} → Limits → Link S → ℕ
 link_time_may_be_over_at limits link =
-    count_plus (min (count_plus link.began limits.exchange_timeout) (end_of_time_of_peer limits link.began link.peer)) 1
+    count_plus (min (count_plus link.began limits.exchange_timeout) (end_of_time_of_link limits link)) 1
 
 -- a client is between two requests, since then; or under this number
 abbrev pub IsIdleSince : {S : Type 0} → ℕ → Option (Client S) → Type 0

@@ -1,14 +1,14 @@
 //! Whose time is over, and when each is looked at next.
 ghost use Rattle.std.specs.Prelude.{◌≡◌, ◌<◌, ◌-◌, ◌⊎◌, true, false, [], Some, None, length, IfSome, ℕ};
-ghost use Rattle.proxy_server.specs.Patience.{closed_time_is_over, has_lasted_longer, incomplete_since};
-ghost use Rattle.proxy_server.specs.Patience.{client_is_silent, client_has_left_or_gone, IsIdleNumber};
+ghost use Rattle.proxy_server.specs.Timeouts.{closed_time_is_over, has_lasted_longer, incomplete_since};
+ghost use Rattle.proxy_server.specs.Timeouts.{client_is_silent, client_has_left_or_gone, IsIdleNumber};
 ghost use Rattle.proxy_server.specs.OtherEntries.{OtherSlabKeysStay, ChangesOnlyAtNumber};
 ghost use Rattle.proxy_server.specs.Streams.{stream_at_number, client_at};
 
 use crate::clients::Clients;
 use crate::clients::client::{Client, Place};
 use crate::limits::{
-    FIRST_REQUEST_MILLISECONDS, Limits, PATIENCE_MILLISECONDS, QUIET_MILLISECONDS, SECOND,
+    CLOSE_TIMEOUT_MILLISECONDS, FIRST_REQUEST_MILLISECONDS, LINGER_MILLISECONDS, Limits, SECOND,
 };
 use proxy_figures::{CutReason, Lateness, UnansweredCause};
 use proxy_pacing::StreamQueue;
@@ -19,9 +19,9 @@ fn closed_time_is_over(client: &Client, queue: StreamQueue, limits: &Limits, now
 {
     let quiet = now.saturating_sub(client.peer.heard);
     match queue {
-        StreamQueue::Leaving => quiet > limits.client_timeout.min(PATIENCE_MILLISECONDS),
-        StreamQueue::Lingering => quiet > QUIET_MILLISECONDS
-            || now.saturating_sub(client.closed) > PATIENCE_MILLISECONDS,
+        StreamQueue::Leaving => quiet > limits.client_timeout.min(CLOSE_TIMEOUT_MILLISECONDS),
+        StreamQueue::Lingering => quiet > LINGER_MILLISECONDS
+            || now.saturating_sub(client.closed) > CLOSE_TIMEOUT_MILLISECONDS,
     }
 }
 
@@ -49,10 +49,10 @@ fn next_time(client: &Client, limits: &Limits) -> u64 {
     let heard = client.peer.heard;
     let mut next = match client.place {
         Place::In(StreamQueue::Lingering, _) => heard
-            .saturating_add(QUIET_MILLISECONDS)
-            .min(client.closed.saturating_add(PATIENCE_MILLISECONDS)),
+            .saturating_add(LINGER_MILLISECONDS)
+            .min(client.closed.saturating_add(CLOSE_TIMEOUT_MILLISECONDS)),
         Place::In(StreamQueue::Leaving, _) => heard.saturating_add(
-            limits.client_timeout.min(PATIENCE_MILLISECONDS),
+            limits.client_timeout.min(CLOSE_TIMEOUT_MILLISECONDS),
         ),
         Place::Open(_) => heard.saturating_add(limits.client_timeout),
     };
@@ -94,7 +94,7 @@ impl Clients {
         if queue == StreamQueue::Leaving {
             self.endings.count_lateness(Lateness::Client);
         }
-        self.drop_stream(key);
+        self.drop_stream(key, UnansweredCause::Closed);
     }
 
     /// The number of a client that is to be looked at now, if the engine knows it. Others are looked at here.
@@ -113,13 +113,13 @@ impl Clients {
     }
 
     /// The number of a client that is let go since no more connections are taken: it is between two requests, and has
-    /// sent one, or had its time for that.
+    /// been so for the time that a first request has. Who asks again meanwhile is told that the connection closes.
     pub(crate) fn next_to_let_go(&mut self, now: u64) -> Option<u64>
         ensures { IfSome result (λ n. (key : ℕ) × IsIdleNumber n (client_at self.new.streams key)) }
     {
         let (key, since) = self.longest_idle()?;
         let client = self.stream(key)?;
-        if client.has_asked || now.saturating_sub(since) > FIRST_REQUEST_MILLISECONDS {
+        if now.saturating_sub(since) > FIRST_REQUEST_MILLISECONDS {
             return client.number();
         }
         None

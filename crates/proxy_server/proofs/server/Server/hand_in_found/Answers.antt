@@ -1,0 +1,14 @@
+use Rattle.std.proofs.Common.{refl, sym, subst}
+use Rattle.proxy_server.specs.Losses.{ServerTakesLosses}
+use Rattle.proxy_server.proofs.Losing.{on_from, none_on}
+use Rattle.proxy_server.proofs.server.Server.hand_in_found.Goals as goal
+
+pub loop-init : goal.loop-init
+loop-init g c = none_on c.args.self.now _ refl
+
+pub loop-preserved : goal.loop-preserved
+loop-preserved g c =
+    on_from c.a_turn_is_served_behind_losses.ensures.joined c.args.self.now c.loop.self c.next_found.new.self c.take_found.new.self c.next_found.ensures.same c.loop.invariant c.take_found.ensures
+
+pub returns-in_default : goal.returns-in_default
+returns-in_default g c = subst (ServerTakesLosses c.args.self.now) (sym c.next_found.ensures.same) c.loop.invariant
