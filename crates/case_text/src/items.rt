@@ -21,6 +21,7 @@ fn happening_line(alloc: Global, happening: Happening<'_>) -> Result<String, All
         Happening::Link(l, bytes) => format!(in alloc; "link {l} {}", bytes.len()),
         Happening::End(n) => format!(in alloc; "end {n}"),
         Happening::Gone(n) => format!(in alloc; "gone {n}"),
+        Happening::Retire(n) => format!(in alloc; "retire {n}"),
         Happening::Shut(l) => format!(in alloc; "shut {l}"),
         Happening::Fail(l, kind) => format!(in alloc; "fail {l} {}", failure_word(kind)),
     }

@@ -105,10 +105,12 @@ fn target_fault(name: &str) -> Option<TargetFault> {
     None
 }
 
-static DETAILS: [(&str, Detail); 3] = [
+static DETAILS: [(&str, Detail); 5] = [
     ("StaleIfError", Detail::StaleIfError),
     ("ReuseAfterError", Detail::ReuseAfterError),
     ("ReuseAfter304", Detail::ReuseAfter304),
+    ("StaleWhileRevalidate", Detail::StaleWhileRevalidate),
+    ("SessionCookie", Detail::SessionCookie),
 ];
 
 fn how_of(text: &str) -> Option<How> {

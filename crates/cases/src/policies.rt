@@ -1,6 +1,7 @@
 //! What a line says of caching, in a case: `words` and each word as `lifetime=60`, with the values of the operator's
 //! table of version 4. A line of version 3 with that lifetime has `error-lifetime=60` too, and one of version 4 has
-//! `conditions=answered` without that word, and where it gives a lifetime `cookies=private`.
+//! `conditions=answered` without that word, where it gives a lifetime `cookies=private`, and where it has
+//! `wait=missing-or-stale` also `while-revalidating=sent`, which is no word of a table.
 
 use hx_policy::Policy;
 use std::alloc::AllocError;
@@ -13,11 +14,15 @@ fn with_word(policy: Policy, word: &str) -> Option<Policy> {
         ("error-lifetime", seconds) => policy.error_lifetime = Some(seconds.parse::<u32>().ok()?),
         ("lifetime-most", seconds) => policy.lifetime_most = Some(seconds.parse::<u32>().ok()?),
         ("stale-if-error", seconds) => policy.stale_if_error = Some(seconds.parse::<u32>().ok()?),
+        ("stale-while-revalidate", seconds) => {
+            policy.stale_while_revalidate = Some(seconds.parse::<u32>().ok()?);
+        }
         ("set-cookie", "not-stored") => policy.stores_cookies = false,
         ("cookies", "private") => policy.gives_to_cookies = false,
         ("errors", "not-stored") => policy.stores_errors = false,
         ("request-directives", "ignored") => policy.heeds_requests = false,
         ("wait", "missing-or-stale") => policy.waits_for_stale = true,
+        ("while-revalidating", "sent") => policy.sends_while_revalidating = true,
         ("explain", "storing") => policy.explains_storing = true,
         ("conditions", "answered") => policy.forwards_conditions = false,
         _ => return None,
@@ -65,11 +70,21 @@ pub fn write_words(text: &mut String, policy: Policy) -> Result<(), AllocError> 
     write_seconds(text, "error-lifetime", policy.error_lifetime)?;
     write_seconds(text, "lifetime-most", policy.lifetime_most)?;
     write_seconds(text, "stale-if-error", policy.stale_if_error)?;
+    write_seconds(
+        text,
+        "stale-while-revalidate",
+        policy.stale_while_revalidate,
+    )?;
     write_unless(text, policy.stores_cookies, " set-cookie=not-stored")?;
     write_unless(text, !withholds_from_cookies(policy), " cookies=private")?;
     write_unless(text, policy.stores_errors, " errors=not-stored")?;
     write_unless(text, policy.heeds_requests, " request-directives=ignored")?;
     write_unless(text, !policy.waits_for_stale, " wait=missing-or-stale")?;
+    write_unless(
+        text,
+        !policy.sends_while_revalidating,
+        " while-revalidating=sent",
+    )?;
     write_unless(text, !policy.explains_storing, " explain=storing")?;
     write_unless(text, policy.forwards_conditions, " conditions=answered")
 }

@@ -14,6 +14,7 @@ fn write_happening(text: &mut String, happening: Happening<'_>) -> Result<(), Al
         Happening::Link(link, _) => write!(text, "link {link}"),
         Happening::End(client) => write!(text, "end {client}"),
         Happening::Gone(client) => write!(text, "gone {client}"),
+        Happening::Retire(client) => write!(text, "retire {client}"),
         Happening::Shut(link) => write!(text, "shut {link}"),
         Happening::Fail(link, kind) => write!(text, "fail {link} {}", failure_word(kind)),
     }

@@ -234,8 +234,8 @@ fn write_serial(text: &mut String, word: &str, serial: Option<u64>) -> Result<()
 fn write_given(text: &mut String, given: &Result<Outcome, CoreFault>) -> Result<(), AllocError> {
     match given {
         Ok(Outcome::Reply(reply)) => write_changes(text, reply),
-        Ok(Outcome::Forward(1, _)) => text.push_str("gives forward"),
-        Ok(Outcome::Forward(line, _)) => write!(text, "gives forward by line {line}"),
+        Ok(Outcome::Forward(route, _)) if route.number == 1 => text.push_str("gives forward"),
+        Ok(Outcome::Forward(route, _)) => write!(text, "gives forward by line {}", route.number),
         Ok(Outcome::Waits(leader)) => write!(text, "gives a wait for {leader}"),
         Ok(Outcome::Ended) => text.push_str("gives an end"),
         Err(fault) => write!(text, "gives refusal {fault:?}"),

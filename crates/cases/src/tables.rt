@@ -12,6 +12,7 @@ use hx_allow::{Config, ConfigFault, MOST_LINES, Verdict};
 use hx_fields::{Bytes, Fields};
 use hx_target::{Target, read_target};
 use std::alloc::{AllocError, Global};
+use std::str;
 
 fn write_fault(text: &mut String, fault: &ConfigFault) -> Result<(), AllocError> {
     match fault {
@@ -40,20 +41,46 @@ fn refuses_loops(config: &Config, line: u16) -> bool {
     config.refuses_loops(line) && !config.origin(line).is_empty()
 }
 
+/// Writes the names of a word that has a list, behind its key, a space in front and with commas.
+fn write_names(text: &mut String, key: &str, names: &[Bytes]) -> Result<(), AllocError> {
+    let mut front = "=";
+    if !names.is_empty() {
+        write!(text, " {key}")?;
+    }
+    for name in names {
+        write!(
+            text,
+            "{front}{}",
+            str::from_utf8(name.as_slice()).unwrap_or("-")
+        )?;
+        front = ",";
+    }
+    Ok(())
+}
+
 /// Writes the words of a line that aren't as without words in versions 1 to 3, each behind a space.
 fn write_line_words(text: &mut String, config: &Config, line: u16) -> Result<(), AllocError> {
-    write_words(text, config.policy(line))?;
+    write_words(text, config.line_policy(line))?;
+    write_names(text, "session-cookies", config.session_cookies(line))?;
+    write_names(text, "vary", config.vary(line))?;
     if refuses_loops(config, line) {
         text.push_str(" loops=refused")?;
     }
-    Ok(())
+    match config.origin_timeout(line) {
+        Some(seconds) => write!(text, " origin-timeout={seconds}"),
+        None => Ok(()),
+    }
 }
 
 /// Tells that a table is read, and which of its lines have words or no cache.
 fn write_read(text: &mut String, config: &Config) -> Result<(), AllocError> {
     text.push_str("read")?;
     for line in 1..=MOST_LINES {
-        let has_any = has_words(config.policy(line)) || refuses_loops(config, line);
+        let has_any = has_words(config.line_policy(line))
+            || !config.session_cookies(line).is_empty()
+            || !config.vary(line).is_empty()
+            || refuses_loops(config, line)
+            || config.origin_timeout(line).is_some();
         if usize::from(line) <= config.lines() && has_any {
             write!(text, ", line {line}")?;
             write_line_words(text, config, line)?;
@@ -156,7 +183,13 @@ fn write_verdict(
     fields: &Fields,
 ) -> Result<(), AllocError> {
     match config.judge(method, target, fields) {
-        Verdict::Allowed(line) => write_allowed(text, config, line),
+        Verdict::Allowed(route) => {
+            write_allowed(text, config, route.number)?;
+            if route.past_store {
+                text.push_str(", past the store")?;
+            }
+            Ok(())
+        }
         Verdict::DeniedBy(line) => write!(text, "denied by line {line}"),
         Verdict::NoLine => text.push_str("no line"),
         Verdict::Looped(line) => write!(text, "loop refused by line {line}"),

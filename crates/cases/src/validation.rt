@@ -13,6 +13,7 @@ use hx_validate::{
     answer_not_modified, answers, client_has_answer, client_wants_304, conditions, freshened,
     has_validator, not_modified,
 };
+use hx_vary::FieldNames;
 use std::alloc::{AllocError, Global};
 
 /// The moments of a response that was made, asked for and received in this second.
@@ -102,7 +103,14 @@ fn freshened_by(
 ) -> Result<Entry, Fault> {
     let asked = asked_by(alloc, request)?;
     let answered = answer_of(alloc, answer)?;
-    Ok(freshened(alloc, entry, &answered, &asked, times_at(160))?)
+    Ok(freshened(
+        alloc,
+        &FieldNames::new(alloc),
+        entry,
+        &answered,
+        &asked,
+        times_at(160),
+    )?)
 }
 
 /// The lines of the stored response behind a 304 that came at 160 to the request between them.

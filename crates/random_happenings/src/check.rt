@@ -11,6 +11,8 @@
 //! - Nothing goes to a connection that isn't accepted, or is closed, or gone; a client that goes leaves no link.
 //! - A happening has effects on its own connection, or that of its link, and on those that it wakes, alone. A request
 //!   that has come whole gets something at once, or waits; of those that wait `waiting.rt` says more.
+//! - A reply that says close is followed by its connection's end; on a connection that is to end, each to a request
+//!   that was begun since says so.
 //! - Behind an unsafe request that went well nothing is sent of what was stored for its target before.
 //! - A request that the table sends past the store goes to the origin of its line, and its answer says so, and is kept
 //!   for nobody. No other request goes there, and no other answer says so.
@@ -18,7 +20,7 @@
 
 use crate::clients::{Client, clients_of, index_of_number};
 use crate::counts::{Counts, count_plus_one};
-use crate::fields::{id_of, id_of_request};
+use crate::fields::{id_of, id_of_request, last_value};
 use crate::log::{Log, Occurred, Step};
 use crate::past_store::{claims_past_store, shows_past_store};
 use crate::replies::{
@@ -59,6 +61,8 @@ struct Check<'a> {
     fresh: Vec<(Asked, u64)>,
     table: Table,
     now: u64,
+    /// The connection that is closed next, by what its reply said.
+    closing: Option<u64>,
     counts: Counts,
 }
 
@@ -79,6 +83,7 @@ impl Drop for Check<'_> {
             fresh: _,
             table: _,
             now: _,
+            closing: _,
             counts: _,
         } = self;
     }
@@ -110,6 +115,7 @@ impl<'a> Check<'a> {
             fresh: Vec::new(alloc),
             table: log.table,
             now: 0,
+            closing: None,
             counts: Counts::default(),
         })
     }
@@ -143,8 +149,13 @@ impl<'a> Check<'a> {
                 Some(exchange) => Some(exchange.asked.connection),
                 None => None,
             },
-            Occurred::Late => None,
+            Occurred::Retired(_) | Occurred::Late => None,
         };
+        if let Occurred::Retired(number) = occurred {
+            if let Some(client) = self.clients.get_mut(index_of_number(number)) {
+                client.retire();
+            }
+        }
         if let Some(number) = self.happening.about {
             self.note_client(number, occurred);
         }
@@ -156,7 +167,7 @@ impl<'a> Check<'a> {
                 Occurred::Accepted(_) => client.is_accepted = true,
                 Occurred::Client(_, whole) => client.whole = whole,
                 Occurred::Gone(_) => client.is_over = true,
-                Occurred::Link(_) | Occurred::Late => {}
+                Occurred::Link(_) | Occurred::Retired(_) | Occurred::Late => {}
             }
         }
         if let Occurred::Gone(_) = occurred {
@@ -558,6 +569,38 @@ impl<'a> Check<'a> {
         }
     }
 
+    /// A reply says that it closes its connection where that is to end, and is closed next wherever it says so.
+    fn check_closing(&mut self, number: u64, head: &[u8]) -> Result<(), Wrong> {
+        let closes = last_value(head, b"Connection") == Some(b"close".as_slice());
+        if closes {
+            self.closing = Some(number);
+        }
+        let client = self.client(number)?;
+        // (its reply is counted already)
+        if client.last.is_some_and(|last| last < client.replies) {
+            if !closes {
+                return Err(Wrong::Rule(
+                    "a reply doesn't close a connection that is to end",
+                    number,
+                ));
+            }
+            count_plus_one(&mut self.counts.last_replies);
+        }
+        Ok(())
+    }
+
+    /// Where a reply said that its connection closes, that is the next effect.
+    fn check_closed(&mut self, effect: &Effect<'_>) -> Result<(), Wrong> {
+        match (self.closing.take(), effect) {
+            (None, _) => Ok(()),
+            (Some(number), Effect::Close(closed)) if number == *closed => Ok(()),
+            (Some(number), _) => Err(Wrong::Rule(
+                "a connection isn't closed behind its last reply",
+                number,
+            )),
+        }
+    }
+
     /// The request of a connection that is replied to now.
     fn next_asked(&mut self, number: u64) -> Result<Asked, Wrong> {
         let client = self.receiving_client(number)?;
@@ -687,6 +730,7 @@ impl<'a> Check<'a> {
         let woken = self.note_possible_effect(number)?;
         let asked = self.next_asked(number)?;
         let (head, source) = read_reply(number, bytes)?;
+        self.check_closing(number, head)?;
         if woken.is_some() != matches!(source, Source::Collapsed) {
             return Err(Wrong::Rule("a reply says wrongly whether its request waited", number));
         }
@@ -718,6 +762,7 @@ impl<'a> Check<'a> {
 
     fn take(&mut self, effect: Effect<'_>) -> Result<(), Wrong> {
         count_plus_one(&mut self.counts.effects);
+        self.check_closed(&effect)?;
         match effect {
             Effect::Client(number, bytes) => self.send(number, bytes),
             Effect::Forward(number, address, request) => self.forward(number, address, request),
@@ -741,6 +786,9 @@ impl<'a> Check<'a> {
             };
             self.take(effect)?;
             rest = more;
+        }
+        if let Some(number) = self.closing {
+            return Err(Wrong::Rule("a connection isn't closed behind its last reply", number));
         }
         if rest.is_empty() {
             Ok(())

@@ -23,6 +23,8 @@ pub struct Client<'a> {
     pub exchange: Option<usize>,
     pub is_accepted: bool,
     pub is_over: bool,
+    /// From which of the requests on its replies close it, where it is to end.
+    pub last: Option<usize>,
 }
 
 // By hand, so that a scope that ends is one call to the prover and not the drop of each part.
@@ -36,11 +38,20 @@ impl Drop for Client<'_> {
             exchange: _,
             is_accepted: _,
             is_over: _,
+            last: _,
         } = self;
     }
 }
 
 impl Client<'_> {
+    /// It is to end: the first request that wasn't begun yet is the last one.
+    pub fn retire(&mut self) {
+        if self.last.is_none() {
+            let has_open = self.link.is_some() || (self.replies as u64) < self.whole;
+            self.last = Some(self.replies.saturating_add(usize::from(has_open)));
+        }
+    }
+
     /// The request that has come whole, and has neither a reply nor a link.
     pub fn request_without_reply(&self) -> Option<Asked> {
         let is_open = self.is_accepted && !self.is_over && self.link.is_none();
@@ -64,6 +75,7 @@ pub fn clients_of<'a>(alloc: Global, log: &Log) -> Result<Vec<Client<'a>>, Alloc
                 exchange: None,
                 is_accepted: false,
                 is_over: false,
+                last: None,
             };
             clients.push(client).map_err(AllocError::from)?;
         }

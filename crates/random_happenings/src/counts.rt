@@ -14,6 +14,8 @@ pub struct Counts {
     pub hits: u64,
     pub validated: u64,
     pub refused: u64,
+    /// Replies on connections that were to end.
+    pub last_replies: u64,
     /// Requests that went past the store.
     pub past: u64,
     /// Of them those that asked for what was fresh by the last answer for their target that was stored or sent.
@@ -65,14 +67,14 @@ impl fmt::Display for Counts {
     fn fmt<W: fmt::Write>(&self, f: &mut fmt::Formatter<W>) -> fmt::Result {
         let (effects, forwards, drops) = (self.effects, self.forwards, self.drops);
         let (replies, stored, hits) = (self.replies, self.stored, self.hits);
-        let (validated, refused) = (self.validated, self.refused);
+        let (validated, refused, last) = (self.validated, self.refused, self.last_replies);
         write!(
             f,
             "{effects} effects: {forwards} forwards, {drops} drops, {replies} replies, "
         )?;
         write!(
             f,
-            "of them {stored} stored, {hits} hits, {validated} validated, {refused} refused"
+            "of them {stored} stored, {hits} hits, {validated} validated, {refused} refused, {last} on connections that were to end"
         )
     }
 }

@@ -13,6 +13,8 @@ pub enum Occurred {
     Client(u64, u64),
     /// The client of this connection went away.
     Gone(u64),
+    /// The connection of this number is to end.
+    Retired(u64),
     /// On this link bytes came, or its end, or a failure.
     Link(u64),
     /// What was told of an end that is over.

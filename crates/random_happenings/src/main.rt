@@ -5,6 +5,9 @@
 //! whole, cut, faulty and too late, failures, ends, and moments that go forward and back. An engine beside it tells
 //! which links there are, so that what comes next can be of use. The script of all is then replayed, and of each effect
 //! is checked what `check.rt` says.
+//!
+//! Then the same by each table with restarts: now and then all clients go away, and another engine goes on over the
+//! store that this one wrote. All of them together have to do what the replay of the whole script does.
 #![tactic(auto)]
 
 mod answers;
@@ -13,6 +16,7 @@ mod clients;
 mod counts;
 mod dice;
 mod fields;
+mod life;
 mod log;
 mod past_store;
 mod replies;

@@ -23,6 +23,22 @@ fn make(alloc: Global, table: Table) -> Result<Log, Stopped> {
     Ok(world.into_log())
 }
 
+/// How many happenings come between two restarts.
+const BETWEEN_RESTARTS: usize = 40;
+
+/// The same by processes that go on one after another, each over the store that the one before has written.
+fn make_with_restarts(alloc: Global, table: Table) -> Result<Log, Stopped> {
+    let mut world = World::new(alloc, table, FIRST_CHOICE)?;
+    for _ in 0..HAPPENINGS / BETWEEN_RESTARTS {
+        for _ in 0..BETWEEN_RESTARTS {
+            world.step()?;
+        }
+        world.leave_all()?;
+        world = world.restarted()?;
+    }
+    Ok(world.into_log())
+}
+
 /// Prints how much went past the store, where something did.
 fn print_past_the_store<R: Print>(rt: &R, counts: &Counts) -> io::Result<()> {
     let (past, fresh, taking) = (counts.past, counts.past_fresh, counts.past_taking);
@@ -127,10 +143,40 @@ fn play<R: Print + Eprint + AllocGlobal>(rt: &R, table: Table) -> io::Result<boo
     }
 }
 
+/// Whether processes that go on one after another do what one alone does.
+fn restart<R: Print + Eprint + AllocGlobal>(rt: &R, table: Table) -> io::Result<bool> {
+    let log = match make_with_restarts(rt.alloc(), table) {
+        Ok(log) => log,
+        Err(stopped) => {
+            eprintln!(rt; "no script: {stopped}")?;
+            return Ok(false);
+        }
+    };
+    let (text, listed) = match replayed(rt.alloc(), log.script.as_slice()) {
+        Ok(texts) => texts,
+        Err(fault) => {
+            println!(rt; "the replay ended: {fault}")?;
+            return Ok(false);
+        }
+    };
+    let effects = log.effects.as_slice();
+    if text.as_slice() != effects || listed.as_slice() != effects {
+        println!(rt; "with restarts it differs")?;
+        return Ok(false);
+    }
+    let restarts = HAPPENINGS / BETWEEN_RESTARTS;
+    println!(rt; "{restarts} restarts: what one process does alone")?;
+    Ok(true)
+}
+
 /// Prints of each trial whether the property holds, or what doesn't, and tells whether it does in all.
 pub fn run<R: Print + Eprint + AllocGlobal>(rt: &R) -> io::Result<bool> {
     let with_cache = play(rt, Table::WithCache)?;
     let partly_without = play(rt, Table::PartlyWithout)?;
     let with_words = play(rt, Table::WithWords)?;
-    Ok(with_cache && partly_without && with_words)
+    let mut restarted = true;
+    for table in [Table::WithCache, Table::PartlyWithout, Table::WithWords] {
+        restarted = restart(rt, table)? && restarted;
+    }
+    Ok(with_cache && partly_without && with_words && restarted)
 }

@@ -1,4 +1,4 @@
-//! What is checked of answers over lines with words on caching, in the words' own terms (docs/WORDS.md).
+//! What is checked of answers over lines with words on caching, in the words' own terms (docs/LINE_OPTIONS.md).
 //!
 //! - The line of the host i ignores what requests want: no answer names such a wish. What is stored without a lifetime
 //!   of its own has that of the line.

@@ -3,6 +3,7 @@ ghost use Rattle.std.specs.Prelude.{◌<◌};
 
 use crate::answers::{Question, push_answer};
 use crate::dice::Dice;
+use crate::life::Life;
 use crate::log::{Log, Occurred, Step};
 use crate::requests::{Asked, push_request};
 use crate::tables::Table;
@@ -11,7 +12,9 @@ use hx_allow::Config;
 use hx_status::FailKind;
 use hx_store::ListShelf;
 use proxy_engine::{Engine, EngineFault, Work};
+use proxy_kept_store::read_kept_store;
 use proxy_script::{Effect, Happening, Item, effects_text};
+use proxy_store_file::{StoreFault, WriteFault, write_store};
 use std::alloc::{AllocError, Global};
 use std::{fmt, mem};
 
@@ -32,6 +35,10 @@ pub enum Stopped {
     Refused,
     /// The engine found always more to do.
     Restless,
+    /// Something is open that nobody waits for, or a store isn't read as it was written.
+    NoRestart,
+    /// A replay over the store that a process began with does something else.
+    OtherReplay,
 }
 
 impl From<AllocError> for Stopped {
@@ -55,6 +62,8 @@ impl fmt::Display for Stopped {
             Stopped::OutOfMemory => "no memory",
             Stopped::Refused => "the engine refuses what happened",
             Stopped::Restless => "the engine comes to no rest",
+            Stopped::NoRestart => "no process goes on over its store",
+            Stopped::OtherReplay => "a replay over a store does something else",
         })
     }
 }
@@ -171,6 +180,7 @@ pub struct World {
     forwarded: u64,
     /// The connection whose client sent something last.
     sender: u64,
+    life: Life,
     log: Log,
 }
 
@@ -214,6 +224,35 @@ fn happening_at_an_ended_end(
     }
 }
 
+/// The file of the store of a process that ends.
+fn written(alloc: Global, engine: Engine<ListShelf>) -> Result<Vec<u8>, Stopped> {
+    let (mut shelf, next) = engine.into_store();
+    let Some(next) = next else {
+        return Err(Stopped::NoRestart);
+    };
+    let mut file = Vec::new(alloc);
+    match write_store(alloc, next, &mut shelf, &mut file) {
+        Ok(()) => Ok(file),
+        Err(WriteFault::OutOfMemory) => Err(Stopped::OutOfMemory),
+        Err(_) => Err(Stopped::NoRestart),
+    }
+}
+
+/// A process that begins with the file of a store.
+fn begun(alloc: Global, table: &[u8], file: &[u8]) -> Result<Engine<ListShelf>, Stopped> {
+    let config = match Config::read(alloc, table) {
+        Ok(config) => config,
+        Err(_) => return Err(Stopped::Refused),
+    };
+    let mut shelf = ListShelf::new(alloc, config.capacity());
+    let mut reader = file;
+    match read_kept_store(alloc, &config, &mut shelf, &mut reader) {
+        Ok(first) => Ok(Engine::with_store(alloc, config, shelf, first, 1)),
+        Err(StoreFault::OutOfMemory) => Err(Stopped::OutOfMemory),
+        Err(_) => Err(Stopped::NoRestart),
+    }
+}
+
 impl World {
     /// Nothing has happened yet; the script has its table.
     pub fn new(alloc: Global, table: Table, beginning: u64) -> Result<Self, Stopped> {
@@ -235,6 +274,7 @@ impl World {
             accepted: 0,
             forwarded: 0,
             sender: 0,
+            life: Life::begin(alloc, text.as_bytes(), 0, 0, 0, None)?,
             log,
         })
     }
@@ -251,9 +291,70 @@ impl World {
             accepted: _,
             forwarded: _,
             sender: _,
+            life: _,
             log,
         } = self;
         log
+    }
+
+    /// All clients go away, so nothing is open.
+    pub fn leave_all(&mut self) -> Result<(), Stopped> {
+        for _ in 0..MOST_OPEN {
+            let Some(caller) = self.callers.pop() else {
+                return Ok(());
+            };
+            let number = caller.number;
+            self.happen(Happening::Gone(number), Occurred::Gone(number))?;
+        }
+        Ok(())
+    }
+
+    /// Another process goes on over the store that this one has written, where nothing is open.
+    pub fn restarted(self) -> Result<World, Stopped> {
+        let moment = self.moment();
+        let World {
+            alloc,
+            dice,
+            engine,
+            now,
+            callers,
+            links,
+            accepted,
+            forwarded,
+            sender,
+            life,
+            log,
+        } = self;
+        if engine.open_exchanges() > 0 || !links.is_empty() {
+            return Err(Stopped::NoRestart);
+        }
+        if !life.is_replayed(alloc) {
+            return Err(Stopped::OtherReplay);
+        }
+        let text = log.table.text(alloc)?;
+        let file = written(alloc, engine)?;
+        let engine = begun(alloc, text.as_bytes(), file.as_slice())?;
+        let life = Life::begin(
+            alloc,
+            text.as_bytes(),
+            moment,
+            accepted,
+            forwarded,
+            Some(file),
+        )?;
+        Ok(World {
+            alloc,
+            dice,
+            engine,
+            now,
+            callers,
+            links,
+            accepted,
+            forwarded,
+            sender,
+            life,
+            log,
+        })
     }
 
     /// One more happening.
@@ -268,7 +369,8 @@ impl World {
         match roll {
             0..=3 => self.client_leaves(),
             4..=7 => self.link_ends(),
-            8..=10 => self.too_late(),
+            8 => self.connection_retires(),
+            9..=10 => self.too_late(),
             11..=54 => self.client_sends(),
             _ if self.links.is_empty() => self.client_sends(),
             _ => self.origin_sends(),
@@ -285,6 +387,7 @@ impl World {
         };
         let moment = self.moment();
         push_item(&mut self.log.script, Item::At(moment))?;
+        self.life.note_moment(moment)?;
         Ok(())
     }
 
@@ -367,6 +470,16 @@ impl World {
         self.happen(Happening::Gone(number), Occurred::Gone(number))
     }
 
+    /// The proxy wants to end a connection.
+    fn connection_retires(&mut self) -> Result<(), Stopped> {
+        let i = self.dice.below(self.callers.len());
+        let Some(caller) = self.callers.get(i) else {
+            return self.accept();
+        };
+        let number = caller.number;
+        self.happen(Happening::Retire(number), Occurred::Retired(number))
+    }
+
     /// A link fails, or its origin closes it.
     fn link_ends(&mut self) -> Result<(), Stopped> {
         let i = self.dice.below(self.links.len());
@@ -399,8 +512,11 @@ impl World {
     fn happen(&mut self, happening: Happening<'_>, occurred: Occurred) -> Result<(), Stopped> {
         push_item(&mut self.log.script, Item::Happens(happening))?;
         let before = self.log.effects.len();
-        self.engine.take(self.alloc, happening)?;
-        self.settle()?;
+        // What is told of an end that another process had is told to nobody.
+        if let Some(own) = self.life.note(happening)? {
+            self.engine.take(self.alloc, own)?;
+            self.settle()?;
+        }
         let length = self.log.effects.len().saturating_sub(before);
         let now = self.moment();
         self.log
@@ -420,17 +536,19 @@ impl World {
         for _ in 0..MOST_ACTS {
             match self.engine.work(self.alloc, now)? {
                 Work::Idle => return Ok(()),
-                Work::Did(effects) => self.see(effects.as_slice())?,
+                Work::Did(effects) => self.see(effects)?,
             }
         }
         Err(Stopped::Restless)
     }
 
     /// Writes effects, and learns from them which ends there are.
-    fn see(&mut self, effects: &[Effect]) -> Result<(), Stopped> {
-        let text = effects_text(self.alloc, effects)?;
+    fn see(&mut self, effects: Vec<Effect>) -> Result<(), Stopped> {
+        let mut effects = effects;
+        self.life.renumber(self.alloc, effects.as_mut_slice())?;
+        let text = effects_text(self.alloc, effects.as_slice())?;
         self.log.effects.extend_from_slice(text.as_slice())?;
-        for effect in effects {
+        for effect in &effects {
             self.note_effect(effect)?;
         }
         Ok(())

@@ -3,7 +3,7 @@
 use crate::entries::{entry, key};
 use crate::stop::Stop;
 use http::Method;
-use hx_allow::{Config, Verdict};
+use hx_allow::{Config, Route, Verdict};
 use hx_fields::{Bytes, Fields};
 use hx_framing::Request;
 use hx_hop::{Asked, ask};
@@ -109,7 +109,7 @@ fn call_core(core: &mut Core<ListShelf>, asked: &Asked) -> Result<(), Stop> {
     let verdict = core
         .config()
         .judge(&asked.method, &asked.target, &asked.fields);
-    expect_that(verdict == Verdict::Allowed(1))?;
+    expect_that(verdict == Verdict::Allowed(Route::over(1)))?;
     expect_that(matches!(core.abandon(1), Ok(Outcome::Ended)))?;
     expect_that(matches!(core.abandon(1), Err(CoreFault::UnknownId)))
 }

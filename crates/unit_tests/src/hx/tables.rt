@@ -22,10 +22,10 @@ static LINES: [[&str; 5]; 3] = [
 #[test]
 fn each_line_says_whether_it_has_a_cache(rt: HostRuntime) -> Result<(), Fail> {
     let config = config_of(rt.alloc(), 2, &LINES)?;
-    assert!(rt; !config.policy(1).caches);
-    assert!(rt; config.policy(2) == Policy::plain(true));
-    assert!(rt; config.policy(3) == Policy::plain(true));
-    assert!(rt; config.policy(4) == Policy::plain(false));
+    assert!(rt; !config.line_policy(1).caches);
+    assert!(rt; config.line_policy(2) == Policy::plain(true));
+    assert!(rt; config.line_policy(3) == Policy::plain(true));
+    assert!(rt; config.line_policy(4) == Policy::plain(false));
     let address = SocketAddrV4::new(Ipv4Addr::LOCALHOST, 8081);
     assert!(rt; config.origin_address(2) == Some(address));
     assert!(rt; config.origin_address(4) == None);
