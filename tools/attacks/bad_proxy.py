@@ -9,6 +9,7 @@ import threading
 
 from live.client import Client
 from attacks.strict import HOST, HOP_BY_HOP, REQUEST_LINE, Fault, Head, is_denied, read_answer
+from shared.sockets import SIZE, accepted, close_listener, read_to_the_end, received
 
 WAIT = 5
 CHUNK = re.compile(rb"([0-9A-Fa-f]{1,8})\r\n")
@@ -95,11 +96,7 @@ class BadProxy:
         return Client(self.port, next(self.numbers))
 
     def accept(self):
-        while True:
-            try:
-                connection, _ = self.listener.accept()
-            except OSError:
-                return
+        for connection in accepted(self.listener):
             threading.Thread(target=self.serve, args=[connection], daemon=True).start()
 
     def serve(self, client):
@@ -108,8 +105,7 @@ class BadProxy:
             with contextlib.suppress(OSError):
                 self.converse(client)
                 client.shutdown(socket.SHUT_WR)
-                while client.recv(1 << 18):
-                    pass
+                read_to_the_end(client)
 
     def converse(self, client):
         data, has_ended = b"", False
@@ -129,7 +125,7 @@ class BadProxy:
                 continue
             if has_ended:
                 return
-            piece = client.recv(1 << 18)
+            piece = client.recv(SIZE)
             data, has_ended = data + piece, not piece
 
     def reply(self, request):
@@ -147,7 +143,7 @@ class BadProxy:
         came = b""
         with contextlib.suppress(OSError), socket.create_connection(self.origin, WAIT) as it:
             it.sendall(text)
-            while piece := it.recv(1 << 18):
+            for piece in received(it):
                 came += piece
                 if self.fault != "raw" and self.read(came, text.split(b" ")[0].decode()):
                     break
@@ -172,8 +168,7 @@ class BadProxy:
         return last
 
     def close(self):
-        self.listener.shutdown(socket.SHUT_RDWR)
-        self.listener.close()
+        close_listener(self.listener)
 
 
 def spoiled(answer, last, fault):

@@ -4,6 +4,8 @@ import select
 import socket
 import time
 
+from shared.sockets import SIZE, received
+
 # The longest that it waits for the proxy, in seconds.
 WAIT = 10
 # Between two pieces: the proxy reads them one by one.
@@ -29,7 +31,7 @@ def send(it, pieces, is_late):
                 time.sleep(PAUSE)
             it.sendall(piece)
         while is_late and select.select([it], [], [], LATE)[0]:
-            piece = it.recv(1 << 18)
+            piece = it.recv(SIZE)
             data += piece
             is_late = bool(piece)
         it.shutdown(socket.SHUT_WR)
@@ -43,7 +45,7 @@ def play(port, pieces, is_late=False):
         it.setsockopt(socket.IPPROTO_TCP, socket.TCP_NODELAY, 1)
         data = send(it, pieces, is_late)
         try:
-            while piece := it.recv(1 << 18):
+            for piece in received(it):
                 data += piece
         except socket.timeout:
             return Got(bytes(data), False, False)

@@ -10,6 +10,7 @@ from attacks.findings import Found
 from attacks.hostile_answers import ANSWERS, NAMED, SECOND
 from attacks.strict import Fault, read_answer
 from attacks.threads import side_by_side
+from shared.sockets import SIZE, accepted, close_listener, read_to_the_end, received
 
 TARGET = re.compile(rb"[A-Z]+ /(\d+)\?(\w+)")
 NAMES = [*ANSWERS]
@@ -44,11 +45,7 @@ class HostileOrigin:
         threading.Thread(target=self.accept, daemon=True).start()
 
     def accept(self):
-        while True:
-            try:
-                connection, _ = self.listener.accept()
-            except OSError:
-                return
+        for connection in accepted(self.listener):
             threading.Thread(target=self.serve, args=[connection], daemon=True).start()
 
     def serve(self, connection):
@@ -59,18 +56,18 @@ class HostileOrigin:
                 head, rest = self.read_head(connection)
                 self.answer(connection, head, rest)
                 connection.shutdown(socket.SHUT_WR)
-                while connection.recv(1 << 18):
-                    pass
+                read_to_the_end(connection)
             except OSError:
                 pass
 
     def read_head(self, connection):
         data = b""
-        while b"\r\n\r\n" not in data:
-            piece = connection.recv(1 << 18)
-            if not piece:
-                raise ConnectionError
+        for piece in received(connection):
             data += piece
+            if b"\r\n\r\n" in data:
+                break
+        else:
+            raise ConnectionError
         head, _, rest = data.partition(b"\r\n\r\n")
         if b" /smug" in head.partition(b"\r\n")[0]:
             self.smuggled.append(data)
@@ -84,13 +81,12 @@ class HostileOrigin:
             return
         length = re.search(rb"(?i)\r\nContent-Length: (\d+)", head)
         while length and len(rest) < int(length[1]):
-            rest += connection.recv(1 << 18) or b"x" * int(length[1])
+            rest += connection.recv(SIZE) or b"x" * int(length[1])
         for piece in cut(ANSWERS[NAMES[int(found[1])]][0], found[2].decode()):
             connection.sendall(piece)
 
     def close(self):
-        self.listener.shutdown(socket.SHUT_RDWR)
-        self.listener.close()
+        close_listener(self.listener)
 
 
 def parsed(data, methods):

@@ -3,6 +3,7 @@ import socket
 import threading
 
 from attacks.strict import REQUEST_LINE, Fault, Head
+from shared.sockets import accepted, close_listener, received
 
 # The longest that it waits for bytes that should come, in seconds.
 WAIT = 5
@@ -39,11 +40,7 @@ class Recorder:
         threading.Thread(target=self.accept, daemon=True).start()
 
     def accept(self):
-        while True:
-            try:
-                connection, _ = self.listener.accept()
-            except OSError:
-                return
+        for connection in accepted(self.listener):
             with self.changed:
                 self.open += 1
             data = self.serve(connection)
@@ -58,7 +55,7 @@ class Recorder:
         connection.settimeout(WAIT)
         with connection:
             try:
-                while piece := connection.recv(1 << 18):
+                for piece in received(connection):
                     data += piece
                     answer = None if is_answered else answer_to(data)
                     if answer:
@@ -77,5 +74,4 @@ class Recorder:
         return seen
 
     def close(self):
-        self.listener.shutdown(socket.SHUT_RDWR)
-        self.listener.close()
+        close_listener(self.listener)

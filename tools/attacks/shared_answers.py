@@ -2,7 +2,7 @@
 
 Each case has a target of its own, an answer of the origin by chance, and three clients with requests by chance, one behind the other or at
 once. The origin writes into each content for whom it is: so what a client gets tells whether it was made for another, and by which request.
-What may be given to another is judged here from RFC 9111, sections 3 and 4, and docs/WORDS.md, by no code of the proxy's. The other way
+What may be given to another is judged here from RFC 9111, sections 3 and 4, and docs/LINE_OPTIONS.md, by no code of the proxy's. The other way
 round (that it could have been given and wasn't) is no finding.
 """
 import random

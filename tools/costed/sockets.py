@@ -10,6 +10,7 @@ from costed import spending
 from costed.counting import Failed
 from costed.kinds import CONTENT, HOST, TABLE
 from costed.scripts import head
+from shared.sockets import accepted
 
 ONE = head(b"GET /one HTTP/1.1", HOST)
 HELD = head(b"GET /held HTTP/1.1", HOST)
@@ -29,9 +30,8 @@ class Origin:
         threading.Thread(target=self.run, daemon=True).start()
 
     def run(self):
-        with contextlib.suppress(OSError):
-            while True:
-                threading.Thread(target=self.answer, args=(self.listener.accept()[0],), daemon=True).start()
+        for link in accepted(self.listener):
+            threading.Thread(target=self.answer, args=(link,), daemon=True).start()
 
     def answer(self, link):
         with link, contextlib.suppress(OSError):

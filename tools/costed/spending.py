@@ -1,6 +1,7 @@
 """What a run of the program spends, by callgrind: instructions by object and function, and requests for memory."""
 import os
 import re
+import shutil
 import subprocess
 import tempfile
 from collections import Counter
@@ -50,6 +51,13 @@ def counted(out, program):
                 else:
                     spent[(place, function)] += int(line.split()[1])
     return spent, calls, pages
+
+
+def can_count():
+    """Whether valgrind is there, and counts a program of this machine's."""
+    with tempfile.TemporaryDirectory(prefix="hit-cost-") as room:
+        how = {"stdin": subprocess.DEVNULL, "stdout": subprocess.DEVNULL, "stderr": subprocess.DEVNULL}
+        return bool(shutil.which("valgrind")) and not subprocess.run([*callgrind(f"{room}/out"), "true"], check=False, **how).returncode
 
 
 def replayed(program, text):

@@ -124,7 +124,7 @@ http://a.example/s 4 16.7 % 0
 http://a.example/n 3 12.5 % 0
 http://a.example/big 2 8.3 % 0
 http://a.example/v 1 4.2 % 0
-what would have been a hit with a word of the table (docs/WORDS.md), of the answers that tell it
+what would have been a hit with a word of the table (docs/LINE_OPTIONS.md), of the answers that tell it
 request-directives = "ignored" 2 of 2, sure of each by itself
 lifetime = 60 2 of 5, a guess
 wait = "missing-or-stale" 2 of 4, a guess

@@ -20,7 +20,7 @@ from live.scenario import KEPT
 CLIENTS, PAUSE = 12, 0.05
 ASKS = ["GET /a", "GET /new", "POST /post", "GET /a", "PUT /put", "DELETE /put"]
 # How long systemd waits before it starts what has ended (RestartSec of the unit), and how long it waits for its end.
-ABSENCE, ENDING = 1, 45
+ABSENCE, ENDING = 1, 90
 # What each front sends a second time, where the cache broke off before an answer.
 SENT_AGAIN = {"nginx": {"GET", "PUT", "DELETE"}, "haproxy": {"GET"}}
 # What each answers for a cache that isn't there.

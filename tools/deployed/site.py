@@ -6,9 +6,9 @@ import time
 
 from deployed.fronts import expect_from
 from deployed.stand import DEPLOY, curl, deployed, need, part, wait_until
-from live.expect import expect
+from live.expect import expect, expect_within
 from live.memory_bounds import told_of_store
-from live.origin import Origin, held_back, whole
+from live.origin import Origin, held_back, silent, whole
 
 URL = "http://h.example{}".format
 MINUTE = "Cache-Control: max-age=60"
@@ -43,7 +43,8 @@ class Site:
         self.assets = stand.origin(Origin(of_assets))
         self.purges = stand.origin(Origin({it: whole(204) for it in ("/news", "/assets/app.js")}))
         words = {"127.0.0.1:8081": self.pages, "127.0.0.1:8083": self.assets, "127.0.0.1:8082": self.api, "127.0.0.1:8089": self.purges}
-        self.cache = stand.proxy(deployed("site.toml", {old: it.address for old, it in words.items()}))
+        sooner = {"origin-timeout = 20 ": "origin-timeout = 3 "}
+        self.cache = stand.proxy(deployed("site.toml", {**sooner, **{old: it.address for old, it in words.items()}}))
 
     def expect(self, origin, count, target, *answers, words=()):
         """What these requests get, one behind the other, and how many of them came to the origin."""
@@ -58,7 +59,7 @@ def site(stand):
     need("curl")
     yield "it_is_a_table", lambda: it_is_a_table(stand)
     parts = what_is_denied, what_one_visitor_sees, what_all_share, what_many_ask_for, what_the_api_says, what_is_purged
-    for it in (*parts, while_the_origins_fail):
+    for it in (*parts, while_the_origins_fail, while_an_origin_hangs):
         yield it.__name__, lambda it=it: it(Site(stand))
 
 
@@ -100,7 +101,7 @@ def what_all_share(site):
 
 
 def what_many_ask_for(site):
-    """At the end of a lifetime one of ten who ask at once goes to the origin, and the others have its answer."""
+    """At the end of a lifetime one of ten who ask at once goes to the origin, and the others have its answer; of a page they have the old one at once."""
     old = (site.pages, "/old"), (site.assets, "/assets/old.js"), (site.api, "/api/public/old")
     for origin, target in old:
         site.expect(origin, 1, target, (200, "edge;fwd=uri-miss;ttl=;stored"))
@@ -111,11 +112,15 @@ def what_many_ask_for(site):
         crowd = [threading.Thread(target=lambda: told.append(curl(site.cache.port, URL(target)).reason())) for _ in range(10)]
         for it in crowd:
             it.start()
-        time.sleep(2)
+        if origin is site.pages:
+            wait_until(lambda: len(told) == 9, "the old page for nine of ten")
+        else:
+            time.sleep(2)
         go.set()
         for it in crowd:
             it.join()
-        expect("what they were told", ["edge;fwd=stale;ttl=;collapsed"] * 9 + ["edge;fwd=stale;ttl=;stored"], sorted(told))
+        meanwhile = "edge;hit;ttl=;detail=stale-while-revalidate" if origin is site.pages else "edge;fwd=stale;ttl=;collapsed"
+        expect("what they were told", sorted([meanwhile] * 9 + ["edge;fwd=stale;ttl=;stored"]), sorted(told))
         expect(f"requests at the origin for {target}", 1, len(origin.fetches) - before)
 
 
@@ -127,6 +132,17 @@ def what_the_api_says(site):
     site.expect(site.api, 1, "/api/rates", (200, "edge;fwd=request;ttl=;stored;detail=no-cache"), words=words)
     site.expect(site.api, 1, "/api/rates", (200, "edge;fwd=method"), words=["--request", "PATCH", "--data", "x=1"])
     site.expect(site.api, 1, "/api/rates", (200, "edge;fwd=uri-miss;ttl=;stored"))
+
+
+def while_an_origin_hangs(site):
+    """A page that was stored is sent in its place after the seconds of its line; what is new gets 504."""
+    expect_from(curl(site.cache.port, URL("/old")), 200, "edge;fwd=uri-miss;ttl=;stored")
+    site.pages.answers = {it: silent for it in site.pages.answers}
+    time.sleep(2.1)
+    began = time.monotonic()
+    site.expect(site.pages, 1, "/old", (200, "edge;fwd=stale;ttl=;detail=stale-if-error"))
+    site.expect(site.pages, 1, "/news", (504, "origin timed-out;fwd=uri-miss"))
+    expect_within("seconds until both", 6, 11, time.monotonic() - began)
 
 
 def what_is_purged(site):

@@ -101,14 +101,15 @@ def line_where_it_listens(served):
 
 
 def its_socket_is_handed_on(stand):
-    """The commands of socket.conf as they stand but for their folders: ExecStart is that of the unit but for the socket, serves what
-    systemd-socket-activate hands on, and ends where ExecReload says so; that does nothing where the table has a mistake."""
+    """The commands of socket.conf as they stand but for their folders: ExecStart is that of the unit but for the socket and the store, serves
+    what systemd-socket-activate hands on, and ends where ExecReload says so; that does nothing where the table has a mistake. At its end the
+    store is there for nobody else to read, and the next start takes it away."""
     need("systemd-socket-activate")
-    port, run = free_port(), f"{stand.folder}/socket-run"
-    os.makedirs(f"{stand.folder}/log", exist_ok=True)
-    os.makedirs(run, exist_ok=True)
+    port, run, state = free_port(), f"{stand.folder}/socket-run", f"{stand.folder}/state"
+    for it in (f"{stand.folder}/log", run, state):
+        os.makedirs(it, exist_ok=True)
     path = stand.file("socket-table.toml", deployed("table.toml", {}))
-    words = {"/usr/local/bin/revcache": stand.program, "/etc/revcache/table.toml": path, "%t/%N": run, "%L/%N": f"{stand.folder}/log"}
+    words = {"/usr/local/bin/revcache": stand.program, "/etc/revcache/table.toml": path, "%t/%N": run, "%L/%N": f"{stand.folder}/log", "%S/%N": state}
     starts, reload = [], ""
     for name in ("revcache.service", "socket.conf"):
         for line in deployed(name, words).splitlines():
@@ -116,15 +117,10 @@ def its_socket_is_handed_on(stand):
                 starts.append(line.partition("=")[2])
             if line.startswith("ExecReload="):
                 reload = shlex.split(line.partition("=")[2])
-    expect("ExecStart of both", [starts[0], "", starts[0].replace("127.0.0.1:8080", "fd:3")], starts)
-    activate = ["systemd-socket-activate", "--listen", f"127.0.0.1:{port}", *starts[2].split()]
-    with subprocess.Popen(activate, stdin=subprocess.DEVNULL, stderr=subprocess.PIPE) as served:
+    kept = starts[0].replace("127.0.0.1:8080", "fd:3") + f" --store {state}/store"
+    expect("ExecStart of both", [starts[0], "", kept], starts)
+    with handed_on(port, starts[2]) as served:
         try:
-            wait_until(lambda: can_connect(port), "the port that is kept open")
-            asked = http.client.HTTPConnection("127.0.0.1", port, timeout=20)
-            asked.request("HEAD", "/admin")
-            expect("the answer", 403, asked.getresponse().status)
-            asked.close()
             stand.file("socket-table.toml", deployed("table.toml", {'path = "/admin"': 'path = "/admin/"'}))
             ran = subprocess.run(reload, stdin=subprocess.DEVNULL, capture_output=True, timeout=20)
             expect("from ExecReload with a mistake in the table", (2, False), (ran.returncode, os.path.exists(f"{run}/drain")))
@@ -134,6 +130,27 @@ def its_socket_is_handed_on(stand):
             expect("the program's end", 0, served.wait(40))
         finally:
             served.kill()
+    expect("what is kept, and who may read it", (["store"], 0o600), (os.listdir(state), stat.S_IMODE(os.stat(f"{state}/store").st_mode)))
+    os.remove(f"{run}/drain")
+    with handed_on(port, starts[2]) as served:
+        served.kill()
+    expect("what is kept while it serves", [], os.listdir(state))
+
+
+def handed_on(port, start):
+    """The program of a line of ExecStart, with a socket for this port that systemd-socket-activate hands on; it has answered a request."""
+    activate = ["systemd-socket-activate", "--listen", f"127.0.0.1:{port}", *start.split()]
+    served = subprocess.Popen(activate, stdin=subprocess.DEVNULL, stderr=subprocess.PIPE)
+    try:
+        wait_until(lambda: can_connect(port), "the port that is kept open")
+        asked = http.client.HTTPConnection("127.0.0.1", port, timeout=20)
+        asked.request("HEAD", "/admin")
+        expect("the answer", 403, asked.getresponse().status)
+        asked.close()
+    except BaseException:
+        served.kill()
+        raise
+    return served
 
 
 def can_connect(port):

@@ -42,6 +42,7 @@ SAID = [
         "edge;fwd=stale;fwd-status=500;ttl=-3;detail=stale-if-error",
         ["detail=stale-if-error", "The origin failed", "RFC 9211, section 2.3"],
     ),
+    ("edge;hit;ttl=-5;detail=stale-while-revalidate", ["sent a stored response", "another request is at the origin", "RFC 5861, section 3"]),
     (
         "Refusal: origin timed-out;fwd=stale;stale-if-error=no-directive",
         ["--origin-timeout", "NoDirective", "RFC 5861, section 4"],

@@ -78,6 +78,7 @@ FIRST = {
     "edge;fwd=uri-miss;ttl=60;stored": "reuse-5",
     "edge;fwd=uri-miss;ttl=0;stored": "reuse-5",
     "edge;hit;ttl=-5": "parameter-hit",
+    "edge;hit;ttl=-5;detail=stale-while-revalidate": "parameter-hit",
     "edge;fwd=uri-miss;detail=not-stored-private": "storing-7",
     "edge;fwd=uri-miss;detail=not-stored-no-lifetime": "storing-12",
     "edge;fwd=stale;detail=stale-if-error;ttl=-5": "reuse-7",

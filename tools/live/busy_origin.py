@@ -5,6 +5,8 @@ import signal
 import socket
 import time
 
+from shared.sockets import accepted
+
 ANSWER = b"HTTP/1.1 200 OK\r\nCache-Control: max-age=600\r\nConnection: close\r\nContent-Length: 1024\r\n\r\n" + b"x" * 1024
 MADE = b"HTTP/1.1 201 Created\r\nConnection: close\r\nContent-Length: 0\r\n\r\n"
 ENDLESS = b"HTTP/1.1 200 OK\r\nCache-Control: no-store\r\nConnection: close\r\n\r\n"
@@ -44,11 +46,7 @@ class Serving:
                     self.send(number, b"x")
 
     def accept(self):
-        while True:
-            try:
-                connection, _ = self.listener.accept()
-            except OSError:
-                return
+        for connection in accepted(self.listener):
             connection.setblocking(False)
             # (what has come, what is to be sent)
             self.open[connection.fileno()] = [connection, b"", b""]

@@ -25,6 +25,7 @@ WORDS = [
     (r"client (\d+) connects", b"accept %s\n"),
     (r"client (\d+) ends", b"end %s\n"),
     (r"client (\d+) leaves", b"gone %s\n"),
+    (r"client (\d+) is to end", b"retire %s\n"),
     (r"link (\d+) ends", b"shut %s\n"),
     (r"link (\d+) fails (\S+)", b"fail %s %s\n"),
 ]

@@ -7,6 +7,7 @@ import time
 from live.client import request
 from live.honest import connect
 from live.peers import Ours
+from shared.sockets import accepted, close_listener
 
 # So many contents side by side, and what is allowed for each connection beside the limit of contents.
 COUNT, MAX_BODY, OF_A_CONNECTION = 256, 1000000, 16 << 10
@@ -36,11 +37,7 @@ class HeldBack:
         threading.Thread(target=self.serve, daemon=True).start()
 
     def serve(self):
-        while True:
-            try:
-                end, _ = self.listener.accept()
-            except OSError:
-                return
+        for end in accepted(self.listener):
             self.ends.append(end)
             threading.Thread(target=self.answer, args=[end], daemon=True).start()
 
@@ -52,9 +49,7 @@ class HeldBack:
             pass
 
     def close(self):
-        # (a close alone doesn't wake the thread that accepts)
-        self.listener.shutdown(socket.SHUT_RDWR)
-        self.listener.close()
+        close_listener(self.listener)
         for it in self.ends:
             it.close()
 

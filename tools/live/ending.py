@@ -126,7 +126,8 @@ def a_drained_server_sends_what_is_unsent(stage):
 @scenario
 def a_drained_server_answers_what_was_sent_ahead(stage):
     """Of two clients that sent four requests at once and read slowly one has done so for a while when the drain begins, the other just
-    has: both have all of their answers before the server ends."""
+    has: the request of each that was begun is answered as ever, the next one is the last, and says so, and what stands behind it isn't
+    read (RFC 9112, section 9.6)."""
     text = bytes(i * 7 % 251 for i in range(2000000))
     origin = stage.origin(Origin({"/a": whole(200, KEPT, content=text)}))
     file = f"{stage.room.name}/drain"
@@ -142,9 +143,10 @@ def a_drained_server_answers_what_was_sent_ahead(stage):
     expect("the program's status while requests wait", None, proxy.process.poll())
     for it in clients:
         it.open_window()
-        for _ in range(4):
-            if it.response().content != text:
-                raise Unexpected("content", "as the origin sent it", "another one")
+        answers = [it.response() for _ in range(2)]
+        if [answer.content for answer in answers] != [text] * 2:
+            raise Unexpected("contents", "as the origin sent them", "others")
+        expect("Connection of both", [None, "close"], [answer.value("Connection") for answer in answers])
         expect("the connection closed", True, it.is_closed())
     expect("status, output and standard error", DRAINED, proxy.wait())
     proxy.compare([origin])
@@ -293,3 +295,64 @@ def a_record_is_named_by_its_start(stage):
         proxy.record = f"{stage.room.name}/{found[0]}"
         proxy.compare([])
         time.sleep(1.1)
+
+
+class Busy(threading.Thread):
+    """A client that asks again and again on one connection, until an answer says that it closes: how many answers it got, and when
+    the last one came."""
+
+    def __init__(self, client, pause):
+        super().__init__()
+        self.client, self.pause, self.answers, self.ended, self.fault = client, pause, 0, None, None
+
+    def run(self):
+        try:
+            while self.ended is None:
+                answer = self.client.ask("/a")
+                expect_answer(answer, 200, HIT, b"hello")
+                self.answers += 1
+                if answer.value("Connection") == "close":
+                    self.ended = time.monotonic()
+                else:
+                    time.sleep(self.pause)
+            expect("the connection closed", True, self.client.is_closed())
+        except (OSError, Unexpected) as fault:
+            self.fault = fault
+
+
+def busy_clients_are_told(stage, pauses, records):
+    """Clients that ask on and on, each with a pause of its own behind each answer: behind the drain's beginning each is told by its next
+    answer that its connection ends, and none fails."""
+    origin = stage.origin(Origin({"/a": whole(200, KEPT, content=b"hello")}))
+    file = f"{stage.room.name}/drain"
+    proxy = stage.proxy(options=["--drain", file, "--drain-timeout", "20"], records=records)
+    expect_answer(proxy.client().ask("/a"), 200, STORED, b"hello")
+    clients = [Busy(proxy.client(), pause) for pause in pauses]
+    for it in clients:
+        it.start()
+    time.sleep(1.5)
+    put(file)
+    began = time.monotonic()
+    for it in clients:
+        it.join()
+    expect("faults", [], [str(it.fault) for it in clients if it.fault])
+    expect("that each had answers before", True, all(it.answers > 1 for it in clients))
+    # (the file is looked for once a second)
+    expect_within("the last answers", 0, 3, max(it.ended for it in clients) - began)
+    expect("status, output and standard error", DRAINED, proxy.wait())
+    expect_within("the program's end", 0, 5, time.monotonic() - began)
+    if records:
+        proxy.compare([origin])
+
+
+@scenario
+def a_drain_tells_busy_clients(stage):
+    """Sixteen clients that ask without a pause, or every tenth of a second, when the drain begins: the next answer of each says
+    `Connection: close`, none fails, and the program ends within seconds. So it is while a record is written, and it replays."""
+    busy_clients_are_told(stage, [0, 0.1] * 8, True)
+
+
+@scenario
+def a_drain_without_a_record_tells_busy_clients(stage):
+    """The same where a turn takes many things."""
+    busy_clients_are_told(stage, [0, 0.01, 0.1, 0.4] * 4, False)

@@ -11,22 +11,23 @@ from live.origin import Origin, whole
 from live.programs import expect_ended, run
 from live.proxy import Proxy, table_of
 from live.scenario import KEPT, scenario
+from shared.sockets import received
 
 # How long one request may wait behind a change of the table, in seconds, and how many are asked in one.
-LONGEST, RATE = 1.0, 100
+LONGEST, RATE = 1.0, 200
 
 
 class Supervisor:
     """Keeps a listening socket, and starts one program after another over it, each with a table of its own."""
 
-    def __init__(self, stage):
-        self.stage, self.drain = stage, f"{stage.room.name}/drain"
+    def __init__(self, stage, options=()):
+        self.stage, self.drain, self.options = stage, f"{stage.room.name}/drain", options
         self.socket = socket.create_server(("127.0.0.1", 0), backlog=1024)
         self.port, self.program = self.socket.getsockname()[1], None
 
     def start(self, text):
         fd = self.socket.fileno()
-        options = ["--drain", self.drain]
+        options = ["--drain", self.drain, *self.options]
         self.program = Proxy(self.stage.program, self.stage.room.name, text, None, options, f"fd:{fd}", records=False, handed_on=(fd,))
         expect("the port that it says", self.port, self.program.port)
 
@@ -47,7 +48,7 @@ def ask(port, target):
     with socket.create_connection(("127.0.0.1", port), timeout=PATIENCE) as it:
         it.sendall(request(target, "Connection: close"))
         got = b""
-        while piece := it.recv(65536):
+        for piece in received(it, 65536):
             got += piece
     return got, time.monotonic() - began
 
@@ -64,7 +65,7 @@ def who_comes_between_two_programs_is_served(stage):
         supervisor.start(text)
         for it in early:
             got = b""
-            while piece := it.recv(65536):
+            for piece in received(it, 65536):
                 got += piece
             it.close()
             expect("an answer", (True, True), (got.startswith(b"HTTP/1.1 200 "), got.endswith(b"hello")))
@@ -72,29 +73,26 @@ def who_comes_between_two_programs_is_served(stage):
     supervisor.socket.close()
 
 
-@scenario
-def no_request_fails_while_the_table_changes(stage):
-    """A hundred requests a second, and five changes of the table: each is answered, by the old table or the new one, within a second."""
-    stage.origin(Origin({"/a": whole(200, KEPT, content=b"hello")}))
-    address = stage.origins[0].address
-    supervisor, found, ends = Supervisor(stage), [], threading.Event()
-    tables = [table_of([("/none", ["*"], "deny"), ("/", ["*"], address)]), table_of([address])]
+def expect_none_fails(supervisor, tables, targets, changes):
+    """While the table changes so often, from one to the next, these targets are asked for: each is answered, by the old table or the new one,
+    within a second."""
+    found, ends = [], threading.Event()
     supervisor.start(tables[0])
 
-    def ask_on():
+    def ask_on(number):
         while not ends.is_set():
             try:
-                found.append(ask(supervisor.port, "/a"))
+                found.append(ask(supervisor.port, targets[number % len(targets)]))
             except OSError as fault:
                 found.append((repr(fault).encode(), 0))
             time.sleep(10 / RATE)
 
-    askers = [threading.Thread(target=ask_on) for _ in range(10)]
+    askers = [threading.Thread(target=ask_on, args=[number]) for number in range(10)]
     for it in askers:
         it.start()
-    for number in range(5):
+    for number in range(changes):
         time.sleep(0.5)
-        supervisor.change(tables[(number + 1) % 2])
+        supervisor.change(tables[(number + 1) % len(tables)])
     time.sleep(0.5)
     ends.set()
     for it in askers:
@@ -105,6 +103,28 @@ def no_request_fails_while_the_table_changes(stage):
     expect("requests that failed", [], failed)
     expect("that many were asked", True, len(found) > 100)
     expect_within("the longest wait", 0, LONGEST, max(seconds for _, seconds in found))
+
+
+def two_tables(stage):
+    """Two tables that send `/` to one origin."""
+    address = stage.origins[0].address
+    return [table_of([("/none", ["*"], "deny"), ("/", ["*"], address)]), table_of([address])]
+
+
+@scenario
+def no_request_fails_while_the_table_changes(stage):
+    """Two hundred requests a second, and five changes of the table."""
+    stage.origin(Origin({"/a": whole(200, KEPT, content=b"hello")}))
+    expect_none_fails(Supervisor(stage), two_tables(stage), ["/a"], 5)
+
+
+@scenario
+def no_hit_is_lost_while_the_table_changes(stage):
+    """The same with `--store` and twenty changes: each target is fetched once in all."""
+    targets = [f"/{it}" for it in "abcde"]
+    origin = stage.origin(Origin({it: whole(200, KEPT, content=b"hello") for it in targets}))
+    expect_none_fails(Supervisor(stage, ["--store", f"{stage.room.name}/store"]), two_tables(stage), targets, 20)
+    expect("fetches", [("GET", it) for it in targets], sorted((it.method, it.target) for it in origin.fetches))
 
 
 @scenario

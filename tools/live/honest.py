@@ -7,6 +7,7 @@ import time
 from live.busy_origin import ANSWER
 from live.client import PATIENCE, request
 from live.expect import Unexpected
+from shared.sockets import SIZE, received
 
 # Requests a second, and how long one waits.
 RATE, LONGEST = 5, 5.0
@@ -24,7 +25,7 @@ def ask(port, told, target, source):
         with socket.create_connection(("127.0.0.1", port), timeout=LONGEST, source_address=(source, 0)) as it:
             it.sendall(request(target, "Connection: close"))
             text = b""
-            while data := it.recv(65536):
+            for data in received(it, 65536):
                 text += data
                 it.settimeout(max(0.01, began + LONGEST - time.monotonic()))
         is_right = text.startswith(b"HTTP/1.1 200") and text.endswith(ANSWER[-1024:])
@@ -56,7 +57,7 @@ def read_answers(connection, count):
     """Reads until so many whole answers have come."""
     left = b""
     while count:
-        data = connection.recv(1 << 18)
+        data = connection.recv(SIZE)
         if not data:
             raise Unexpected("answers", f"{count} more", "the connection's end")
         left += data

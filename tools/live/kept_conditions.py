@@ -1,5 +1,5 @@
 """Scenarios of clients that have a page already, over a table of version 4: their conditions stay with the proxy, so that they fill the
-cache as others do. The counts at the origin are those of docs/WORDS.md, "conditions"."""
+cache as others do. The counts at the origin are those of docs/LINE_OPTIONS.md, "conditions"."""
 import threading
 
 from live.expect import expect, expect_answer, expect_refusal

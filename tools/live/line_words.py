@@ -1,5 +1,5 @@
 """Scenarios of the words of a line, by a table of version 3: what the origin is asked for with each of them, and without. The counts are
-those of RFC 9111, RFC 5861 and docs/WORDS.md."""
+those of RFC 9111, RFC 5861 and docs/LINE_OPTIONS.md."""
 import itertools
 import threading
 import time

@@ -12,6 +12,7 @@ from live.client import request
 from live.expect import Skipped, Unexpected
 from live.honest import SIDE_BY_SIDE, connect, hits_a_second, read_answers, summed, waits
 from live.peers import Ours, started
+from live.restart_times import measure_restart
 
 STEPS, HITS = 10, 64000
 
@@ -135,7 +136,7 @@ def measure_attacks(program, _room, origin, *kinds, count=1000, seconds=10):
 
 MODES = {it.__name__.removeprefix("measure_"): it for it in (
     measure_misses, measure_connections, measure_returning, measure_pipelined, measure_attacks,
-    beside.measure_hanging, beside.measure_idle, beside.measure_dripping, beside.measure_busy, contents.measure_contents)}
+    beside.measure_hanging, beside.measure_idle, beside.measure_dripping, beside.measure_busy, contents.measure_contents, measure_restart)}
 
 
 def run(mode, program, words):

@@ -6,6 +6,7 @@ import time
 
 from live.client import PATIENCE
 from live.expect import Skipped, Unexpected
+from shared.sockets import SIZE, accepted, close_listener
 
 
 class Fetch:
@@ -32,7 +33,7 @@ class Fetch:
         self.is_whole = True
 
     def read_some(self):
-        data = self.socket.recv(1 << 18)
+        data = self.socket.recv(SIZE)
         if not data:
             raise ConnectionError("the proxy has ended the connection")
         self.received += data
@@ -66,11 +67,7 @@ class Origin:
         threading.Thread(target=self.accept, daemon=True).start()
 
     def accept(self):
-        while True:
-            try:
-                connection, _ = self.listener.accept()
-            except OSError:
-                return
+        for connection in accepted(self.listener):
             fetch = Fetch(connection)
             with self.came:
                 self.fetches.append(fetch)
@@ -106,9 +103,7 @@ class Origin:
             return self.came.wait_for(is_so, seconds)
 
     def close(self):
-        # (a close alone doesn't wake the thread that accepts)
-        self.listener.shutdown(socket.SHUT_RDWR)
-        self.listener.close()
+        close_listener(self.listener)
 
 
 def head_of(status, lines):

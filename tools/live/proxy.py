@@ -14,8 +14,8 @@ from live.expect import Skipped, Unexpected, expect
 from live.script import numbers_with
 
 LISTENING = "listening on "
-# What is said in front of that: what the bounds come to in memory, and warnings of the table and of the bounds.
-BOUNDS, WARNING = "at most ", "warning: "
+# What is said in front of that: what the bounds come to in memory, that a large store is read, and warnings of the table and of the bounds.
+BOUNDS, READS, WARNING = "at most ", "the store ", "warning: "
 
 
 def table_of(lines, max_body=1000000, max_stored=100000, capacity=64, version=1, max_store=None):
@@ -52,7 +52,7 @@ class Proxy:
     def read_port(self):
         """The port of the line that says where the program listens; the lines in front of it are kept."""
         deadline = time.monotonic() + PATIENCE
-        while (line := self.read_line(deadline)).startswith((BOUNDS, WARNING)):
+        while (line := self.read_line(deadline)).startswith((BOUNDS, READS, WARNING)):
             self.told.append(line)
         if not line.startswith(f"{LISTENING}127.0.0.1:"):
             raise Unexpected("on standard error", "listening on 127.0.0.1:PORT", line)

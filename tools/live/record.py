@@ -28,10 +28,11 @@ class Effects:
                 self.closed.add(int(number))
 
 
-def replay(program, file):
-    """The effects of a recorded script."""
+def replay(program, file, store=None):
+    """The effects of a recorded script, over the store in a file if one is given."""
+    words = [program] if store is None else [program, "replay", "--store", store]
     with open(file, "rb") as script:
-        ran = subprocess.run([program], stdin=script, capture_output=True, timeout=60)
+        ran = subprocess.run(words, stdin=script, capture_output=True, timeout=60)
     expect("from the record's replay the status and standard error", (0, b""), (ran.returncode, ran.stderr))
     return Effects(ran.stdout)
 

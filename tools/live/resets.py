@@ -12,6 +12,7 @@ from live.client import PATIENCE, request
 from live.expect import Unexpected, expect, expect_answer, expect_refusal
 from live.origin import FullQueue, Origin, head_of
 from live.scenario import scenario
+from shared.sockets import accepted, close_listener
 
 LARGE, SMALL = b"x" * 400000, b"y" * 50000
 CLOSED = "origin closed;fwd=uri-miss"
@@ -102,18 +103,13 @@ class Hasty:
         threading.Thread(target=self.accept, daemon=True).start()
 
     def accept(self):
-        while True:
-            try:
-                connection, _ = self.listener.accept()
-            except OSError:
-                return
+        for connection in accepted(self.listener):
             with connection:
                 head = connection.recv(1000)
                 connection.sendall(self.answers[head.split(b" ")[1].decode()])
 
     def close(self):
-        self.listener.shutdown(socket.SHUT_RDWR)
-        self.listener.close()
+        close_listener(self.listener)
 
 
 @scenario
@@ -132,11 +128,7 @@ class Full(Hasty):
     """An origin that has too much to do: it answers each connection when it comes, without a look at its request, and resets it."""
 
     def accept(self):
-        while True:
-            try:
-                connection, _ = self.listener.accept()
-            except OSError:
-                return
+        for connection in accepted(self.listener):
             reset_behind(connection, self.answers)
 
 
@@ -166,16 +158,28 @@ class Late(FullQueue):
             time.sleep(0.05)
         raise Unexpected("from the proxy", "a connect", "none")
 
-    def answer(self, text):
-        """Lets in who waits, until one of them is the proxy."""
-        mine = {it.getsockname() for it in self.waiting}
-        self.listener.settimeout(PATIENCE)
-        while True:
-            connection, address = self.listener.accept()
-            if address not in mine:
-                reset_behind(connection, text)
-                return
+    def make_room(self):
+        """Those that filled the queue leave, so that the proxy's next try is let in. (It tries after 1, 3, 7 and 15 seconds.)"""
+        self.mine, self.early = {it.getsockname() for it in self.waiting}, []
+        while self.waiting:
+            self.waiting.pop().close()
+        self.listener.settimeout(0)
+        try:
+            while True:
+                self.take(*self.listener.accept())
+        except BlockingIOError:
+            self.listener.settimeout(PATIENCE)
+
+    def take(self, connection, address):
+        if address in self.mine:
             connection.close()
+        else:
+            self.early.append(connection)
+
+    def answer(self, text):
+        while not self.early:
+            self.take(*self.listener.accept())
+        reset_behind(self.early.pop(), text)
 
 
 @scenario
@@ -191,6 +195,8 @@ def a_reset_that_comes_with_the_connect(stage):
     for it in origins.values():
         it.wait_for_the_proxy()
     proxy.process.send_signal(signal.SIGSTOP)
+    for it in origins.values():
+        it.make_room()
     for path, it in origins.items():
         it.answer(texts[path])
     proxy.process.send_signal(signal.SIGCONT)

@@ -1,5 +1,5 @@
 """Scenarios of the word `wait`: which GETs for a page whose lifetime is over wait for the first one's answer, and
-which don't. The counts at the origin are those of docs/WORDS.md."""
+which don't. The counts at the origin are those of docs/LINE_OPTIONS.md."""
 import threading
 import time
 

@@ -1,5 +1,5 @@
 """Scenarios of requests with a cookie, and of what an origin states by mistake, over tables of version 4. The counts at the origin are
-those of docs/COOKIES.md and of docs/WORDS.md, "lifetime-most"."""
+those of docs/COOKIES.md and of docs/LINE_OPTIONS.md, "lifetime-most"."""
 import time
 
 from live.expect import expect, expect_answer, expect_member
@@ -11,6 +11,7 @@ from live.scenario import scenario
 
 ALICE, BOB, TOKEN = "Cookie: session=alice", "Cookie: session=bob", "Authorization: Basic eDp5"
 FOR_ONE = "edge;fwd=uri-miss;detail=not-stored-request-cookie"
+PAST = "edge;fwd=bypass;detail=cookie"
 STORED, HIT = "edge;fwd=uri-miss;ttl=60;stored", "edge;hit;ttl=60"
 STORED_SHORTLY, HIT_SHORTLY = "edge;fwd=uri-miss;ttl=1;stored", "edge;hit;ttl=1"
 # A framework that says nothing of caching, and operators who give such pages a minute.
@@ -71,6 +72,58 @@ def cookies_are_shared_where_a_line_says_so(stage):
 
 
 @scenario
+def who_is_signed_in_goes_past_the_store(stage):
+    """`session-cookies`, RFC 6265, 4.2.1: who has one of these cookies is sent nothing stored, and nothing is stored for others, over any
+    line of Cookie. All others have the store's page, whatever cookies they send. A POST invalidates all the same."""
+    words = {"lifetime": 60, "cookies": "shared", "session-cookies": ["sid", "login"]}
+    signed_in = ("Cookie: sid=alice", "Cookie: _ga=1; login=bob", "Cookie: a=1;sid=carol", "Cookie: sid")
+    client, origin = by_words(stage, words, {"/": page()}, 4)
+    for it in signed_in:
+        expect_answer(client.ask("/", it), 200, PAST, it.partition(": ")[2].encode())
+    expect_asked(origin, 4)
+    expect_answer(client.ask("/", "Cookie: _ga=1"), 200, STORED, b"_ga=1")
+    for it in ("Cookie: _ga=2", "Cookie: SID=1; sid2=2; a=sid", "X-Cookie: sid=1"):
+        expect_answer(client.ask("/", it), 200, HIT, b"_ga=1")
+    expect_asked(origin, 5)
+    for it in signed_in:
+        expect_member(PAST, client.ask("/", it, "Cookie: _ga=3"))
+    expect_member(PAST, client.ask("/", "Cookie: _ga=3", "Cookie: login=1"))
+    expect_asked(origin, 10)
+    expect("status of only-if-cached", 504, client.ask("/", signed_in[0], "Cache-Control: only-if-cached").status)
+    expect_answer(client.ask("/"), 200, HIT, b"_ga=1")
+    expect_member(PAST, client.ask("/", signed_in[0], method="POST", content=b"x"))
+    expect_answer(client.ask("/"), 200, STORED, b"nobody")
+    expect_asked(origin, 12)
+
+
+@scenario
+def each_scheme_has_its_own_answer(stage):
+    """`vary`, RFC 9111, 4.1: what is stored over the line counts as if its Vary named the scheme that a front tells, so a redirect to https is
+    sent to nobody who came by https. What goes out is the answer as it came, and a POST invalidates those of all schemes."""
+
+    def by_scheme(fetch):
+        if fetch.value("X-Forwarded-Proto") == "https":
+            return whole(200, content=b"page")(fetch)
+        return whole(301, "Location: https://h/")(fetch)
+
+    client, origin = by_words(stage, {"lifetime": 60, "vary": ["X-Forwarded-Proto"]}, {"/": by_scheme}, 4)
+    plain, secure = "X-Forwarded-Proto: http", "X-Forwarded-Proto: https"
+    expect_answer(client.ask("/", plain), 301, STORED, b"")
+    expect_answer(client.ask("/", secure), 200, "edge;fwd=vary-miss;ttl=60;stored", b"page")
+    expect_asked(origin, 2)
+    for _ in range(2):
+        expect_answer(client.ask("/", plain), 301, HIT, b"")
+        secured = client.ask("/", secure.lower())
+        expect_answer(secured, 200, HIT, b"page")
+        expect("Vary", None, secured.value("Vary"))
+    expect_asked(origin, 2)
+    expect_answer(client.ask("/"), 301, "edge;fwd=vary-miss;ttl=60;stored", b"")
+    client.ask("/", plain, method="POST", content=b"x")
+    expect_answer(client.ask("/", secure), 200, STORED, b"page")
+    expect_asked(origin, 5)
+
+
+@scenario
 def a_304_for_one_visitor_keeps_nothing_for_all(stage):
     """RFC 9111, 4.3.4: a 304 freshens what is stored, and may change its lines. That to Alice keeps nothing for others; that to one without a
     cookie does."""
@@ -112,13 +165,24 @@ def a_check_shows_words_of_version_four(stage):
         ({"lifetime": 60, "lifetime-most": 86400, "cookies": "shared"}, ["lifetime = 60", "lifetime-most = 86400"]),
         ({"error-lifetime": 5, "cookies": "private"}, ["error-lifetime = 5", 'cookies = "private"']),
         ({"cookies": "private"}, []),
+        ({"session-cookies": ["sid", "login"]}, ['session-cookies = ["sid", "login"]']),
+        ({"vary": ["X-Forwarded-Proto"]}, ['vary = ["X-Forwarded-Proto"]']),
     ):
         with open(file, "w", encoding="utf-8") as it:
             it.write(table_of([("/", ["*"], "127.0.0.1:1", words)], version=4))
         _, out, _ = run(stage, "check", file, "--ask", "GET http://h.example/")
         shown = [it.strip() for it in out.splitlines() if it.startswith("    ")]
-        expect(f"of {words}", ['cache = "on"', *told, 'conditions = "answered"', 'loops = "refused"', "key h.example:80/"], shown)
-    for key, value, said in (("cookies", "ignored", '"private" or "shared"'), ("lifetime-most", 0, "from 1 to 2147483648")):
+        names = {"session-cookies", "vary"} & set(words)
+        rest = ['conditions = "answered"', *(told if names else [])]
+        first = [] if names else told
+        expect(f"of {words}", ['cache = "on"', *first, *rest, 'loops = "refused"', "key h.example:80/"], shown)
+    for key, value, said in (
+        ("cookies", "ignored", '"private" or "shared"'),
+        ("lifetime-most", 0, "from 1 to 2147483648"),
+        ("session-cookies", [], "a list of 1 to 16 names"),
+        ("session-cookies", ["*"], 'but not "*"'),
+        ("vary", ["*"], "a list of 1 to 8 names"),
+    ):
         with open(file, "w", encoding="utf-8") as it:
             it.write(table_of([("/", ["*"], "127.0.0.1:1", {key: value})], version=4))
         status, out, err = run(stage, "check", file)

@@ -79,7 +79,7 @@ def table_page(table, words, version, date):
     head = [f'% revcache-table 5 "{date}" "revcache {version}" "File Formats"', "# NAME", "revcache-table - the operator's table of revcache(1)"]
     head += ["# DESCRIPTION", "/etc/revcache/table.toml is one file in TOML. It says which requests go to which origin, and what is denied."]
     parts = [f"# {it.upper()}\n\n{plain(section(table, it))}" for it in ("The table", "Spellings that pass a denial", "Lines without cache")]
-    parts = [it.replace("WORDS.md", '"Words of version 3"') for it in parts]
+    parts = [it.replace("LINE_OPTIONS.md", '"Words of version 3"') for it in parts]
     begin, *sections = re.split(r"^## ", words, flags=re.M)
     of_words = begin.partition("\n\n")[2].partition("For operators")[2].partition(". ")[2]
     parts += [f"# WORDS OF VERSION 3\n\n{plain(of_words)}", *(f"## {plain(it)}" for it in sections)]

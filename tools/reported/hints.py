@@ -1,4 +1,4 @@
-"""Which answers would have been hits with a word of the table (docs/WORDS.md), as far as a log tells it.
+"""Which answers would have been hits with a word of the table (docs/LINE_OPTIONS.md), as far as a log tells it.
 
 The log has the first rule against a stored response (docs/REASONS.md, "Reuse"), and over a line with
 `explain = "storing"` the first one against storing ("Storing"). It has no age of what was stored, no Vary and no

@@ -292,7 +292,7 @@ def hints_table(figures):
     ]
     for count, why in figures.hints.others():
         cells.append([name_cell("-"), cell("0"), cell(f"{count:,}"), "<td></td>", f'<td class="why">{escape(why)}</td>'])
-    heads = ["word (docs/WORDS.md)", "hits", "of these answers", "", "counted"]
+    heads = ["word (docs/LINE_OPTIONS.md)", "hits", "of these answers", "", "counted"]
     note = "A log has the first rule against an answer, and neither ages nor Vary nor Cache-Control: so these are guesses, but for the first word."
     return table("What would have been a hit with a word of the table", heads, cells, note)
 

@@ -7,7 +7,7 @@ from reported.reasons import LANES, LEFT_OUT
 
 # Of a bar, and of a name that isn't cut.
 WIDTH, LONGEST = 40, 100
-HINTS = "what would have been a hit with a word of the table (docs/WORDS.md)"
+HINTS = "what would have been a hit with a word of the table (docs/LINE_OPTIONS.md)"
 HIDDEN = re.compile(r"[^ -~]")
 
 
