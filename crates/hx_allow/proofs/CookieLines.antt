@@ -18,7 +18,7 @@ use Rattle.hx_allow.specs.Matching.{matches_line, over_line, verdict_from, verdi
 use Rattle.hx_allow.specs.TableLines.{Line}
 use Rattle.hx_allow.specs.declared.verdicts.Route.{Route}
 use Rattle.hx_allow.specs.declared.verdicts.Verdict.{Verdict}
-use Rattle.hx_allow.specs.declared.verdicts.Verdict.TheVariants.{Allowed, DeniedBy, NoLine, Looped}
+use Rattle.hx_allow.specs.declared.verdicts.Verdict.TheVariants.{Allowed, DeniedBy, NoLine, Looped, Purged}
 use Rattle.hx_allow.proofs.ViaWritten.{run_len, run_taken, other_byte, all_of_kind}
 
 -- ---- no names
@@ -68,6 +68,7 @@ none_past lines method target fields none = by_verdict (verdict_of lines method 
     by_verdict (DeniedBy n) e = refl
     by_verdict NoLine e = refl
     by_verdict (Looped n) e = refl
+    by_verdict (Purged n) e = refl
 
 -- ---- lines count together
 

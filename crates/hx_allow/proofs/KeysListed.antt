@@ -8,11 +8,11 @@ use Rattle.std.proofs.lemmas.List.Elements.{All-nil, All-cons}
 use Rattle.toml.specs.Data.{Members, get_member}
 use Rattle.hx_policy.specs.Policies.{plain}
 use Rattle.hx_allow.specs.LineTables.{is_good, first_bad_key}
-use Rattle.hx_allow.specs.LineWords.{key_has_text, word_of_error_lifetime, line_takes_words, gives_lifetimes_to_cookies, leaves_conditions_to_origin, policy_of_line_table}
+use Rattle.hx_allow.specs.LineWords.{key_has_text, word_of_error_lifetime, line_takes_words, removes_cookies, gives_lifetimes_to_set_cookie, gives_lifetimes_to_cookies, leaves_conditions_to_origin, leaves_ranges_to_origin, policy_of_line_table}
 use Rattle.hx_allow.specs.Keys.{word_key}
 use Rattle.hx_allow.specs.Rows.{line_keys, word_row, has_keys_of}
 use Rattle.hx_allow.specs.Versions.{LineHasNoCachingWord}
-use Rattle.hx_allow.specs.declared.config_faults.LineWord.TheVariants.{Lifetime, ErrorLifetime, LifetimeMost, StaleIfError, SetCookie, Cookies, SessionCookies, Errors, RequestDirectives, Wait, Explain, Conditions, Loops, StaleWhileRevalidate, Vary, OriginTimeout}
+use Rattle.hx_allow.specs.declared.config_faults.LineWord.TheVariants.{Lifetime, ErrorLifetime, LifetimeMost, StaleIfError, SetCookie, Cookies, SessionCookies, Errors, RequestDirectives, Wait, Explain, Conditions, Loops, StaleWhileRevalidate, Vary, OriginTimeout, PurgeKey, Ranges}
 use Rattle.hx_allow.specs.declared.rows.LineKey.{LineKey}
 use Rattle.hx_allow.specs.declared.rows.LineKey.TheVariants.{Host, Methods, Path, Origin, Cache, Word}
 use Rattle.hx_allow.specs.declared.values.TableVersion.{TableVersion}
@@ -43,6 +43,8 @@ listed P all (Word Loops) = all 17 Host (omega arith)
 listed P all (Word StaleWhileRevalidate) = all 18 Host (omega arith)
 listed P all (Word Vary) = all 19 Host (omega arith)
 listed P all (Word OriginTimeout) = all 20 Host (omega arith)
+listed P all (Word PurgeKey) = all 21 Host (omega arith)
+listed P all (Word Ranges) = all 22 Host (omega arith)
 
 -- where no word on caching stands, the policy is that of the versions before the third, in a version before the fourth,
 -- or where the line takes none
@@ -51,6 +53,10 @@ error_lifetime_is_of_caching One = refl
 error_lifetime_is_of_caching Two = refl
 error_lifetime_is_of_caching Three = refl
 error_lifetime_is_of_caching Four = refl
+
+and_false : (b : Bool) → (b && false) ≡ false
+and_false true = refl
+and_false false = refl
 
 pub plain_policy : (version : TableVersion) (ms : Members) → LineHasNoCachingWord ms → (has_keys_of version Four && line_takes_words ms) ≡ false → policy_of_line_table version ms ≡ plain (not (key_has_text (codes "cache") (codes "off") ms))
 plain_policy version ms none older =
@@ -66,7 +72,10 @@ plain_policy version ms none older =
     let explain : get_member (codes "explain") ms ≡ None = none Explain refl in
     let cookies : gives_lifetimes_to_cookies version ms ≡ true = rw older refl in
     let conditions : leaves_conditions_to_origin version ms ≡ true = rw older refl in
-    rw cookies (rw conditions (rw error_lifetime (rw lifetime (rw lifetime_most (rw stale_if_error (rw stale_while_revalidate (rw set_cookie (rw errors (rw request_directives (rw wait (rw explain refl)))))))))))
+    let removed : removes_cookies version ms ≡ false = rw set_cookie (and_false (has_keys_of version Four)) in
+    let given : gives_lifetimes_to_set_cookie version ms ≡ true = rw older refl in
+    let ranges : leaves_ranges_to_origin version ms ≡ true = rw older refl in
+    rw cookies (rw conditions (rw ranges (rw removed (rw given (rw error_lifetime (rw lifetime (rw lifetime_most (rw stale_if_error (rw stale_while_revalidate (rw set_cookie (rw errors (rw request_directives (rw wait (rw explain refl))))))))))))))
 
 -- ---- what a test of the list tells of each
 

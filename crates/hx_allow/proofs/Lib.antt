@@ -11,10 +11,12 @@ pub mod Versions
 pub mod ViaPieces
 pub mod ViaWritten
 pub mod CookieLines
+pub mod Secrets
 pub mod Sessions
 pub mod Loops
 pub mod WordsRead
 pub mod PathTails
+pub mod Purging
 pub mod LeastUnknown
 pub mod Deciding
 pub mod TomlTables

@@ -12,16 +12,17 @@ use Rattle.hx_fields.specs.declared.field_line.Field.{Field}
 use Rattle.hx_fields.specs.FieldLines.{is_named, values_of}
 use Rattle.hx_target.specs.declared.targets.Target.{Target}
 use Rattle.hx_allow.specs.TableLines.{Line, Table}
-use Rattle.hx_allow.specs.Matching.{matches_line, over_line, verdict_of_line, verdict_from, verdict_of, line_of_number, line_refuses_loops, verdict_on_loops, session_cookies_of, verdict_on_cookies, verdict_of_request}
+use Rattle.hx_allow.specs.Matching.{matches_line, over_line, verdict_of_line, verdict_from, verdict_of, line_of_number, line_refuses_loops, verdict_on_loops, session_cookies_of, verdict_on_cookies, verdict_on_purges, verdict_of_request}
 use Rattle.hx_allow.specs.Rows.{has_keys_of}
 use Rattle.hx_allow.specs.Tables.{version_of, judge_table}
 use Rattle.hx_allow.specs.Versions.{LineIsOfThree}
 use Rattle.hx_allow.specs.Via.{times_named, times_named_in, request_loops}
 use Rattle.hx_allow.specs.declared.verdicts.Verdict.{Verdict}
-use Rattle.hx_allow.specs.declared.verdicts.Verdict.TheVariants.{Allowed, DeniedBy, NoLine, Looped}
+use Rattle.hx_allow.specs.declared.verdicts.Verdict.TheVariants.{Allowed, DeniedBy, NoLine, Looped, Purged}
 use Rattle.hx_allow.specs.declared.values.TableVersion.TheVariants.{Four}
 use Rattle.hx_allow.specs.declared.verdicts.Route.{Route}
 use Rattle.hx_allow.proofs.CookieLines.{none_past}
+use Rattle.hx_allow.proofs.Purging.{looped_within, none_purged, none_keyed}
 use Rattle.hx_allow.proofs.Versions.{each_is_of_three}
 
 and_none : (b : Bool) → (b && false) ≡ false
@@ -49,12 +50,12 @@ module _ (table : Table) (method : List ℕ) (target : Target) (fields : List Fi
   unfolding verdict_of_request
   loop_is_refused route is refuses twice =
       let looped : loops ≡ true = le-leb 2 (times_named table.name fields) twice in
-      ap (λ v. verdict_on_cookies table.lines fields (verdict_on_loops table.lines loops v)) is ∙ rw refuses (rw looped refl)
+      ap (λ v. verdict_on_purges table.lines fields (verdict_on_cookies table.lines fields (verdict_on_loops table.lines loops v))) is ∙ rw refuses (rw looped refl)
 
   pub looped_is_a_loop : (n : ℕ) → verdict_of_request table method target fields ≡ Looped n
       → (route : Route) × (told ≡ Allowed route) × (route.number ≡ n) × (line_refuses_loops table.lines n ≡ true) × (2 ≤ times_named table.name fields)
   unfolding verdict_of_request verdict_of
-  looped_is_a_loop n e = by_verdict told refl e
+  looped_is_a_loop n e = by_verdict told refl (looped_within table.lines fields (verdict_on_cookies table.lines fields (verdict_on_loops table.lines loops told)) n e)
     where
       Parts : Type 0
       Parts = (route : Route) × (told ≡ Allowed route) × (route.number ≡ n) × (line_refuses_loops table.lines n ≡ true) × (2 ≤ times_named table.name fields)
@@ -69,22 +70,24 @@ module _ (table : Table) (method : List ℕ) (target : Target) (fields : List Fi
       by_verdict (DeniedBy k) is e = cc
       by_verdict NoLine is e = cc
       by_verdict (Looped k) is e = absurd (never_looped k 1 table.lines method target is)
+      by_verdict (Purged k) is e = cc
 
   others : (v : Verdict) → ((route : Route) → v ≡ Allowed route → (line_refuses_loops table.lines route.number && loops) ≡ false) → verdict_on_loops table.lines loops v ≡ v
   others (Allowed route) goes = rw (goes route refl) refl
   others (DeniedBy n) goes = refl
   others NoLine goes = refl
   others (Looped n) goes = refl
+  others (Purged n) goes = refl
 
-  pub seldom_as_before : times_named table.name fields ≤ 1 → verdict_of_request table method target fields ≡ verdict_on_cookies table.lines fields told
+  pub seldom_as_before : times_named table.name fields ≤ 1 → verdict_of_request table method target fields ≡ verdict_on_purges table.lines fields (verdict_on_cookies table.lines fields told)
   unfolding verdict_of_request
   seldom_as_before seldom =
       let once : loops ≡ false = lt-leb 2 (times_named table.name fields) (omega arith) in
-      ap (verdict_on_cookies table.lines fields) (others told (λ route is. rw once (and_none (line_refuses_loops table.lines route.number))))
+      ap (λ v. verdict_on_purges table.lines fields (verdict_on_cookies table.lines fields v)) (others told (λ route is. rw once (and_none (line_refuses_loops table.lines route.number))))
 
-  pub forwarded_as_before : ((route : Route) → told ≡ Allowed route → line_refuses_loops table.lines route.number ≡ false) → verdict_of_request table method target fields ≡ verdict_on_cookies table.lines fields told
+  pub forwarded_as_before : ((route : Route) → told ≡ Allowed route → line_refuses_loops table.lines route.number ≡ false) → verdict_of_request table method target fields ≡ verdict_on_purges table.lines fields (verdict_on_cookies table.lines fields told)
   unfolding verdict_of_request
-  forwarded_as_before goes = ap (verdict_on_cookies table.lines fields) (others told (λ route is. rw (goes route is) refl))
+  forwarded_as_before goes = ap (λ v. verdict_on_purges table.lines fields (verdict_on_cookies table.lines fields v)) (others told (λ route is. rw (goes route is) refl))
 
 -- where each line lets loops go on, the one of any number does
 none_refuses : (lines : List Line) → All (λ (line : Line). line.refuses_loops ≡ false) lines → (n : ℕ) → line_refuses_loops lines n ≡ false
@@ -124,8 +127,9 @@ pub earlier_as_before : (t : Members) (table : Table) (method : List ℕ) (targe
     verdict_of_request table method target fields ≡ verdict_of table.lines method target
 earlier_as_before t table method target fields before e =
     let each : All LineIsOfThree table.lines = each_is_of_three t table before e in
-    forwarded_as_before table method target fields (λ route is. none_refuses table.lines (λ i d within. (each i d within).6) route.number)
-    ∙ none_past table.lines method target fields (λ n. none_named table.lines (λ i d within. (each i d within).7) n)
+    forwarded_as_before table method target fields (λ route is. none_refuses table.lines (λ i d within. (each i d within).9) route.number)
+    ∙ ap (verdict_on_purges table.lines fields) (none_past table.lines method target fields (λ n. none_named table.lines (λ i d within. (each i d within).10) n))
+    ∙ none_purged table.lines fields (verdict_of table.lines method target) (λ n. none_keyed table.lines (λ i d within. (each i d within).13) n)
 
 -- lines of Via count together
 pub times_together : (name : List ℕ) (fields more : List Field) → times_named name (fields ++ more) ≡ times_named name fields + times_named name more

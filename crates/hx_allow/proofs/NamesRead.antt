@@ -5,26 +5,29 @@ use Rattle.std.specs.Prelude.{Ok, not, ◌&&◌, ◌||◌, ◌==◌, bytes_eq, o
 use Rattle.std.specs.Option.{option_and_then}
 use Rattle.std.specs.List.{All, list_any}
 use Rattle.std.specs.Char.{is_ascii_uppercase, is_ascii_lowercase}
-use Rattle.std.proofs.lemmas.Bool.{and_parts}
+use Rattle.std.proofs.lemmas.Bool.{and_parts, false≢true}
 use Rattle.std.proofs.lemmas.Slice.Eq.{bytes_eq-Decides}
 use Rattle.http_uri.specs.ByteClasses.{left_bracket}
 use Rattle.toml.specs.Data.{Data, string, integer, float, boolean, datetime, array, table, Items, Members, get_member, as_str, as_array}
-use Rattle.hx_target.specs.Hosts.{is_host}
+use Rattle.hx_target.specs.Hosts.{is_host, short_number}
 use Rattle.hx_target.specs.Paths.{table_path_of}
+use Rattle.hx_allow.specs.Addresses.{address_of, is_address}
 use Rattle.hx_allow.specs.LineHosts.{begins_with_star_dot, is_for_hosts_below, line_host_of}
-use Rattle.hx_allow.specs.LineWords.{line_denies, line_takes_words}
-use Rattle.hx_allow.specs.LineTables.{is_host_in_lower_case, names_hosts_below, is_line_host, is_line_path, is_text_of, are_texts_of, is_text_or_list, is_of_kind, is_good_at, is_good, first_bad_key, line_fault, line_read, first_fault_or_later, spelling_fault}
-use Rattle.hx_allow.specs.Rows.{Kind, a_number, some_seconds, a_store_bound, a_version, one_of, some_names, a_name, some_lines, a_host, some_methods, a_path, an_origin, Row, line_row, word_row, fault_of_line_key, has_keys_of}
+use Rattle.hx_allow.specs.LineWords.{is_one_of_two, key_has_one_of_two, key_has_text, line_has_no_origin, line_takes_words, line_purges, says_third_of}
+use Rattle.hx_allow.specs.LineTables.{is_line_origin, is_host_in_lower_case, names_hosts_below, is_line_host, is_line_path, is_text_of, are_texts_of, is_text_or_list, is_of_kind, is_good_at, is_good, first_bad_key, line_fault, line_read, first_fault_or_later, spelling_fault}
+use Rattle.hx_allow.specs.Rows.{Kind, a_number, some_seconds, a_store_bound, a_version, one_of, one_of_in_four, some_names, a_name, some_lines, a_purge_key, a_host, some_methods, a_path, an_origin, Row, line_row, word_row, fault_of_line_key, has_keys_of}
 use Rattle.hx_allow.specs.TableLines.{Line as PlainLine, Table}
 use Rattle.hx_allow.specs.Tables.{version_of, judge_table}
 use Rattle.hx_allow.specs.Values.{first_unknown, is_some_and, text_at, items_at, texts_or_one}
 use Rattle.hx_allow.specs.Versions.{LineNamesAsInThree, LineHasOneHostAndPath}
 use Rattle.hx_allow.specs.declared.config_faults.ConfigFault.TheVariants.{UnknownKey}
 use Rattle.hx_allow.specs.declared.line_hosts.LineHost.TheVariants.{Every, One as OneHost, Below}
+use Rattle.hx_allow.specs.declared.config_faults.LineWord.{LineWord}
+use Rattle.hx_allow.specs.declared.config_faults.LineWord.TheVariants.{SetCookie}
 use Rattle.hx_allow.specs.declared.rows.LineKey.{LineKey}
 use Rattle.hx_allow.specs.declared.rows.LineKey.TheVariants.{Host, Methods, Path, Origin, Cache, Word}
 use Rattle.hx_allow.specs.declared.rows.Place.{Place}
-use Rattle.hx_allow.specs.declared.rows.Place.TheVariants.{Needed, Optional, AllowingLine, CachingLine}
+use Rattle.hx_allow.specs.declared.rows.Place.TheVariants.{Needed, Optional, AllowingLine, CachingLine, PurgingLine}
 use Rattle.hx_allow.specs.declared.values.Scope.TheVariants.{Line}
 use Rattle.hx_allow.specs.declared.values.TableVersion.{TableVersion}
 use Rattle.hx_allow.specs.declared.values.TableVersion.TheVariants.{One, Three, Four}
@@ -44,17 +47,22 @@ or_false false = refl
 abbrev is_of_names : Kind → Bool
 is_of_names a_host = true
 is_of_names a_path = true
+is_of_names an_origin = true
 is_of_names _ = false
 
 abbrev is_no_name : LineKey → Bool
 is_no_name Host = true
 is_no_name Path = true
+is_no_name Origin = true
 is_no_name key = not (is_of_names (line_row key).kind)
 
 -- before the fourth version a host is alike in each, and no list is one
 host_before : (version : TableVersion) (text : List ℕ) → has_keys_of version Four ≡ false → is_line_host version text ≡ is_line_host One text
 unfolding is_line_host
 host_before version text before = ap (λ four. bytes_eq text (codes "*") || is_host_in_lower_case text || (four && names_hosts_below text)) before
+
+origin_before : (version : TableVersion) (text : List ℕ) → has_keys_of version Four ≡ false → is_line_origin version text ≡ is_line_origin One text
+origin_before version text before = ap (λ four. bytes_eq text (codes "deny") || is_address text || (four && bytes_eq text (codes "purge"))) before
 
 texts_before : (version : TableVersion) (kind : Kind) (key : List ℕ) (ms : Members) → has_keys_of version Four ≡ false → is_text_or_list version kind key ms ≡ is_some_and (is_text_of version kind) (text_at key ms)
 texts_before version kind key ms before =
@@ -71,6 +79,8 @@ kind_before version (some_seconds low high) key ms before = refl
 kind_before version (a_store_bound low high) key ms before = refl
 kind_before version a_version key ms before = refl
 kind_before version (one_of first second) key ms before = refl
+kind_before version (one_of_in_four first second third) key ms before =
+    ap (λ four. key_has_one_of_two key first second ms || (four && key_has_text key third ms)) before
 kind_before version (some_names most) key ms before = refl
 kind_before version a_name key ms before = refl
 kind_before version some_lines key ms before = refl
@@ -80,31 +90,40 @@ kind_before version a_host key ms before =
     ∙ sym (texts_before One a_host key ms refl)
 kind_before version some_methods key ms before = refl
 kind_before version a_path key ms before = texts_before version a_path key ms before ∙ sym (texts_before One a_path key ms refl)
-kind_before version an_origin key ms before = refl
+kind_before version an_origin key ms before = some_alike (is_line_origin version) (is_line_origin One) (text_at key ms) (λ text. origin_before version text before)
+kind_before version a_purge_key key ms before = refl
 
 -- in the fourth version other kinds are as before
-kind_in_four : (kind : Kind) (key : List ℕ) (ms : Members) → is_of_names kind ≡ false → is_of_kind Four kind key ms ≡ is_of_kind Three kind key ms
-kind_in_four (a_number low high) key ms other = refl
-kind_in_four (some_seconds low high) key ms other = refl
-kind_in_four (a_store_bound low high) key ms other = refl
-kind_in_four a_version key ms other = refl
-kind_in_four (one_of first second) key ms other = refl
-kind_in_four (some_names most) key ms other = refl
-kind_in_four a_name key ms other = refl
-kind_in_four some_lines key ms other = refl
-kind_in_four a_host key ms other = cc
-kind_in_four some_methods key ms other = refl
-kind_in_four a_path key ms other = cc
-kind_in_four an_origin key ms other = refl
+kind_in_four : (kind : Kind) (key : List ℕ) (ms : Members) → is_of_names kind ≡ false → says_third_of kind key ms ≡ false → is_of_kind Four kind key ms ≡ is_of_kind Three kind key ms
+kind_in_four (a_number low high) key ms other third = refl
+kind_in_four (some_seconds low high) key ms other third = refl
+kind_in_four (a_store_bound low high) key ms other third = refl
+kind_in_four a_version key ms other third = refl
+kind_in_four (one_of first second) key ms other third = refl
+kind_in_four (one_of_in_four first second third) key ms other no_third = ap (λ t. key_has_one_of_two key first second ms || t) no_third
+kind_in_four (some_names most) key ms other third = refl
+kind_in_four a_name key ms other third = refl
+kind_in_four some_lines key ms other third = refl
+kind_in_four a_host key ms other third = cc
+kind_in_four some_methods key ms other third = refl
+kind_in_four a_path key ms other third = cc
+kind_in_four an_origin key ms other third = cc
+kind_in_four a_purge_key key ms other third = refl
 
-at_alike : (version other : TableVersion) (place : Place) (row : Row) (ms : Members) → is_of_kind version row.kind row.key ms ≡ is_of_kind other row.kind row.key ms → is_good_at version place row ms ≡ is_good_at other place row ms
-at_alike version other Needed row ms same = same
-at_alike version other Optional row ms same = ap (λ t. is_none (get_member row.key ms) || t) same
-at_alike version other AllowingLine row ms same = ap (λ t. is_none (get_member row.key ms) || (t && not (line_denies ms))) same
-at_alike version other CachingLine row ms same = ap (λ t. is_none (get_member row.key ms) || (t && line_takes_words ms)) same
+at_alike : (version other : TableVersion) (place : Place) (row : Row) (ms : Members) → line_purges version ms ≡ line_purges other ms → is_of_kind version row.kind row.key ms ≡ is_of_kind other row.kind row.key ms → is_good_at version place row ms ≡ is_good_at other place row ms
+at_alike version other Needed row ms purges same = same
+at_alike version other Optional row ms purges same = ap (λ t. is_none (get_member row.key ms) || t) same
+at_alike version other AllowingLine row ms purges same = ap (λ t. is_none (get_member row.key ms) || (t && not (line_has_no_origin ms))) same
+at_alike version other CachingLine row ms purges same = ap (λ t. is_none (get_member row.key ms) || (t && line_takes_words ms)) same
+at_alike version other PurgingLine row ms purges same =
+    ap (λ t. cond t (is_of_kind version row.kind row.key ms) (is_none (get_member row.key ms))) purges
+    ∙ ap (λ t. cond (line_purges other ms) t (is_none (get_member row.key ms))) same
+
+none_purges_before : (version : TableVersion) (ms : Members) → has_keys_of version Four ≡ false → line_purges version ms ≡ false
+none_purges_before version ms before = ap (λ four. four && key_has_text (codes "origin") (codes "purge") ms) before
 
 pub bad_before : (version : TableVersion) (ms : Members) → has_keys_of version Four ≡ false → first_bad_key version ms ≡ first_bad_key One ms
-bad_before version ms before = same_bad_key version One ms (λ key. at_alike version One (line_row key).place (line_row key) ms (kind_before version (line_row key).kind (line_row key).key ms before))
+bad_before version ms before = same_bad_key version One ms (λ key. at_alike version One (line_row key).place (line_row key) ms (none_purges_before version ms before) (kind_before version (line_row key).kind (line_row key).key ms before))
 
 not_below : (text : List ℕ) → begins_with_star_dot text ≡ false → is_line_host Four text ≡ is_line_host Three text
 unfolding is_line_host
@@ -119,6 +138,14 @@ texts_in_four kind key ms none =
     ap (λ (o : Option Items). is_some_and (is_text_of Four kind) (text_at key ms) || (true && is_some_and (are_texts_of Four kind) o)) none
     ∙ or_false (is_some_and (is_text_of Four kind) (text_at key ms))
 
+no_third : (ms : Members) → key_has_text (codes "set-cookie") (codes "removed") ms ≡ false → (word : LineWord) → says_third_of (word_row word).kind (word_row word).key ms ≡ false
+no_third ms isnt SetCookie = isnt
+no_third ms isnt _ = refl
+
+origin_in_four : (o : Option (List ℕ)) → is_some_and (λ text. bytes_eq text (codes "purge")) o ≡ false → is_some_and (is_line_origin Four) o ≡ is_some_and (is_line_origin Three) o
+origin_in_four None isnt = refl
+origin_in_four (Some text) isnt = ap (λ t. bytes_eq text (codes "deny") || is_address text || t) isnt
+
 good_in_four : (ms : Members) → LineNamesAsInThree ms → (key : LineKey) → is_good Four ms key ≡ is_good Three ms key
 good_in_four ms names Host =
     texts_in_four a_host (codes "host") ms names.0
@@ -126,10 +153,11 @@ good_in_four ms names Host =
     ∙ sym (texts_before Three a_host (codes "host") ms refl)
 good_in_four ms names Path = texts_in_four a_path (codes "path") ms names.1 ∙ sym (texts_before Three a_path (codes "path") ms refl)
 good_in_four ms names Methods = refl
-good_in_four ms names Origin = refl
+good_in_four ms names Origin = origin_in_four (text_at (codes "origin") ms) names.4
 good_in_four ms names Cache = refl
 good_in_four ms names (Word word) =
-    at_alike Four Three (word_row word).place (word_row word) ms (kind_in_four (word_row word).kind (word_row word).key ms (not_true (is_of_names (word_row word).kind) (each_key is_no_name refl (Word word))))
+    at_alike Four Three (word_row word).place (word_row word) ms names.4
+    (kind_in_four (word_row word).kind (word_row word).key ms (not_true (is_of_names (word_row word).kind) (each_key is_no_name refl (Word word))) (no_third ms names.3 word))
 
 pub bad_in_four : (ms : Members) → LineNamesAsInThree ms → first_bad_key Four ms ≡ first_bad_key Three ms
 bad_in_four ms names = same_bad_key Four Three ms (good_in_four ms names)
@@ -191,6 +219,44 @@ text_stands : (o : Option (List ℕ)) (test : List ℕ → Bool) → is_some_and
 text_stands None test is = absurd cc
 text_stands (Some text) test is = (text, (refl, is))
 
+-- before the fourth version `set-cookie` isn't `removed`
+third_is_other : (text : List ℕ) → is_one_of_two (codes "stored") (codes "not-stored") text ≡ true → bytes_eq text (codes "removed") ≡ false
+third_is_other text is = by_either (either (bytes_eq text (codes "stored")) (bytes_eq text (codes "not-stored")) is)
+  where
+    either : (a b : Bool) → a || b ≡ true → (a ≡ true) ⊎ (b ≡ true)
+    either true b h = inl refl
+    either false b h = inr h
+
+    by_either : (bytes_eq text (codes "stored") ≡ true) ⊎ (bytes_eq text (codes "not-stored") ≡ true) → bytes_eq text (codes "removed") ≡ false
+    by_either (inl h) = ap (λ t. bytes_eq t (codes "removed")) ((bytes_eq-Decides text (codes "stored")).0 h)
+    by_either (inr h) = ap (λ t. bytes_eq t (codes "removed")) ((bytes_eq-Decides text (codes "not-stored")).0 h)
+
+not_removed : (version : TableVersion) (ms : Members) → has_keys_of version Four ≡ false → first_bad_key version ms ≡ None → key_has_text (codes "set-cookie") (codes "removed") ms ≡ false
+not_removed version ms before good = by_tests (is_none value) refl (subst (λ four. (is_none value || ((one || (four && removed)) && line_takes_words ms)) ≡ true) before (each_good version ms good (Word SetCookie)))
+  where
+    value : Option Data
+    value = get_member (codes "set-cookie") ms
+
+    one : Bool
+    one = key_has_one_of_two (codes "set-cookie") (codes "stored") (codes "not-stored") ms
+
+    removed : Bool
+    removed = key_has_text (codes "set-cookie") (codes "removed") ms
+
+    absent : (o : Option Data) → is_none o ≡ true → is_some_and (λ text. bytes_eq text (codes "removed")) (option_and_then as_str o) ≡ false
+    absent None e = refl
+    absent (Some found) e = absurd cc
+
+    first_stands : (a takes : Bool) → ((a || false) && takes) ≡ true → a ≡ true
+    first_stands true takes e = refl
+    first_stands false takes e = absurd cc
+
+    by_tests : (none : Bool) → is_none value ≡ none → (none || ((one || (false && removed)) && line_takes_words ms)) ≡ true → removed ≡ false
+    by_tests true is e = absent value is
+    by_tests false is e =
+        let stands = text_stands (text_at (codes "set-cookie") ms) (is_one_of_two (codes "stored") (codes "not-stored")) (first_stands one (line_takes_words ms) e) in
+        ap (is_some_and (λ text. bytes_eq text (codes "removed"))) stands.1.0 ∙ third_is_other stands.0 stands.1.1
+
 -- each key of a line without fault is good
 pub keys_are_good : (version : TableVersion) (n : ℕ) (ms : Members) → line_fault version n ms ≡ None → first_bad_key version ms ≡ None
 unfolding line_fault
@@ -212,12 +278,29 @@ host_is_text version ms before good =
 path_is_text : (version : TableVersion) (ms : Members) → has_keys_of version Four ≡ false → first_bad_key version ms ≡ None → is_some_and is_line_path (text_at (codes "path") ms) ≡ true
 path_is_text version ms before good = sym (texts_before version a_path (codes "path") ms before) ∙ each_good version ms good Path
 
+purge_is_no_origin : is_line_origin One (codes "purge") ≡ false
+unfolding address_of short_number
+purge_is_no_origin = refl
+
+no_purge : (o : Option (List ℕ)) → is_some_and (is_line_origin One) o ≡ true → is_some_and (λ text. bytes_eq text (codes "purge")) o ≡ false
+no_purge None good = refl
+no_purge (Some text) good = by_test (bytes_eq text (codes "purge")) refl
+  where
+    by_test : (b : Bool) → bytes_eq text (codes "purge") ≡ b → b ≡ false
+    by_test true e = absurd (false≢true (sym purge_is_no_origin ∙ ap (is_line_origin One) (sym ((bytes_eq-Decides text (codes "purge")).0 e)) ∙ good))
+    by_test false e = refl
+
 pub names_as_before : (version : TableVersion) (ms : Members) → has_keys_of version Four ≡ false → first_bad_key version ms ≡ None → LineNamesAsInThree ms
 names_as_before version ms before good =
-    let host = text_stands (text_at (codes "host") ms) (is_line_host Three) (host_is_text version ms before good) in (
+    let host = text_stands (text_at (codes "host") ms) (is_line_host Three) (host_is_text version ms before good) in
+    let origin : is_some_and (is_line_origin One) (text_at (codes "origin") ms) ≡ true =
+    sym (kind_before version an_origin (codes "origin") ms before) ∙ each_good version ms good Origin
+    in (
       text_is_no_list (get_member (codes "host") ms) (is_line_host Three) (host_is_text version ms before good),
       text_is_no_list (get_member (codes "path") ms) is_line_path (path_is_text version ms before good),
       ap (is_some_and begins_with_star_dot) host.1.0 ∙ host_of_three host.0 host.1.1,
+      not_removed version ms before good,
+      no_purge (text_at (codes "origin") ms) origin,
     )
 
 read_of_one : (host path : List ℕ) (line : PlainLine) → line.hosts ≡ line_host_of host ∷ [] → line.paths ≡ table_path_of path ∷ [] → begins_with_star_dot host ≡ false → LineHasOneHostAndPath line

@@ -9,7 +9,8 @@ use Rattle.hx_allow.specs.Matching.{over_line, verdict_of, line_refuses_loops, v
 use Rattle.hx_allow.specs.Via.{request_loops}
 use Rattle.hx_allow.specs.declared.verdicts.Route.{Route}
 use Rattle.hx_allow.specs.declared.verdicts.Verdict.{Verdict}
-use Rattle.hx_allow.specs.declared.verdicts.Verdict.TheVariants.{Allowed, DeniedBy, NoLine, Looped}
+use Rattle.hx_allow.specs.declared.verdicts.Verdict.TheVariants.{Allowed, DeniedBy, NoLine, Looped, Purged}
+use Rattle.hx_allow.proofs.Purging.{allowed_within}
 use Rattle.hx_allow.proofs.CookieLines.{without_names, over_its_line}
 
 module _ (table : Table) (method : List ℕ) (target : Target) (fields : List Field) where
@@ -24,7 +25,9 @@ module _ (table : Table) (method : List ℕ) (target : Target) (fields : List Fi
 
   goes : (route : Route) → verdict_of_request table method target fields ≡ Allowed route → Goes route
   unfolding verdict_of_request
-  goes route e = by_verdict (verdict_of table.lines method target) refl e
+  goes route e =
+      by_verdict (verdict_of table.lines method target) refl
+      (allowed_within table.lines fields (verdict_on_cookies table.lines fields (verdict_on_loops table.lines loops (verdict_of table.lines method target))) route e)
     where
       loops : Bool
       loops = request_loops table.name fields
@@ -38,6 +41,7 @@ module _ (table : Table) (method : List ℕ) (target : Target) (fields : List Fi
       by_verdict (DeniedBy n) told e = cc
       by_verdict NoLine told e = cc
       by_verdict (Looped n) told e = cc
+      by_verdict (Purged n) told e = cc
 
   pub by_its_cookies : (route : Route) → verdict_of_request table method target fields ≡ Allowed route → route.past_store ≡ has_cookie_of (session_cookies_of table.lines route.number) fields
   by_its_cookies route e =

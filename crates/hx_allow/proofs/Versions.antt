@@ -23,14 +23,14 @@ use Rattle.hx_allow.specs.Versions.{LineHasNoWord, LineHasNoWordOfFour, LineIsSp
 use Rattle.hx_allow.specs.declared.config_faults.ConfigFault.{ConfigFault}
 use Rattle.hx_allow.specs.declared.config_faults.ConfigFault.TheVariants.{UnknownKey, BadNumber, BadCache, BadWord, MethodInLowerCase, StarInPath}
 use Rattle.hx_allow.specs.declared.config_faults.LineWord.{LineWord}
-use Rattle.hx_allow.specs.declared.config_faults.LineWord.TheVariants.{Lifetime, ErrorLifetime, LifetimeMost, StaleIfError, SetCookie, Cookies, SessionCookies, Errors, RequestDirectives, Wait, Explain, Conditions, Loops, StaleWhileRevalidate, Vary, OriginTimeout}
+use Rattle.hx_allow.specs.declared.config_faults.LineWord.TheVariants.{Lifetime, ErrorLifetime, LifetimeMost, StaleIfError, SetCookie, Cookies, SessionCookies, Errors, RequestDirectives, Wait, Explain, Conditions, Loops, StaleWhileRevalidate, Vary, OriginTimeout, PurgeKey, Ranges}
 use Rattle.hx_allow.specs.declared.config_faults.NumberKey.TheVariants.{Version, Capacity, MaxBody, MaxStored, MaxStore}
 use Rattle.hx_allow.specs.declared.rows.LineKey.{LineKey}
 use Rattle.hx_allow.specs.declared.rows.LineKey.TheVariants.{Host, Methods, Path, Origin, Cache, Word}
 use Rattle.hx_allow.specs.declared.rows.Place.{Place}
 use Rattle.hx_allow.specs.declared.rows.TopKey.{TopKey}
 use Rattle.hx_allow.specs.declared.rows.TopKey.TheVariants.{Name, Number, Lines}
-use Rattle.hx_allow.specs.declared.rows.Place.TheVariants.{Needed, Optional, AllowingLine, CachingLine}
+use Rattle.hx_allow.specs.declared.rows.Place.TheVariants.{Needed, Optional, AllowingLine, CachingLine, PurgingLine}
 use Rattle.hx_allow.specs.declared.values.Scope.{Scope}
 use Rattle.hx_allow.specs.declared.values.Scope.TheVariants.{Top, Line}
 use Rattle.hx_allow.specs.declared.values.TableVersion.{TableVersion}
@@ -167,6 +167,8 @@ known_in_four key other = any_alike (λ known. is_key_of Four key (line_row know
     alike (Word StaleWhileRevalidate) = other StaleWhileRevalidate refl
     alike (Word Vary) = other Vary refl
     alike (Word OriginTimeout) = other OriginTimeout refl
+    alike (Word PurgeKey) = other PurgeKey refl
+    alike (Word Ranges) = other Ranges refl
 
 same_unknown_of_four : (ms : Members) → LineHasNoWordOfFour ms → first_unknown (Line Four) ms ≡ first_unknown (Line Three) ms
 same_unknown_of_four no_members none = refl
@@ -330,11 +332,18 @@ never_of_cache line n ms Cache known bad same =
 never_of_cache line n ms (Word word) known bad same = cc
 
 -- a key that needn't stand is good where it doesn't
-missing_is_good : (version : TableVersion) (place : Place) (row : Row) (ms : Members) → is_needed place ≡ false → get_member row.key ms ≡ None → is_good_at version place row ms ≡ true
-missing_is_good version Needed row ms other none = cc
-missing_is_good version Optional row ms other none = rw none refl
-missing_is_good version AllowingLine row ms other none = rw none refl
-missing_is_good version CachingLine row ms other none = rw none refl
+missing_is_good : (version : TableVersion) (place : Place) (row : Row) (ms : Members) → has_keys_of version Four ≡ false → is_needed place ≡ false → get_member row.key ms ≡ None → is_good_at version place row ms ≡ true
+missing_is_good version Needed row ms before other none = cc
+missing_is_good version Optional row ms before other none = rw none refl
+missing_is_good version AllowingLine row ms before other none = rw none refl
+missing_is_good version CachingLine row ms before other none = rw none refl
+missing_is_good version PurgingLine row ms before other none = rw before (rw none refl)
+
+older_than_four : (version : TableVersion) → has_keys_of version Three ≡ false → has_keys_of version Four ≡ false
+older_than_four One other = refl
+older_than_four Two other = refl
+older_than_four Three other = cc
+older_than_four Four other = cc
 
 never_of_words : (version : TableVersion) (line : ℕ) (word : LineWord) (n : ℕ) (ms : Members) (key : LineKey) → has_keys_of version Three ≡ false → first_unknown (Line version) ms ≡ None → is_good version ms key ≡ false → ¬ (fault_of_line_key n key ≡ BadWord line word)
 never_of_words version line word n ms Host other known bad same = cc
@@ -344,7 +353,7 @@ never_of_words version line word n ms Origin other known bad same = cc
 never_of_words version line word n ms Cache other known bad same = cc
 never_of_words version line word n ms (Word bad_word) other known bad same =
     let place : is_needed (word_row bad_word).place ≡ false = not_true (is_needed (word_row bad_word).place) (each_key is_no_needed_word refl (Word bad_word)) in
-    let good : is_good version ms (Word bad_word) ≡ true = missing_is_good version (word_row bad_word).place (word_row bad_word) ms place (no_words version ms other known bad_word) in
+    let good : is_good version ms (Word bad_word) ≡ true = missing_is_good version (word_row bad_word).place (word_row bad_word) ms (older_than_four version other) place (no_words version ms other known bad_word) in
     cc
 
 pub never_refused : (t : Members) (line : ℕ) → version_of t ≡ One → ¬ (judge_table t ≡ Err (BadCache line))
@@ -385,6 +394,8 @@ unknown_word_of_four Three Loops since before = refl
 unknown_word_of_four Three StaleWhileRevalidate since before = refl
 unknown_word_of_four Three Vary since before = refl
 unknown_word_of_four Three OriginTimeout since before = refl
+unknown_word_of_four Three PurgeKey since before = refl
+unknown_word_of_four Three Ranges since before = refl
 unknown_word_of_four Four word since before = cc
 
 never_of_new_words : (version : TableVersion) (line : ℕ) (word : LineWord) (n : ℕ) (ms : Members) (key : LineKey) → (word_row word).since ≡ Four → has_keys_of version Four ≡ false → first_unknown (Line version) ms ≡ None → is_good version ms key ≡ false → ¬ (fault_of_line_key n key ≡ BadWord line word)
@@ -398,7 +409,7 @@ never_of_new_words version line word n ms (Word bad_word) since before known bad
     let new : (word_row bad_word).since ≡ Four = subst (λ w. (word_row w).since ≡ Four) (sym alike) since in
     let none : get_member (word_key bad_word) ms ≡ None = not_among_known (Line version) (word_key bad_word) ms (unknown_word_of_four version bad_word new before) known in
     let place : is_needed (word_row bad_word).place ≡ false = not_true (is_needed (word_row bad_word).place) (each_key is_no_needed_word refl (Word bad_word)) in
-    let good : is_good version ms (Word bad_word) ≡ true = missing_is_good version (word_row bad_word).place (word_row bad_word) ms place none in
+    let good : is_good version ms (Word bad_word) ≡ true = missing_is_good version (word_row bad_word).place (word_row bad_word) ms before place none in
     cc
 
 pub never_refused_for_new_words : (t : Members) (line : ℕ) (word : LineWord) → (word_row word).since ≡ Four → has_keys_of (version_of t) Four ≡ false → ¬ (judge_table t ≡ Err (BadWord line word))
@@ -605,7 +616,8 @@ is_line_of_three version n ms before none =
     let cookies : get_member (codes "session-cookies") ms ≡ None = not_among_known (Line version) (codes "session-cookies") ms (unknown_word_of_four version SessionCookies refl before) known in
     let vary : get_member (codes "vary") ms ≡ None = not_among_known (Line version) (codes "vary") ms (unknown_word_of_four version Vary refl before) known in
     let timeout : get_member (codes "origin-timeout") ms ≡ None = not_among_known (Line version) (codes "origin-timeout") ms (unknown_word_of_four version OriginTimeout refl before) known in
-    (rw before refl, rw most refl, rw before refl, rw before refl, rw stale refl, and_none (key_has_text (codes "wait") (codes "missing-or-stale") ms) before, rw before refl, rw cookies refl, rw vary refl, rw timeout refl)
+    let key : get_member (codes "key") ms ≡ None = not_among_known (Line version) (codes "key") ms (unknown_word_of_four version PurgeKey refl before) known in
+    (rw before refl, rw most refl, rw before refl, rw before refl, rw before refl, rw before refl, rw before refl, rw stale refl, and_none (key_has_text (codes "wait") (codes "missing-or-stale") ms) before, rw before refl, rw cookies refl, rw vary refl, rw timeout refl, rw key refl)
   where
     and_none : {b : Bool} (a : Bool) → b ≡ false → (a && b) ≡ false
     and_none true e = e

@@ -6,7 +6,7 @@ use Rattle.std.specs.List.{All}
 use Rattle.toml.specs.Data.{Data, Members, get_member}
 use Rattle.hx_allow.specs.Addresses.{is_address, address_text}
 use Rattle.hx_allow.specs.TableLines.{Table}
-use Rattle.hx_allow.specs.LineWords.{key_has_text, line_takes_words}
+use Rattle.hx_allow.specs.LineWords.{is_one_of_two, key_has_text, line_has_no_origin, line_takes_words}
 use Rattle.hx_allow.specs.Rows.{Row, word_row, fault_of_line_key, has_keys_of}
 use Rattle.hx_allow.specs.LineTables.{is_line_origin, is_of_kind, is_good_at, first_bad_key, first_fault_or_later, spelling_fault, line_fault, line_read}
 use Rattle.hx_allow.specs.Tables.{version_of, judge_table}
@@ -16,7 +16,7 @@ use Rattle.hx_allow.specs.declared.config_faults.ConfigFault.TheVariants.{Unknow
 use Rattle.hx_allow.specs.declared.rows.LineKey.{LineKey}
 use Rattle.hx_allow.specs.declared.rows.LineKey.TheVariants.{Origin, Word}
 use Rattle.hx_allow.specs.declared.rows.Place.{Place}
-use Rattle.hx_allow.specs.declared.rows.Place.TheVariants.{Needed, Optional, AllowingLine, CachingLine}
+use Rattle.hx_allow.specs.declared.rows.Place.TheVariants.{Needed, Optional, AllowingLine, CachingLine, PurgingLine}
 use Rattle.hx_allow.specs.declared.values.Scope.TheVariants.{Line}
 use Rattle.hx_allow.specs.declared.values.TableVersion.{TableVersion}
 use Rattle.hx_allow.specs.declared.values.TableVersion.TheVariants.{Four}
@@ -32,6 +32,7 @@ absent : (version : TableVersion) (place : Place) (row : Row) (ms : Members) →
 absent version Needed row ms caching untaken good = cc
 absent version Optional row ms caching untaken good = cc
 absent version AllowingLine row ms caching untaken good = cc
+absent version PurgingLine row ms caching untaken good = cc
 absent version CachingLine row ms caching untaken good = by_value (get_member row.key ms) (is_of_kind version row.kind row.key ms) (line_takes_words ms) untaken good
   where
     by_value : (o : Option Data) (value takes : Bool) → takes ≡ false → is_none o || (value && takes) ≡ true → o ≡ None
@@ -45,11 +46,24 @@ no_words version ms untaken none = λ word of_caching.
     absent version (word_row word).place (word_row word) ms (ap is_of_caching of_caching) untaken (each_good version ms none (Word word))
 
 -- a line that takes words has an origin and its cache on
-has_origin : (text : Option (List ℕ)) → is_some_and is_line_origin text ≡ true → is_some_and (λ t. bytes_eq t (codes "deny")) text ≡ false → is_some (option_and_then address_text text) ≡ true
-has_origin None good other = cc
-has_origin (Some text) good other =
-    let spelled : is_address text ≡ true = sym (ap (λ b. b || is_address text) other) ∙ good in
+has_origin : (version : TableVersion) (text : Option (List ℕ)) → is_some_and (is_line_origin version) text ≡ true → is_some_and (is_one_of_two (codes "deny") (codes "purge")) text ≡ false → is_some (option_and_then address_text text) ≡ true
+has_origin version None good other = cc
+has_origin version (Some text) good other =
+    let parts = neither (bytes_eq text (codes "deny")) (bytes_eq text (codes "purge")) other in
+    let spelled : is_address text ≡ true = by_parts (bytes_eq text (codes "deny")) (is_address text) (has_keys_of version Four) (bytes_eq text (codes "purge")) parts.0 parts.1 good in
     rw spelled refl
+  where
+    neither : (a b : Bool) → (a || b) ≡ false → (a ≡ false) × (b ≡ false)
+    neither true b e = cc
+    neither false true e = cc
+    neither false false e = (refl, refl)
+
+    by_parts : (a spelled four b : Bool) → a ≡ false → b ≡ false → (a || spelled || (four && b)) ≡ true → spelled ≡ true
+    by_parts false true four b x y e = refl
+    by_parts false false true false x y e = cc
+    by_parts false false false b x y e = cc
+    by_parts false false true true x y e = cc
+    by_parts true spelled four b x y e = cc
 
 both_hold : (a b : Bool) → not a && not b ≡ true → (a ≡ false) × (b ≡ false)
 both_hold true b e = cc
@@ -66,9 +80,9 @@ takes_them version n ms none = by_keys (first_unknown (Line version) ms) refl
   where
     parts : (takes : Bool) → line_takes_words ms ≡ takes → first_bad_key version ms ≡ None → LineTakesItsWords (line_read version ms)
     parts true is good =
-        let both = both_hold (key_has_text (codes "origin") (codes "deny") ms) (key_has_text (codes "cache") (codes "off") ms) is in
-        let origin : is_some_and is_line_origin (text_at (codes "origin") ms) ≡ true = each_good version ms good Origin in
-        inr (has_origin (text_at (codes "origin") ms) origin both.0, ap not both.1)
+        let both = both_hold (line_has_no_origin ms) (key_has_text (codes "cache") (codes "off") ms) is in
+        let origin : is_some_and (is_line_origin version) (text_at (codes "origin") ms) ≡ true = each_good version ms good Origin in
+        inr (has_origin version (text_at (codes "origin") ms) origin both.0, ap not both.1)
     parts false is good = inl (plain_policy version ms (no_words version ms is good) (and_none (has_keys_of version Four) is))
 
     by_keys : (o : Option (List ℕ)) → first_unknown (Line version) ms ≡ o → LineTakesItsWords (line_read version ms)

@@ -61,6 +61,12 @@ denying_line_table_with pairs = table_of_pairs (pairs ++ key_with_text (codes "h
     (codes "GET")
     ∷ key_with_text (codes "origin") (codes "deny") ∷ key_with_text (codes "path") (codes "/") ∷ [])
 
+-- such a line, which purges
+abbrev pub purging_line_table_with : List KeyAndValue → Members
+purging_line_table_with pairs = table_of_pairs (pairs ++ key_with_text (codes "host") (codes "*") ∷ key_with_method
+    (codes "PURGE")
+    ∷ key_with_text (codes "origin") (codes "purge") ∷ key_with_text (codes "path") (codes "/") ∷ [])
+
 -- a table of the first run's name and limits with these lines, where its version and capacity are these
 abbrev pub top_table : ℕ → ℕ → Items → Members
 top_table version capacity lines =
@@ -100,6 +106,7 @@ line_with_method host name path origin = record {
   session_cookies = [];
   vary = [];
   origin_timeout = None;
+  purge_key = None;
 }
 
 -- one for each method, with these hosts and paths
@@ -114,12 +121,19 @@ line_with_lists hosts paths origin = record {
   session_cookies = [];
   vary = [];
   origin_timeout = None;
+  purge_key = None;
 }
 
--- what a line without words says in a table of version 4: requests with a cookie are given no lifetime, and the
--- conditions of clients stay with the proxy
+-- what a line without words says in a table of version 4: requests with a cookie and responses with Set-Cookie are
+-- given no lifetime, and the conditions of clients stay with the proxy
 abbrev pub plain_of_four : Policy
-plain_of_four = record (plain true) { gives_to_cookies = false; forwards_conditions = false }
+plain_of_four =
+    record (plain true) {
+      gives_to_set_cookie = false;
+      gives_to_cookies = false;
+      forwards_conditions = false;
+      forwards_ranges = false;
+    }
 
 -- the origin of the first run
 abbrev pub origin_8081 : Option (List ℕ)
@@ -177,6 +191,20 @@ abbrev pub lines_with_timeouts : List Line
 lines_with_timeouts =
     record line_of_four { origin_timeout = Some 5 } ∷ line_of_four
     ∷ record line_of_four { origin_timeout = Some 7 } ∷ []
+
+-- a key of 16 letters and digits
+abbrev pub purge_key : List ℕ
+purge_key = codes "0123456789abcXYZ"
+
+-- a table whose first line purges by that key, and whose second by another
+abbrev pub purging_table : Table
+purging_table = record looping_table {
+  lines = record (line_with_method None (codes "PURGE") (codes "/a") None) { purge_key = Some purge_key }
+      ∷ record (line_with_method None (codes "PURGE") (codes "/p") None) {
+        purge_key = Some (codes "0123456789abcXYz");
+      }
+      ∷ [];
+}
 
 -- as many names as `session-cookies` has
 abbrev pub sixteen_names : List (List ℕ)

@@ -10,9 +10,9 @@ use Rattle.hx_allow.specs.declared.config_faults.ConfigFault.TheVariants.{StarIn
 use Rattle.hx_allow.specs.declared.rows.LineKey.TheVariants.{Host, Methods, Path, Origin, Cache}
 use Rattle.hx_allow.specs.declared.rows.Place.{Place}
 use Rattle.hx_allow.specs.declared.rows.TopKey.TheVariants.{Name}
-use Rattle.hx_allow.specs.declared.rows.Place.TheVariants.{Needed, Optional, AllowingLine, CachingLine}
+use Rattle.hx_allow.specs.declared.rows.Place.TheVariants.{Needed, Optional, AllowingLine, CachingLine, PurgingLine}
 use Rattle.hx_allow.specs.Rows.{Kind, a_number, some_seconds, a_store_bound, a_version, one_of, a_name, some_lines}
-use Rattle.hx_allow.specs.Rows.{some_names}
+use Rattle.hx_allow.specs.Rows.{some_names, one_of_in_four, a_purge_key}
 use Rattle.hx_allow.specs.Rows.{a_host, some_methods, a_path, an_origin}
 use Rattle.hx_allow.specs.Rows.{Row, number_row, top_row, word_row, line_row, words_of_unknown_key}
 
@@ -41,6 +41,8 @@ words_of_kind (a_store_bound low high) =
     ++ (decimal low ++ (codes " to " ++ (decimal high ++ codes ", without quotes, and no less than max_stored")))
 words_of_kind a_version = codes "be 1, 2, 3 or 4, without quotes"
 words_of_kind (one_of first second) = codes "be \"" ++ (first ++ (codes "\" or \"" ++ (second ++ codes "\"")))
+words_of_kind (one_of_in_four first second third) =
+    codes "be \"" ++ (first ++ (codes "\" or \"" ++ (second ++ (codes "\", in version 4 also \"" ++ (third ++ codes "\"")))))
 words_of_kind (some_names most) =
     codes "be a list of 1 to " ++ (decimal most ++ codes " names, each of letters, digits and !#$%&'*+-.^_`|~, but not \"*\"")
 words_of_kind a_name = codes "be a lower-case letter and at most 31 of a-z, 0-9 and -, in quotes"
@@ -48,14 +50,16 @@ words_of_kind some_lines = []
 words_of_kind a_host = codes "be \"*\" or one host in lower case, without a port, an IPv6 address in brackets; in version 4 also \"*.\" and a name for the hosts below it, or a list of 1 to 32 of these"
 words_of_kind some_methods = codes "be a list of 1 to 32, each \"*\" or a method of at most 15 bytes, but not CONNECT, TRACE or OPTIONS"
 words_of_kind a_path = codes "begin with / and not to end with it, but for / itself; no ?, #, blank, byte above 7E, segment . or .., or % without two hexadecimal digits behind it; in version 4 also a list of 1 to 32 of these"
-words_of_kind an_origin = codes "be \"deny\" or an IPv4 address and a port, as in \"127.0.0.1:8081\""
+words_of_kind an_origin = codes "be \"deny\" or an IPv4 address and a port, as in \"127.0.0.1:8081\"; in version 4 also \"purge\""
+words_of_kind a_purge_key = codes "be 16 to 64 letters and digits, in quotes"
 
 -- where a key may stand
 abbrev pub words_of_place : Place → List ℕ
 words_of_place Needed = []
 words_of_place Optional = []
-words_of_place AllowingLine = codes ", and not to stand in a line that denies"
+words_of_place AllowingLine = codes ", and not to stand in a line that denies or purges"
 words_of_place CachingLine = codes ", in a line that has an origin and its cache on"
+words_of_place PurgingLine = codes ", in a line with origin = \"purge\" and in no other"
 
 abbrev pub words_of_row : Row → List ℕ
 words_of_row row = row.key ++ (codes " has to " ++ (words_of_kind row.kind ++ words_of_place row.place))

@@ -9,6 +9,7 @@ pub mod LineWords
 pub mod TableLines
 pub mod Matching
 pub mod PathTails
+pub mod Purges
 pub mod NeverReached
 pub mod OneByOne
 pub mod Rows

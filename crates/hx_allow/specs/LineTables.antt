@@ -13,11 +13,13 @@ use Rattle.hx_target.specs.Paths.{has_bad_escape, has_dot_segment, table_path_of
 use Rattle.hx_allow.specs.Addresses.{is_address, address_text}
 use Rattle.hx_allow.specs.LineHosts.{begins_with_star_dot, line_host_of}
 use Rattle.hx_allow.specs.TableLines.{Line as PlainLine}
-use Rattle.hx_allow.specs.LineWords.{key_has_one_of_two, line_denies, line_takes_words, policy_of_line_table}
-use Rattle.hx_allow.specs.LineWords.{refuses_loops, seconds_for_origin}
+use Rattle.hx_allow.specs.LineWords.{key_has_one_of_two, key_has_text, line_has_no_origin, line_takes_words}
+use Rattle.hx_allow.specs.LineWords.{line_purges}
+use Rattle.hx_allow.specs.LineWords.{policy_of_line_table, refuses_loops, seconds_for_origin}
 use Rattle.hx_allow.specs.Matching.{is_never_allowed}
+use Rattle.hx_allow.specs.Purges.{is_purge_key}
 use Rattle.hx_allow.specs.Rows.{Kind, a_number, some_seconds, one_of, a_host, some_methods, a_path, an_origin, Row}
-use Rattle.hx_allow.specs.Rows.{some_names}
+use Rattle.hx_allow.specs.Rows.{some_names, one_of_in_four, a_purge_key, word_row}
 use Rattle.hx_allow.specs.Rows.{line_row, has_keys_of}
 use Rattle.hx_allow.specs.Rows.{line_keys, fault_of_line_key}
 use Rattle.hx_allow.specs.Values.{first_unknown, text_at, number_between, is_some_and, has_one_to_most, all_items}
@@ -26,12 +28,13 @@ use Rattle.hx_allow.specs.declared.values.Scope.TheVariants.{Line}
 use Rattle.hx_allow.specs.declared.values.TableVersion.{TableVersion}
 use Rattle.hx_allow.specs.declared.values.TableVersion.TheVariants.{Four}
 use Rattle.hx_allow.specs.declared.config_faults.ConfigFault.{ConfigFault}
+use Rattle.hx_allow.specs.declared.config_faults.LineWord.TheVariants.{PurgeKey}
 use Rattle.hx_allow.specs.declared.config_faults.FoundFault.{FoundFault}
 use Rattle.hx_allow.specs.declared.config_faults.FoundFault.TheVariants as found
 use Rattle.hx_allow.specs.declared.config_faults.ConfigFault.TheVariants.{UnknownKey, MethodInLowerCase, StarInPath}
 use Rattle.hx_allow.specs.declared.rows.LineKey.{LineKey}
 use Rattle.hx_allow.specs.declared.rows.Place.{Place}
-use Rattle.hx_allow.specs.declared.rows.Place.TheVariants.{Needed, Optional, AllowingLine, CachingLine}
+use Rattle.hx_allow.specs.declared.rows.Place.TheVariants.{Needed, Optional, AllowingLine, CachingLine, PurgingLine}
 
 -- a host in lower case
 abbrev pub is_host_in_lower_case : List ℕ → Bool
@@ -69,9 +72,10 @@ is_line_path text =
     && not (has_bad_escape text)
     && not (has_dot_segment (table_path_of text))
 
--- `deny`, or an address
-abbrev pub is_line_origin : List ℕ → Bool
-is_line_origin text = bytes_eq text (codes "deny") || is_address text
+-- `deny`, an address, or in the fourth version `purge`
+abbrev pub is_line_origin : TableVersion → List ℕ → Bool
+is_line_origin version text =
+    bytes_eq text (codes "deny") || is_address text || (has_keys_of version Four && bytes_eq text (codes "purge"))
 
 -- a token
 -- own: no `*` alone, which an operator could take for every name
@@ -83,7 +87,8 @@ abbrev pub is_text_of : TableVersion → Kind → List ℕ → Bool
 is_text_of version a_host text = is_line_host version text
 is_text_of version some_methods text = is_line_method text
 is_text_of version a_path text = is_line_path text
-is_text_of version an_origin text = is_line_origin text
+is_text_of version an_origin text = is_line_origin version text
+is_text_of version a_purge_key text = is_purge_key text
 is_text_of version (some_names most) text = is_listed_name text
 is_text_of version _ text = false
 
@@ -108,21 +113,27 @@ abbrev pub is_of_kind : TableVersion → Kind → List ℕ → Members → Bool
 is_of_kind version (a_number low high) key ms = is_some (number_between low high (get_member key ms))
 is_of_kind version (some_seconds low high) key ms = is_some (number_between low high (get_member key ms))
 is_of_kind version (one_of first second) key ms = key_has_one_of_two key first second ms
+is_of_kind version (one_of_in_four first second third) key ms =
+    key_has_one_of_two key first second ms || (has_keys_of version Four && key_has_text key third ms)
 is_of_kind version a_host key ms = is_text_or_list version a_host key ms
 is_of_kind version some_methods key ms = is_some_and (are_texts_of version some_methods) (items_at key ms)
 is_of_kind version a_path key ms = is_text_or_list version a_path key ms
-is_of_kind version an_origin key ms = is_some_and is_line_origin (text_at key ms)
+is_of_kind version an_origin key ms = is_some_and (is_line_origin version) (text_at key ms)
+is_of_kind version a_purge_key key ms = is_some_and is_purge_key (text_at key ms)
 is_of_kind version (some_names most) key ms = is_some_and (are_texts_of version (some_names most)) (items_at key ms)
 is_of_kind version _ key ms = false
 
--- a row's key has a good value in a line that takes it, or needn't stand and doesn't
+-- a row's key has a good value in a line that takes it, or needn't stand and doesn't; that of a line that purges has to
+-- stand there, and nowhere else
 abbrev pub is_good_at : TableVersion → Place → Row → Members → Bool
 is_good_at version Needed row ms = is_of_kind version row.kind row.key ms
 is_good_at version Optional row ms = is_none (get_member row.key ms) || is_of_kind version row.kind row.key ms
 is_good_at version AllowingLine row ms =
-    is_none (get_member row.key ms) || (is_of_kind version row.kind row.key ms && not (line_denies ms))
+    is_none (get_member row.key ms) || (is_of_kind version row.kind row.key ms && not (line_has_no_origin ms))
 is_good_at version CachingLine row ms =
     is_none (get_member row.key ms) || (is_of_kind version row.kind row.key ms && line_takes_words ms)
+is_good_at version PurgingLine row ms =
+    if line_purges version ms then is_of_kind version row.kind row.key ms else is_none (get_member row.key ms)
 
 abbrev pub is_good : TableVersion → Members → LineKey → Bool
 is_good version ms key = is_good_at version (line_row key).place (line_row key) ms
@@ -183,6 +194,7 @@ line_read version ms = record {
   session_cookies = texts_of (unwrap_or (items_at (codes "session-cookies") ms) no_items);
   vary = texts_of (unwrap_or (items_at (codes "vary") ms) no_items);
   origin_timeout = seconds_for_origin ms;
+  purge_key = text_at (word_row PurgeKey).key ms;
 }
 
 abbrev pub fault_of_line_item : TableVersion → ℕ → Option Members → Option ConfigFault

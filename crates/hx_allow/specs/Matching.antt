@@ -19,11 +19,13 @@ use Rattle.hx_policy.specs.Policies.{plain}
 use Rattle.hx_allow.specs.Addresses.{address_of}
 use Rattle.hx_allow.specs.LineHosts.{any_host_matches}
 use Rattle.hx_allow.specs.Cookies.{has_cookie_of}
+use Rattle.hx_allow.specs.Purges.{asks_to_purge}
 use Rattle.hx_allow.specs.TableLines.{Line, Table}
 use Rattle.hx_allow.specs.declared.verdicts.Route.{Route}
+use Rattle.hx_allow.specs.Values.{is_some_and}
 use Rattle.hx_allow.specs.Via.{times_named, request_loops}
 use Rattle.hx_allow.specs.declared.verdicts.Verdict.{Verdict}
-use Rattle.hx_allow.specs.declared.verdicts.Verdict.TheVariants.{Allowed, DeniedBy, NoLine, Looped}
+use Rattle.hx_allow.specs.declared.verdicts.Verdict.TheVariants.{Allowed, DeniedBy, NoLine, Looped, Purged}
 
 -- own: methods that no line allows: a tunnel, and two that need Max-Forwards (RFC 9110, sections 7.6.2 and 9.3.6)
 abbrev pub is_never_allowed : List ℕ → Bool
@@ -103,6 +105,7 @@ VerdictNamesAnOrigin lines (Allowed route) = LineAllows lines route.number
 VerdictNamesAnOrigin lines (DeniedBy n) = Unit {0}
 VerdictNamesAnOrigin lines NoLine = Unit {0}
 VerdictNamesAnOrigin lines (Looped n) = Unit {0}
+VerdictNamesAnOrigin lines (Purged n) = Unit {0}
 
 -- the number of the line that decided
 abbrev pub line_number : Verdict → Option ℕ
@@ -110,6 +113,7 @@ line_number (Allowed route) = Some route.number
 line_number (DeniedBy n) = Some n
 line_number NoLine = None
 line_number (Looped n) = Some n
+line_number (Purged n) = Some n
 
 -- the line of this number refuses requests that loop
 abbrev pub line_refuses_loops : List Line → ℕ → Bool
@@ -128,6 +132,7 @@ verdict_on_loops lines loops (Allowed route) =
 verdict_on_loops lines loops (DeniedBy n) = DeniedBy n
 verdict_on_loops lines loops NoLine = NoLine
 verdict_on_loops lines loops (Looped n) = Looped n
+verdict_on_loops lines loops (Purged n) = Purged n
 
 -- the names of the cookies whose requests go past the store, over the line of this number
 abbrev pub session_cookies_of : List Line → ℕ → List (List ℕ)
@@ -152,11 +157,29 @@ verdict_on_cookies lines fields (Allowed route) =
 verdict_on_cookies lines fields (DeniedBy n) = DeniedBy n
 verdict_on_cookies lines fields NoLine = NoLine
 verdict_on_cookies lines fields (Looped n) = Looped n
+verdict_on_cookies lines fields (Purged n) = Purged n
+
+-- the key of the line of this number, where it purges
+abbrev pub purge_key_of : List Line → ℕ → Option (List ℕ)
+purge_key_of lines n = option_and_then (λ (line : Line). line.purge_key) (line_of_number lines n)
+
+-- the line of this number purges for a request with these fields
+abbrev pub line_purges_for : List Line → ℕ → List Field → Bool
+line_purges_for lines n fields = is_some_and (λ key. asks_to_purge key fields) (purge_key_of lines n)
+
+-- a line that purges denies each request but those that show its key and ask for nothing that isn't known
+abbrev pub verdict_on_purges : List Line → List Field → Verdict → Verdict
+verdict_on_purges lines fields (Allowed route) = Allowed route
+verdict_on_purges lines fields (DeniedBy n) = if line_purges_for lines n fields then Purged n else DeniedBy n
+verdict_on_purges lines fields NoLine = NoLine
+verdict_on_purges lines fields (Looped n) = Looped n
+verdict_on_purges lines fields (Purged n) = Purged n
 
 -- What the table says of a request, of which it knows method, target and fields: what the first line says that matches,
--- but that one which refuses loops doesn't allow a request that was here twice already, and that a request goes past
--- the store where it has one of the cookies that the line names.
+-- but that one which refuses loops doesn't allow a request that was here twice already, that a request goes past the
+-- store where it has one of the cookies that the line names, and that a line which purges takes one that shows its key.
 unfoldable pub verdict_of_request : Table → List ℕ → Target → List Field → Verdict
 verdict_of_request table method target fields =
-    verdict_on_cookies table.lines fields
-    (verdict_on_loops table.lines (request_loops table.name fields) (verdict_of table.lines method target))
+    verdict_on_purges table.lines fields
+    (verdict_on_cookies table.lines fields
+    (verdict_on_loops table.lines (request_loops table.name fields) (verdict_of table.lines method target)))

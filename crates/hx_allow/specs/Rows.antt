@@ -14,7 +14,7 @@ use Rattle.hx_allow.specs.declared.config_faults.LineWord.TheVariants.{Lifetime,
 use Rattle.hx_allow.specs.declared.config_faults.LineWord.TheVariants.{Errors, RequestDirectives, Wait, Explain}
 use Rattle.hx_allow.specs.declared.config_faults.LineWord.TheVariants.{LifetimeMost, Cookies, Conditions, Loops}
 use Rattle.hx_allow.specs.declared.config_faults.LineWord.TheVariants.{SessionCookies, StaleWhileRevalidate, Vary}
-use Rattle.hx_allow.specs.declared.config_faults.LineWord.TheVariants.{OriginTimeout}
+use Rattle.hx_allow.specs.declared.config_faults.LineWord.TheVariants.{OriginTimeout, PurgeKey, Ranges}
 use Rattle.hx_allow.specs.declared.config_faults.NumberKey.{NumberKey}
 use Rattle.hx_allow.specs.declared.config_faults.NumberKey.TheVariants.{Version, Capacity, MaxBody, MaxStored}
 use Rattle.hx_allow.specs.declared.config_faults.NumberKey.TheVariants.{MaxStore}
@@ -23,7 +23,7 @@ use Rattle.hx_allow.specs.declared.rows.Kind.TheVariants as source
 use Rattle.hx_allow.specs.declared.rows.LineKey.{LineKey}
 use Rattle.hx_allow.specs.declared.rows.LineKey.TheVariants.{Host, Methods, Path, Origin, Cache, Word}
 use Rattle.hx_allow.specs.declared.rows.Place.{Place}
-use Rattle.hx_allow.specs.declared.rows.Place.TheVariants.{Needed, Optional, AllowingLine, CachingLine}
+use Rattle.hx_allow.specs.declared.rows.Place.TheVariants.{Needed, Optional, AllowingLine, CachingLine, PurgingLine}
 use Rattle.hx_allow.specs.declared.rows.Row.{Row as SourceRow}
 use Rattle.hx_allow.specs.declared.rows.TopKey.{TopKey}
 use Rattle.hx_allow.specs.declared.rows.TopKey.TheVariants.{Name, Number, Lines}
@@ -41,6 +41,8 @@ pub data Kind : Type 0 where
   a_version : Kind
   -- one of two texts; where the key doesn't stand it is as with the first
   one_of : List ℕ → List ℕ → Kind
+  -- the same, or from the fourth version on the third text
+  one_of_in_four : List ℕ → List ℕ → List ℕ → Kind
   -- a list of 1 to so many tokens, of which none is `*`
   some_names : ℕ → Kind
   a_name : Kind
@@ -49,6 +51,7 @@ pub data Kind : Type 0 where
   some_methods : Kind
   a_path : Kind
   an_origin : Kind
+  a_purge_key : Kind
 
 -- A key, the version since which it is known, what its value has to be, and where it may stand.
 pub record Row : Type 0 where
@@ -108,7 +111,7 @@ word_row Lifetime = row_for_caching_lines (codes "lifetime") Three (some_seconds
 word_row ErrorLifetime = row_for_caching_lines (codes "error-lifetime") Four (some_seconds 1 most_seconds)
 word_row LifetimeMost = row_for_caching_lines (codes "lifetime-most") Four (some_seconds 1 most_seconds)
 word_row StaleIfError = row_for_caching_lines (codes "stale-if-error") Three (some_seconds 0 most_seconds)
-word_row SetCookie = row_for_caching_lines (codes "set-cookie") Three (one_of (codes "stored") (codes "not-stored"))
+word_row SetCookie = row_for_caching_lines (codes "set-cookie") Three (one_of_in_four (codes "stored") (codes "not-stored") (codes "removed"))
 word_row Cookies = row_for_caching_lines (codes "cookies") Four (one_of (codes "private") (codes "shared"))
 word_row SessionCookies = row_for_caching_lines (codes "session-cookies") Four (some_names 16)
 word_row Errors = row_for_caching_lines (codes "errors") Three (one_of (codes "stored") (codes "not-stored"))
@@ -120,17 +123,19 @@ word_row Loops = row_for_allowing_lines (codes "loops") Four (one_of (codes "ref
 word_row StaleWhileRevalidate = row_for_caching_lines (codes "stale-while-revalidate") Four (some_seconds 0 most_seconds)
 word_row Vary = row_for_caching_lines (codes "vary") Four (some_names 8)
 word_row OriginTimeout = row_for_allowing_lines (codes "origin-timeout") Four (some_seconds 1 most_timeout_seconds)
+word_row PurgeKey = record { key = codes "key"; since = Four; kind = a_purge_key; place = PurgingLine }
+word_row Ranges = row_for_caching_lines (codes "ranges") Four (one_of (codes "served") (codes "forwarded"))
 
 -- the words of a line, in the order in which they are looked at
 abbrev pub line_words : List LineWord
 line_words =
     Lifetime ∷ ErrorLifetime ∷ LifetimeMost ∷ StaleIfError ∷ SetCookie ∷ Cookies ∷ SessionCookies ∷ Errors
     ∷ RequestDirectives ∷ Wait ∷ Explain ∷ Conditions ∷ Loops ∷ StaleWhileRevalidate ∷ Vary
-    ∷ OriginTimeout ∷ []
+    ∷ OriginTimeout ∷ PurgeKey ∷ Ranges ∷ []
 
 -- what is told of a key that isn't known, with the keys that a version adds
 abbrev pub words_of_unknown_key : List ℕ
-words_of_unknown_key = codes "a key isn't known where it stands; correct its spelling or delete it: behind [[line]] keys belong to that line; cache needs version = 2, 3 or 4, lifetime, stale-if-error, set-cookie, errors, request-directives, wait and explain need version = 3 or 4, and max_store, error-lifetime, lifetime-most, cookies, session-cookies, conditions, loops, stale-while-revalidate, vary and origin-timeout need version = 4"
+words_of_unknown_key = codes "a key isn't known where it stands; correct its spelling or delete it: behind [[line]] keys belong to that line; cache needs version = 2, 3 or 4, lifetime, stale-if-error, set-cookie, errors, request-directives, wait and explain need version = 3 or 4, and max_store, error-lifetime, lifetime-most, cookies, session-cookies, conditions, loops, stale-while-revalidate, vary, origin-timeout, key and ranges need version = 4"
 
 abbrev pub line_row : LineKey → Row
 line_row Host = required_row (codes "host") a_host
@@ -190,6 +195,7 @@ plain_kind (source.Seconds low high) = some_seconds low high
 plain_kind (source.StoreBound low high) = a_store_bound low high
 plain_kind source.Version = a_version
 plain_kind (source.OneOf first second) = one_of first.now second.now
+plain_kind (source.OneOfInFour first second third) = one_of_in_four first.now second.now third.now
 plain_kind (source.Names most) = some_names most
 plain_kind source.Name = a_name
 plain_kind source.Lines = some_lines
@@ -197,6 +203,7 @@ plain_kind source.Host = a_host
 plain_kind source.Methods = some_methods
 plain_kind source.Path = a_path
 plain_kind source.Origin = an_origin
+plain_kind source.PurgeKey = a_purge_key
 
 abbrev pub plain_row : SourceRow → Row
 plain_row row = record { key = row.key.now; since = row.since; kind = plain_kind row.kind; place = row.place }

@@ -1,11 +1,14 @@
 -- Lines that say nothing new, and which lines may.
-use Rattle.std.specs.Prelude.{◌≡◌, ◌⊎◌, true, false, [], None, is_some, codes, length}
+use Rattle.std.specs.Prelude.{◌≡◌, ◌⊎◌, true, false, [], None, is_some, codes, length, IfSome}
 use Rattle.std.specs.List.{list_any}
 use Rattle.toml.specs.Data.{Members, get_member}
 use Rattle.hx_policy.specs.Policies.{plain}
 use Rattle.hx_allow.specs.Keys.{word_key}
 use Rattle.hx_allow.specs.LineHosts.{begins_with_star_dot, is_for_hosts_below}
+use Rattle.hx_allow.specs.LineWords.{key_has_text}
 use Rattle.hx_allow.specs.LineTables.{names_small_method, names_path_with_star}
+use Rattle.hx_allow.specs.LineWords.{line_purges}
+use Rattle.hx_allow.specs.Purges.{is_purge_key}
 use Rattle.hx_allow.specs.Rows.{word_row}
 use Rattle.hx_allow.specs.TableLines.{Line}
 use Rattle.hx_allow.specs.Values.{is_some_and, items_at, text_at}
@@ -25,11 +28,12 @@ LineHasNoWordOfFour ms = (word : LineWord) → (word_row word).since ≡ Four �
 abbrev pub LineIsSpelledForFour : Members → Type 0
 LineIsSpelledForFour ms = (names_small_method ms ≡ false) × (names_path_with_star ms ≡ false)
 
--- host and path are no lists, and the host isn't `*.` and another
+-- host and path are no lists, the host isn't `*.` and another, `set-cookie` isn't `removed`, and the line doesn't purge
 abbrev pub LineNamesAsInThree : Members → Type 0
 LineNamesAsInThree ms =
     (items_at (codes "host") ms ≡ None) × (items_at (codes "path") ms ≡ None)
     × (is_some_and begins_with_star_dot (text_at (codes "host") ms) ≡ false)
+    × (key_has_text (codes "set-cookie") (codes "removed") ms ≡ false) × (line_purges Four ms ≡ false)
 
 -- one path, and one host or every one
 abbrev pub LineHasOneHostAndPath : Line → Type 0
@@ -41,18 +45,25 @@ abbrev pub LineHasNoCachingWord : Members → Type 0
 LineHasNoCachingWord ms = (word : LineWord) → (word_row word).place ≡ CachingLine → get_member (word_key word) ms ≡ None
 
 -- what a line of the third version says: errors have the lifetime of all others, each stated lifetime counts as it is,
--- requests with a cookie are given the lifetimes of all others, the conditions of clients are the origin's to judge,
--- nothing stale is sent while it is validated, requests that loop go on, no request goes past the store for its
--- cookies, Vary alone nominates, and no origin has a time-out of its own
+-- cookies aren't removed, responses and requests with a cookie are given the lifetimes of all others, the conditions of
+-- clients are the origin's to judge and their ranges the origin's to answer, nothing stale is sent while it is
+-- validated, requests that loop go on, no request goes past the store for its cookies, Vary alone nominates, no origin
+-- has a time-out of its own, and no line purges
 abbrev pub LineIsOfThree : Line → Type 0
 LineIsOfThree line =
     (line.policy.error_lifetime ≡ line.policy.lifetime) × (line.policy.lifetime_most ≡ None)
+    × (line.policy.removes_cookies ≡ false) × (line.policy.gives_to_set_cookie ≡ true)
     × (line.policy.gives_to_cookies ≡ true) × (line.policy.forwards_conditions ≡ true)
+    × (line.policy.forwards_ranges ≡ true)
     × (line.policy.stale_while_revalidate ≡ None) × (line.policy.sends_while_revalidating ≡ false)
     × (line.refuses_loops ≡ false) × (line.session_cookies ≡ []) × (line.vary ≡ [])
-    × (line.origin_timeout ≡ None)
+    × (line.origin_timeout ≡ None) × (line.purge_key ≡ None)
 
 -- a line says nothing of caching but whether it caches, or it allows and has its cache on
 abbrev pub LineTakesItsWords : Line → Type 0
 LineTakesItsWords line =
     (line.policy ≡ plain line.policy.caches) ⊎ ((is_some line.origin ≡ true) × (line.policy.caches ≡ true))
+
+-- a line that has a key purges: it has no origin, and its key is one
+abbrev pub LinePurgesByItsKey : Line → Type 0
+LinePurgesByItsKey line = IfSome line.purge_key (λ key. (is_purge_key key ≡ true) × (line.origin ≡ None))

@@ -1,11 +1,11 @@
 //! The operator's table, read.
-ghost use Rattle.std.specs.Prelude.{◌≡◌, ◌≤◌, [], length, Err, IfSome, unwrap_or};
+ghost use Rattle.std.specs.Prelude.{◌≡◌, ◌≤◌, [], length, Err, IfSome, unwrap_or, is_some};
 ghost use Rattle.std.specs.Option.{option_copied, option_map};
 ghost use Rattle.std.specs.Net.Text.{socket_v4_text};
 ghost use Rattle.hx_allow.specs.Matching.{verdict_of, verdict_of_request, origin_of, origin_address_of, line_policy};
 ghost use Rattle.hx_allow.specs.Matching.{line_refuses_loops, request_came_back, VerdictNamesAnOrigin};
 ghost use Rattle.hx_allow.specs.Matching.{policy_of, session_cookies_of, goes_past_store, vary_of};
-ghost use Rattle.hx_allow.specs.Matching.{origin_timeout_of};
+ghost use Rattle.hx_allow.specs.Matching.{origin_timeout_of, purge_key_of, line_purges_for};
 ghost use Rattle.hx_allow.specs.NeverReached.{first_line_taking};
 ghost use Rattle.hx_allow.specs.Tables.{BytesReadAs, TableWasRead};
 
@@ -14,6 +14,7 @@ use crate::host_index::HostIndex;
 use crate::lines::{Line, is_never_allowed};
 use crate::matching::{line_at, line_refuses_loops, verdict_for_host};
 use crate::origins::Origin;
+use crate::purges::asks_to_purge;
 use crate::shadows::first_taking;
 use crate::via::{request_loops, was_here};
 use crate::{ConfigFault, Route, Verdict, config_reading};
@@ -105,7 +106,9 @@ impl Config {
 
     /// What the table says of a request: the first line decides whose host, a method and path match. Over a line that
     /// refuses loops a request isn't allowed whose Via names this proxy twice (RFC 9110, section 7.6.3); where it is
-    /// allowed it goes past the store if it has one of the cookies that the line names (RFC 6265, section 4.2.1).
+    /// allowed it goes past the store if it has one of the cookies that the line names (RFC 6265, section 4.2.1). A
+    /// line that purges denies a request unless that shows its key, in a time that doesn't tell where it differs, and
+    /// asks for nothing but to purge its target.
     #[tactic(auto, unfolding(crate::specs::Matching::verdict_of_request))]
     pub fn judge(&self, method: &Method, target: &Target, fields: &Fields) -> Verdict
         ensures verdict { result ≡ verdict_of_request self.now method.now target.now fields.now }
@@ -124,12 +127,13 @@ impl Config {
                     past_store: self.goes_past_store(line, fields),
                 })
             }
+            Verdict::DeniedBy(line) if self.purges_for(line, fields) => Verdict::Purged(line),
             _ => verdict,
         }
     }
 
     /// What the first line says whose host, a method and path match: what the table says of a request that was never
-    /// here before.
+    /// here before and shows no key.
     pub fn judge_target(&self, method: &Method, target: &Target) -> Verdict
         ensures verdict { result ≡ verdict_of self.now.lines method.now target.now }
         ensures allowing { VerdictNamesAnOrigin self.now.lines result }
@@ -211,6 +215,31 @@ impl Config {
         match line_at(&self.lines, line) {
             Some(line) => line.vary.as_slice(),
             None => &[],
+        }
+    }
+
+    /// Whether a line, counted from 1, purges.
+    pub fn purges(&self, line: u16) -> bool
+        ensures { result ≡ is_some (purge_key_of self.now.lines line) }
+    {
+        match line_at(&self.lines, line) {
+            Some(line) => line.purge_key.is_some(),
+            None => false,
+        }
+    }
+
+    fn purge_key_at(&self, line: u16) -> Option<&Bytes>
+        ensures { option_copied result ≡ purge_key_of self.now.lines line }
+    {
+        line_at(&self.lines, line)?.purge_key.as_ref()
+    }
+
+    fn purges_for(&self, line: u16, fields: &Fields) -> bool
+        ensures { result ≡ line_purges_for self.now.lines line fields.now }
+    {
+        match self.purge_key_at(line) {
+            Some(key) => asks_to_purge(key.as_slice(), fields.as_slice()),
+            None => false,
         }
     }
 

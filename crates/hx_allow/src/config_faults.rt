@@ -31,7 +31,8 @@ impl NumberKey {
     }
 }
 
-/// A key of a line of version 3 or 4 that says more of caching, of loops, or of time-outs, in the table's order.
+/// A key of a line of version 3 or 4 that says more of caching, of loops, of time-outs, or of purges, in the table's
+/// order.
 #[derive(Clone, Copy, Debug, PartialEq, Eq, Hash)]
 pub enum LineWord {
     /// The lifetime of what states none, 1 to 2,147,483,648 seconds (RFC 9111, section 4.2.2). In
@@ -72,6 +73,11 @@ pub enum LineWord {
     Vary,
     /// For how long the origin may send no byte, 1 to 86,400 seconds. It needs version 4.
     OriginTimeout,
+    /// What a request has to show over a line that purges, 16 to 64 letters and digits. It needs version 4.
+    PurgeKey,
+    /// Whether a range is cut from a stored response, or goes to the origin (RFC 9110, section 14.2). It needs
+    /// version 4.
+    Ranges,
 }
 
 impl LineWord {
@@ -103,15 +109,16 @@ pub enum ConfigFault {
     BadMethod(u16),
     /// `path` of this line is no path, nor in version 4 a list of 1 to 32 of them.
     BadPath(u16),
-    /// `origin` of this line is neither `"deny"` nor four numbers and a port.
+    /// `origin` of this line is neither `"deny"` nor four numbers and a port, nor in version 4 `"purge"`.
     BadOrigin(u16),
     /// `line` is no array of 1 to 256 tables, or in version 4 of 1 to 4,096.
     NoLines,
     /// Memory ran out.
     OutOfMemory,
-    /// `cache` of this line is neither `"on"` nor `"off"`, or stands in a line that denies.
+    /// `cache` of this line is neither `"on"` nor `"off"`, or stands in a line that denies or purges.
     BadCache(u16),
-    /// This key of this line has a value that it can't have, or stands in a line that denies or has its cache off.
+    /// This key of this line has a value that it can't have, or stands in a line that doesn't take it; or a line that
+    /// purges has no key.
     BadWord(u16, LineWord),
     /// A method of this line of a table of version 4 has a letter in lower case.
     MethodInLowerCase(u16),

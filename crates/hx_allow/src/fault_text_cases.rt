@@ -13,14 +13,14 @@ ghost use Rattle.hx_allow.specs.declared.config_faults.LineWord.TheVariants.{Wai
 ghost use Rattle.hx_allow.specs.declared.config_faults.LineWord.TheVariants.{LifetimeMost, Cookies, Loops};
 ghost use Rattle.hx_allow.specs.declared.config_faults.LineWord.TheVariants.{SessionCookies, StaleWhileRevalidate};
 ghost use Rattle.hx_allow.specs.declared.config_faults.LineWord.TheVariants.{Vary};
-ghost use Rattle.hx_allow.specs.declared.config_faults.LineWord.TheVariants.{OriginTimeout};
+ghost use Rattle.hx_allow.specs.declared.config_faults.LineWord.TheVariants.{OriginTimeout, PurgeKey, Ranges};
 ghost use Rattle.hx_allow.specs.declared.config_faults.NumberKey.TheVariants.{Version, Capacity, MaxBody, MaxStored};
 ghost use Rattle.hx_allow.specs.declared.config_faults.NumberKey.TheVariants.{MaxStore};
 
 /// What has to stand at the top of a table.
 pub fn worked_words_of_the_top()
     ensures not_toml { expected_words NotToml ≡ codes "the table is no TOML, has a key twice, or has more than 1048576 bytes; look for a quote or bracket that is missing" }
-    ensures unknown_key { (key : List ℕ) → expected_words (UnknownKey key) ≡ codes "a key isn't known where it stands; correct its spelling or delete it: behind [[line]] keys belong to that line; cache needs version = 2, 3 or 4, lifetime, stale-if-error, set-cookie, errors, request-directives, wait and explain need version = 3 or 4, and max_store, error-lifetime, lifetime-most, cookies, session-cookies, conditions, loops, stale-while-revalidate, vary and origin-timeout need version = 4" }
+    ensures unknown_key { (key : List ℕ) → expected_words (UnknownKey key) ≡ codes "a key isn't known where it stands; correct its spelling or delete it: behind [[line]] keys belong to that line; cache needs version = 2, 3 or 4, lifetime, stale-if-error, set-cookie, errors, request-directives, wait and explain need version = 3 or 4, and max_store, error-lifetime, lifetime-most, cookies, session-cookies, conditions, loops, stale-while-revalidate, vary, origin-timeout, key and ranges need version = 4" }
     ensures bad_name { expected_words BadName ≡ codes "name has to be a lower-case letter and at most 31 of a-z, 0-9 and -, in quotes" }
     ensures no_lines { expected_words NoLines ≡ codes "a table has 1 to 256 lines, or 1 to 4096 in version 4, each of which begins with [[line]]" }
     ensures out_of_memory { expected_words OutOfMemory ≡ codes "no memory is left for the table" }
@@ -36,10 +36,10 @@ pub fn worked_words_of_lines()
     ensures bad_host { (line : ℕ) → expected_words (BadHost line) ≡ codes "host has to be \"*\" or one host in lower case, without a port, an IPv6 address in brackets; in version 4 also \"*.\" and a name for the hosts below it, or a list of 1 to 32 of these" }
     ensures bad_method { (line : ℕ) → expected_words (BadMethod line) ≡ codes "methods has to be a list of 1 to 32, each \"*\" or a method of at most 15 bytes, but not CONNECT, TRACE or OPTIONS" }
     ensures bad_path { (line : ℕ) → expected_words (BadPath line) ≡ codes "path has to begin with / and not to end with it, but for / itself; no ?, #, blank, byte above 7E, segment . or .., or % without two hexadecimal digits behind it; in version 4 also a list of 1 to 32 of these" }
-    ensures bad_origin { (line : ℕ) → expected_words (BadOrigin line) ≡ codes "origin has to be \"deny\" or an IPv4 address and a port, as in \"127.0.0.1:8081\"" }
+    ensures bad_origin { (line : ℕ) → expected_words (BadOrigin line) ≡ codes "origin has to be \"deny\" or an IPv4 address and a port, as in \"127.0.0.1:8081\"; in version 4 also \"purge\"" }
     ensures method_in_lower_case { (line : ℕ) → expected_words (MethodInLowerCase line) ≡ codes "a method has a letter in lower case; methods compare with their case, so write GET and not get" }
     ensures star_in_path { (line : ℕ) → expected_words (StarInPath line) ≡ codes "path has a *, which is that character and no pattern; leave it out: a path matches itself and all below it" }
-    ensures bad_cache { (line : ℕ) → expected_words (BadCache line) ≡ codes "cache has to be \"on\" or \"off\", and not to stand in a line that denies" }
+    ensures bad_cache { (line : ℕ) → expected_words (BadCache line) ≡ codes "cache has to be \"on\" or \"off\", and not to stand in a line that denies or purges" }
 {}
 
 /// What has to stand at a word of version 3 or 4.
@@ -48,7 +48,7 @@ pub fn worked_words_of_words()
     ensures error_lifetime { (line : ℕ) → expected_words (BadWord line ErrorLifetime) ≡ codes "error-lifetime has to be a whole number of seconds from 1 to 2147483648, without quotes, in a line that has an origin and its cache on" }
     ensures lifetime_most { (line : ℕ) → expected_words (BadWord line LifetimeMost) ≡ codes "lifetime-most has to be a whole number of seconds from 1 to 2147483648, without quotes, in a line that has an origin and its cache on" }
     ensures stale_if_error { (line : ℕ) → expected_words (BadWord line StaleIfError) ≡ codes "stale-if-error has to be a whole number of seconds from 0 to 2147483648, without quotes, in a line that has an origin and its cache on" }
-    ensures set_cookie { (line : ℕ) → expected_words (BadWord line SetCookie) ≡ codes "set-cookie has to be \"stored\" or \"not-stored\", in a line that has an origin and its cache on" }
+    ensures set_cookie { (line : ℕ) → expected_words (BadWord line SetCookie) ≡ codes "set-cookie has to be \"stored\" or \"not-stored\", in version 4 also \"removed\", in a line that has an origin and its cache on" }
     ensures cookies { (line : ℕ) → expected_words (BadWord line Cookies) ≡ codes "cookies has to be \"private\" or \"shared\", in a line that has an origin and its cache on" }
     ensures session_cookies { (line : ℕ) → expected_words (BadWord line SessionCookies) ≡ codes "session-cookies has to be a list of 1 to 16 names, each of letters, digits and !#$%&'*+-.^_`|~, but not \"*\", in a line that has an origin and its cache on" }
     ensures errors { (line : ℕ) → expected_words (BadWord line Errors) ≡ codes "errors has to be \"stored\" or \"not-stored\", in a line that has an origin and its cache on" }
@@ -58,13 +58,15 @@ pub fn worked_words_of_words()
     ensures conditions { (line : ℕ) → expected_words (BadWord line Conditions) ≡ codes "conditions has to be \"answered\" or \"forwarded\", in a line that has an origin and its cache on" }
     ensures stale_while_revalidate { (line : ℕ) → expected_words (BadWord line StaleWhileRevalidate) ≡ codes "stale-while-revalidate has to be a whole number of seconds from 0 to 2147483648, without quotes, in a line that has an origin and its cache on" }
     ensures vary { (line : ℕ) → expected_words (BadWord line Vary) ≡ codes "vary has to be a list of 1 to 8 names, each of letters, digits and !#$%&'*+-.^_`|~, but not \"*\", in a line that has an origin and its cache on" }
-    ensures origin_timeout { (line : ℕ) → expected_words (BadWord line OriginTimeout) ≡ codes "origin-timeout has to be a whole number of seconds from 1 to 86400, without quotes, and not to stand in a line that denies" }
-    ensures loops { (line : ℕ) → expected_words (BadWord line Loops) ≡ codes "loops has to be \"refused\" or \"forwarded\", and not to stand in a line that denies" }
+    ensures origin_timeout { (line : ℕ) → expected_words (BadWord line OriginTimeout) ≡ codes "origin-timeout has to be a whole number of seconds from 1 to 86400, without quotes, and not to stand in a line that denies or purges" }
+    ensures key { (line : ℕ) → expected_words (BadWord line PurgeKey) ≡ codes "key has to be 16 to 64 letters and digits, in quotes, in a line with origin = \"purge\" and in no other" }
+    ensures ranges { (line : ℕ) → expected_words (BadWord line Ranges) ≡ codes "ranges has to be \"served\" or \"forwarded\", in a line that has an origin and its cache on" }
+    ensures loops { (line : ℕ) → expected_words (BadWord line Loops) ≡ codes "loops has to be \"refused\" or \"forwarded\", and not to stand in a line that denies or purges" }
 {}
 
 /// A fault of a line begins with its number.
 pub fn worked_places_of_faults()
-    ensures of_a_line { fault_text (BadOrigin 12) ≡ codes "in [[line]] number 12 origin has to be \"deny\" or an IPv4 address and a port, as in \"127.0.0.1:8081\"" }
+    ensures of_a_line { fault_text (BadOrigin 12) ≡ codes "in [[line]] number 12 origin has to be \"deny\" or an IPv4 address and a port, as in \"127.0.0.1:8081\"; in version 4 also \"purge\"" }
     ensures of_a_path { fault_text (StarInPath 2) ≡ codes "in [[line]] number 2 path has a *, which is that character and no pattern; leave it out: a path matches itself and all below it" }
     ensures of_the_table { fault_text NoLines ≡ codes "a table has 1 to 256 lines, or 1 to 4096 in version 4, each of which begins with [[line]]" }
 {}

@@ -84,6 +84,10 @@ impl fmt::Display for Kind {
             ),
             Kind::Version => f.write_str("be 1, 2, 3 or 4, without quotes"),
             Kind::OneOf(first, second) => write!(f, "be \"{first}\" or \"{second}\""),
+            Kind::OneOfInFour(first, second, third) => write!(
+                f,
+                "be \"{first}\" or \"{second}\", in version 4 also \"{third}\""
+            ),
             Kind::Names(most) => write!(
                 f,
                 "be a list of 1 to {most} names, each of letters, digits and !#$%&'*+-.^_`|~, but not \"*\""
@@ -102,8 +106,9 @@ impl fmt::Display for Kind {
                 "begin with / and not to end with it, but for / itself; no ?, #, blank, byte above 7E, segment . or .., or % without two hexadecimal digits behind it; in version 4 also a list of 1 to 32 of these",
             ),
             Kind::Origin => f.write_str(
-                "be \"deny\" or an IPv4 address and a port, as in \"127.0.0.1:8081\"",
+                "be \"deny\" or an IPv4 address and a port, as in \"127.0.0.1:8081\"; in version 4 also \"purge\"",
             ),
+            Kind::PurgeKey => f.write_str("be 16 to 64 letters and digits, in quotes"),
         }
     }
 }
@@ -118,8 +123,13 @@ impl fmt::Display for Place {
         match self {
             Place::Needed => Ok(()),
             Place::Optional => Ok(()),
-            Place::AllowingLine => f.write_str(", and not to stand in a line that denies"),
+            Place::AllowingLine => f.write_str(
+                ", and not to stand in a line that denies or purges",
+            ),
             Place::CachingLine => f.write_str(", in a line that has an origin and its cache on"),
+            Place::PurgingLine => {
+                f.write_str(", in a line with origin = \"purge\" and in no other")
+            }
         }
     }
 }

@@ -1,7 +1,7 @@
 //! What the definitions of `specs/` say together, and what they give on tables of a few lines: each
 //! function's contract is a law, and its body is empty.
 ghost use Rattle.std.specs.Prelude.{◌≡◌, ◌+◌, ◌++◌, List, ℕ, Result, Ok, Err, Some, None, [], ◌∷◌, true, false, codes};
-ghost use Rattle.std.specs.Prelude.{◌≤◌, ◌^◌, IfSome, length, option_map};
+ghost use Rattle.std.specs.Prelude.{◌≤◌, ◌^◌, IfSome, length, option_map, is_some};
 ghost use Rattle.std.specs.List.{All, position_from};
 ghost use Rattle.toml.specs.Data.{Members, get_member};
 ghost use Rattle.toml.specs.Parse.{parse_document};
@@ -38,9 +38,10 @@ pub use crate::fault_text_cases::{
 };
 pub use crate::line_word_cases::{
     a_table_with_a_lifetime_of_errors_is_read, a_table_with_words_is_read,
-    worked_conditions_of_versions, worked_cookies_of_versions, worked_keys_of_words,
-    worked_lifetimes_of_versions, worked_places_of_words, worked_policies_of_words,
-    worked_seconds_of_a_line, worked_staleness_meanwhile_of_versions, worked_texts_of_a_line,
+    worked_conditions_of_versions, worked_cookies_of_responses_in_versions,
+    worked_cookies_of_versions, worked_keys_of_words, worked_lifetimes_of_versions,
+    worked_places_of_words, worked_policies_of_words, worked_seconds_of_a_line,
+    worked_staleness_meanwhile_of_versions, worked_texts_of_a_line,
 };
 pub use crate::list_cases::{
     faults_of_lists, hosts_of_each_version, lines_with_lists_decide, worked_lines_with_lists,
@@ -56,6 +57,12 @@ pub use crate::loop_cases::{
 pub use crate::loop_laws::{
     a_line_of_via_is_read_as_it_is_written, a_loop_is_refused_where_its_line_says_so,
     other_requests_are_judged_as_before,
+};
+pub use crate::purge_cases::{
+    worked_purge_keys, worked_purging_lines, worked_requests_that_purge, worked_requests_with_keys,
+};
+pub use crate::purge_laws::{
+    a_line_with_a_key_purges, a_request_purges_where_it_shows_the_key_of_its_line,
 };
 pub use crate::table_cases::{
     a_table_has_1_to_256_lines, faults_of_a_line_in_order, faults_of_a_store_bound,
@@ -145,11 +152,12 @@ pub fn version_two_reads_as_before()
 /// A table of the first three versions is never refused for what the fourth adds: for the bound of the store's
 /// bytes, of which it has none, so that what is stored is bounded by its number alone, as before; and for a word of
 /// the fourth, of which none of its lines has one, so that errors have the lifetime of all others, each stated
-/// lifetime counts as it is, requests with a cookie are given the lifetimes of all others, the conditions of
-/// clients go to the origin, nothing stale is sent while it is validated, requests that loop go on, and no origin
-/// has a time-out of its own, as before. Nor is it refused for a method in lower case or a `*` in a path. Each of
-/// its lines has one path, and one host or every one. A line without such a word, such a spelling, a list and `*.`
-/// and a host is read alike in the fourth; what the third reads has neither of the last two.
+/// lifetime counts as it is, requests and responses with a cookie are given the lifetimes of all others, no cookie is
+/// removed, the conditions of clients and their ranges go to the origin, nothing stale is sent while it is validated,
+/// requests that loop go on, no origin has a time-out of its own, and no line purges, as before. Nor is it refused for
+/// a method in lower case or a `*` in a path. Each of its lines has one path, and one host or every one. A line without
+/// such a word, such a spelling, a list, `*.` and a host, `set-cookie = "removed"` and `origin = "purge"` is read alike
+/// in the fourth; what the third reads has none of the last four.
 pub fn version_three_reads_as_before()
     ensures never { (t : Members) → has_keys_of (version_of t) Four ≡ false
         → ¬ (judge_table t ≡ Err (Fault.BadNumber MaxStore)) }
@@ -200,6 +208,18 @@ pub fn cookies_are_private_in_version_four()
         → (line_read Four members).policy.gives_to_cookies ≡ key_has_text (codes "cookies") (codes "shared") members }
 {}
 
+/// Over a line of version 4 that has an origin and its cache on a response with Set-Cookie is given the line's
+/// lifetimes exactly where the line says what becomes of such a response. It is stored without its cookies exactly
+/// where the line says that they are removed, and in no earlier version.
+#[tactic(auto, unfolding(crate::specs::LineTables::line_read))]
+pub fn a_cookie_is_given_no_lifetime_in_version_four()
+    ensures lifetimes { (members : Members) → line_takes_words members ≡ true
+        → (line_read Four members).policy.gives_to_set_cookie ≡ is_some (get_member (codes "set-cookie") members) }
+    ensures removed { (members : Members) → (line_read Four members).policy.removes_cookies
+        ≡ key_has_text (codes "set-cookie") (codes "removed") members }
+    ensures before { (members : Members) → (line_read Three members).policy.removes_cookies ≡ false }
+{}
+
 /// Where a table bounds the bytes of its store, the bound is in its range, and no content that may be
 /// stored is above it.
 pub fn a_store_takes_each_content()
@@ -237,6 +257,7 @@ pub fn a_whole_table_is_read()
         session_cookies = [];
         vary = [];
         origin_timeout = None;
+        purge_key = None;
       } ∷ [];
     })) }
 {}
@@ -260,6 +281,7 @@ pub fn a_table_of_two_lines_is_read()
         session_cookies = [];
         vary = [];
         origin_timeout = None;
+        purge_key = None;
       } ∷ record {
         hosts = OneHost (codes "x") ∷ [];
         methods = codes "GET" ∷ [];
@@ -270,6 +292,7 @@ pub fn a_table_of_two_lines_is_read()
         session_cookies = [];
         vary = [];
         origin_timeout = None;
+        purge_key = None;
       } ∷ [];
     })) }
 {}
@@ -299,6 +322,7 @@ pub fn lines_without_cache_are_read()
         session_cookies = [];
         vary = [];
         origin_timeout = None;
+        purge_key = None;
       } ∷ record {
         hosts = Every ∷ [];
         methods = codes "GET" ∷ [];
@@ -309,6 +333,7 @@ pub fn lines_without_cache_are_read()
         session_cookies = [];
         vary = [];
         origin_timeout = None;
+        purge_key = None;
       } ∷ record {
         hosts = Every ∷ [];
         methods = codes "GET" ∷ [];
@@ -319,6 +344,7 @@ pub fn lines_without_cache_are_read()
         session_cookies = [];
         vary = [];
         origin_timeout = None;
+        purge_key = None;
       } ∷ [];
     })) }
 {}

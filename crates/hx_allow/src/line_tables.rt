@@ -23,15 +23,16 @@ ghost use Rattle.hx_allow.specs.LineTables.{config_fault_found};
 
 use crate::ConfigFault;
 use crate::addresses::address_of;
-use crate::config_faults::FoundFault;
+use crate::config_faults::{FoundFault, LineWord};
 use crate::line_hosts::LineHost;
 use crate::line_paths::LinePath;
 use crate::line_words::{
-    key_has_one_of_two, line_denies, line_takes_words, policy_of_line_table, refuses_loops,
-    seconds_for_origin,
+    key_has_one_of_two, key_has_text, line_has_no_origin, line_purges, line_takes_words,
+    policy_of_line_table, refuses_loops, seconds_for_origin,
 };
 use crate::lines::{Line, is_never_allowed};
 use crate::origins::Origin;
+use crate::purges::is_purge_key;
 use crate::rows::{Kind, LINE_KEYS, LineKey, Place, Row};
 use crate::values::TableVersion::Four;
 use crate::values::{
@@ -114,10 +115,12 @@ fn is_line_path(text: &[u8]) -> bool
     are_path_bytes(text) && !has_bad_escape(text) && !names_a_dot_segment(text)
 }
 
-fn is_line_origin(text: &[u8]) -> bool
-    ensures { result ≡ is_line_origin text.now }
+fn is_line_origin(version: TableVersion, text: &[u8]) -> bool
+    ensures { result ≡ is_line_origin version text.now }
 {
-    text == b"deny".as_slice() || address_of(text).is_some()
+    text == b"deny".as_slice()
+        || address_of(text).is_some()
+        || (version.has_keys_of(Four) && text == b"purge".as_slice())
 }
 
 /// Whether a text may stand in a list of names.
@@ -135,7 +138,8 @@ fn is_text_of(version: TableVersion, kind: Kind, text: &[u8]) -> bool
         Kind::Host => is_line_host(version, text),
         Kind::Methods => is_line_method(text),
         Kind::Path => is_line_path(text),
-        Kind::Origin => is_line_origin(text),
+        Kind::Origin => is_line_origin(version, text),
+        Kind::PurgeKey => is_purge_key(text),
         Kind::Names(_) => is_listed_name(text),
         _ => false,
     }
@@ -207,10 +211,15 @@ fn is_of_kind(version: TableVersion, kind: Kind, key: &str, table: &Table) -> bo
         Kind::Number(low, high) => is_number_between(table, key, low, high),
         Kind::Seconds(low, high) => is_number_between(table, key, low, high),
         Kind::OneOf(first, second) => key_has_one_of_two(table, key, first, second),
+        Kind::OneOfInFour(first, second, third) => {
+            key_has_one_of_two(table, key, first, second)
+                || (version.has_keys_of(Four) && key_has_text(table, key, third))
+        }
         Kind::Host => is_text_or_list(version, kind, key, table),
         Kind::Methods => is_good_list(version, kind, array_at(table, key)),
         Kind::Path => is_text_or_list(version, kind, key, table),
         Kind::Origin => is_good_text(version, kind, text_at(table, key)),
+        Kind::PurgeKey => is_good_text(version, kind, text_at(table, key)),
         Kind::Names(_) => is_good_list(version, kind, array_at(table, key)),
         _ => false,
     }
@@ -226,9 +235,16 @@ fn is_good(version: TableVersion, row: Row, table: &Table) -> bool
             value_at(table, row.key).is_none() || is_of_kind(version, row.kind, row.key, table)
         }
         Place::AllowingLine => value_at(table, row.key).is_none()
-            || (is_of_kind(version, row.kind, row.key, table) && !line_denies(table)),
+            || (is_of_kind(version, row.kind, row.key, table) && !line_has_no_origin(table)),
         Place::CachingLine => value_at(table, row.key).is_none()
             || (is_of_kind(version, row.kind, row.key, table) && line_takes_words(table)),
+        Place::PurgingLine => {
+            if line_purges(version, table) {
+                is_of_kind(version, row.kind, row.key, table)
+            } else {
+                value_at(table, row.key).is_none()
+            }
+        }
     }
 }
 
@@ -362,6 +378,15 @@ fn origin_rule(alloc: Global, text: Option<&str>) -> Result<Option<Origin>, Allo
     }
 }
 
+fn copy_of_text(alloc: Global, text: Option<&str>) -> Result<Option<Bytes>, AllocError>
+    ensures { IfOk result (λ copied. copied ≡ option_copied text.entry) }
+{
+    match text {
+        Some(text) => Ok(Some(Bytes::copy_of(alloc, text.as_bytes())?)),
+        None => Ok(None),
+    }
+}
+
 fn copy_texts(alloc: Global, values: &[Value]) -> Result<Vec<Bytes>, AllocError>
     ensures { IfOk result (λ texts. texts.items ≡ texts_of (items_view values.now)) }
 {
@@ -437,6 +462,7 @@ fn line_read(alloc: Global, version: TableVersion, table: &Table) -> Result<Line
         session_cookies: texts_in_list(alloc, table, "session-cookies")?,
         vary: texts_in_list(alloc, table, "vary")?,
         origin_timeout: seconds_for_origin(table),
+        purge_key: copy_of_text(alloc, text_at(table, LineWord::PurgeKey.row().key))?,
     })
 }
 

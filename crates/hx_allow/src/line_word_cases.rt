@@ -139,6 +139,16 @@ pub fn worked_texts_of_a_line()
         ≡ Some (BadWord 1 SetCookie) }
     ensures cookies_no_text { line_fault Three 1 (line_table_with_keys ((codes "set-cookie", boolean false) ∷ []))
         ≡ Some (BadWord 1 SetCookie) }
+    ensures cookies_removed { line_fault Four 1
+        (line_table_with_keys (key_with_text (codes "set-cookie") (codes "removed") ∷ [])) ≡ None }
+    ensures cookies_removed_in_three { line_fault Three 1
+        (line_table_with_keys (key_with_text (codes "set-cookie") (codes "removed") ∷ [])) ≡ Some (BadWord 1 SetCookie) }
+    ensures cookies_stored_in_four { line_fault Four 1
+        (line_table_with_keys (key_with_text (codes "set-cookie") (codes "stored") ∷ [])) ≡ None }
+    ensures cookies_not_stored_in_four { line_fault Four 1
+        (line_table_with_keys (key_with_text (codes "set-cookie") (codes "not-stored") ∷ [])) ≡ None }
+    ensures cookies_hidden { line_fault Four 1 (line_table_with_keys (key_with_text (codes "set-cookie") (codes "hidden") ∷ []))
+        ≡ Some (BadWord 1 SetCookie) }
     ensures errors_stored { line_fault Three 1 (line_table_with_keys (key_with_text (codes "errors") (codes "stored")
         ∷ [])) ≡ None }
     ensures errors_not_stored { line_fault Three 1
@@ -341,6 +351,27 @@ pub fn worked_cookies_of_versions()
     ensures denying { (line_read Four (denying_line_table_with [])).policy ≡ plain true }
 {}
 
+/// In the fourth version a line gives its lifetimes to no response with Set-Cookie, unless it says what becomes of
+/// those, denies or has its cache off; in the third it gives them to each. Only the fourth has `removed`.
+#[tactic(auto, unfolding(crate::specs::LineTables::line_read))]
+pub fn worked_cookies_of_responses_in_versions()
+    ensures of_three { (line_read Three
+        (line_table_with_keys (key_with_number (codes "lifetime") 60 ∷ []))).policy.gives_to_set_cookie ≡ true }
+    ensures of_four { (line_read Four
+        (line_table_with_keys (key_with_number (codes "lifetime") 60 ∷ []))).policy.gives_to_set_cookie ≡ false }
+    ensures stored { (line_read Four (line_table_with_keys (key_with_text (codes "set-cookie") (codes "stored") ∷ []))).policy
+        ≡ record plain_of_four { gives_to_set_cookie = true } }
+    ensures not_stored { (line_read Four (line_table_with_keys (key_with_text (codes "set-cookie") (codes "not-stored")
+        ∷ []))).policy ≡ record plain_of_four { stores_cookies = false; gives_to_set_cookie = true } }
+    ensures removed { (line_read Four (line_table_with_keys (key_with_text (codes "set-cookie") (codes "removed") ∷ []))).policy
+        ≡ record plain_of_four { removes_cookies = true; gives_to_set_cookie = true } }
+    ensures removed_in_three { (line_read Three
+        (line_table_with_keys (key_with_text (codes "set-cookie") (codes "removed") ∷ []))).policy ≡ plain true }
+    ensures off { (line_read Four (line_table_with_keys (key_with_text (codes "cache") (codes "off") ∷ []))).policy
+        ≡ plain false }
+    ensures denying { (line_read Four (denying_line_table_with [])).policy ≡ plain true }
+{}
+
 /// In the fourth version a line that lets others wait for what is stale sends it while it is validated, for as long as
 /// it or the line says; in the third it doesn't.
 #[tactic(auto, unfolding(crate::specs::LineTables::line_read))]
@@ -383,6 +414,8 @@ pub fn a_table_with_words_is_read()
           stale_if_error = Some 600;
           stale_while_revalidate = None;
           stores_cookies = false;
+          removes_cookies = false;
+          gives_to_set_cookie = true;
           gives_to_cookies = true;
           stores_errors = false;
           heeds_requests = false;
@@ -390,6 +423,7 @@ pub fn a_table_with_words_is_read()
           sends_while_revalidating = false;
           explains_storing = true;
           forwards_conditions = true;
+          forwards_ranges = true;
         };
       } ∷ [];
     })) }

@@ -1,11 +1,13 @@
 //! What a line says of caching, and which lines may say it.
 ghost use Rattle.std.specs.Prelude.{◌≡◌};
 ghost use Rattle.toml.specs.View.{table_view};
-ghost use Rattle.hx_allow.specs.LineWords.{key_has_one_of_two, key_has_text, line_denies, line_takes_words};
-ghost use Rattle.hx_allow.specs.LineWords.{says_second, word_of_error_lifetime};
+ghost use Rattle.hx_allow.specs.LineWords.{key_has_one_of_two, key_has_text, line_has_no_origin, line_takes_words};
+ghost use Rattle.hx_allow.specs.LineWords.{says_second, says_third, word_of_error_lifetime};
+ghost use Rattle.hx_allow.specs.LineWords.{removes_cookies, gives_lifetimes_to_set_cookie};
 ghost use Rattle.hx_allow.specs.LineWords.{gives_lifetimes_to_cookies, leaves_conditions_to_origin};
+ghost use Rattle.hx_allow.specs.LineWords.{leaves_ranges_to_origin};
 ghost use Rattle.hx_allow.specs.LineWords.{refuses_loops, sends_while_revalidating, policy_of_line_table};
-ghost use Rattle.hx_allow.specs.LineWords.{seconds_for_origin};
+ghost use Rattle.hx_allow.specs.LineWords.{seconds_for_origin, line_purges};
 ghost use Rattle.hx_allow.specs.Rows.{plain_row, word_row};
 ghost use Rattle.hx_allow.specs.Values.{number_in};
 ghost use Rattle.hx_allow.specs.declared.config_faults.LineWord.TheVariants.{Lifetime, LifetimeMost, StaleIfError};
@@ -13,7 +15,8 @@ ghost use Rattle.hx_allow.specs.declared.config_faults.LineWord.TheVariants.{Sta
 
 use crate::config_faults::LineWord;
 use crate::rows::{Kind, LineKey, Row};
-use crate::values::{TableVersion, seconds_in, text_at};
+use crate::values::TableVersion::Four;
+use crate::values::{TableVersion, seconds_in, text_at, value_at};
 use hx_policy::Policy;
 use toml::Table;
 
@@ -28,7 +31,7 @@ pub fn key_has_one_of_two(table: &Table, key: &str, first: &str, second: &str) -
 }
 
 /// Whether a key has this text.
-fn key_has_text(table: &Table, key: &str, word: &str) -> bool
+pub fn key_has_text(table: &Table, key: &str, word: &str) -> bool
     ensures { result ≡ key_has_text key.now word.now (table_view table.now) }
 {
     match text_at(table, key) {
@@ -37,17 +40,25 @@ fn key_has_text(table: &Table, key: &str, word: &str) -> bool
     }
 }
 
-pub fn line_denies(table: &Table) -> bool
-    ensures { result ≡ line_denies (table_view table.now) }
+/// Whether a line purges.
+pub fn line_purges(version: TableVersion, table: &Table) -> bool
+    ensures { result ≡ line_purges version (table_view table.now) }
 {
-    key_has_text(table, "origin", "deny")
+    version.has_keys_of(TableVersion::Four) && key_has_text(table, "origin", "purge")
+}
+
+/// Whether a line denies or purges.
+pub fn line_has_no_origin(table: &Table) -> bool
+    ensures { result ≡ line_has_no_origin (table_view table.now) }
+{
+    key_has_one_of_two(table, "origin", "deny", "purge")
 }
 
 /// Whether a line has an origin and its cache on.
 pub fn line_takes_words(table: &Table) -> bool
     ensures { result ≡ line_takes_words (table_view table.now) }
 {
-    !line_denies(table) && !key_has_text(table, "cache", "off")
+    !line_has_no_origin(table) && !key_has_text(table, "cache", "off")
 }
 
 /// Whether a key says the second of its two texts.
@@ -56,6 +67,19 @@ fn says_second(row: Row, table: &Table) -> bool
 {
     match row.kind {
         Kind::OneOf(_, second) => key_has_text(table, row.key, second),
+        Kind::OneOfInFour(_, second, _) => key_has_text(table, row.key, second),
+        _ => false,
+    }
+}
+
+/// Whether a key says the third of its texts, in a table of a version that has it.
+fn says_third(version: TableVersion, row: Row, table: &Table) -> bool
+    ensures { result ≡ says_third version (plain_row row) (table_view table.now) }
+{
+    match row.kind {
+        Kind::OneOfInFour(_, _, third) => {
+            version.has_keys_of(Four) && key_has_text(table, row.key, third)
+        }
         _ => false,
     }
 }
@@ -71,6 +95,21 @@ fn word_of_error_lifetime(version: TableVersion) -> LineWord
     }
 }
 
+/// Whether what is stored and sent to others has no Set-Cookie.
+fn removes_cookies(version: TableVersion, table: &Table) -> bool
+    ensures { result ≡ removes_cookies version (table_view table.now) }
+{
+    says_third(version, LineWord::SetCookie.row(), table)
+}
+
+/// Whether a line gives its lifetimes to a response with Set-Cookie, too.
+fn gives_lifetimes_to_set_cookie(version: TableVersion, table: &Table) -> bool
+    ensures { result ≡ gives_lifetimes_to_set_cookie version (table_view table.now) }
+{
+    let row = LineWord::SetCookie.row();
+    !(version.has_keys_of(Four) && line_takes_words(table)) || value_at(table, row.key).is_some()
+}
+
 /// Whether a line gives its lifetimes to the response to a request with a cookie, too.
 fn gives_lifetimes_to_cookies(version: TableVersion, table: &Table) -> bool
     ensures { result ≡ gives_lifetimes_to_cookies version (table_view table.now) }
@@ -84,6 +123,14 @@ fn leaves_conditions_to_origin(version: TableVersion, table: &Table) -> bool
     ensures { result ≡ leaves_conditions_to_origin version (table_view table.now) }
 {
     let row = LineWord::Conditions.row();
+    !(row.is_known_in(version) && line_takes_words(table)) || says_second(row, table)
+}
+
+/// Whether requests for a range are the origin's to answer.
+fn leaves_ranges_to_origin(version: TableVersion, table: &Table) -> bool
+    ensures { result ≡ leaves_ranges_to_origin version (table_view table.now) }
+{
+    let row = LineWord::Ranges.row();
     !(row.is_known_in(version) && line_takes_words(table)) || says_second(row, table)
 }
 
@@ -142,6 +189,8 @@ pub fn policy_of_line_table(version: TableVersion, table: &Table) -> Policy
         stale_if_error: None,
         stale_while_revalidate: None,
         stores_cookies: !says_second(LineWord::SetCookie.row(), table),
+        removes_cookies: removes_cookies(version, table),
+        gives_to_set_cookie: gives_lifetimes_to_set_cookie(version, table),
         gives_to_cookies: gives_lifetimes_to_cookies(version, table),
         stores_errors: !says_second(LineWord::Errors.row(), table),
         heeds_requests: !says_second(LineWord::RequestDirectives.row(), table),
@@ -149,6 +198,7 @@ pub fn policy_of_line_table(version: TableVersion, table: &Table) -> Policy
         sends_while_revalidating: sends_while_revalidating(version, table),
         explains_storing: says_second(LineWord::Explain.row(), table),
         forwards_conditions: leaves_conditions_to_origin(version, table),
+        forwards_ranges: leaves_ranges_to_origin(version, table),
     };
     with_seconds_of_line(words, version, table)
 }

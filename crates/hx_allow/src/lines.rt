@@ -20,7 +20,7 @@ pub struct Line {
     pub methods: Vec<Bytes>,
     /// The paths that it matches, each with all that is below it.
     pub paths: Vec<LinePath>,
-    /// Where the line's requests go, or none where the line denies.
+    /// Where the line's requests go, or none where the line denies or purges.
     pub origin: Option<Origin>,
     /// What it says of caching.
     pub policy: Policy,
@@ -32,6 +32,8 @@ pub struct Line {
     pub vary: Vec<Bytes>,
     /// The seconds for which its origin may send no byte, where it says so.
     pub origin_timeout: Option<u32>,
+    /// What a request has to show, where the line purges.
+    pub purge_key: Option<Bytes>,
 }
 
 impl Model for Line {
@@ -49,6 +51,7 @@ impl Model for Line {
       session_cookies = l.session_cookies.items;
       vary = l.vary.items;
       origin_timeout = l.origin_timeout;
+      purge_key = l.purge_key;
     } };
 }
 

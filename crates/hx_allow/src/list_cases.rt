@@ -118,6 +118,7 @@ pub fn worked_lines_with_lists()
           session_cookies = [];
           vary = [];
           origin_timeout = None;
+          purge_key = None;
         } }
     ensures alone { line_read Four (line_table_of (string (codes "a")) (string (codes "/")))
         ≡ record (line_with_method (Some (codes "a")) (codes "GET") (codes "/") None) { refuses_loops = true } }

@@ -8,7 +8,8 @@ ghost use Rattle.hx_target.specs.declared.targets.Target.{Target};
 ghost use Rattle.hx_allow.specs.TableLines.{Table};
 ghost use Rattle.hx_allow.specs.LineTables.{line_read};
 ghost use Rattle.hx_allow.specs.LineWords.{key_has_text};
-ghost use Rattle.hx_allow.specs.Matching.{line_refuses_loops, verdict_of, verdict_on_cookies, verdict_of_request};
+ghost use Rattle.hx_allow.specs.Matching.{line_refuses_loops, verdict_of, verdict_on_cookies, verdict_on_purges};
+ghost use Rattle.hx_allow.specs.Matching.{verdict_of_request};
 ghost use Rattle.hx_allow.specs.declared.verdicts.Route.{Route};
 ghost use Rattle.hx_allow.specs.Rows.{has_keys_of};
 ghost use Rattle.hx_allow.specs.Tables.{version_of, judge_table};
@@ -42,16 +43,18 @@ pub fn a_loop_is_refused_where_its_line_says_so()
 {}
 
 /// A request whose Via doesn't name the proxy twice has the verdict on its method and target, but for the store past
-/// which its cookies may bring it, and so has each request over a line that lets loops go on. All lines of tables of
-/// the first three versions do, and none of them looks at cookies.
+/// which its cookies may bring it and the key that it may show, and so has each request over a line that lets loops go
+/// on. All lines of tables of the first three versions do, none of them looks at cookies, and none purges.
 pub fn other_requests_are_judged_as_before()
     ensures seldom { (table : Table) (method : List ℕ) (target : Target) (fields : List Field)
         → times_named table.name fields ≤ 1 → verdict_of_request table method target fields
-        ≡ verdict_on_cookies table.lines fields (verdict_of table.lines method target) }
+        ≡ verdict_on_purges table.lines fields
+        (verdict_on_cookies table.lines fields (verdict_of table.lines method target)) }
     ensures forwarded { (table : Table) (method : List ℕ) (target : Target) (fields : List Field)
         → ((route : Route) → verdict_of table.lines method target ≡ Allowed route
         → line_refuses_loops table.lines route.number ≡ false) → verdict_of_request table method target fields
-        ≡ verdict_on_cookies table.lines fields (verdict_of table.lines method target) }
+        ≡ verdict_on_purges table.lines fields
+        (verdict_on_cookies table.lines fields (verdict_of table.lines method target)) }
     ensures earlier_versions { (t : Members) (table : Table) (method : List ℕ) (target : Target) (fields : List Field)
         → has_keys_of (version_of t) Four ≡ false → judge_table t ≡ Ok table
         → verdict_of_request table method target fields ≡ verdict_of table.lines method target }

@@ -10,7 +10,7 @@ use crate::config_faults::{ConfigFault, LineWord, NumberKey};
 use crate::limits::MOST_STORE_BYTES;
 use crate::values::TableVersion;
 use crate::values::TableVersion::{Four, One, Three, Two};
-use Kind::{Names, Number, OneOf, Seconds, StoreBound};
+use Kind::{Names, Number, OneOf, OneOfInFour, Seconds, StoreBound};
 
 /// The most seconds that a lifetime has (RFC 9111, section 1.2.2).
 const MOST_SECONDS: u32 = 2_147_483_648;
@@ -31,6 +31,8 @@ pub(crate) enum Kind {
     Version,
     /// One of two texts. Where the key doesn't stand it is as with the first.
     OneOf(&'static str, &'static str),
+    /// The same, or from the fourth version on the third text.
+    OneOfInFour(&'static str, &'static str, &'static str),
     /// A list of 1 to so many tokens, of which none is `*`.
     Names(u8),
     Name,
@@ -39,6 +41,8 @@ pub(crate) enum Kind {
     Methods,
     Path,
     Origin,
+    /// 16 to 64 letters and digits.
+    PurgeKey,
 }
 
 /// Where a key may stand.
@@ -52,6 +56,8 @@ pub(crate) enum Place {
     AllowingLine,
     /// In a line that has an origin and its cache on.
     CachingLine,
+    /// In each line that purges, where it has to stand, and in no other.
+    PurgingLine,
 }
 
 /// A key, the version since which it is known, what its value has to be, and where it may stand.
@@ -94,7 +100,7 @@ pub(crate) const TOP_KEYS: [TopKey; 7] = [
 ];
 
 /// The keys of a line, in the order in which they are looked at.
-pub(crate) const LINE_KEYS: [LineKey; 21] = [
+pub(crate) const LINE_KEYS: [LineKey; 23] = [
     LineKey::Host,
     LineKey::Methods,
     LineKey::Path,
@@ -116,11 +122,13 @@ pub(crate) const LINE_KEYS: [LineKey; 21] = [
     LineKey::Word(LineWord::StaleWhileRevalidate),
     LineKey::Word(LineWord::Vary),
     LineKey::Word(LineWord::OriginTimeout),
+    LineKey::Word(LineWord::PurgeKey),
+    LineKey::Word(LineWord::Ranges),
 ];
 
 /// What is told of a key that isn't known, with the keys that a version adds.
 pub(crate) const WORDS_OF_UNKNOWN_KEY: &str =
-    "a key isn't known where it stands; correct its spelling or delete it: behind [[line]] keys belong to that line; cache needs version = 2, 3 or 4, lifetime, stale-if-error, set-cookie, errors, request-directives, wait and explain need version = 3 or 4, and max_store, error-lifetime, lifetime-most, cookies, session-cookies, conditions, loops, stale-while-revalidate, vary and origin-timeout need version = 4";
+    "a key isn't known where it stands; correct its spelling or delete it: behind [[line]] keys belong to that line; cache needs version = 2, 3 or 4, lifetime, stale-if-error, set-cookie, errors, request-directives, wait and explain need version = 3 or 4, and max_store, error-lifetime, lifetime-most, cookies, session-cookies, conditions, loops, stale-while-revalidate, vary, origin-timeout, key and ranges need version = 4";
 
 impl NumberKey {
     pub(crate) fn row(self) -> Row
@@ -189,7 +197,7 @@ impl LineWord {
             LineWord::SetCookie => Row::of_caching(
                 "set-cookie",
                 Three,
-                OneOf("stored", "not-stored"),
+                OneOfInFour("stored", "not-stored", "removed"),
             ),
             LineWord::Cookies => Row::of_caching("cookies", Four, OneOf("private", "shared")),
             LineWord::SessionCookies => Row::of_caching("session-cookies", Four, Names(16)),
@@ -224,6 +232,13 @@ impl LineWord {
                 kind: Seconds(1, MOST_TIMEOUT_SECONDS),
                 place: Place::AllowingLine,
             },
+            LineWord::PurgeKey => Row {
+                key: "key",
+                since: Four,
+                kind: Kind::PurgeKey,
+                place: Place::PurgingLine,
+            },
+            LineWord::Ranges => Row::of_caching("ranges", Four, OneOf("served", "forwarded")),
         }
     }
 }

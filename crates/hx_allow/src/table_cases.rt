@@ -118,6 +118,7 @@ pub fn worked_lines()
           session_cookies = [];
           vary = [];
           origin_timeout = None;
+          purge_key = None;
         } }
 {}
 

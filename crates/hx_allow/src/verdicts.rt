@@ -30,12 +30,14 @@ impl Route {
 pub enum Verdict {
     /// The first line that matches has an origin.
     Allowed(Route),
-    /// The first line that matches denies.
+    /// The first line that matches denies, or purges and the request shows no key of its.
     DeniedBy(u16),
     /// No line matches, which denies too.
     NoLine,
     /// The first line that matches has an origin, and refuses requests that loop, as this one.
     Looped(u16),
+    /// The first line that matches purges, and the request shows its key: what is held for its target goes.
+    Purged(u16),
 }
 
 impl Verdict {
@@ -45,7 +47,8 @@ impl Verdict {
     {
         match self {
             Verdict::Allowed(route) => route.number <= number,
-            Verdict::DeniedBy(line) | Verdict::Looped(line) => line <= number,
+            Verdict::DeniedBy(line) | Verdict::Looped(line) | Verdict::Purged(line) => line
+                <= number,
             Verdict::NoLine => false,
         }
     }

@@ -284,11 +284,11 @@ pub fn worked_addresses_that_are_read()
 /// Origins of lines: `deny`, or an address.
 #[tactic(auto, unfolding(crate::specs::Addresses::address_of, hx_target::specs::Hosts::short_number))]
 pub fn worked_origins_of_lines()
-    ensures deny { is_line_origin (codes "deny") ≡ true }
-    ensures address { is_line_origin (codes "127.0.0.1:8081") ≡ true }
-    ensures upper { is_line_origin (codes "Deny") ≡ false }
-    ensures allow { is_line_origin (codes "allow") ≡ false }
-    ensures empty { is_line_origin [] ≡ false }
+    ensures deny { is_line_origin Four (codes "deny") ≡ true }
+    ensures address { is_line_origin Four (codes "127.0.0.1:8081") ≡ true }
+    ensures upper { is_line_origin Four (codes "Deny") ≡ false }
+    ensures allow { is_line_origin Four (codes "allow") ≡ false }
+    ensures empty { is_line_origin Four [] ≡ false }
 {}
 
 /// Hosts compare by their bytes, and a line without one matches each.

@@ -16,6 +16,8 @@ plain caches = record {
   stale_if_error = None;
   stale_while_revalidate = None;
   stores_cookies = true;
+  removes_cookies = false;
+  gives_to_set_cookie = true;
   gives_to_cookies = true;
   stores_errors = true;
   heeds_requests = true;
@@ -23,6 +25,7 @@ plain caches = record {
   sends_while_revalidating = false;
   explains_storing = false;
   forwards_conditions = true;
+  forwards_ranges = true;
 }
 
 -- the statuses that are heuristically cacheable (RFC 9110, section 15.1)

@@ -6,13 +6,15 @@ ghost use Rattle.hx_policy.specs.declared.words.Policy.{Policy as Words};
 
 /// A line that has no word gives no lifetime and no stale-if-error, takes each stated lifetime as it is, stores and
 /// heeds what the written rules say, lets nobody wait for what is stale nor be sent it meanwhile, tells no storing
-/// rule, and leaves the conditions of clients to the origin.
+/// rule, and leaves the conditions of clients and their ranges to the origin.
 pub fn a_plain_policy_has_no_words()
     ensures caches { (caches : Bool) → (plain caches).caches ≡ caches }
     ensures lifetime { (caches : Bool) (status : ℕ) → given_lifetime (plain caches) status ≡ None }
     ensures most { (caches : Bool) → (plain caches).lifetime_most ≡ None }
     ensures on_error { (caches : Bool) → (plain caches).stale_if_error ≡ None }
     ensures cookies { (caches : Bool) → (plain caches).stores_cookies ≡ true }
+    ensures cookies_of_all { (caches : Bool) → (plain caches).removes_cookies ≡ false }
+    ensures responses_with_cookies { (caches : Bool) → (plain caches).gives_to_set_cookie ≡ true }
     ensures requests_with_cookies { (caches : Bool) → (plain caches).gives_to_cookies ≡ true }
     ensures errors { (caches : Bool) → (plain caches).stores_errors ≡ true }
     ensures requests { (caches : Bool) → (plain caches).heeds_requests ≡ true }
@@ -21,6 +23,7 @@ pub fn a_plain_policy_has_no_words()
     ensures while_revalidating { (caches : Bool) → (plain caches).stale_while_revalidate ≡ None }
     ensures storing { (caches : Bool) → (plain caches).explains_storing ≡ false }
     ensures conditions { (caches : Bool) → (plain caches).forwards_conditions ≡ true }
+    ensures ranges { (caches : Bool) → (plain caches).forwards_ranges ≡ true }
 {}
 
 /// A lifetime is given to a status that is heuristically cacheable, and to no other (RFC 9111, section 4.2.2): that of

@@ -5,7 +5,8 @@ ghost use Rattle.hx_policy.specs.Policies.{plain, given_lifetime};
 use crate::heuristics::{is_error, is_heuristic};
 
 /// What a line says of caching. Each word but the first needs version 3 of the table, those of errors, of the most
-/// seconds, of the cookies of requests, of conditions, and of what is sent while it is validated version 4.
+/// seconds, of cookies that stay with one, of conditions, of ranges, and of what is sent while it is validated
+/// version 4.
 #[derive(Clone, Copy, Debug, PartialEq, Eq)]
 pub struct Policy {
     /// Requests may be answered from the store, and their responses stored.
@@ -26,6 +27,12 @@ pub struct Policy {
     pub stale_while_revalidate: Option<u32>,
     /// A response with Set-Cookie is stored though it has no public (RFC 9111, section 7.3).
     pub stores_cookies: bool,
+    /// A response is stored without its Set-Cookie lines, and none is sent out of the store: each stays with the one
+    /// whom it was set for (RFC 9111, section 7.3).
+    pub removes_cookies: bool,
+    /// The lifetimes of the line are also given to a response with Set-Cookie. Else such a response that has neither a
+    /// lifetime of its own nor public isn't stored where the line would give it one.
+    pub gives_to_set_cookie: bool,
     /// The lifetimes of the line are also given to the response to a request with Cookie or Authorization. Else such a
     /// response that has neither a lifetime of its own nor public isn't stored where the line would give it one.
     pub gives_to_cookies: bool,
@@ -46,6 +53,9 @@ pub struct Policy {
     /// The If-None-Match and If-Modified-Since of a GET that a stored response could answer go to the origin, which
     /// judges them. Else they stay with the proxy, which judges them on what it sends (RFC 9111, section 4.3.2).
     pub forwards_conditions: bool,
+    /// A request with Range or If-Range goes to the origin. Else a stored response may answer it, from which one range
+    /// is cut (RFC 9110, section 14.2).
+    pub forwards_ranges: bool,
 }
 
 impl Policy {
@@ -61,6 +71,8 @@ impl Policy {
             stale_if_error: None,
             stale_while_revalidate: None,
             stores_cookies: true,
+            removes_cookies: false,
+            gives_to_set_cookie: true,
             gives_to_cookies: true,
             stores_errors: true,
             heeds_requests: true,
@@ -68,6 +80,7 @@ impl Policy {
             sends_while_revalidating: false,
             explains_storing: false,
             forwards_conditions: true,
+            forwards_ranges: true,
         }
     }
 

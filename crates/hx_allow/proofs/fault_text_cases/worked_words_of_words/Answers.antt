@@ -33,3 +33,7 @@ returns-clause-origin_timeout c line = refl
 pub returns-clause-session_cookies : goal.returns-clause-session_cookies
 unfolding digits
 returns-clause-session_cookies c line = refl
+
+pub returns-clause-key : goal.returns-clause-key
+unfolding digits
+returns-clause-key c line = refl

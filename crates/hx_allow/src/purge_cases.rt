@@ -1,0 +1,107 @@
+//! Worked cases of purges: each function's contract is the cases, and its body is empty.
+ghost use Rattle.std.specs.Prelude.{◌≡◌, ◌∷◌, [], true, false, codes, None, Some};
+ghost use Rattle.hx_fields.specs.Examples.{line};
+ghost use Rattle.hx_allow.specs.Examples.{key_with_text, key_with_number, line_table_with_keys};
+ghost use Rattle.hx_allow.specs.Examples.{purging_line_table_with, purging_table, target_for_path, purge_key};
+ghost use Rattle.hx_allow.specs.LineTables.{is_line_origin, line_fault, line_read};
+ghost use Rattle.hx_allow.specs.Keys.{word_key};
+ghost use Rattle.hx_allow.specs.Matching.{verdict_of, verdict_of_request};
+ghost use Rattle.hx_allow.specs.Purges.{is_purge_key, shows_key, asks_for_more};
+ghost use Rattle.hx_allow.specs.Values.{is_known};
+ghost use Rattle.hx_allow.specs.declared.config_faults.ConfigFault.TheVariants.{BadWord, UnknownKey};
+ghost use Rattle.hx_allow.specs.declared.config_faults.ConfigFault.TheVariants.{BadCache, BadOrigin};
+ghost use Rattle.hx_allow.specs.declared.config_faults.LineWord.TheVariants.{Lifetime, Loops, OriginTimeout, PurgeKey};
+ghost use Rattle.hx_allow.specs.declared.values.Scope.TheVariants.{Top, Line};
+ghost use Rattle.hx_allow.specs.declared.values.TableVersion.TheVariants.{Three, Four};
+ghost use Rattle.hx_allow.specs.declared.verdicts.Verdict.TheVariants.{DeniedBy, NoLine, Purged};
+
+/// Keys: 16 to 64 letters and digits.
+pub fn worked_purge_keys()
+    ensures sixteen { is_purge_key (codes "0123456789abcXYZ") ≡ true }
+    ensures fifteen { is_purge_key (codes "0123456789abcXY") ≡ false }
+    ensures sixty_four { is_purge_key
+        (codes "0123456789abcdef0123456789abcdef0123456789abcdef0123456789abcdef") ≡ true }
+    ensures sixty_five { is_purge_key
+        (codes "0123456789abcdef0123456789abcdef0123456789abcdef0123456789abcdef0") ≡ false }
+    ensures with_a_hyphen { is_purge_key (codes "0123456789-abcXYZ") ≡ false }
+    ensures with_a_blank { is_purge_key (codes "0123456789 abcXYZ") ≡ false }
+    ensures empty { is_purge_key [] ≡ false }
+{}
+
+/// Which requests show a key, and which ask for what isn't known.
+pub fn worked_requests_with_keys()
+    ensures shown { shows_key purge_key (line (codes "Purge-Key") purge_key ∷ []) ≡ true }
+    ensures any_case_of_the_name { shows_key purge_key (line (codes "purge-key") purge_key ∷ []) ≡ true }
+    ensures in_a_later_line { shows_key purge_key (line (codes "Purge-Key") (codes "x") ∷ line (codes "Host") (codes "h")
+        ∷ line (codes "Purge-Key") purge_key ∷ []) ≡ true }
+    ensures none { shows_key purge_key (line (codes "Host") (codes "h") ∷ []) ≡ false }
+    ensures another_field { shows_key purge_key (line (codes "Key") purge_key ∷ []) ≡ false }
+    ensures the_last_letter { shows_key purge_key (line (codes "Purge-Key") (codes "0123456789abcXYz") ∷ []) ≡ false }
+    ensures the_first_letter { shows_key purge_key (line (codes "Purge-Key") (codes "1123456789abcXYZ") ∷ []) ≡ false }
+    ensures its_beginning { shows_key purge_key (line (codes "Purge-Key") (codes "0123456789abcXY") ∷ []) ≡ false }
+    ensures longer { shows_key purge_key (line (codes "Purge-Key") (codes "0123456789abcXYZ0") ∷ []) ≡ false }
+    ensures empty { shows_key purge_key (line (codes "Purge-Key") [] ∷ []) ≡ false }
+    ensures quoted { shows_key purge_key (line (codes "Purge-Key") (codes "\"0123456789abcXYZ\"") ∷ []) ≡ false }
+    ensures no_more { asks_for_more (line (codes "Purge-Key") purge_key ∷ line (codes "Host") (codes "h") ∷ []) ≡ false }
+    ensures a_scope { asks_for_more (line (codes "Purge-Scope") (codes "prefix") ∷ []) ≡ true }
+    ensures a_tag { asks_for_more (line (codes "purge-tag") (codes "news") ∷ []) ≡ true }
+    ensures a_mode { asks_for_more (line (codes "PURGE-MODE") (codes "stale") ∷ []) ≡ true }
+    ensures any { asks_for_more (line (codes "Host") (codes "h") ∷ line (codes "Purge-") [] ∷ []) ≡ true }
+    ensures a_longer_key { asks_for_more (line (codes "Purge-Keys") purge_key ∷ []) ≡ true }
+    ensures its_begin { asks_for_more (line (codes "Purge") (codes "x") ∷ []) ≡ false }
+{}
+
+/// What a table says of requests to a line that purges, behind which another allows.
+#[tactic(auto, unfolding(crate::specs::Matching::verdict_of, crate::specs::Matching::verdict_of_request, crate::specs::Matching::matches_line))]
+pub fn worked_requests_that_purge()
+    ensures with_the_key { verdict_of_request purging_table (codes "PURGE") (target_for_path (codes "x") (codes "/a"))
+        (line (codes "Purge-Key") purge_key ∷ []) ≡ Purged 1 }
+    ensures without { verdict_of_request purging_table (codes "PURGE") (target_for_path (codes "x") (codes "/a"))
+        (line (codes "Host") (codes "x") ∷ []) ≡ DeniedBy 1 }
+    ensures with_another { verdict_of_request purging_table (codes "PURGE") (target_for_path (codes "x") (codes "/a"))
+        (line (codes "Purge-Key") (codes "0123456789abcXYz") ∷ []) ≡ DeniedBy 1 }
+    ensures with_a_scope { verdict_of_request purging_table (codes "PURGE") (target_for_path (codes "x") (codes "/a"))
+        (line (codes "Purge-Key") purge_key ∷ line (codes "Purge-Scope") (codes "prefix") ∷ []) ≡ DeniedBy 1 }
+    ensures another_path { verdict_of_request purging_table (codes "PURGE") (target_for_path (codes "x") (codes "/b"))
+        (line (codes "Purge-Key") purge_key ∷ []) ≡ NoLine }
+    ensures with_the_key_of_another_line { verdict_of_request purging_table (codes "PURGE")
+        (target_for_path (codes "x") (codes "/p")) (line (codes "Purge-Key") purge_key ∷ []) ≡ DeniedBy 2 }
+    ensures by_method_and_target { verdict_of purging_table.lines (codes "PURGE")
+        (target_for_path (codes "x") (codes "/a")) ≡ DeniedBy 1 }
+{}
+
+/// Lines with `origin = "purge"`: in version 4 alone, with a key and no word but it.
+#[tactic(auto, unfolding(crate::specs::LineTables::line_fault, crate::specs::LineTables::line_read, crate::specs::LineTables::is_line_host, crate::specs::LineTables::is_line_method, crate::specs::LineTables::is_line_path, crate::specs::Addresses::address_of, hx_target::specs::Hosts::is_host, hx_target::specs::Hosts::short_number, hx_target::specs::Paths::has_dot_segment))]
+pub fn worked_purging_lines()
+    ensures known { is_known (Line Four) (word_key PurgeKey) ≡ true }
+    ensures of_three { is_known (Line Three) (codes "key") ≡ false }
+    ensures at_the_top { is_known (Top Four) (codes "key") ≡ false }
+    ensures text { word_key PurgeKey ≡ codes "key" }
+    ensures origin { is_line_origin Four (codes "purge") ≡ true }
+    ensures origin_of_three { is_line_origin Three (codes "purge") ≡ false }
+    ensures upper { is_line_origin Four (codes "Purge") ≡ false }
+    ensures good { line_fault Four 1 (purging_line_table_with (key_with_text (codes "key") purge_key ∷ [])) ≡ None }
+    ensures no_key { line_fault Four 1 (purging_line_table_with []) ≡ Some (BadWord 1 PurgeKey) }
+    ensures short { line_fault Four 1 (purging_line_table_with
+        (key_with_text (codes "key") (codes "0123456789abcXY") ∷ [])) ≡ Some (BadWord 1 PurgeKey) }
+    ensures a_number { line_fault Four 1 (purging_line_table_with (key_with_number (codes "key") 1234567890123456 ∷ []))
+        ≡ Some (BadWord 1 PurgeKey) }
+    ensures with_cache { line_fault Four 1 (purging_line_table_with (key_with_text (codes "cache") (codes "on")
+        ∷ key_with_text (codes "key") purge_key ∷ [])) ≡ Some (BadCache 1) }
+    ensures with_a_lifetime { line_fault Four 1 (purging_line_table_with (key_with_text (codes "key") purge_key
+        ∷ key_with_number (codes "lifetime") 5 ∷ [])) ≡ Some (BadWord 1 Lifetime) }
+    ensures with_loops { line_fault Four 1 (purging_line_table_with (key_with_text (codes "key") purge_key
+        ∷ key_with_text (codes "loops") (codes "refused") ∷ [])) ≡ Some (BadWord 1 Loops) }
+    ensures with_a_timeout { line_fault Four 1 (purging_line_table_with (key_with_text (codes "key") purge_key
+        ∷ key_with_number (codes "origin-timeout") 5 ∷ [])) ≡ Some (BadWord 1 OriginTimeout) }
+    ensures elsewhere { line_fault Four 1 (line_table_with_keys (key_with_text (codes "key") purge_key ∷ []))
+        ≡ Some (BadWord 1 PurgeKey) }
+    ensures in_three { line_fault Three 1 (purging_line_table_with []) ≡ Some (BadOrigin 1) }
+    ensures unknown { line_fault Three 1 (purging_line_table_with (key_with_text (codes "key") purge_key ∷ []))
+        ≡ Some (UnknownKey (codes "key")) }
+    ensures says { (line_read Four (purging_line_table_with (key_with_text (codes "key") purge_key ∷ []))).purge_key
+        ≡ Some purge_key }
+    ensures has_no_origin { (line_read Four
+        (purging_line_table_with (key_with_text (codes "key") purge_key ∷ []))).origin ≡ None }
+    ensures default { (line_read Four (line_table_with_keys [])).purge_key ≡ None }
+{}

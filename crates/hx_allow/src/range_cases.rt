@@ -1,0 +1,62 @@
+//! Worked cases of the word on ranges, and its law: each function's contract says them, and its body is empty.
+ghost use Rattle.std.specs.Prelude.{◌≡◌, ◌∷◌, [], true, false, codes, None, Some};
+ghost use Rattle.toml.specs.Data.{Members, boolean};
+ghost use Rattle.hx_policy.specs.Policies.{plain};
+ghost use Rattle.hx_allow.specs.Examples.{key_with_text, line_table_with_keys, denying_line_table_with};
+ghost use Rattle.hx_allow.specs.Examples.{plain_of_four};
+ghost use Rattle.hx_allow.specs.LineTables.{line_fault, line_read};
+ghost use Rattle.hx_allow.specs.LineWords.{line_takes_words, key_has_text};
+ghost use Rattle.hx_allow.specs.Keys.{word_key};
+ghost use Rattle.hx_allow.specs.Values.{is_known};
+ghost use Rattle.hx_allow.specs.declared.config_faults.ConfigFault.TheVariants.{BadWord, UnknownKey};
+ghost use Rattle.hx_allow.specs.declared.config_faults.LineWord.TheVariants.{OriginTimeout, Ranges};
+ghost use Rattle.hx_allow.specs.declared.values.Scope.TheVariants.{Top, Line};
+ghost use Rattle.hx_allow.specs.declared.values.TableVersion.TheVariants.{Three, Four};
+
+/// Over a line of version 4 that has an origin and its cache on requests for a range go to the origin, whatever is
+/// stored, exactly where the line says so.
+#[tactic(auto, unfolding(crate::specs::LineTables::line_read))]
+pub fn ranges_are_served_in_version_four()
+    ensures { (members : Members) → line_takes_words members ≡ true
+        → (line_read Four members).policy.forwards_ranges ≡ key_has_text (codes "ranges") (codes "forwarded") members }
+{}
+
+/// The key `ranges`: one of two words, in version 4 alone, in each line that has an origin and its cache on, and looked
+/// at last. No line says that what is missing is filled.
+#[tactic(auto, unfolding(crate::specs::LineTables::line_fault, crate::specs::LineTables::is_line_host, crate::specs::LineTables::is_line_method, crate::specs::LineTables::is_line_path, crate::specs::Addresses::address_of, hx_target::specs::Hosts::is_host, hx_target::specs::Hosts::short_number, hx_target::specs::Paths::has_dot_segment))]
+pub fn worked_words_on_ranges()
+    ensures known { is_known (Line Four) (word_key Ranges) ≡ true }
+    ensures of_three { is_known (Line Three) (codes "ranges") ≡ false }
+    ensures at_the_top { is_known (Top Four) (codes "ranges") ≡ false }
+    ensures text { word_key Ranges ≡ codes "ranges" }
+    ensures served { line_fault Four 1 (line_table_with_keys (key_with_text (codes "ranges") (codes "served") ∷ [])) ≡ None }
+    ensures forwarded { line_fault Four 1 (line_table_with_keys (key_with_text (codes "ranges") (codes "forwarded") ∷ []))
+        ≡ None }
+    ensures filled { line_fault Four 1 (line_table_with_keys (key_with_text (codes "ranges") (codes "filled") ∷ []))
+        ≡ Some (BadWord 1 Ranges) }
+    ensures no_text { line_fault Four 1 (line_table_with_keys ((codes "ranges", boolean true) ∷ []))
+        ≡ Some (BadWord 1 Ranges) }
+    ensures without_cache { line_fault Four 1 (line_table_with_keys (key_with_text (codes "cache") (codes "off")
+        ∷ key_with_text (codes "ranges") (codes "served") ∷ [])) ≡ Some (BadWord 1 Ranges) }
+    ensures denying { line_fault Four 1 (denying_line_table_with (key_with_text (codes "ranges") (codes "served") ∷ []))
+        ≡ Some (BadWord 1 Ranges) }
+    ensures unknown { line_fault Three 1 (line_table_with_keys (key_with_text (codes "ranges") (codes "served") ∷ []))
+        ≡ Some (UnknownKey (codes "ranges")) }
+    ensures timeout_first { line_fault Four 1 (line_table_with_keys (key_with_text (codes "ranges") (codes "x")
+        ∷ key_with_text (codes "origin-timeout") (codes "x") ∷ [])) ≡ Some (BadWord 1 OriginTimeout) }
+{}
+
+/// In the fourth version ranges are cut from what is stored, unless the line says else, denies or has its cache off; in
+/// the third they are the origin's.
+#[tactic(auto, unfolding(crate::specs::LineTables::line_read))]
+pub fn worked_ranges_of_versions()
+    ensures of_three { (line_read Three (line_table_with_keys [])).policy.forwards_ranges ≡ true }
+    ensures of_four { (line_read Four (line_table_with_keys [])).policy.forwards_ranges ≡ false }
+    ensures served { (line_read Four (line_table_with_keys (key_with_text (codes "ranges") (codes "served") ∷ []))).policy
+        ≡ plain_of_four }
+    ensures forwarded { (line_read Four (line_table_with_keys (key_with_text (codes "ranges") (codes "forwarded") ∷ []))).policy
+        ≡ record plain_of_four { forwards_ranges = true } }
+    ensures off { (line_read Four (line_table_with_keys (key_with_text (codes "cache") (codes "off") ∷ []))).policy
+        ≡ plain false }
+    ensures denying { (line_read Four (denying_line_table_with [])).policy ≡ plain true }
+{}
