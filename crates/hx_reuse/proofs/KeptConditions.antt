@@ -6,7 +6,7 @@ use Rattle.hx_hop.specs.Bypass.{request_has_content, asks_for_range, has_precond
 use Rattle.hx_reuse.specs.Conditions.{ConditionsOfACacheableGetStay, NoOtherConditionsStay, PlainLineKeepsNoConditions}
 
 pub stays : ConditionsOfACacheableGetStay
-stays policy asked forwards caches get is = rw forwards (rw caches (rw get (rw is.no_content (rw is.no_range (rw is.no_precondition refl)))))
+stays policy asked forwards caches get is = rw forwards (rw caches (rw get (rw is.no_content (rw (is.no_range refl) (rw is.no_precondition refl)))))
 
 all_hold : (forwards caches get content range precondition : Bool) → not forwards && (caches && (get && not (content || (range || precondition)))) ≡ true
     → (forwards ≡ false) × (caches ≡ true) × (get ≡ true) × (content ≡ false) × (range ≡ false) × (precondition ≡ false)
@@ -22,7 +22,7 @@ pub only_these : NoOtherConditionsStay
 only_these policy asked e =
     let (forwards, caches, get, content, range, precondition) = all_hold policy.forwards_conditions policy.caches (bytes_eq asked.method (codes "GET")) (request_has_content asked) (asks_for_range asked) (has_precondition asked) e in
     let method : asked.method ≡ codes "GET" = (bytes_eq-Decides asked.method (codes "GET")).0 get in
-    (forwards, caches, method, record { method_allows = inl method; no_content = content; no_range = range; no_precondition = precondition })
+    (forwards, caches, method, record { method_allows = inl method; no_content = content; no_range = (λ whole. range); no_precondition = precondition })
 
 pub none_stays : PlainLineKeepsNoConditions
 none_stays caches asked = refl

@@ -13,3 +13,4 @@ pub mod LineLemmas
 pub mod WhileRevalidatingLemmas
 pub mod TableLemmas
 pub mod KeptConditions
+pub mod RangeLemmas

@@ -34,12 +34,12 @@ use Rattle.hx_fields.proofs.JoinedTests.{never, first_absent, last_absent, neith
 use Rattle.hx_reuse.proofs.OnErrorLemmas.{is_given}
 
 -- two tests that agree everywhere find the same
-same_found : {X : Type 0} (p q : X → Bool) (xs : List X) → ((x : X) → p x ≡ q x) → find p xs ≡ find q xs
+pub same_found : {X : Type 0} (p q : X → Bool) (xs : List X) → ((x : X) → p x ≡ q x) → find p xs ≡ find q xs
 same_found p q [] all = refl
 same_found p q (x ∷ xs) all = rw (all x, same_found p q xs all) refl
 
 -- and of a value that may be absent say the same
-same_of_some : {X : Type 0} (p q : X → Bool) (o : Option X) → ((x : X) → p x ≡ q x) → is_some_and p o ≡ is_some_and q o
+pub same_of_some : {X : Type 0} (p q : X → Bool) (o : Option X) → ((x : X) → p x ≡ q x) → is_some_and p o ≡ is_some_and q o
 same_of_some p q None all = refl
 same_of_some p q (Some x) all = all x
 
@@ -250,7 +250,7 @@ module _ (policy : Policy) (held : List Stored) (asked other : Asked) (now : ℕ
   same_apply Operator = refl
   same_apply Method = ap (λ (m : List ℕ). not (bytes_eq m (codes "GET") || bytes_eq m (codes "HEAD"))) like.same_method
   same_apply Content = like.same_content
-  same_apply Range = like.same_range
+  same_apply Range = ap (λ (b : Bool). policy.forwards_ranges && b) like.same_range
   same_apply Precondition = like.same_precondition
   same_apply UriMiss = ap (λ (k : Key). length (filter (λ e. same_key e.key k) held) == 0) like.one_key
   same_apply VaryMiss = ap is_none like.same_choice

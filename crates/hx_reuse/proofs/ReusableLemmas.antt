@@ -8,6 +8,7 @@ use Rattle.hx_directives.specs.declared.answers.MaxStale.{MaxStale}
 use Rattle.hx_directives.specs.declared.answers.MaxStale.TheVariants.{Absent, Any, UpTo}
 use Rattle.hx_target.specs.Keys.{same_key}
 use Rattle.hx_hop.specs.declared.request_view.Asked.{Asked}
+use Rattle.hx_hop.specs.Bypass.{asks_for_range}
 use Rattle.hx_store.specs.Stored.{Stored}
 use Rattle.hx_policy.specs.declared.words.Policy.{Policy}
 use Rattle.hx_store.specs.Serials.{Distinct}
@@ -177,6 +178,10 @@ module _ (policy : Policy) (e : Stored) (asked : Asked) (now : ℕ) where
   none_against free (inl sent) rule = none_where_fresh free sent (is_below here.age here.lifetime.seconds sent.is_fresh) rule
   none_against free (inr sent) rule = none_where_stale free sent (is_not_below here.age here.lifetime.seconds sent.is_stale) rule
 
+implied_absent : (a b : Bool) → (a ≡ true → b ≡ false) → a && b ≡ false
+implied_absent true b h = h refl
+implied_absent false b h = refl
+
 module _ (policy : Policy) (held : List Stored) (asked : Asked) (now : ℕ) where
   -- ---- from no rule to the list
 
@@ -198,7 +203,7 @@ module _ (policy : Policy) (held : List Stored) (asked : Asked) (now : ℕ) wher
         record {
           operator_allows = not_false policy.caches (may.no_rule Operator);
           is_chosen = chosen_is_preferred held asked may.response may.chosen_is;
-          request_allows = record { method_allows = method_allows asked.method (may.no_rule Method); no_content = may.no_rule Content; no_range = may.no_rule Range; no_precondition = may.no_rule Precondition };
+          request_allows = record { method_allows = method_allows asked.method (may.no_rule Method); no_content = may.no_rule Content; no_range = (λ forwards. second_false policy.forwards_ranges (asks_for_range asked) forwards (may.no_rule Range)); no_precondition = may.no_rule Precondition };
           no_no_cache = none ResponseNoCache;
           fresh_or_stale = sent_somehow policy may.response asked now none (is_fresh_situation (situation_of_request policy may.response asked now)) refl;
         },
@@ -211,7 +216,7 @@ module _ (policy : Policy) (held : List Stored) (asked : Asked) (now : ℕ) wher
   none_applies e is may Operator = ap not may.operator_allows
   none_applies e is may Method = method_is_allowed asked.method may.request_allows.method_allows
   none_applies e is may Content = may.request_allows.no_content
-  none_applies e is may Range = may.request_allows.no_range
+  none_applies e is may Range = implied_absent policy.forwards_ranges (asks_for_range asked) may.request_allows.no_range
   none_applies e is may Precondition = may.request_allows.no_precondition
   none_applies e is may UriMiss =
       let candidate = may.is_chosen.is_candidate in

@@ -126,6 +126,13 @@ stale_while_revalidate_policy n = record revalidating_policy { stale_while_reval
 abbrev pub keep_conditions_policy : Policy
 keep_conditions_policy = record (plain true) { forwards_conditions = false }
 
+-- one that has ranges cut from what is stored, and the line of such a request
+abbrev pub serve_ranges_policy : Policy
+serve_ranges_policy = record (plain true) { forwards_ranges = false }
+
+abbrev pub range_fields : List Field
+range_fields = line (codes "Range") (codes "bytes=0-1") ∷ []
+
 -- a GET of /a with these lines and one condition more
 abbrev pub get_a_if_none_match : List Field → Asked
 get_a_if_none_match fields = get_a_with (line (codes "If-None-Match") (codes "\"e\"") ∷ fields)

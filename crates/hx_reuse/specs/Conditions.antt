@@ -30,13 +30,14 @@ forwards_condition policy asked =
 
 abbrev pub ConditionsOfACacheableGetStay : Type 0
 ConditionsOfACacheableGetStay = (policy : Policy) (asked : Asked) →
-    policy.forwards_conditions ≡ false → policy.caches ≡ true → asked.method ≡ codes "GET" → RequestIsForTheCache asked
+    policy.forwards_conditions ≡ false → policy.caches ≡ true → asked.method ≡ codes "GET"
+    → RequestIsForTheCache true asked
     → keeps_conditions policy asked ≡ true
 
 abbrev pub NoOtherConditionsStay : Type 0
 NoOtherConditionsStay = (policy : Policy) (asked : Asked) → keeps_conditions policy asked ≡ true →
     (policy.forwards_conditions ≡ false) × (policy.caches ≡ true) × (asked.method ≡ codes "GET")
-    × RequestIsForTheCache asked
+    × RequestIsForTheCache true asked
 
 -- over a line without words, in a table of a version before the fourth, they go to the origin, as ever
 abbrev pub PlainLineKeepsNoConditions : Type 0

@@ -13,3 +13,4 @@ pub mod LineWordsInReuse
 pub mod RuleTables
 pub mod Cases
 pub mod Conditions
+pub mod Ranges

@@ -4,7 +4,7 @@
 -- RequestIsForTheCache: the request
 -- MayBeSentFresh, MayBeSentStale: the two ways to be sent
 -- ResponseMayBeReused: all of the list
-use Rattle.std.specs.Prelude.{◌≡◌, ℕ, ◌+◌, ◌-◌, ◌<◌, ◌≤◌, ◌⊎◌, true, false, List, codes, Some, None}
+use Rattle.std.specs.Prelude.{◌≡◌, ℕ, ◌+◌, ◌-◌, ◌<◌, ◌≤◌, ◌⊎◌, Bool, true, false, List, codes, Some, None}
 use Rattle.hx_directives.specs.Occurrences.{occurrences_of}
 use Rattle.hx_directives.specs.Answers.{directive_occurs, first_valid, max_stale}
 use Rattle.hx_directives.specs.declared.names.Directive.TheVariants.{NoCache, MaxAge, MinFresh, MustRevalidate}
@@ -24,11 +24,12 @@ use Rattle.hx_reuse.specs.Rules.{decision_of}
 use Rattle.hx_reuse.specs.declared.decision.Decision.TheVariants.{Hit}
 
 -- the request takes an answer from the store
--- own: one with content, a range or a precondition that only the origin can judge takes none
-pub record RequestIsForTheCache (asked : Asked) : Type 0 where
+-- own: one with content, or a precondition that only the origin can judge, takes none; nor does one with a range, where
+-- ranges are the origin's to answer: else one is cut from what is stored (RFC 9110, section 14.2)
+pub record RequestIsForTheCache (forwards_ranges : Bool) (asked : Asked) : Type 0 where
   pub method_allows : (asked.method ≡ codes "GET") ⊎ (asked.method ≡ codes "HEAD")
   pub no_content : request_has_content asked ≡ false
-  pub no_range : asks_for_range asked ≡ false
+  pub no_range : forwards_ranges ≡ true → asks_for_range asked ≡ false
   pub no_precondition : has_precondition asked ≡ false
 
 -- the response isn't older than the request's max-age allows (RFC 9111, section 5.2.1.1)
@@ -80,7 +81,7 @@ pub record ResponseMayBeReused (policy : Policy) (held : List Stored) (asked : A
     (response : Stored) : Type 0 where
   pub operator_allows : policy.caches ≡ true
   pub is_chosen : ResponseIsChosen held asked response
-  pub request_allows : RequestIsForTheCache asked
+  pub request_allows : RequestIsForTheCache policy.forwards_ranges asked
   pub no_no_cache : directive_occurs (occurrences_of response.fields) NoCache ≡ false
   pub fresh_or_stale : MayBeSentFresh policy response asked now ⊎ MayBeSentStale policy response asked now
 

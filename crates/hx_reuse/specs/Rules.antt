@@ -139,8 +139,9 @@ reuse_rule_applies Method policy held asked now
     = not (bytes_eq asked.method (codes "GET") || bytes_eq asked.method (codes "HEAD"))
 -- own: content of a GET or HEAD may change what it asks for
 reuse_rule_applies Content policy held asked now = request_has_content asked
--- own: ranges are the origin's matter (RFC 9111, section 3.3 lets a cache be without them)
-reuse_rule_applies Range policy held asked now = asks_for_range asked
+-- own: over a line that forwards them ranges are the origin's matter (RFC 9111, section 3.3 lets a cache be without
+-- them)
+reuse_rule_applies Range policy held asked now = policy.forwards_ranges && asks_for_range asked
 -- own: conditions of RFC 9111, section 4.3.2 that only the origin judges here
 reuse_rule_applies Precondition policy held asked now = has_precondition asked
 -- RFC 9111, sections 2 and 4

@@ -57,7 +57,7 @@ fn decide_from_store<S: Shelf>(
     requires caches { policy.caches ≡ true }
     ensures { IfOk result (λ decision. decision ≡ decision_of policy (S.entries shelf.now) asked.now now) }
 {
-    if let Some(rule) = request_rule(asked) {
+    if let Some(rule) = request_rule(asked, policy) {
         return Ok(Decision::Forward(rule, None));
     }
     let key = &asked.target.key;

@@ -8,6 +8,7 @@ ghost use Rattle.hx_reuse.specs.ChosenAndNamed.{LeastReuseRuleIsNamed, ForwardsW
 ghost use Rattle.hx_reuse.specs.ChosenAndNamed.{WordsOfReuseRulesDiffer, WordsOfErrorRulesDiffer};
 ghost use Rattle.hx_reuse.specs.Conditions.{ConditionsOfACacheableGetStay, NoOtherConditionsStay};
 ghost use Rattle.hx_reuse.specs.Conditions.{PlainLineKeepsNoConditions};
+ghost use Rattle.hx_reuse.specs.Ranges.{RangeDecidesNothing, ForwardedRangesGoPastTheStore};
 ghost use Rattle.hx_reuse.specs.Reusable.{WhatMayBeReusedIsReused, NothingElseIsReused};
 ghost use Rattle.hx_reuse.specs.OnError.{WhatMayBeSentOnErrorIsSent, NothingElseIsSentOnError, NamedErrorRuleIsLeast};
 ghost use Rattle.hx_reuse.specs.OnError.{LeastErrorRuleIsNamed};
@@ -47,7 +48,7 @@ pub use crate::worked_cases::{
     of_two_alike_the_later_comes_first, reload_is_ignored, request_max_age_and_only_if_cached,
     seconds_of_errors, stale_if_error_of_request, stale_if_error_of_response,
     stale_while_revalidate_of_line, stale_while_revalidate_of_response, vary_values_are_compared,
-    whose_condition_stays,
+    which_ranges_are_answered, whose_condition_stays,
 };
 use hx_vary::laws::kept_is_enough;
 
@@ -146,6 +147,13 @@ pub fn default_policy_changes_nothing()
 pub fn the_conditions_of_a_cacheable_get_stay()
     ensures every { ConditionsOfACacheableGetStay }
     ensures only { NoOtherConditionsStay }
+{}
+
+/// A request for a range is decided as one for the whole, over a line that doesn't forward ranges: by the same rules it
+/// is sent a stored response, of which its range is a part. Over another line it is sent none (RFC 9110, section 14.2).
+pub fn a_range_is_decided_as_the_whole()
+    ensures alike { RangeDecidesNothing }
+    ensures forwarded { ForwardedRangesGoPastTheStore }
 {}
 
 /// The lifetime that a line gives changes nothing of a response that states its own, nor of any other

@@ -6,7 +6,6 @@ ghost use Rattle.hx_directives.specs.declared.names.Directive.TheVariants.{MaxAg
 ghost use Rattle.hx_directives.specs.declared.names.Directive.TheVariants.{ProxyRevalidate, SMaxage};
 ghost use Rattle.hx_age.specs.Age.{is_fresh_of, staleness_of};
 ghost use Rattle.hx_store.specs.Stored.{Stored};
-ghost use Rattle.hx_policy.specs.declared.words.Policy.{Policy as Words};
 ghost use Rattle.hx_reuse.specs.Rules.{is_some_and, rule_condition, reuse_rule_applies, is_past_max_stale};
 ghost use Rattle.hx_reuse.specs.Rules.{accepts_stale, situation_at};
 ghost use Rattle.hx_reuse.specs.Rules.{situation_of_request};
@@ -21,8 +20,8 @@ use hx_policy::Policy;
 use hx_store::Entry;
 
 /// The least rule on the request alone.
-pub(crate) fn request_rule(asked: &Asked) -> Option<ReuseRule>
-    ensures { (policy : Words) (held : List Stored) (now : ℕ)
+pub(crate) fn request_rule(asked: &Asked, policy: Policy) -> Option<ReuseRule>
+    ensures { (held : List Stored) (now : ℕ)
         → result ≡ find (λ r. reuse_rule_applies r policy held asked.now now) request_rules }
 {
     if asked.method.as_str() != "GET" && asked.method.as_str() != "HEAD" {
@@ -31,7 +30,7 @@ pub(crate) fn request_rule(asked: &Asked) -> Option<ReuseRule>
     if asked.has_content() {
         return Some(ReuseRule::Content);
     }
-    if asked.asks_for_range() {
+    if policy.forwards_ranges && asked.asks_for_range() {
         return Some(ReuseRule::Range);
     }
     if asked.has_precondition() {

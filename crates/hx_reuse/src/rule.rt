@@ -12,7 +12,7 @@ pub enum ReuseRule {
     Method,
     /// The request has content of at least one byte.
     Content,
-    /// The request has Range or If-Range.
+    /// The request has Range or If-Range, and the operator's line has those answered by the origin.
     Range,
     /// The request has If-Match or If-Unmodified-Since.
     Precondition,

@@ -19,6 +19,7 @@ ghost use Rattle.hx_reuse.specs.Cases.{error_lifetime_policy, lifetime_most_poli
 ghost use Rattle.hx_reuse.specs.Cases.{stale_if_error_policy, ignore_directives_policy, stored_with_status};
 ghost use Rattle.hx_reuse.specs.Cases.{one_held_of_status, variant_made_at, default_made_at, english_and_default};
 ghost use Rattle.hx_reuse.specs.Cases.{get_a_in, keep_conditions_policy, get_a_if_none_match};
+ghost use Rattle.hx_reuse.specs.Cases.{serve_ranges_policy, range_fields};
 
 use crate::{Decision, ErrorRule, ReuseRule};
 
@@ -412,6 +413,26 @@ pub fn stale_while_revalidate_of_line()
     ensures over_a_line_that_does_not { may_be_sent_while_revalidating
         (record (stale_while_revalidate_policy 60) { sends_while_revalidating = false })
         (stored_with_cache_control (codes "max-age=10")) [] 20 ≡ false }
+{}
+
+/// Requests for a range over a line that has them cut from what is stored, of a fresh response, a stale one and none;
+/// and over a line that forwards them.
+pub fn which_ranges_are_answered()
+    ensures fresh { decision_of serve_ranges_policy (one_held_with_cache_control (codes "max-age=60"))
+        (get_a_with range_fields) 1 ≡ Decision.Hit 1 }
+    ensures if_range_alone { decision_of serve_ranges_policy (one_held_with_cache_control (codes "max-age=60"))
+        (get_a_with (line (codes "If-Range") (codes "\"e\"") ∷ [])) 1 ≡ Decision.Hit 1 }
+    ensures stale { decision_of serve_ranges_policy (one_held_with_cache_control (codes "max-age=60"))
+        (get_a_with range_fields) 60 ≡ Decision.Forward ReuseRule.NoMaxStale (Some 1) }
+    ensures missing { decision_of serve_ranges_policy [] (get_a_with range_fields) 0
+        ≡ Decision.Forward ReuseRule.UriMiss None }
+    ensures with_precondition { decision_of serve_ranges_policy (one_held_with_cache_control (codes "max-age=60"))
+        (get_a_with (line (codes "If-Match") (codes "*") ∷ range_fields)) 1
+        ≡ Decision.Forward ReuseRule.Precondition None }
+    ensures forwarded { decision_of (plain true) (one_held_with_cache_control (codes "max-age=60"))
+        (get_a_with range_fields) 1 ≡ Decision.Forward ReuseRule.Range None }
+    ensures if_range_forwarded { decision_of (plain true) (one_held_with_cache_control (codes "max-age=60"))
+        (get_a_with (line (codes "If-Range") (codes "\"e\"") ∷ [])) 1 ≡ Decision.Forward ReuseRule.Range None }
 {}
 
 /// Conditions of clients over a line that keeps those of a GET that a stored response could answer: which stay, and

@@ -10,9 +10,9 @@ use Rattle.hx_policy.specs.Policies.{is_heuristic, given_lifetime, plain}
 use Rattle.hx_storable.specs.declared.known_facts.StoringFacts.{StoringFacts}
 use Rattle.hx_storable.specs.declared.rule.StoreRule.{StoreRule}
 use Rattle.hx_storable.specs.declared.rule.StoreRule.TheVariants.{Operator, SetCookie, ErrorStatus, RequestCookie}
-use Rattle.hx_storable.specs.Rules.{response_has, has_cookie_for_one, is_uncached_error, is_from_someone, states_lifetime, lasts_by_the_line, storing_rule_applies, rules_of_words, storage_rule_of}
+use Rattle.hx_storable.specs.Rules.{response_has, has_cookie_for_one, is_uncached_error, is_from_someone, states_lifetime, lasts_by_the_line, withholds_cookies, storing_rule_applies, rules_of_words, storage_rule_of}
 use Rattle.hx_storable.specs.Storable.{RequestTellsNotWhoAsks, ResponseStatesItsLifetime, ResponseIsWithinTheWords, ResponseIsStored}
-use Rattle.hx_storable.specs.LineWordsInStoring.{ResponseStatesNoLifetime, facts_with_policy, rules_without_words}
+use Rattle.hx_storable.specs.LineWordsInStoring.{ResponseStatesNoLifetime, facts_with_policy, plain_but_for_ranges, rules_without_words}
 use Rattle.hx_fields.proofs.JoinedTests.{never, not_false, not_true, left_false, right_false, neither, one_of, or_left, or_right, first_absent, last_absent, either_false}
 use Rattle.hx_storable.proofs.Joined.{find_before}
 use Rattle.hx_storable.proofs.LeastRule.{no_rule_applies, no_rule_found}
@@ -44,7 +44,8 @@ module _ (asked : Asked) (answered : Answered) (facts : StoringFacts) where
   module _ (none : (any : StoreRule) → storing_rule_applies any asked answered facts ≡ false) where
     pub within_the_words : ResponseIsWithinTheWords asked answered facts.policy
     within_the_words = record {
-      cookies = cookies (either_false (not facts.policy.stores_cookies) (has_cookie_for_one answered) (none SetCookie));
+      cookies = cookies (either_false (withholds_cookies facts.policy answered) (has_cookie_for_one answered) (none SetCookie));
+      lifetimes_of_cookies = lifetimes (either_false (withholds_cookies facts.policy answered) (has_cookie_for_one answered) (none SetCookie));
       errors = errors (either_false (not facts.policy.stores_errors) (is_uncached_error answered.status) (none ErrorStatus));
       requests_with_cookies = given (either_false (not facts.policy.gives_to_cookies && is_from_someone asked) (lasts_by_the_line facts.policy answered && not public) (none RequestCookie));
     }
@@ -59,8 +60,14 @@ module _ (asked : Asked) (answered : Answered) (facts : StoringFacts) where
         for_all (inl absent) = inl absent
         for_all (inr h) = inr (not_false public h)
 
-        cookies : (not facts.policy.stores_cookies ≡ false) ⊎ (has_cookie_for_one answered ≡ false) → (facts.policy.stores_cookies ≡ true) ⊎ ((cookie ≡ false) ⊎ (public ≡ true))
-        cookies (inl h) = inl (not_false facts.policy.stores_cookies h)
+        stored_anyway : Bool
+        stored_anyway = not facts.policy.stores_cookies
+
+        by_the_line : Bool
+        by_the_line = not facts.policy.gives_to_set_cookie && lasts_by_the_line facts.policy answered
+
+        cookies : (withholds_cookies facts.policy answered ≡ false) ⊎ (has_cookie_for_one answered ≡ false) → (facts.policy.stores_cookies ≡ true) ⊎ ((cookie ≡ false) ⊎ (public ≡ true))
+        cookies (inl h) = inl (not_false facts.policy.stores_cookies (left_false stored_anyway by_the_line h))
         cookies (inr h) = inr (for_all (either_false cookie (not public) h))
 
         no_error : (nat_le 400 answered.status ≡ false) ⊎ (not (is_heuristic answered.status) ≡ false) → (answered.status < 400) ⊎ (is_heuristic answered.status ≡ true)
@@ -88,13 +95,28 @@ module _ (asked : Asked) (answered : Answered) (facts : StoringFacts) where
             first (inl k) = second (one_of (response_has answered directive.SMaxage) (response_has answered directive.MaxAge) k)
             first (inr k) = inr (inr k)
 
+        own_or_none : (not (states_lifetime answered) ≡ false) ⊎ (is_some (given_lifetime facts.policy answered.status) ≡ false) → ResponseStatesItsLifetime answered ⊎ (given_lifetime facts.policy answered.status ≡ None)
+        own_or_none (inl k) = inl (by_itself (not_false (states_lifetime answered) k))
+        own_or_none (inr k) = inr (is_absent (given_lifetime facts.policy answered.status) k)
+
+        OfCookies : Type 0
+        OfCookies = (facts.policy.gives_to_set_cookie ≡ true) ⊎ ((cookie ≡ false) ⊎ ((public ≡ true) ⊎ (ResponseStatesItsLifetime answered ⊎ (given_lifetime facts.policy answered.status ≡ None))))
+
+        lifetimes : (withholds_cookies facts.policy answered ≡ false) ⊎ (has_cookie_for_one answered ≡ false) → OfCookies
+        lifetimes (inl h) = by_line (either_false (not facts.policy.gives_to_set_cookie) (lasts_by_the_line facts.policy answered) (right_false stored_anyway by_the_line h))
+          where
+            by_line : (not facts.policy.gives_to_set_cookie ≡ false) ⊎ (lasts_by_the_line facts.policy answered ≡ false) → OfCookies
+            by_line (inl k) = inl (not_false facts.policy.gives_to_set_cookie k)
+            by_line (inr k) = inr (inr (inr (own_or_none (either_false (not (states_lifetime answered)) (is_some (given_lifetime facts.policy answered.status)) k))))
+        lifetimes (inr h) = inr (by_cookie (for_all (either_false cookie (not public) h)))
+          where
+            by_cookie : (cookie ≡ false) ⊎ (public ≡ true) → (cookie ≡ false) ⊎ ((public ≡ true) ⊎ (ResponseStatesItsLifetime answered ⊎ (given_lifetime facts.policy answered.status ≡ None)))
+            by_cookie (inl k) = inl k
+            by_cookie (inr k) = inr (inl k)
+
         lasting : (lasts_by_the_line facts.policy answered ≡ false) ⊎ (not public ≡ false) → (public ≡ true) ⊎ (ResponseStatesItsLifetime answered ⊎ (given_lifetime facts.policy answered.status ≡ None))
         lasting (inr h) = inl (not_false public h)
         lasting (inl h) = inr (own_or_none (either_false (not (states_lifetime answered)) (is_some (given_lifetime facts.policy answered.status)) h))
-          where
-            own_or_none : (not (states_lifetime answered) ≡ false) ⊎ (is_some (given_lifetime facts.policy answered.status) ≡ false) → ResponseStatesItsLifetime answered ⊎ (given_lifetime facts.policy answered.status ≡ None)
-            own_or_none (inl k) = inl (by_itself (not_false (states_lifetime answered) k))
-            own_or_none (inr k) = inr (is_absent (given_lifetime facts.policy answered.status) k)
 
         asking : (not facts.policy.gives_to_cookies ≡ false) ⊎ (is_from_someone asked ≡ false) → (facts.policy.gives_to_cookies ≡ true) ⊎ (RequestTellsNotWhoAsks asked ⊎ ((public ≡ true) ⊎ (ResponseStatesItsLifetime answered ⊎ (given_lifetime facts.policy answered.status ≡ None))))
         asking (inl h) = inl (not_false facts.policy.gives_to_cookies h)
@@ -104,14 +126,53 @@ module _ (asked : Asked) (answered : Answered) (facts : StoringFacts) where
         given (inl h) = asking (either_false (not facts.policy.gives_to_cookies) (is_from_someone asked) h)
         given (inr h) = inr (inr (lasting (either_false (lasts_by_the_line facts.policy answered) (not public) h)))
 
-  pub cookie_applies : (facts.policy.stores_cookies ≡ true) ⊎ ((has_line answered.fields (codes "Set-Cookie") ≡ false) ⊎ (response_has answered directive.Public ≡ true)) → storing_rule_applies SetCookie asked answered facts ≡ false
-  cookie_applies (inl h) = first_absent (not facts.policy.stores_cookies) (has_cookie_for_one answered) (not_true facts.policy.stores_cookies h)
-  cookie_applies (inr (inl absent)) =
-      last_absent (not facts.policy.stores_cookies) (has_cookie_for_one answered)
-      (first_absent (has_line answered.fields (codes "Set-Cookie")) (not (response_has answered directive.Public)) absent)
-  cookie_applies (inr (inr public)) =
-      last_absent (not facts.policy.stores_cookies) (has_cookie_for_one answered)
-      (last_absent (has_line answered.fields (codes "Set-Cookie")) (not (response_has answered directive.Public)) (not_true (response_has answered directive.Public) public))
+  itself_states : ResponseStatesItsLifetime answered → states_lifetime answered ≡ true
+  itself_states (inl h) = or_left (response_has answered directive.SMaxage || response_has answered directive.MaxAge) (has_line answered.fields (codes "Expires")) (or_left (response_has answered directive.SMaxage) (response_has answered directive.MaxAge) h)
+  itself_states (inr (inl h)) = or_left (response_has answered directive.SMaxage || response_has answered directive.MaxAge) (has_line answered.fields (codes "Expires")) (or_right (response_has answered directive.SMaxage) (response_has answered directive.MaxAge) h)
+  itself_states (inr (inr h)) = or_right (response_has answered directive.SMaxage || response_has answered directive.MaxAge) (has_line answered.fields (codes "Expires")) h
+
+  pub cookie_applies : (facts.policy.stores_cookies ≡ true) ⊎ ((has_line answered.fields (codes "Set-Cookie") ≡ false) ⊎ (response_has answered directive.Public ≡ true))
+      → (facts.policy.gives_to_set_cookie ≡ true) ⊎ ((has_line answered.fields (codes "Set-Cookie") ≡ false) ⊎ ((response_has answered directive.Public ≡ true) ⊎ (ResponseStatesItsLifetime answered ⊎ (given_lifetime facts.policy answered.status ≡ None))))
+      → storing_rule_applies SetCookie asked answered facts ≡ false
+  cookie_applies stores gives = at stores gives
+    where
+      withholds : Bool
+      withholds = withholds_cookies facts.policy answered
+
+      cookie : Bool
+      cookie = has_line answered.fields (codes "Set-Cookie")
+
+      public : Bool
+      public = response_has answered directive.Public
+
+      lasts : Bool
+      lasts = lasts_by_the_line facts.policy answered
+
+      for_all : has_cookie_for_one answered ≡ false → storing_rule_applies SetCookie asked answered facts ≡ false
+      for_all h = last_absent withholds (has_cookie_for_one answered) h
+
+      by_absence : cookie ≡ false → storing_rule_applies SetCookie asked answered facts ≡ false
+      by_absence h = for_all (first_absent cookie (not public) h)
+
+      by_public : public ≡ true → storing_rule_applies SetCookie asked answered facts ≡ false
+      by_public h = for_all (last_absent cookie (not public) (not_true public h))
+
+      by_line : facts.policy.stores_cookies ≡ true → not facts.policy.gives_to_set_cookie && lasts ≡ false → storing_rule_applies SetCookie asked answered facts ≡ false
+      by_line h k = first_absent withholds (has_cookie_for_one answered) (neither (not facts.policy.stores_cookies) (not facts.policy.gives_to_set_cookie && lasts) (not_true facts.policy.stores_cookies h) k)
+
+      by_lasting : facts.policy.stores_cookies ≡ true → lasts ≡ false → storing_rule_applies SetCookie asked answered facts ≡ false
+      by_lasting h k = by_line h (last_absent (not facts.policy.gives_to_set_cookie) lasts k)
+
+      at : (facts.policy.stores_cookies ≡ true) ⊎ ((cookie ≡ false) ⊎ (public ≡ true))
+          → (facts.policy.gives_to_set_cookie ≡ true) ⊎ ((cookie ≡ false) ⊎ ((public ≡ true) ⊎ (ResponseStatesItsLifetime answered ⊎ (given_lifetime facts.policy answered.status ≡ None))))
+          → storing_rule_applies SetCookie asked answered facts ≡ false
+      at (inr (inl absent)) k = by_absence absent
+      at (inr (inr for_each)) k = by_public for_each
+      at (inl h) (inl k) = by_line h (first_absent (not facts.policy.gives_to_set_cookie) lasts (not_true facts.policy.gives_to_set_cookie k))
+      at (inl h) (inr (inl absent)) = by_absence absent
+      at (inl h) (inr (inr (inl for_each))) = by_public for_each
+      at (inl h) (inr (inr (inr (inl own)))) = by_lasting h (first_absent (not (states_lifetime answered)) (is_some (given_lifetime facts.policy answered.status)) (not_true (states_lifetime answered) (itself_states own)))
+      at (inl h) (inr (inr (inr (inr none)))) = by_lasting h (last_absent (not (states_lifetime answered)) (is_some (given_lifetime facts.policy answered.status)) (rw none refl))
 
   pub error_applies : (facts.policy.stores_errors ≡ true) ⊎ ((answered.status < 400) ⊎ (is_heuristic answered.status ≡ true)) → storing_rule_applies ErrorStatus asked answered facts ≡ false
   error_applies (inl h) = first_absent (not facts.policy.stores_errors) (is_uncached_error answered.status) (not_true facts.policy.stores_errors h)
@@ -121,11 +182,6 @@ module _ (asked : Asked) (answered : Answered) (facts : StoringFacts) where
   error_applies (inr (inr heuristic)) =
       last_absent (not facts.policy.stores_errors) (is_uncached_error answered.status)
       (last_absent (nat_le 400 answered.status) (not (is_heuristic answered.status)) (not_true (is_heuristic answered.status) heuristic))
-
-  itself_states : ResponseStatesItsLifetime answered → states_lifetime answered ≡ true
-  itself_states (inl h) = or_left (response_has answered directive.SMaxage || response_has answered directive.MaxAge) (has_line answered.fields (codes "Expires")) (or_left (response_has answered directive.SMaxage) (response_has answered directive.MaxAge) h)
-  itself_states (inr (inl h)) = or_left (response_has answered directive.SMaxage || response_has answered directive.MaxAge) (has_line answered.fields (codes "Expires")) (or_right (response_has answered directive.SMaxage) (response_has answered directive.MaxAge) h)
-  itself_states (inr (inr h)) = or_right (response_has answered directive.SMaxage || response_has answered directive.MaxAge) (has_line answered.fields (codes "Expires")) h
 
   pub request_cookie_applies : (facts.policy.gives_to_cookies ≡ true) ⊎ (RequestTellsNotWhoAsks asked ⊎ ((response_has answered directive.Public ≡ true) ⊎ (ResponseStatesItsLifetime answered ⊎ (given_lifetime facts.policy answered.status ≡ None)))) → storing_rule_applies RequestCookie asked answered facts ≡ false
   request_cookie_applies says_so = at says_so
@@ -173,7 +229,20 @@ module _ (asked : Asked) (answered : Answered) (facts : StoringFacts) where
   pub cookie_forbids : facts.policy.stores_cookies ≡ false → has_line answered.fields (codes "Set-Cookie") ≡ true → response_has answered directive.Public ≡ false → ResponseIsStored asked answered facts → ⊥
   cookie_forbids word cookie public h =
       let for_one = both (has_line answered.fields (codes "Set-Cookie")) (not (response_has answered directive.Public)) cookie (turned (response_has answered directive.Public) public) in
-      never (sym (both (not facts.policy.stores_cookies) (has_cookie_for_one answered) (turned facts.policy.stores_cookies word) for_one) ∙ no_rule_applies asked answered facts SetCookie h)
+      let withheld = or_left (not facts.policy.stores_cookies) (not facts.policy.gives_to_set_cookie && lasts_by_the_line facts.policy answered) (turned facts.policy.stores_cookies word) in
+      never (sym (both (withholds_cookies facts.policy answered) (has_cookie_for_one answered) withheld for_one) ∙ no_rule_applies asked answered facts SetCookie h)
+
+  pub cookie_is_given_none : (seconds : ℕ) → facts.policy.gives_to_set_cookie ≡ false → has_line answered.fields (codes "Set-Cookie") ≡ true → ResponseStatesNoLifetime answered
+      → given_lifetime facts.policy answered.status ≡ Some seconds → response_has answered directive.Public ≡ false → ResponseIsStored asked answered facts → ⊥
+  cookie_is_given_none seconds word cookie none given public h =
+      let stated : states_lifetime answered ≡ false =
+      neither (response_has answered directive.SMaxage || response_has answered directive.MaxAge) (has_line answered.fields (codes "Expires"))
+      (neither (response_has answered directive.SMaxage) (response_has answered directive.MaxAge) none.0 none.1) none.2 in
+      let lasts = both (not (states_lifetime answered)) (is_some (given_lifetime facts.policy answered.status)) (turned (states_lifetime answered) stated) (rw given refl) in
+      let for_one = both (has_line answered.fields (codes "Set-Cookie")) (not (response_has answered directive.Public)) cookie (turned (response_has answered directive.Public) public) in
+      let by_line = both (not facts.policy.gives_to_set_cookie) (lasts_by_the_line facts.policy answered) (turned facts.policy.gives_to_set_cookie word) lasts in
+      let withheld = or_right (not facts.policy.stores_cookies) (not facts.policy.gives_to_set_cookie && lasts_by_the_line facts.policy answered) by_line in
+      never (sym (both (withholds_cookies facts.policy answered) (has_cookie_for_one answered) withheld for_one) ∙ no_rule_applies asked answered facts SetCookie h)
 
   pub error_forbids : facts.policy.stores_errors ≡ false → 400 ≤ answered.status → is_heuristic answered.status ≡ false → ResponseIsStored asked answered facts → ⊥
   error_forbids word high other h =
@@ -181,25 +250,25 @@ module _ (asked : Asked) (answered : Answered) (facts : StoringFacts) where
       never (sym (both (not facts.policy.stores_errors) (is_uncached_error answered.status) (turned facts.policy.stores_errors word) error) ∙ no_rule_applies asked answered facts ErrorStatus h)
 
   -- without the words no rule stands that doesn't stand with them
-  plain_none : ((any : StoreRule) → storing_rule_applies any asked answered facts ≡ false) → (any : StoreRule) → storing_rule_applies any asked answered (facts_with_policy facts (plain true)) ≡ false
+  plain_none : ((any : StoreRule) → storing_rule_applies any asked answered facts ≡ false) → (any : StoreRule) → storing_rule_applies any asked answered (facts_with_policy facts (plain_but_for_ranges true facts.policy)) ≡ false
   plain_none none Operator = refl
   plain_none none SetCookie = refl
   plain_none none ErrorStatus = refl
   plain_none none RequestCookie = refl
   plain_none none any = none any
 
-  pub stored_without_words : ResponseIsStored asked answered facts → ResponseIsStored asked answered (facts_with_policy facts (plain true))
-  stored_without_words h = no_rule_found asked answered (facts_with_policy facts (plain true)) (plain_none (λ any. no_rule_applies asked answered facts any h))
+  pub stored_without_words : ResponseIsStored asked answered facts → ResponseIsStored asked answered (facts_with_policy facts (plain_but_for_ranges true facts.policy))
+  stored_without_words h = no_rule_found asked answered (facts_with_policy facts (plain_but_for_ranges true facts.policy)) (plain_none (λ any. no_rule_applies asked answered facts any h))
 
-  words_none : ((any : StoreRule) → storing_rule_applies any asked answered (facts_with_policy facts (plain facts.policy.caches)) ≡ false) → ResponseIsWithinTheWords asked answered facts.policy → (any : StoreRule) → storing_rule_applies any asked answered facts ≡ false
-  words_none none within SetCookie = cookie_applies within.cookies
+  words_none : ((any : StoreRule) → storing_rule_applies any asked answered (facts_with_policy facts (plain_but_for_ranges facts.policy.caches facts.policy)) ≡ false) → ResponseIsWithinTheWords asked answered facts.policy → (any : StoreRule) → storing_rule_applies any asked answered facts ≡ false
+  words_none none within SetCookie = cookie_applies within.cookies within.lifetimes_of_cookies
   words_none none within ErrorStatus = error_applies within.errors
   words_none none within RequestCookie = request_cookie_applies within.requests_with_cookies
   words_none none within any = none any
 
-  pub stored_with_words : ResponseIsStored asked answered (facts_with_policy facts (plain facts.policy.caches)) → ResponseIsWithinTheWords asked answered facts.policy → ResponseIsStored asked answered facts
+  pub stored_with_words : ResponseIsStored asked answered (facts_with_policy facts (plain_but_for_ranges facts.policy.caches facts.policy)) → ResponseIsWithinTheWords asked answered facts.policy → ResponseIsStored asked answered facts
   stored_with_words h within =
-      no_rule_found asked answered facts (words_none (λ any. no_rule_applies asked answered (facts_with_policy facts (plain facts.policy.caches)) any h) within)
+      no_rule_found asked answered facts (words_none (λ any. no_rule_applies asked answered (facts_with_policy facts (plain_but_for_ranges facts.policy.caches facts.policy)) any h) within)
 
   pub plain_asks_the_others : (caches : Bool) → storage_rule_of asked answered (facts_with_policy facts (plain caches)) ≡ find (λ rule. storing_rule_applies rule asked answered (facts_with_policy facts (plain caches))) rules_without_words
   unfolding storage_rule_of

@@ -12,8 +12,8 @@ use Rattle.hx_storable.specs.declared.known_facts.StoringFacts.{StoringFacts}
 use Rattle.hx_storable.specs.declared.rule.StoreRule.{StoreRule}
 use Rattle.hx_storable.specs.declared.rule.StoreRule.TheVariants.{Operator, Method, Bypass, Status, MustUnderstand, ResponseNoStore, RequestNoStore, Private, Authorization, NothingAllows, VaryStar, ConnectionField, NothingToReuse, TooLarge, Overtaken, Serials, SetCookie, ErrorStatus, RequestCookie}
 use Rattle.hx_policy.specs.Policies.{is_heuristic}
-use Rattle.hx_storable.specs.Rules.{request_has, response_has, is_understood_status, allows_shared, allows_storing, storing_rule_applies}
-use Rattle.hx_storable.specs.Storable.{StatusIsFinal, NeedsUnderstanding, NoStoreIsAbsentOrLifted, ResponseAllowsShared, ResponseAllowsStoring, RequestIsForTheStore, ResponseMayBeStored, ResponseIsStored}
+use Rattle.hx_storable.specs.Rules.{request_has, response_has, is_for_its_range, is_understood_status, allows_shared, allows_storing, storing_rule_applies}
+use Rattle.hx_storable.specs.Storable.{StatusIsFinal, NeedsUnderstanding, NoStoreIsAbsentOrLifted, ResponseAllowsShared, ResponseAllowsStoring, RequestIsForTheStore, IsNotForItsRange, ResponseMayBeStored, ResponseIsStored}
 use Rattle.hx_fields.proofs.JoinedTests.{never, not_false, not_true, left_false, right_false, neither, one_of, or_left, or_right, second_false, either_false, first_absent, last_absent, is_equal, not_equal, implied}
 use Rattle.hx_storable.proofs.LeastRule.{no_rule_applies, no_rule_found}
 use Rattle.hx_storable.proofs.LineLemmas.{turned, within_the_words, cookie_applies, error_applies, request_cookie_applies}
@@ -31,6 +31,21 @@ method_is_get m h = (bytes_eq-Decides m (codes "GET")).0 (not_false (bytes_eq m 
 
 get_is_method : (m : List ℕ) → m ≡ codes "GET" → not (bytes_eq m (codes "GET")) ≡ false
 get_is_method m is = rw is refl
+
+-- by whether the line has ranges forwarded, and the request asks for one
+pub not_for_its_range : (forwards asks : Bool) (status : ℕ) → (forwards || (status == 416)) && asks ≡ false → (asks ≡ false) ⊎ ((forwards ≡ false) × (status ≡ 416 → ⊥))
+not_for_its_range forwards false status h = inl refl
+not_for_its_range true true status h = cc
+not_for_its_range false true status h = inr (refl, λ e. never (sym (is_equal status 416 e) ∙ left_false (status == 416) false (by_test (status == 416) h)))
+  where
+    by_test : (t : Bool) → t && true ≡ false → t || false ≡ false
+    by_test true k = k
+    by_test false k = k
+
+pub for_no_range : (forwards asks : Bool) (status : ℕ) → (asks ≡ false) ⊎ ((forwards ≡ false) × (status ≡ 416 → ⊥)) → (forwards || (status == 416)) && asks ≡ false
+for_no_range forwards asks status (inl none) = last_absent (forwards || (status == 416)) asks none
+for_no_range forwards asks status (inr (served, other)) =
+    first_absent (forwards || (status == 416)) asks (neither forwards (status == 416) served (not_equal status 416 other))
 
 module _ (asked : Asked) (answered : Answered) (facts : StoringFacts) where
   -- ---- what is so where no rule stands
@@ -115,14 +130,14 @@ module _ (asked : Asked) (answered : Answered) (facts : StoringFacts) where
         at (inl h) = inl (not_false facts.explicit h)
         at (inr h) = inr (not_false facts.validator h)
 
-    no_bypass : RequestIsForTheStore asked
+    no_bypass : RequestIsForTheStore asked answered facts.policy
     no_bypass =
-        let both = left_false (request_has_content asked || asks_for_range asked) (has_precondition asked) (none Bypass) in
+        let both = left_false (request_has_content asked || is_for_its_range facts.policy asked answered) (has_precondition asked) (none Bypass) in
         record {
           is_get = is_get;
-          no_content = left_false (request_has_content asked) (asks_for_range asked) both;
-          no_range = right_false (request_has_content asked) (asks_for_range asked) both;
-          no_precondition = right_false (request_has_content asked || asks_for_range asked) (has_precondition asked) (none Bypass);
+          no_content = left_false (request_has_content asked) (is_for_its_range facts.policy asked answered) both;
+          no_range = not_for_its_range facts.policy.forwards_ranges (asks_for_range asked) answered.status (right_false (request_has_content asked) (is_for_its_range facts.policy asked answered) both);
+          no_precondition = right_false (request_has_content asked || is_for_its_range facts.policy asked answered) (has_precondition asked) (none Bypass);
         }
 
     may_be_stored : StatusIsFinal answered → ResponseMayBeStored asked answered facts
@@ -196,8 +211,8 @@ module _ (asked : Asked) (answered : Answered) (facts : StoringFacts) where
     none_applies Operator = not_true facts.policy.caches may.operator_allows
     none_applies Method = get_is_method asked.method may.is_for_the_store.is_get
     none_applies Bypass =
-        neither (request_has_content asked || asks_for_range asked) (has_precondition asked)
-        (neither (request_has_content asked) (asks_for_range asked) may.is_for_the_store.no_content may.is_for_the_store.no_range) may.is_for_the_store.no_precondition
+        neither (request_has_content asked || is_for_its_range facts.policy asked answered) (has_precondition asked)
+        (neither (request_has_content asked) (is_for_its_range facts.policy asked answered) may.is_for_the_store.no_content (for_no_range facts.policy.forwards_ranges (asks_for_range asked) answered.status may.is_for_the_store.no_range)) may.is_for_the_store.no_precondition
     none_applies Status =
         neither (answered.status == 206) (answered.status == 304)
         (not_equal answered.status 206 (λ e. part_is_not_understood answered.status e (may.is_storable.status_is_understood (inl e))))
@@ -214,7 +229,7 @@ module _ (asked : Asked) (answered : Answered) (facts : StoringFacts) where
     none_applies TooLarge = may.has_room.not_too_large
     none_applies Overtaken = may.is_of_use.not_overtaken
     none_applies Serials = may.has_room.has_serial
-    none_applies SetCookie = cookie_applies asked answered facts may.is_within_the_words.cookies
+    none_applies SetCookie = cookie_applies asked answered facts may.is_within_the_words.cookies may.is_within_the_words.lifetimes_of_cookies
     none_applies ErrorStatus = error_applies asked answered facts may.is_within_the_words.errors
     none_applies RequestCookie = request_cookie_applies asked answered facts may.is_within_the_words.requests_with_cookies
 

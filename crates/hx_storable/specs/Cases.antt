@@ -26,6 +26,10 @@ get_a_with fields = record {
 abbrev pub get_with_authorization : Asked
 get_with_authorization = get_a_with (line (codes "Authorization") (codes "x") ∷ [])
 
+-- for a range
+abbrev pub get_of_a_range : Asked
+get_of_a_range = get_a_with (line (codes "Range") (codes "bytes=0-1") ∷ [])
+
 -- with a cookie
 abbrev pub get_with_cookie : Asked
 get_with_cookie = get_a_with (line (codes "Cookie") (codes "session=alice") ∷ [])
@@ -45,6 +49,10 @@ storable_facts = record {
   overtaken = false;
   no_serial = false;
 }
+
+-- one over a line that has ranges cut from what is stored
+abbrev pub with_ranges_served : StoringFacts
+with_ranges_served = record storable_facts { policy = record (plain true) { forwards_ranges = false } }
 
 -- one whose Vary is `*`
 abbrev pub facts_with_vary_star : StoringFacts
@@ -103,6 +111,20 @@ without_cookies = record storable_facts { policy = record (plain true) { stores_
 
 abbrev pub without_errors : StoringFacts
 without_errors = record storable_facts { policy = record (plain true) { stores_errors = false } }
+
+-- a page that sets a cookie, and says nothing of its lifetime
+abbrev pub page_with_cookie : ℕ → List Field → Answered
+page_with_cookie status fields = answer_with status (line (codes "Set-Cookie") (codes "session=1") ∷ fields)
+
+-- where the line gives a lifetime, and doesn't give it to what sets a cookie
+abbrev pub without_lifetime_of_cookies : StoringFacts
+without_lifetime_of_cookies =
+    record storable_facts { policy = record (plain true) { lifetime = Some 60; gives_to_set_cookie = false } }
+
+-- and where each other hears nothing of the cookie
+abbrev pub with_cookies_removed : StoringFacts
+with_cookies_removed =
+    record storable_facts { policy = record (plain true) { lifetime = Some 60; removes_cookies = true } }
 
 -- where the line gives a lifetime, and doesn't give it to requests with a cookie
 abbrev pub with_private_lifetime : StoringFacts

@@ -3,11 +3,13 @@
 -- prove.
 --
 -- facts_with_policy: the same, over another line     rules_without_words: the rules that ask for no word
-use Rattle.std.specs.Prelude.{◌≡◌, ◌≤◌, ◌⊎◌, ℕ, Bool, not, true, false, List, [], ◌∷◌, find, codes, Some}
+-- plain_but_for_ranges: a line that has no other word
+use Rattle.std.specs.Prelude.{◌≡◌, ◌≤◌, ◌⊎◌, ◌||◌, ℕ, Bool, not, true, false, List, [], ◌∷◌, find, codes, Some}
 use Rattle.hx_fields.specs.FieldLines.{has_field as has_line}
 use Rattle.hx_directives.specs.declared.names.Directive.TheVariants as directive
 use Rattle.hx_hop.specs.declared.request_view.Asked.{Asked}
 use Rattle.hx_hop.specs.declared.response_view.Answered.{Answered}
+use Rattle.hx_hop.specs.Bypass.{request_has_content, asks_for_range, has_precondition}
 use Rattle.hx_policy.specs.Policies.{is_heuristic, given_lifetime, plain}
 use Rattle.hx_policy.specs.declared.words.Policy.{Policy}
 use Rattle.hx_storable.specs.declared.known_facts.StoringFacts.{StoringFacts}
@@ -40,6 +42,15 @@ ResponseStatesNoLifetime answered =
     × (response_has answered directive.MaxAge ≡ false)
     × (has_line answered.fields (codes "Expires") ≡ false)
 
+-- where he gives no lifetime to a response that sets a cookie, one that has no public, and that only the line would
+-- give a lifetime (RFC 9111, sections 4.2.2 and 7.3)
+abbrev pub CookieIsGivenNoLifetime : Type 0
+CookieIsGivenNoLifetime = (asked : Asked) (answered : Answered) (facts : StoringFacts) (seconds : ℕ) →
+    facts.policy.gives_to_set_cookie ≡ false → has_line answered.fields (codes "Set-Cookie") ≡ true →
+    ResponseStatesNoLifetime answered → given_lifetime facts.policy answered.status ≡ Some seconds →
+    response_has answered directive.Public ≡ false →
+    ResponseIsStored asked answered facts → ⊥
+
 -- where he gives no lifetime to what was asked for with a cookie or with credentials, a response to such a request that
 -- has no public, and that only the line would give a lifetime
 abbrev pub RequestCookieForbidsStoring : Type 0
@@ -54,15 +65,20 @@ RequestCookieForbidsStoring = (asked : Asked) (answered : Answered) (facts : Sto
 abbrev pub facts_with_policy : StoringFacts → Policy → StoringFacts
 facts_with_policy facts policy = record facts { policy = policy }
 
--- what is stored is stored with a line that has no words too
+-- a line that has no word but that on ranges, which alone lets more be stored: whole answers to requests for a range
+abbrev pub plain_but_for_ranges : Bool → Policy → Policy
+plain_but_for_ranges caches policy = record (plain caches) { forwards_ranges = policy.forwards_ranges }
+
+-- what is stored is stored with a line that has no other words too
 abbrev pub WordsOnlyForbid : Type 0
 WordsOnlyForbid = (asked : Asked) (answered : Answered) (facts : StoringFacts) →
-    ResponseIsStored asked answered facts → ResponseIsStored asked answered (facts_with_policy facts (plain true))
+    ResponseIsStored asked answered facts
+    → ResponseIsStored asked answered (facts_with_policy facts (plain_but_for_ranges true facts.policy))
 
 -- and what is stored with such a line is stored, where the words allow it
 abbrev pub WordsForbidNothingElse : Type 0
 WordsForbidNothingElse = (asked : Asked) (answered : Answered) (facts : StoringFacts) →
-    ResponseIsStored asked answered (facts_with_policy facts (plain facts.policy.caches))
+    ResponseIsStored asked answered (facts_with_policy facts (plain_but_for_ranges facts.policy.caches facts.policy))
     → ResponseIsWithinTheWords asked answered facts.policy
     → ResponseIsStored asked answered facts
 
@@ -82,6 +98,12 @@ PlainLineStoresErrors = (caches : Bool) (asked : Asked) (answered : Answered) (f
 abbrev pub PlainLineGivesToCookies : Type 0
 PlainLineGivesToCookies = (caches : Bool) (asked : Asked) (answered : Answered) (facts : StoringFacts) →
     storing_rule_applies RequestCookie asked answered (facts_with_policy facts (plain caches)) ≡ false
+
+-- and a request for a range goes past the store, whatever answers it
+abbrev pub PlainLineStoresNothingForARange : Type 0
+PlainLineStoresNothingForARange = (caches : Bool) (asked : Asked) (answered : Answered) (facts : StoringFacts) →
+    storing_rule_applies Bypass asked answered (facts_with_policy facts (plain caches))
+    ≡ ((request_has_content asked || asks_for_range asked) || has_precondition asked)
 
 -- the rules that ask for no word
 abbrev pub rules_without_words : List StoreRule

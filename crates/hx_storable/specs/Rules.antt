@@ -4,6 +4,7 @@
 -- is_understood_status: statuses     allows_storing, allows_shared: what a response says of it
 -- has_cookie_for_one, is_uncached_error: what the operator may keep from the store
 -- is_from_someone, lasts_by_the_line: who asked, and whose lifetime it is
+-- withholds_cookies: where a cookie keeps a response from the store
 -- storing_rule_applies: the condition of each rule
 -- storage_rules, storing_rule_number: the rules by their numbers
 -- storage_rule_of: the least that stands
@@ -76,6 +77,18 @@ abbrev pub lasts_by_the_line : Policy → Answered → Bool
 lasts_by_the_line policy answered =
     not (states_lifetime answered) && is_some (given_lifetime policy answered.status)
 
+-- the operator stores no response with a cookie for one, or the line gives such a response no lifetime and it has none
+-- of its own
+abbrev pub withholds_cookies : Policy → Answered → Bool
+withholds_cookies policy answered =
+    not policy.stores_cookies || (not policy.gives_to_set_cookie && lasts_by_the_line policy answered)
+
+-- The answer is for the request's range alone: over a line that has ranges cut from what is stored only one that tells
+-- the range wrong is (RFC 9110, section 15.5.17), since a 206 is stored for no request, and each other answer is as to
+-- a request without Range (section 14.2).
+abbrev pub is_for_its_range : Policy → Asked → Answered → Bool
+is_for_its_range policy asked answered = (policy.forwards_ranges || (answered.status == 416)) && asks_for_range asked
+
 -- the condition of each rule
 abbrev pub storing_rule_applies : StoreRule → Asked → Answered → StoringFacts → Bool
 -- own: what the operator keeps from the store
@@ -84,7 +97,7 @@ storing_rule_applies Operator asked answered facts = not facts.policy.caches
 storing_rule_applies Method asked answered facts = not (bytes_eq asked.method (codes "GET"))
 -- own: such a request goes past the cache, in both directions
 storing_rule_applies Bypass asked answered facts =
-    (request_has_content asked || asks_for_range asked) || has_precondition asked
+    (request_has_content asked || is_for_its_range facts.policy asked answered) || has_precondition asked
 -- RFC 9111, sections 3 and 3.3
 storing_rule_applies Status asked answered facts = (answered.status == 206) || (answered.status == 304)
 -- RFC 9111, section 5.2.2.3
@@ -114,8 +127,9 @@ storing_rule_applies TooLarge asked answered facts = facts.too_large
 storing_rule_applies Overtaken asked answered facts = facts.overtaken
 -- own: each stored response has a number that no other ever has
 storing_rule_applies Serials asked answered facts = facts.no_serial
--- own: where the operator stores no cookies (RFC 9111, section 7.3)
-storing_rule_applies SetCookie asked answered facts = not facts.policy.stores_cookies && has_cookie_for_one answered
+-- own: where the operator stores no cookies, or only his line would let them be sent to others (RFC 9111, section 7.3)
+storing_rule_applies SetCookie asked answered facts =
+    withholds_cookies facts.policy answered && has_cookie_for_one answered
 -- own: where the operator stores no errors
 storing_rule_applies ErrorStatus asked answered facts = not facts.policy.stores_errors
     && is_uncached_error answered.status

@@ -63,11 +63,17 @@ pub record ResponseIsStorable (asked : Asked) (answered : Answered) : Type 0 whe
   pub allowed : ResponseAllowsStoring answered
   pub not_asked_not_to : request_has asked directive.NoStore ≡ false
 
+-- the answer doesn't depend on the Range of its request (RFC 9110, sections 14.2 and 15.5.17), which asks for none, or
+-- by the word of its line may be answered whole
+abbrev pub IsNotForItsRange : Asked → Answered → Policy → Type 0
+IsNotForItsRange asked answered policy =
+    (asks_for_range asked ≡ false) ⊎ ((policy.forwards_ranges ≡ false) × (answered.status ≡ 416 → ⊥))
+
 -- own: what is stored was asked for by a GET of the whole
-pub record RequestIsForTheStore (asked : Asked) : Type 0 where
+pub record RequestIsForTheStore (asked : Asked) (answered : Answered) (policy : Policy) : Type 0 where
   pub is_get : asked.method ≡ codes "GET"
   pub no_content : request_has_content asked ≡ false
-  pub no_range : asks_for_range asked ≡ false
+  pub no_range : IsNotForItsRange asked answered policy
   pub no_precondition : has_precondition asked ≡ false
 
 -- own: it can be sent once more, as it was meant
@@ -94,12 +100,18 @@ ResponseStatesItsLifetime answered =
     ⊎ ((response_has answered directive.MaxAge ≡ true) ⊎ (has_line answered.fields (codes "Expires") ≡ true))
 
 -- own: where the operator stores no cookies the response sets none, or has public (RFC 9111,
--- section 7.3); where he stores no errors its status tells none, or is heuristically cacheable (RFC
+-- section 7.3); where he gives no lifetime to what sets one, it sets none, has public or a lifetime of its own, or is
+-- given none; where he stores no errors its status tells none, or is heuristically cacheable (RFC
 -- 9110, section 15.1); where he gives no lifetime to what was asked for with a cookie or with
 -- credentials, it wasn't, has public or a lifetime of its own, or is given none
 pub record ResponseIsWithinTheWords (asked : Asked) (answered : Answered) (policy : Policy) : Type 0 where
   pub cookies : (policy.stores_cookies ≡ true)
       ⊎ ((has_line answered.fields (codes "Set-Cookie") ≡ false) ⊎ (response_has answered directive.Public ≡ true))
+  pub lifetimes_of_cookies : (policy.gives_to_set_cookie ≡ true)
+      ⊎ ((has_line answered.fields (codes "Set-Cookie") ≡ false)
+      ⊎ ((response_has answered directive.Public ≡ true)
+      ⊎ (ResponseStatesItsLifetime answered
+      ⊎ (given_lifetime policy answered.status ≡ None))))
   pub errors : (policy.stores_errors ≡ true) ⊎ ((answered.status < 400) ⊎ (is_heuristic answered.status ≡ true))
   pub requests_with_cookies : (policy.gives_to_cookies ≡ true)
       ⊎ (RequestTellsNotWhoAsks asked
@@ -111,7 +123,7 @@ pub record ResponseIsWithinTheWords (asked : Asked) (answered : Answered) (polic
 pub record ResponseMayBeStored (asked : Asked) (answered : Answered) (facts : StoringFacts) : Type 0 where
   pub operator_allows : facts.policy.caches ≡ true
   pub is_storable : ResponseIsStorable asked answered
-  pub is_for_the_store : RequestIsForTheStore asked
+  pub is_for_the_store : RequestIsForTheStore asked answered facts.policy
   pub is_of_use : ResponseIsOfUse facts
   pub has_room : StoreHasRoomForIt facts
   pub is_within_the_words : ResponseIsWithinTheWords asked answered facts.policy

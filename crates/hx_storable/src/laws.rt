@@ -16,12 +16,15 @@ ghost use Rattle.hx_storable.specs.LineWordsInStoring.{CookieForbidsStoring, Err
 ghost use Rattle.hx_storable.specs.LineWordsInStoring.{WordsForbidNothingElse, RequestCookieForbidsStoring};
 ghost use Rattle.hx_storable.specs.LineWordsInStoring.{PlainLineIsTheOperators, PlainLineStoresCookies};
 ghost use Rattle.hx_storable.specs.LineWordsInStoring.{PlainLineStoresErrors, PlainLineGivesToCookies};
-ghost use Rattle.hx_storable.specs.LineWordsInStoring.{PlainLineAsksOnlyOtherRules};
+ghost use Rattle.hx_storable.specs.LineWordsInStoring.{PlainLineAsksOnlyOtherRules, PlainLineStoresNothingForARange};
+ghost use Rattle.hx_storable.specs.LineWordsInStoring.{CookieIsGivenNoLifetime};
+ghost use Rattle.hx_storable.specs.Cases.{get_of_a_range, with_ranges_served};
 ghost use Rattle.hx_storable.specs.Cases.{cache_control_fields, get_a_with, get_with_authorization, answer_with};
 ghost use Rattle.hx_storable.specs.Cases.{storable_facts, facts_with_vary_star, facts_with_star_and_listed};
 ghost use Rattle.hx_storable.specs.Cases.{facts_of_uncached_line, facts_of_cached_line, login_page, answer_of_a_minute};
 ghost use Rattle.hx_storable.specs.Cases.{without_cookies, without_errors, get_with_cookie, with_private_lifetime};
-ghost use Rattle.hx_storable.specs.Cases.{with_shared_lifetime};
+ghost use Rattle.hx_storable.specs.Cases.{with_shared_lifetime, page_with_cookie, without_lifetime_of_cookies};
+ghost use Rattle.hx_storable.specs.Cases.{with_cookies_removed};
 
 use crate::{StoreRule, StoringFacts};
 
@@ -76,6 +79,32 @@ pub fn a_cookie_is_not_stored_for_others()
     ensures errors_alone { storage_rule_of (get_a_with []) (login_page (codes "max-age=60")) without_errors ≡ None }
 {}
 
+/// Where the operator gives his lifetimes to no response with Set-Cookie, one that has no public isn't stored for
+/// others where nothing but the line would let it be sent to them. Where he has cookies removed it is stored as any.
+#[tactic(auto, unfolding(crate::specs::Rules::storage_rule_of))]
+pub fn a_cookie_is_not_stored_by_the_line()
+    ensures every { CookieIsGivenNoLifetime }
+    ensures page { storage_rule_of (get_a_with []) (page_with_cookie 200 []) without_lifetime_of_cookies
+        ≡ Some StoreRule.SetCookie }
+    ensures redirect { storage_rule_of (get_a_with []) (page_with_cookie 301 []) without_lifetime_of_cookies
+        ≡ Some StoreRule.SetCookie }
+    ensures with_a_tag { storage_rule_of (get_a_with []) (page_with_cookie 200 (line (codes "ETag") (codes "\"a\"") ∷ []))
+        without_lifetime_of_cookies ≡ Some StoreRule.SetCookie }
+    ensures public { storage_rule_of (get_a_with []) (login_page (codes "public")) without_lifetime_of_cookies ≡ None }
+    ensures max_age { storage_rule_of (get_a_with []) (login_page (codes "max-age=60")) without_lifetime_of_cookies
+        ≡ None }
+    ensures s_maxage { storage_rule_of (get_a_with []) (login_page (codes "s-maxage=60")) without_lifetime_of_cookies
+        ≡ None }
+    ensures expires { storage_rule_of (get_a_with [])
+        (page_with_cookie 200 (line (codes "Expires") (codes "0") ∷ [])) without_lifetime_of_cookies ≡ None }
+    ensures not_given { storage_rule_of (get_a_with []) (page_with_cookie 404 []) without_lifetime_of_cookies ≡ None }
+    ensures no_cookie { storage_rule_of (get_a_with []) (answer_with 200 []) without_lifetime_of_cookies ≡ None }
+    ensures given { storage_rule_of (get_a_with []) (page_with_cookie 200 []) with_shared_lifetime ≡ None }
+    ensures removed { storage_rule_of (get_a_with []) (page_with_cookie 200 []) with_cookies_removed ≡ None }
+    ensures removed_private { storage_rule_of (get_a_with []) (login_page (codes "private")) with_cookies_removed
+        ≡ Some StoreRule.Private }
+{}
+
 /// Where the operator stores no errors, none is stored whose status isn't heuristically cacheable,
 /// however long it lasts.
 #[tactic(auto, unfolding(crate::specs::Rules::storage_rule_of))]
@@ -101,6 +130,20 @@ pub fn an_error_is_not_stored()
     ensures bad_request_without_the_word { storage_rule_of (get_a_with []) (answer_of_a_minute 400) storable_facts
         ≡ None }
     ensures cookies_alone { storage_rule_of (get_a_with []) (answer_of_a_minute 400) without_cookies ≡ None }
+{}
+
+/// Over a line that has ranges cut from what is stored the whole answer to a request for one is stored as any, which an
+/// origin without ranges gives; a part isn't, nor that a range is wrong (RFC 9110, sections 14.2 and 15.5.17).
+#[tactic(auto, unfolding(crate::specs::Rules::storage_rule_of))]
+pub fn whole_answers_to_ranges_are_stored()
+    ensures whole { storage_rule_of get_of_a_range (answer_of_a_minute 200) with_ranges_served ≡ None }
+    ensures not_found { storage_rule_of get_of_a_range (answer_of_a_minute 404) with_ranges_served ≡ None }
+    ensures part { storage_rule_of get_of_a_range (answer_of_a_minute 206) with_ranges_served ≡ Some StoreRule.Status }
+    ensures unsatisfied { storage_rule_of get_of_a_range (answer_of_a_minute 416) with_ranges_served
+        ≡ Some StoreRule.Bypass }
+    ensures unsatisfied_without_a_range { storage_rule_of (get_a_with []) (answer_of_a_minute 416) with_ranges_served
+        ≡ None }
+    ensures forwarded { storage_rule_of get_of_a_range (answer_of_a_minute 200) storable_facts ≡ Some StoreRule.Bypass }
 {}
 
 /// Where the operator gives his lifetimes to no request with Cookie or Authorization, the response to one that has no
@@ -132,7 +175,7 @@ pub fn a_page_for_one_is_not_stored_by_the_line()
         with_private_lifetime ≡ Some StoreRule.Private }
 {}
 
-/// The words of a line keep a response from the store, or do nothing: what is stored with them is
+/// The words of a line but that on ranges keep a response from the store, or do nothing: what is stored with them is
 /// stored without them, and what they allow is stored as without them.
 pub fn words_only_forbid_storing()
     ensures only { WordsOnlyForbid }
@@ -140,12 +183,14 @@ pub fn words_only_forbid_storing()
 {}
 
 /// With a line that has no words the least rule is what it would be if there were none: the
-/// operator's stands where the line doesn't cache, and those of the words never.
+/// operator's stands where the line doesn't cache, those of the words never, and a request for a range goes past the
+/// store.
 pub fn default_policy_changes_nothing()
     ensures operator { PlainLineIsTheOperators }
     ensures cookies { PlainLineStoresCookies }
     ensures errors { PlainLineStoresErrors }
     ensures requests_with_cookies { PlainLineGivesToCookies }
+    ensures ranges { PlainLineStoresNothingForARange }
     ensures others { PlainLineAsksOnlyOtherRules }
 {}
 

@@ -7,7 +7,7 @@ pub enum StoreRule {
     Operator = 0,
     /// The method isn't GET.
     Method,
-    /// The request has content, asks for a range, or has a precondition that only the origin can judge.
+    /// The request has content, or a precondition that only the origin can judge; or the answer is for its range alone.
     Bypass,
     /// The status is 206 or 304: the response isn't the whole of a representation.
     Status,

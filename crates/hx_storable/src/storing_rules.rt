@@ -6,13 +6,13 @@ ghost use Rattle.hx_directives.specs.Answers.{directive_occurs};
 ghost use Rattle.hx_directives.specs.declared.names.Directive.TheVariants as directive;
 ghost use Rattle.hx_hop.specs.declared.request_view.Asked.{Asked as AskedFor};
 ghost use Rattle.hx_hop.specs.declared.response_view.Answered.{Answered as AnsweredWith};
-ghost use Rattle.hx_hop.specs.Bypass.{request_has_content, asks_for_range, has_precondition};
+ghost use Rattle.hx_hop.specs.Bypass.{request_has_content, has_precondition};
 ghost use Rattle.hx_storable.specs.declared.known_facts.StoringFacts.{StoringFacts as Known};
 ghost use Rattle.hx_policy.specs.Policies.{is_heuristic};
 ghost use Rattle.hx_storable.specs.Rules.{response_has, is_from_someone, states_lifetime, lasts_by_the_line};
 ghost use Rattle.hx_storable.specs.Rules.{is_understood_status, allows_shared, allows_storing, has_cookie_for_one};
-ghost use Rattle.hx_storable.specs.Rules.{is_uncached_error, storing_rule_applies, rules_on_facts, rules_of_words};
-ghost use Rattle.hx_storable.specs.Rules.{storage_rule_of};
+ghost use Rattle.hx_storable.specs.Rules.{is_for_its_range, is_uncached_error, storing_rule_applies, rules_on_facts};
+ghost use Rattle.hx_storable.specs.Rules.{rules_of_words, storage_rule_of, withholds_cookies};
 
 use crate::{StoreRule, StoringFacts};
 use hx_directives::{Directive, Directives};
@@ -25,10 +25,18 @@ fn is_get(asked: &Asked) -> bool
     asked.method.as_str() == "GET"
 }
 
-fn goes_past_the_cache(asked: &Asked) -> bool
-    ensures { result ≡ ((request_has_content asked.now || asks_for_range asked.now) || has_precondition asked.now) }
+/// Whether an answer is for the range of its request alone.
+fn is_for_its_range(policy: Policy, asked: &Asked, answered: &Answered) -> bool
+    ensures { result ≡ is_for_its_range policy asked.now answered.now }
 {
-    asked.has_content() || asked.asks_for_range() || asked.has_precondition()
+    (policy.forwards_ranges || answered.status == 416) && asked.asks_for_range()
+}
+
+fn goes_past_the_cache(policy: Policy, asked: &Asked, answered: &Answered) -> bool
+    ensures { result ≡ ((request_has_content asked.now || is_for_its_range policy asked.now answered.now)
+        || has_precondition asked.now) }
+{
+    asked.has_content() || is_for_its_range(policy, asked, answered) || asked.has_precondition()
 }
 
 /// Neither a part of a representation nor a 304 is stored.
@@ -124,6 +132,15 @@ fn lasts_by_the_line(policy: Policy, answered: &Answered, directives: &Directive
     !states_lifetime(answered, directives) && policy.given_lifetime(answered.status).is_some()
 }
 
+/// Whether a cookie for one keeps a response from the store.
+fn withholds_cookies(answered: &Answered, directives: &Directives, policy: Policy) -> bool
+    requires { directives.now ≡ occurrences_of answered.now.fields }
+    ensures { result ≡ withholds_cookies policy answered.now }
+{
+    !policy.stores_cookies
+        || (!policy.gives_to_set_cookie && lasts_by_the_line(policy, answered, directives))
+}
+
 /// Whether only the line lets a response be fresh that may be for the one who asked, and the line doesn't give it that.
 fn is_given_to_someone(
     asked: &Asked,
@@ -165,7 +182,7 @@ pub fn first_rule_against(
         Some(StoreRule::Operator)
     } else if !is_get(asked) {
         Some(StoreRule::Method)
-    } else if goes_past_the_cache(asked) {
+    } else if goes_past_the_cache(facts.policy, asked, answered) {
         Some(StoreRule::Bypass)
     } else if is_not_whole(answered.status) {
         Some(StoreRule::Status)
@@ -236,7 +253,7 @@ fn rule_of_words(
     ensures { (facts : Known) → facts.policy ≡ policy
         → result ≡ find (λ r. storing_rule_applies r asked.now answered.now facts) rules_of_words }
 {
-    if !policy.stores_cookies && has_cookie_for_one(answered, directives) {
+    if withholds_cookies(answered, directives, policy) && has_cookie_for_one(answered, directives) {
         Some(StoreRule::SetCookie)
     } else if !policy.stores_errors && is_uncached_error(answered.status) {
         Some(StoreRule::ErrorStatus)

@@ -5,3 +5,4 @@ pub mod Replaced
 pub mod Echoes
 pub mod IdentifiedLemmas
 pub mod Rooms
+pub mod RangeLemmas

@@ -8,3 +8,6 @@ pub mod Validators
 pub mod Identified
 pub mod LineNames
 pub mod Room
+pub mod Ranges
+pub mod RangeWords
+pub mod RangeCases

@@ -2,7 +2,7 @@
 //! it, and when a client gets a 304 itself (RFC 9111, section 4.3; RFC 9110, sections 8.8 and 13).
 //!
 //! The definitions are in `specs/EntityTags.antt`, `specs/Validators.antt`, `specs/Answering.antt`,
-//! `specs/NotModified.antt` and `specs/Room.antt`. Nothing here knows whether an entry is held, or
+//! `specs/NotModified.antt`, `specs/Ranges.antt` and `specs/Room.antt`. Nothing here knows whether an entry is held, or
 //! which rule forwarded a request.
 #![tactic(auto)]
 
@@ -11,6 +11,8 @@ mod entity_tags;
 mod freshening;
 pub mod laws;
 mod matching_304;
+pub mod range_laws;
+mod ranges;
 mod room;
 mod stored_validators;
 
@@ -20,5 +22,9 @@ pub use client_conditions::{
 pub use entity_tags::{strong_eq, weak_eq};
 pub use freshening::freshened;
 pub use matching_304::answers;
+pub use ranges::{
+    ByteRange, RangeAnswer, answer_to_range, part_fields, range_answer, range_asked,
+    unsatisfied_fields,
+};
 pub use room::head_leaves_room;
 pub use stored_validators::{conditions, has_validator};

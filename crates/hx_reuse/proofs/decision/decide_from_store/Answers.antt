@@ -17,7 +17,7 @@ use Rattle.hx_reuse.proofs.decision.decide_from_store.Goals as goal
 pub returns-in-Some : goal.returns-in-Some
 returns-in-Some g c =
     let es = g.S.Shelf.entries c.args.shelf.now in
-    by_request c.args.policy c.requires.caches es c.args.asked.now c.args.now c.in-Some.rule (sym (c.in-Some.ensures c.args.policy es c.args.now))
+    by_request c.args.policy c.requires.caches es c.args.asked.now c.args.now c.in-Some.rule (sym (c.in-Some.ensures es c.args.now))
 
 -- by whether the key is held
 missed : (policy : Policy) (caches : policy.caches ≡ true) (es : List Stored) (asked : Asked) (now : ℕ) (b : Bool) → (length (serials_of asked.target.key es) == 0) ≡ b →
@@ -30,7 +30,7 @@ returns-in_default-preferred_among g c =
     let es = g.S.Shelf.entries c.args.shelf.now in
     let asked = c.args.asked.now in
     let free : find (λ r. reuse_rule_applies r c.args.policy es asked c.args.now) request_rules ≡ None =
-    sym (c.request_rule.ensures c.args.policy es c.args.now) ∙ c.in_default.is in
+    sym (c.request_rule.ensures es c.args.now) ∙ c.in_default.is in
     let matching : c.as_slice.result.now ≡ matching_serials asked.target.key asked.fields es = search rules in
     let chosen : chosen_of es asked ≡ None =
     sym (preferred_match_is_chosen es asked c.find_matching.ensures.distinct)
@@ -44,7 +44,7 @@ returns-in-Some-rule_on g c =
     let es = g.S.Shelf.entries c.args.shelf.now in
     let asked = c.args.asked.now in
     let free : find (λ r. reuse_rule_applies r c.args.policy es asked c.args.now) request_rules ≡ None =
-    sym (c.request_rule.ensures c.args.policy es c.args.now) ∙ c.in_default.is in
+    sym (c.request_rule.ensures es c.args.now) ∙ c.in_default.is in
     let matching : c.as_slice.result.now ≡ matching_serials asked.target.key asked.fields es = search rules in
     let chosen : chosen_of es asked ≡ Some c.in-Some-preferred_among.entry.now =
     sym (preferred_match_is_chosen es asked c.find_matching.ensures.distinct)
@@ -58,7 +58,7 @@ returns g c =
     let es = g.S.Shelf.entries c.args.shelf.now in
     let asked = c.args.asked.now in
     let free : find (λ r. reuse_rule_applies r c.args.policy es asked c.args.now) request_rules ≡ None =
-    sym (c.request_rule.ensures c.args.policy es c.args.now) ∙ c.in_default.is in
+    sym (c.request_rule.ensures es c.args.now) ∙ c.in_default.is in
     let matching : c.as_slice.result.now ≡ matching_serials asked.target.key asked.fields es = search rules in
     let chosen : chosen_of es asked ≡ Some c.in-Some-preferred_among.entry.now =
     sym (preferred_match_is_chosen es asked c.find_matching.ensures.distinct)

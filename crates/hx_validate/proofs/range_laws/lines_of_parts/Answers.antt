@@ -1,0 +1,15 @@
+use Rattle.std.proofs.Common.{refl}
+use Rattle.std.specs.Fmt.{digits}
+use Rattle.hx_validate.proofs.range_laws.lines_of_parts.Goals as goal
+
+pub returns-clause-part : goal.returns-clause-part
+unfolding digits
+returns-clause-part c = refl
+
+pub returns-clause-told_before : goal.returns-clause-told_before
+unfolding digits
+returns-clause-told_before c = refl
+
+pub returns-clause-unsatisfied : goal.returns-clause-unsatisfied
+unfolding digits
+returns-clause-unsatisfied c = refl

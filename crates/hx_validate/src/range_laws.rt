@@ -1,0 +1,150 @@
+//! What the definitions of ranges say, in the standard's words and on its examples: each function's contract is a law,
+//! and its body is empty.
+ghost use Rattle.std.specs.Prelude.{◌≡◌, [], ◌∷◌, codes, true, false, Some, None};
+ghost use Rattle.hx_fields.specs.Examples.{line};
+ghost use Rattle.hx_validate.specs.Cases.{asked_with, etag_line, last_modified_line, stored_with};
+ghost use Rattle.hx_validate.specs.RangeCases.{answer_to_range_text, range_line, if_range_line, answer_with, ten_bytes};
+ghost use Rattle.hx_validate.specs.RangeCases.{part_of_ten, form_with};
+ghost use Rattle.hx_validate.specs.Ranges.{range_of_value, range_asked, range_answer, response_in_range};
+ghost use Rattle.hx_validate.specs.Ranges.{if_range_holds, fields_of_part, fields_of_416};
+ghost use Rattle.hx_validate.specs.RangeWords.{PartIsWithin, PartIsWhatIsAsked, UnsatisfiableIsBeyond};
+ghost use Rattle.hx_validate.specs.RangeWords.{RangeOfAnotherMethodIsIgnored, OnlyA200HasParts};
+ghost use Rattle.hx_validate.specs.RangeWords.{WithoutARangeTheWholeIsSent, FailedIfRangeSendsTheWhole};
+ghost use Rattle.hx_validate.specs.declared.ranges.ByteRange.TheVariants.{FromTo, From, Last};
+ghost use Rattle.hx_validate.specs.declared.ranges.RangeAnswer.TheVariants.{Whole, Part, Unsatisfiable};
+
+/// A part is what is there of what is asked for, and nothing else; and what can't be satisfied asks for nothing that is
+/// there (RFC 9110, section 14.1.2).
+pub fn a_part_is_what_is_asked_for()
+    ensures within { PartIsWithin }
+    ensures asked { PartIsWhatIsAsked }
+    ensures beyond { UnsatisfiableIsBeyond }
+{}
+
+/// A range of another method than GET, of what wouldn't be sent as a 200, or whose If-Range is false, is ignored, and
+/// whatever asks for no one range of bytes is sent the whole (RFC 9110, sections 13.1.5 and 14.2).
+pub fn what_asks_for_no_part_is_sent_the_whole()
+    ensures method { RangeOfAnotherMethodIsIgnored }
+    ensures status { OnlyA200HasParts }
+    ensures range { WithoutARangeTheWholeIsSent }
+    ensures if_range { FailedIfRangeSendsTheWhole }
+{}
+
+/// The examples of RFC 9110, section 14.1.2, of 10,000 bytes, and others round them.
+pub fn ranges_of_the_standard()
+    ensures first_500 { answer_to_range_text 10000 (codes "bytes=0-499") ≡ Part 0 499 }
+    ensures second_500 { answer_to_range_text 10000 (codes "bytes=500-999") ≡ Part 500 999 }
+    ensures final_500 { answer_to_range_text 10000 (codes "bytes=-500") ≡ Part 9500 9999 }
+    ensures from_9500 { answer_to_range_text 10000 (codes "bytes=9500-") ≡ Part 9500 9999 }
+    ensures first_byte { answer_to_range_text 10000 (codes "bytes=0-0") ≡ Part 0 0 }
+    ensures last_byte { answer_to_range_text 10000 (codes "bytes=-1") ≡ Part 9999 9999 }
+    ensures all { answer_to_range_text 10000 (codes "bytes=0-") ≡ Part 0 9999 }
+    ensures beyond_the_end { answer_to_range_text 10000 (codes "bytes=9999-10000") ≡ Part 9999 9999 }
+    ensures behind_the_end { answer_to_range_text 10000 (codes "bytes=10000-") ≡ Unsatisfiable }
+    ensures from_behind_the_end { answer_to_range_text 10000 (codes "bytes=10000-10001") ≡ Unsatisfiable }
+    ensures longer_than_all { answer_to_range_text 10000 (codes "bytes=-10001") ≡ Part 0 9999 }
+    ensures no_byte_at_the_end { answer_to_range_text 10000 (codes "bytes=-0") ≡ Unsatisfiable }
+    ensures of_nothing { answer_to_range_text 0 (codes "bytes=0-") ≡ Unsatisfiable }
+    ensures end_of_nothing { answer_to_range_text 0 (codes "bytes=-5") ≡ Whole }
+    ensures of_one { answer_to_range_text 1 (codes "bytes=0-0") ≡ Part 0 0 }
+    ensures of_one_beyond { answer_to_range_text 1 (codes "bytes=1-1") ≡ Unsatisfiable }
+    ensures large_last { answer_to_range_text 10000 (codes "bytes=1-18446744073709551616") ≡ Part 1 9999 }
+    ensures large_first { answer_to_range_text 10000 (codes "bytes=99999999999999999999999-") ≡ Unsatisfiable }
+    ensures large_suffix { answer_to_range_text 10000 (codes "bytes=-99999999999999999999999") ≡ Part 0 9999 }
+    ensures zeros { answer_to_range_text 10000 (codes "bytes=000000000000000000000001-02") ≡ Part 1 2 }
+{}
+
+/// The texts of ranges: one range of bytes, whose unit has no case; any other asks for none (RFC 9110, sections 14.1
+/// and 14.2).
+pub fn texts_of_ranges()
+    ensures from_to { range_of_value (codes "bytes=1-2") ≡ Some (FromTo 1 2) }
+    ensures from { range_of_value (codes "bytes=7-") ≡ Some (From 7) }
+    ensures last { range_of_value (codes "bytes=-3") ≡ Some (Last 3) }
+    ensures large { range_of_value (codes "bytes=4294967296-") ≡ Some (From 4294967296) }
+    ensures larger { range_of_value (codes "bytes=-18446744073709551616") ≡ Some (Last 18446744073709551615) }
+    ensures upper_case { range_of_value (codes "BYTES=0-0") ≡ Some (FromTo 0 0) }
+    ensures turned { range_of_value (codes "bytes=2-1") ≡ None }
+    ensures two { range_of_value (codes "bytes=0-0,-1") ≡ None }
+    ensures two_apart { range_of_value (codes "bytes=500-600,601-999") ≡ None }
+    ensures empty_member { range_of_value (codes "bytes=0-1,") ≡ None }
+    ensures other_unit { range_of_value (codes "items=0-1") ≡ None }
+    ensures longer_unit { range_of_value (codes "bytess=0-1") ≡ None }
+    ensures no_unit { range_of_value (codes "0-1") ≡ None }
+    ensures no_range { range_of_value (codes "bytes=") ≡ None }
+    ensures hyphen_alone { range_of_value (codes "bytes=-") ≡ None }
+    ensures no_hyphen { range_of_value (codes "bytes=5") ≡ None }
+    ensures blank { range_of_value (codes "bytes= 0-1") ≡ None }
+    ensures blank_within { range_of_value (codes "bytes=0 - 1") ≡ None }
+    ensures sign { range_of_value (codes "bytes=+1-2") ≡ None }
+    ensures letters { range_of_value (codes "bytes=a-b") ≡ None }
+    ensures hexadecimal { range_of_value (codes "bytes=0-f") ≡ None }
+    ensures two_hyphens { range_of_value (codes "bytes=1--2") ≡ None }
+    ensures empty { range_of_value [] ≡ None }
+    ensures two_lines { range_asked (range_line (codes "bytes=0-1") ∷ range_line (codes "bytes=0-1") ∷ []) ≡ None }
+    ensures no_line { range_asked [] ≡ None }
+{}
+
+/// If-Range: an entity tag by strong comparison, and a date that is Last-Modified to the byte and a minute at least
+/// before the response was made (RFC 9110, sections 8.8.2.2 and 13.1.5).
+#[tactic(auto, unfolding(httpdate::proofs::OnLiterals::httpdate_on_literals))]
+pub fn if_range_names_what_is_stored()
+    ensures none { answer_with [] (etag_line (codes "\"e\"") ∷ []) ≡ Part 1 1 }
+    ensures tag { answer_with (if_range_line (codes "\"e\"") ∷ []) (etag_line (codes "\"e\"") ∷ []) ≡ Part 1 1 }
+    ensures other_tag { answer_with (if_range_line (codes "\"f\"") ∷ []) (etag_line (codes "\"e\"") ∷ []) ≡ Whole }
+    ensures weak { answer_with (if_range_line (codes "W/\"e\"") ∷ []) (etag_line (codes "W/\"e\"") ∷ []) ≡ Whole }
+    ensures weak_of_it { answer_with (if_range_line (codes "W/\"e\"") ∷ []) (etag_line (codes "\"e\"") ∷ []) ≡ Whole }
+    ensures weak_stored { answer_with (if_range_line (codes "\"e\"") ∷ []) (etag_line (codes "W/\"e\"") ∷ []) ≡ Whole }
+    ensures no_tag { answer_with (if_range_line (codes "\"e\"") ∷ []) [] ≡ Whole }
+    ensures star { answer_with (if_range_line (codes "*") ∷ []) (etag_line (codes "\"e\"") ∷ []) ≡ Whole }
+    ensures two { answer_with (if_range_line (codes "\"e\"") ∷ if_range_line (codes "\"e\"") ∷ [])
+        (etag_line (codes "\"e\"") ∷ []) ≡ Whole }
+    ensures date { answer_with (if_range_line (codes "Thu, 01 Jan 1970 00:00:40 GMT") ∷ [])
+        (last_modified_line (codes "Thu, 01 Jan 1970 00:00:40 GMT") ∷ []) ≡ Part 1 1 }
+    ensures later_date { answer_with (if_range_line (codes "Thu, 01 Jan 1970 00:00:41 GMT") ∷ [])
+        (last_modified_line (codes "Thu, 01 Jan 1970 00:00:40 GMT") ∷ []) ≡ Whole }
+    ensures earlier_date { answer_with (if_range_line (codes "Thu, 01 Jan 1970 00:00:39 GMT") ∷ [])
+        (last_modified_line (codes "Thu, 01 Jan 1970 00:00:40 GMT") ∷ []) ≡ Whole }
+    ensures date_of_this_minute { answer_with (if_range_line (codes "Thu, 01 Jan 1970 00:00:41 GMT") ∷ [])
+        (last_modified_line (codes "Thu, 01 Jan 1970 00:00:41 GMT") ∷ []) ≡ Whole }
+    ensures no_date { answer_with (if_range_line (codes "yesterday") ∷ [])
+        (last_modified_line (codes "yesterday") ∷ []) ≡ Whole }
+{}
+
+/// What is no 200 to a GET has no parts.
+pub fn only_a_200_to_a_get_has_parts()
+    ensures head { range_answer (record (asked_with (range_line (codes "bytes=1-") ∷ [])) { method = codes "HEAD" })
+        (stored_with []) ≡ Whole }
+    ensures other_status { range_answer (asked_with (range_line (codes "bytes=1-") ∷ []))
+        (record (stored_with []) { status = 404 }) ≡ Whole }
+    ensures beyond { range_answer (asked_with (range_line (codes "bytes=2-") ∷ [])) (stored_with []) ≡ Unsatisfiable }
+    ensures whole { range_answer (asked_with []) (stored_with []) ≡ Whole }
+{}
+
+/// The lines of a part and of a 416 (RFC 9110, sections 14.4, 15.3.7 and 15.5.17).
+pub fn lines_of_parts()
+    ensures part { fields_of_part (etag_line (codes "\"e\"") ∷ line (codes "Expires") (codes "0") ∷ []) 42 1233 1234
+        ≡ etag_line (codes "\"e\"") ∷ line (codes "Expires") (codes "0")
+        ∷ line (codes "Content-Range") (codes "bytes 42-1233/1234") ∷ [] }
+    ensures told_before { fields_of_part (line (codes "content-range") (codes "x") ∷ []) 0 0 1
+        ≡ line (codes "Content-Range") (codes "bytes 0-0/1") ∷ [] }
+    ensures unsatisfied { fields_of_416 (line (codes "Date") (codes "a") ∷ line (codes "Cache-Control") (codes "b")
+        ∷ etag_line (codes "c") ∷ line (codes "Expires") (codes "d") ∷ line (codes "vary") (codes "e")
+        ∷ line (codes "Content-Type") (codes "f") ∷ []) 1234
+        ≡ line (codes "Date") (codes "a") ∷ etag_line (codes "c") ∷ line (codes "vary") (codes "e")
+        ∷ line (codes "Content-Range") (codes "bytes */1234") ∷ [] }
+{}
+
+/// A response of ten bytes, in the form of its parts.
+pub fn parts_of_ten_bytes()
+    ensures middle { response_in_range (asked_with (range_line (codes "bytes=2-4") ∷ [])) ten_bytes
+        ≡ part_of_ten (codes "bytes 2-4/10") (codes "234") }
+    ensures end { response_in_range (asked_with (range_line (codes "bytes=-2") ∷ [])) ten_bytes
+        ≡ part_of_ten (codes "bytes 8-9/10") (codes "89") }
+    ensures all { response_in_range (asked_with (range_line (codes "bytes=0-") ∷ [])) ten_bytes
+        ≡ part_of_ten (codes "bytes 0-9/10") (codes "0123456789") }
+    ensures beyond { response_in_range (asked_with (range_line (codes "bytes=10-") ∷ [])) ten_bytes
+        ≡ record ten_bytes { status = 416; fields = line (codes "Content-Range") (codes "bytes */10") ∷ []; content = [] } }
+    ensures several { response_in_range (asked_with (range_line (codes "bytes=0-1,3-4") ∷ [])) ten_bytes ≡ ten_bytes }
+    ensures full_head { form_with 96 ≡ 200 }
+    ensures nearly_full_head { form_with 95 ≡ 206 }
+{}

@@ -1,0 +1,291 @@
+//! Which part of a stored response answers a request for a range (RFC 9110, sections 13.1.5 and 14).
+//!
+//! The definitions are in `specs/Ranges.antt`. Whether the response may be sent at all is decided before.
+ghost use Rattle.std.specs.Prelude.{◌≡◌, ◌++◌, IfOk, OnOk, decimal, length};
+ghost use Rattle.std.specs.List.{list_all};
+ghost use Rattle.std.specs.Char.{is_ascii_digit};
+ghost use Rattle.std.specs.Str.Parse.{digits_value};
+ghost use Rattle.hx_validate.specs.Ranges.{counted, position_of, range_of_parts, range_of_value};
+ghost use Rattle.hx_validate.specs.Ranges.{equals_tag, equals_modified};
+ghost use Rattle.hx_validate.specs.Validators.{modified_value, tag_value};
+ghost use Rattle.hx_validate.specs.Ranges.{int_range, range_asked, is_strong_date};
+ghost use Rattle.hx_validate.specs.Ranges.{if_range_holds, answer_to_range};
+ghost use Rattle.hx_validate.specs.Ranges.{PartIsIn, heeds_range, range_answer, part_text, unsatisfied_text};
+ghost use Rattle.hx_validate.specs.Ranges.{fields_of_part, is_carried_by_416, fields_of_416};
+
+use crate::entity_tags::strong_eq;
+use crate::stored_validators::{modified_value, tag_value};
+use hx_age::single_date;
+use hx_fields::{Bytes, Field, Fields, cut_at, is_same_name, number_up_to};
+use hx_hop::Asked;
+use hx_store::Entry;
+use itoa::Buffer;
+use std::alloc::{AllocError, Global};
+
+/// The status of a response that has parts.
+const OK: u16 = 200;
+
+/// In front of the ranges of bytes.
+const UNIT: &[u8] = b"bytes=";
+
+/// How many seconds after Last-Modified a response is made whose date is a strong validator.
+const SECONDS_LATER: u64 = 60;
+
+/// Room for what Content-Range tells, in bytes.
+const TEXT_ROOM: usize = 64;
+
+/// One range of bytes that is asked for. A larger number counts as 2^64 - 1.
+#[derive(Clone, Copy, Debug, PartialEq, Eq)]
+pub enum ByteRange {
+    /// From the first to the last, which isn't less.
+    FromTo(u64, u64),
+    /// From the first to the end.
+    From(u64),
+    /// So many at the end.
+    Last(u64),
+}
+
+/// What of a response answers a request.
+#[derive(Clone, Copy, Debug, PartialEq, Eq)]
+pub enum RangeAnswer {
+    /// All of it.
+    Whole,
+    /// The bytes of its content from the first to the last, counted from 0.
+    Part(usize, usize),
+    /// None of the bytes that are asked for is there.
+    Unsatisfiable,
+}
+
+fn are_digits(text: &[u8]) -> bool
+    ensures { result ≡ list_all is_ascii_digit text.now }
+{
+    text.iter().all(|b| b.is_ascii_digit())
+}
+
+fn counted(digits: &[u8]) -> u64
+    ensures { result ≡ counted (digits_value 10 digits.now) }
+{
+    match number_up_to(u64::MAX, 10, digits) {
+        Some(number) => number,
+        None => u64::MAX,
+    }
+}
+
+/// The position or the number that digits spell.
+fn position_of(digits: &[u8]) -> Option<u64>
+    ensures { result ≡ position_of digits.now }
+{
+    if digits.is_empty() || !are_digits(digits) {
+        return None;
+    }
+    Some(counted(digits))
+}
+
+fn int_range(first: Option<u64>, last: Option<u64>) -> Option<ByteRange>
+    ensures { result ≡ int_range first last }
+{
+    match (first, last) {
+        (Some(first), Some(last)) if first <= last => Some(ByteRange::FromTo(first, last)),
+        _ => None,
+    }
+}
+
+/// The range that stands before and behind a hyphen.
+fn range_of_parts(first: &[u8], last: &[u8]) -> Option<ByteRange>
+    ensures { result ≡ range_of_parts first.now last.now }
+{
+    if first.is_empty() {
+        position_of(last).map(ByteRange::Last)
+    } else if last.is_empty() {
+        position_of(first).map(ByteRange::From)
+    } else {
+        int_range(position_of(first), position_of(last))
+    }
+}
+
+/// The one range of bytes that a Range asks for.
+fn range_of_value(value: &[u8]) -> Option<ByteRange>
+    ensures { result ≡ range_of_value value.now }
+{
+    let (unit, range) = value.split_at(value.len().min(UNIT.len()));
+    if !is_same_name(unit, UNIT) {
+        return None;
+    }
+    match cut_at(b'-', range) {
+        Some((first, last)) => range_of_parts(first, last),
+        None => None,
+    }
+}
+
+/// The one range of bytes that a request asks for. None of any other Range, which asks for the whole.
+pub fn range_asked(request: &Fields) -> Option<ByteRange>
+    ensures { result ≡ range_asked request.now }
+{
+    match request.only_value(b"Range") {
+        Some(value) => range_of_value(value),
+        None => None,
+    }
+}
+
+fn is_strong_date(entry: &Entry) -> bool
+    ensures { result ≡ is_strong_date entry.now }
+{
+    match single_date(&entry.fields, b"Last-Modified") {
+        Some(changed) => SECONDS_LATER <= entry.times.date.saturating_sub(changed),
+        None => false,
+    }
+}
+
+fn is_current_tag(value: &[u8], entry: &Entry) -> bool
+    ensures { result ≡ equals_tag value.now (tag_value entry.now.fields) }
+{
+    match tag_value(&entry.fields) {
+        Some(held) => strong_eq(value, held),
+        None => false,
+    }
+}
+
+fn is_current_date(value: &[u8], entry: &Entry) -> bool
+    ensures { result ≡ equals_modified value.now (modified_value entry.now.fields) }
+{
+    match modified_value(&entry.fields) {
+        Some(held) => value == held,
+        None => false,
+    }
+}
+
+/// Whether a response is the one that If-Range names, where it stands (RFC 9110, section 13.1.5).
+fn if_range_holds(request: &Fields, entry: &Entry) -> bool
+    ensures { result ≡ if_range_holds request.now entry.now }
+{
+    if !request.has(b"If-Range") {
+        return true;
+    }
+    match request.only_value(b"If-Range") {
+        Some(value) => {
+            is_current_tag(value, entry) || (is_strong_date(entry) && is_current_date(value, entry))
+        }
+        None => false,
+    }
+}
+
+/// What of a content of so many bytes answers a range (RFC 9110, section 14.1.2). No memory is taken.
+pub fn answer_to_range(total: usize, range: ByteRange) -> RangeAnswer
+    ensures { result ≡ answer_to_range total range }
+{
+    match range {
+        ByteRange::FromTo(first, last) => {
+            if first < total as u64 {
+                RangeAnswer::Part(first as usize, last.min(total as u64 - 1) as usize)
+            } else {
+                RangeAnswer::Unsatisfiable
+            }
+        }
+        ByteRange::From(first) => {
+            if first < total as u64 {
+                RangeAnswer::Part(first as usize, total - 1)
+            } else {
+                RangeAnswer::Unsatisfiable
+            }
+        }
+        ByteRange::Last(0) => RangeAnswer::Unsatisfiable,
+        ByteRange::Last(most) => {
+            if total == 0 {
+                RangeAnswer::Whole
+            } else {
+                RangeAnswer::Part((total as u64).saturating_sub(most) as usize, total - 1)
+            }
+        }
+    }
+}
+
+fn heeds_range(asked: &Asked, entry: &Entry) -> bool
+    ensures { result ≡ heeds_range asked.now entry.now }
+{
+    asked.method.as_str() == "GET" && entry.status == OK && if_range_holds(&asked.fields, entry)
+}
+
+/// What of a stored response answers a request, for a range or not: a part of a 200 to a GET that asks for one range of
+/// bytes, and whose If-Range names it. No memory is taken.
+pub fn range_answer(asked: &Asked, entry: &Entry) -> RangeAnswer
+    ensures answer { result ≡ range_answer asked.now entry.now }
+    ensures part { PartIsIn result (length entry.now.content) }
+{
+    if !heeds_range(asked, entry) {
+        return RangeAnswer::Whole;
+    }
+    match range_asked(&asked.fields) {
+        Some(range) => answer_to_range(entry.content.len(), range),
+        None => RangeAnswer::Whole,
+    }
+}
+
+fn push_number(out: &mut Vec<u8>, number: usize) -> Result<(), AllocError>
+    ensures { OnOk result (out.new.items ≡ out.old.items ++ decimal number) }
+{
+    let mut digits = Buffer::new();
+    out.extend_from_slice(digits.format(number).as_bytes())
+}
+
+fn part_text(alloc: Global, first: usize, last: usize, total: usize) -> Result<Bytes, AllocError>
+    ensures { IfOk result (λ text. text ≡ part_text first last total) }
+{
+    let mut out = Vec::with_capacity(alloc, TEXT_ROOM)?;
+    out.extend_from_slice(b"bytes ")?;
+    push_number(&mut out, first)?;
+    out.extend_from_slice(b"-")?;
+    push_number(&mut out, last)?;
+    out.extend_from_slice(b"/")?;
+    push_number(&mut out, total)?;
+    Ok(Bytes::from_vec(out))
+}
+
+fn unsatisfied_text(alloc: Global, total: usize) -> Result<Bytes, AllocError>
+    ensures { IfOk result (λ text. text ≡ unsatisfied_text total) }
+{
+    let mut out = Vec::with_capacity(alloc, TEXT_ROOM)?;
+    out.extend_from_slice(b"bytes */")?;
+    push_number(&mut out, total)?;
+    Ok(Bytes::from_vec(out))
+}
+
+/// The lines of the 206 that has the bytes of a response from the first to the last (RFC 9110, sections 14.4 and
+/// 15.3.7). Its only error is out of memory.
+pub fn part_fields(
+    alloc: Global,
+    entry: &Entry,
+    first: usize,
+    last: usize,
+) -> Result<Fields, AllocError>
+    ensures { IfOk result (λ fields. fields
+        ≡ fields_of_part entry.now.fields first last (length entry.now.content)) }
+{
+    let text = part_text(alloc, first, last, entry.content.len())?;
+    let mut fields = entry.fields.copy(alloc)?;
+    fields.remove_named(b"Content-Range");
+    fields.push(b"Content-Range", text.as_slice())?;
+    Ok(fields)
+}
+
+fn is_carried_by_416(line: &Field) -> bool
+    ensures { result ≡ is_carried_by_416 line.now }
+{
+    let name = line.name.as_slice();
+    is_same_name(name, b"Date") || is_same_name(name, b"ETag") || is_same_name(name, b"Vary")
+}
+
+/// The lines of the 416 that tells how long a response is (RFC 9110, sections 14.4 and 15.5.17). Its only error is out
+/// of memory.
+pub fn unsatisfied_fields(alloc: Global, entry: &Entry) -> Result<Fields, AllocError>
+    ensures { IfOk result (λ fields. fields ≡ fields_of_416 entry.now.fields (length entry.now.content)) }
+{
+    let text = unsatisfied_text(alloc, entry.content.len())?;
+    let mut carried = Fields::new(alloc);
+    for line in entry.fields.as_slice() {
+        if is_carried_by_416(line) {
+            carried.push(line.name.as_slice(), line.value.as_slice())?;
+        }
+    }
+    carried.push(b"Content-Range", text.as_slice())?;
+    Ok(carried)
+}
