@@ -19,7 +19,7 @@ use Rattle.proxy_core.specs.declared.open.key_index.KeyIndex.{KeyIndex}
 use Rattle.hx_hop.specs.declared.request_view.Asked.{Asked}
 use Rattle.proxy_core.specs.declared.open.stage.Stage.{Stage}
 use Rattle.proxy_core.specs.declared.open.stage.Stage.TheVariants.{Forwarded, Waiting, Released}
-use Rattle.proxy_core.specs.Leading.{is_get, is_forwarded, waits_for, asks_for, may_serve, leads_waiters, leader}
+use Rattle.proxy_core.specs.Leading.{is_get, is_forwarded, waits_for, asks_for, answer_may_serve, leads_waiters, leader}
 use Rattle.proxy_core.specs.declared.open.awaited.Awaited.{Awaited}
 use Rattle.proxy_core.specs.State.{released_exchange, overtaken_exchange}
 use Rattle.proxy_core.specs.Arrivals.{HaveDistinctArrivalsAndIds, SelectedArrivalsPass, IsExactIndexOfSelected, map_exchanges}
@@ -236,7 +236,7 @@ parts false b c d h = absurd (false≢true h)
 gets_lead : (policy : Policy) (awaited : Awaited) (asked : Asked) (p : ℕ → Bool) (es : Numbered) → GetArrivalsPass asked.target.key p es → SelectedArrivalsPass (leads_waiters policy awaited asked) p es
 gets_lead policy awaited asked p [] h = tt
 gets_lead policy awaited asked p (e ∷ es) h =
-    (λ w. h.0 (parts (same_key e.1.asked.target.key asked.target.key) (is_get e.1.asked) (is_forwarded e.1.stage) (asks_for awaited e.1 && (not policy.waits_for_stale || may_serve policy asked e.1)) w), gets_lead policy awaited asked p es h.1)
+    (λ w. h.0 (parts (same_key e.1.asked.target.key asked.target.key) (is_get e.1.asked) (is_forwarded e.1.stage) (asks_for awaited e.1 && answer_may_serve policy asked e.1) w), gets_lead policy awaited asked p es h.1)
 
 pub leaders : (policy : Policy) (awaited : Awaited) (asked : Asked) (ns : List ℕ) (es : Numbered) → IsStrictlySortedBy nat_cmp ns → GetArrivalsPass asked.target.key (λ k. list_any (λ n. at k n) ns) es → LeadersLeft policy awaited asked ns es
 leaders policy awaited asked ns es s h = (gets_lead policy awaited asked (λ k. list_any (λ n. at k n) ns) es h, s)

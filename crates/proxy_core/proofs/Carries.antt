@@ -34,14 +34,14 @@ use Rattle.proxy_core.specs.declared.open.stage.Stage.TheVariants.{Forwarded, Re
 use Rattle.proxy_core.specs.declared.steps.condition.Condition.{Condition}
 use Rattle.proxy_core.specs.Leading.{waits_for}
 use Rattle.proxy_core.specs.Outcomes.{find_exchange, exchange_id_of_event, outcome_of_arrival, outcome_of_allowed_request, outcome_of_waiting_or_forwarding, outcome_without_stored_response, outcome_of_wake, is_only_if_cached, forward_text, fallback_for, outcome_of_failure, is_error_status, outcome_of_passing_on_or_stale, outcome_of_304, outcome_of_answer, outcome_of}
-use Rattle.proxy_core.specs.State.{State, overtaken_exchange, released_exchange, forwarded_exchange, waiting_exchange, line_of_verdict, rule_of_decision, serial_named_by_decision, exchange_gone_forward, exchange_forwarded_again, exchange_sent_forward, exchanges_after_wake, open_exchanges_after}
+use Rattle.proxy_core.specs.State.{State, key_purged, overtaken_exchange, released_exchange, forwarded_exchange, waiting_exchange, line_of_verdict, rule_of_decision, serial_named_by_decision, exchange_gone_forward, exchange_forwarded_again, exchange_sent_forward, exchanges_after_wake, open_exchanges_after}
 use Rattle.proxy_core.specs.Starts.{StoreAtStart}
 use Rattle.proxy_core.specs.Traces.{Item, initial_state, state_after_trace, IsGood}
 use Rattle.proxy_core.specs.Histories.{open_exchanges, IsGoodHistory}
 use Rattle.proxy_core.specs.Promises.{outcome_goes_forward, count_of_outcomes}
 use Rattle.proxy_core.specs.Carrying.{judges_a_request, second_forward_item, WentForwardOnce, WentForwardASecondTime, HasWaitedSinceItsArrival, ExchangeWasJudged, RuleWasLeastWhenJudged, OpenExchangeCarriesItsArrival}
 use Rattle.proxy_core.proofs.SentBeside.{led_over, sent_over, unless_sent}
-use Rattle.proxy_core.proofs.ExchangeLists.{overtaken_by, released_by, changed_by, find-map, find-push, find-gone_out, sent_out-id, found-id}
+use Rattle.proxy_core.proofs.ExchangeLists.{overtaken_by, released_by, changed_by, find-map, find-push, find-gone_out, sent_out-id, found-id, find-purged, none_overtaken}
 use Rattle.proxy_core.proofs.Moves.{Move, apart, opens, queues, passes, again, wakes, closes, out_again, woken_form, asked_of, ended_by, move_of, and_none, failed_back, key_taken_by_step}
 use Rattle.proxy_core.proofs.Tracing.{same_table}
 use Rattle.proxy_core.proofs.HeldLaw.{good_plain, entries_are_held, exchanges_are_open}
@@ -96,6 +96,7 @@ module _ (table : Table) (es : List Stored) (xs : List Exchange) (now : ℕ) (as
   goes_by (verdict.DeniedBy n) v = tt
   goes_by verdict.NoLine v = tt
   goes_by (verdict.Looped n) v = tt
+  goes_by (verdict.Purged n) v = tt
 
 -- ---- what goes forward behind an answer
 
@@ -333,7 +334,10 @@ module _ (table : Table) (start : StoreAtStart) (first : ℕ) where
       find_exchange id (open_exchanges_after table (state_after_trace (initial_state table start first) past).entries (state_after_trace (initial_state table start first) past).exchanges (Arrive now id asked) o) ≡ Some x →
       Carried table start id (record { event = Arrive now id asked; outcome = o } ∷ past) x
   unfolding Goes
-  carried_first past g now id asked (Reply r) x h free found = absurd (none_some _ x free found)
+  carried_first past g now id asked (Reply r) x h free found =
+      let key = key_purged asked (Reply r) in
+      let s = state_after_trace (initial_state table start first) past in
+      absurd (none_some _ x (find-purged key id s.exchanges ∙ ap (overtaken_by key) free ∙ none_overtaken key) found)
   carried_first past g now id asked Ended x h free found = absurd (none_some _ x free found)
   carried_first past g now id asked (Waits leader) x on free found =
       let s = state_after_trace (initial_state table start first) past in

@@ -11,7 +11,7 @@ use Rattle.hx_reuse.specs.declared.rule.ReuseRule.{ReuseRule}
 use Rattle.proxy_core.specs.declared.steps.condition.Condition.{Condition}
 use Rattle.proxy_core.specs.declared.open.stage.Stage.TheVariants.{Released}
 use Rattle.proxy_core.specs.Leading.{waits_for}
-use Rattle.proxy_core.specs.State.{exchanges_after_close, released_exchange, overtaken_exchange, exchanges_after_end, exchange_gone_forward, exchange_forwarded_again, exchange_sent_forward}
+use Rattle.proxy_core.specs.State.{exchanges_after_close, released_exchange, overtaken_exchange, exchanges_after_end, exchanges_after_purge, exchange_gone_forward, exchange_forwarded_again, exchange_sent_forward}
 
 pub find-map : (f : Exchange → Exchange) → ((x : Exchange) → (f x).id ≡ x.id) → (id : ℕ) (xs : List Exchange) →
     find_exchange id (map f xs) ≡ option_map f (find_exchange id xs)
@@ -128,6 +128,15 @@ find-left_open (Some key) i id xs =
       | true ↦ refl
       | false ↦ refl
     ]
+
+-- a purge
+pub find-purged : (key : Option Key) (id : ℕ) (xs : List Exchange) → find_exchange id (exchanges_after_purge key xs) ≡ overtaken_by key (find_exchange id xs)
+find-purged None id xs = refl
+find-purged (Some key) id xs = find-overtake key id xs
+
+pub none_overtaken : (key : Option Key) → overtaken_by key None ≡ None
+none_overtaken None = refl
+none_overtaken (Some key) = refl
 
 pub find-push : (id : ℕ) (xs : List Exchange) (x : Exchange) → find_exchange x.id xs ≡ None →
     find_exchange id (xs ++ x ∷ []) ≡ cond (eqb x.id id) (Some x) (find_exchange id xs)

@@ -128,7 +128,8 @@ module _ (table : Table) (start : StoreAtStart) (past : List Item) (distinct : D
       by_verdict (verdict.Allowed line) v = by_decision line (decision_of (policy_of table.lines line) es asked now) v refl
       by_verdict (verdict.DeniedBy line) v = λ h. inl (line, v, refl)
       by_verdict verdict.NoLine v = λ h. inr (inl (v, refl))
-      by_verdict (verdict.Looped line) v = λ h. inr (inr (inr (line, v, refl)))
+      by_verdict (verdict.Looped line) v = λ h. inr (inr (inr (inl (line, v, refl))))
+      by_verdict (verdict.Purged line) v = λ h. inr (inr (inr (inr (line, v, refl))))
 
   failure_names : (x : Exchange) (now id : ℕ) (kind : FailKind) (fallback : Fallback) → fallback_for (policy_of table.lines x.line) es x.asked now (decision_of (policy_of table.lines x.line) es x.asked now) ≡ fallback →
       AnswerNamesFirstRule table start past next (Some x) (Fail now id kind) (outcome_of_failure table es now x kind None fallback)

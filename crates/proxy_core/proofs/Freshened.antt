@@ -12,7 +12,7 @@ use Rattle.hx_allow.specs.TableLines.{Table}
 use Rattle.hx_allow.specs.Matching.{policy_of}
 use Rattle.hx_store.specs.Stored.{Stored}
 use Rattle.hx_store.specs.Weights.{weight_of}
-use Rattle.hx_storable.specs.Rules.{allows_shared, allows_storing, is_understood_status, response_has, storing_rule_applies, storage_rule_of}
+use Rattle.hx_storable.specs.Rules.{allows_shared, allows_storing, is_for_its_range, is_understood_status, response_has, storing_rule_applies, storage_rule_of}
 use Rattle.hx_storable.specs.Storable.{NeedsUnderstanding, NoStoreIsAbsentOrLifted, ResponseAllowsShared, ResponseAllowsStoring, ResponseIsWithinTheWords}
 use Rattle.hx_storable.specs.declared.rule.StoreRule.{StoreRule}
 use Rattle.hx_storable.specs.declared.rule.StoreRule.TheVariants.{Operator, Method, Bypass, Status, MustUnderstand, ResponseNoStore, RequestNoStore, Private, Authorization, NothingAllows, VaryStar, ConnectionField, NothingToReuse, TooLarge, Overtaken, Serials, SetCookie, ErrorStatus, RequestCookie}
@@ -20,6 +20,7 @@ use Rattle.hx_validate.specs.Room.{head_leaves_room}
 use Rattle.hx_fields.proofs.JoinedTests.{never, not_false, not_true, left_false, right_false, neither, one_of, or_left, or_right, second_false, either_false, first_absent, last_absent, is_equal, not_equal, implied}
 use Rattle.hx_storable.proofs.LeastRule.{no_rule_applies, no_rule_found}
 use Rattle.hx_storable.proofs.LineLemmas.{within_the_words, cookie_applies, error_applies, request_cookie_applies}
+use Rattle.hx_storable.proofs.StorableLemmas.{not_for_its_range, for_no_range}
 use Rattle.proxy_core.specs.declared.open.exchange.Exchange.{Exchange}
 use Rattle.proxy_core.specs.Validating.{is_above, as_get_request, head_of_stored, storing_facts_of_freshened}
 use Rattle.proxy_core.specs.StoredAnswers.{FreshenedMayBeKept, FreshenedIsKeptWhereItMayBe, NothingElseIsKept}
@@ -40,7 +41,7 @@ module _ (table : Table) (x : Exchange) (r : Response) (e : Stored) where
   -- ---- in words
 
   as_it_came : ResponseIsWithinTheWords (as_get_request x.asked) (head_of_stored e) (policy_of table.lines x.line) → ResponseIsWithinTheWords x.asked (head_of_stored e) (policy_of table.lines x.line)
-  as_it_came within = record { cookies = within.cookies; errors = within.errors; requests_with_cookies = within.requests_with_cookies }
+  as_it_came within = record { cookies = within.cookies; lifetimes_of_cookies = within.lifetimes_of_cookies; errors = within.errors; requests_with_cookies = within.requests_with_cookies }
 
   module _ (none : (any : StoreRule) → storing_rule_applies any (as_get_request x.asked) (head_of_stored e) (storing_facts_of_freshened table x r e) ≡ false) where
     must_be_understood : response_has (head_of_stored e) directive.MustUnderstand ≡ true → is_understood_status e.status ≡ true
@@ -116,7 +117,7 @@ module _ (table : Table) (x : Exchange) (r : Response) (e : Stored) where
 
     in_words : head_leaves_room e.fields ≡ true → FreshenedMayBeKept table x r e
     in_words room =
-        let both = left_false (request_has_content x.asked || asks_for_range x.asked) (has_precondition x.asked) (none Bypass) in
+        let both = left_false (request_has_content x.asked || is_for_its_range (policy_of table.lines x.line) x.asked (head_of_stored e)) (has_precondition x.asked) (none Bypass) in
         record {
           line_has_cache = not_false (policy_of table.lines x.line).caches (none Operator);
           status_is_understood = understood;
@@ -125,9 +126,9 @@ module _ (table : Table) (x : Exchange) (r : Response) (e : Stored) where
           not_authorized = shared_or_unauthorized;
           allowed = allowed;
           not_asked_not_to = none RequestNoStore;
-          no_content = left_false (request_has_content x.asked) (asks_for_range x.asked) both;
-          no_range = right_false (request_has_content x.asked) (asks_for_range x.asked) both;
-          no_precondition = right_false (request_has_content x.asked || asks_for_range x.asked) (has_precondition x.asked) (none Bypass);
+          no_content = left_false (request_has_content x.asked) (is_for_its_range (policy_of table.lines x.line) x.asked (head_of_stored e)) both;
+          is_not_for_its_range = not_for_its_range (policy_of table.lines x.line).forwards_ranges (asks_for_range x.asked) e.status (right_false (request_has_content x.asked) (is_for_its_range (policy_of table.lines x.line) x.asked (head_of_stored e)) both);
+          no_precondition = right_false (request_has_content x.asked || is_for_its_range (policy_of table.lines x.line) x.asked (head_of_stored e)) (has_precondition x.asked) (none Bypass);
           is_within_the_words = as_it_came (within_the_words (as_get_request x.asked) (head_of_stored e) (storing_facts_of_freshened table x r e) none);
           names_fields = fields_named e.fields (none VaryStar);
           the_304_keeps_its_fields = keeps_all r.fields (none ConnectionField);
@@ -200,8 +201,8 @@ module _ (table : Table) (x : Exchange) (r : Response) (e : Stored) where
   none_applies may Operator = not_true (policy_of table.lines x.line).caches may.line_has_cache
   none_applies may Method = refl
   none_applies may Bypass =
-      neither (request_has_content x.asked || asks_for_range x.asked) (has_precondition x.asked)
-      (neither (request_has_content x.asked) (asks_for_range x.asked) may.no_content may.no_range) may.no_precondition
+      neither (request_has_content x.asked || is_for_its_range (policy_of table.lines x.line) x.asked (head_of_stored e)) (has_precondition x.asked)
+      (neither (request_has_content x.asked) (is_for_its_range (policy_of table.lines x.line) x.asked (head_of_stored e)) may.no_content (for_no_range (policy_of table.lines x.line).forwards_ranges (asks_for_range x.asked) e.status may.is_not_for_its_range)) may.no_precondition
   none_applies may Status =
       neither (e.status == 206) (e.status == 304)
       (not_equal e.status 206 (λ is. never_understood e.status 206 is refl (may.status_is_understood (inl is))))
@@ -219,7 +220,7 @@ module _ (table : Table) (x : Exchange) (r : Response) (e : Stored) where
       neither (nat_lt table.max_stored (length e.content)) (is_above table.max_store (weight_of e)) (fits_in table.max_stored (length e.content) may.fits) (not_above table.max_store (weight_of e) may.fits_the_store)
   none_applies may Overtaken = refl
   none_applies may Serials = refl
-  none_applies may SetCookie = cookie_applies (as_get_request x.asked) (head_of_stored e) (storing_facts_of_freshened table x r e) may.is_within_the_words.cookies
+  none_applies may SetCookie = cookie_applies (as_get_request x.asked) (head_of_stored e) (storing_facts_of_freshened table x r e) may.is_within_the_words.cookies may.is_within_the_words.lifetimes_of_cookies
   none_applies may ErrorStatus = error_applies (as_get_request x.asked) (head_of_stored e) (storing_facts_of_freshened table x r e) may.is_within_the_words.errors
   none_applies may RequestCookie = request_cookie_applies (as_get_request x.asked) (head_of_stored e) (storing_facts_of_freshened table x r e) may.is_within_the_words.requests_with_cookies
 

@@ -55,8 +55,9 @@ use Rattle.proxy_core.proofs.FirstRules.{held_distinct, names_first_rules}
 use Rattle.proxy_core.proofs.HeldLaw.{good_plain}
 use Rattle.proxy_core.proofs.Moves.{failed_back}
 use Rattle.proxy_core.proofs.OpenLaws.{has_its_request}
-use Rattle.proxy_core.proofs.SendLaws.{forwards_nothing_else, reaches_where_allowed, refuses_where_not_allowed, reusable_hit, sends_what_may_be_sent, sends_nothing_else}
+use Rattle.proxy_core.proofs.SendLaws.{forwards_nothing_else, reaches_where_allowed, refuses_where_not_allowed, purges_its_target, reusable_hit, sends_what_may_be_sent, sends_nothing_else}
 use Rattle.proxy_core.proofs.SentResponses.{sends_what_is_held}
+use Rattle.proxy_core.proofs.Purged.{purges_where_said}
 use Rattle.proxy_core.proofs.StoredAnswers.{stores_where_it_may, stores_nowhere_else, stores_the_next, removes_just_that}
 use Rattle.proxy_core.proofs.Tracing.{denied_leave_no_trace}
 use Rattle.proxy_core.proofs.TwiceForward.{twice_forward_one_reply}
@@ -211,6 +212,7 @@ module _ (table : Table) (es : List Stored) where
   arrival_closes xs now asked (verdict.DeniedBy line) = refl
   arrival_closes xs now asked verdict.NoLine = refl
   arrival_closes xs now asked (verdict.Looped line) = refl
+  arrival_closes xs now asked (verdict.Purged line) = refl
 
   failed_closes : (now : ℕ) (x : Exchange) (kind : FailKind) (came : Option ℕ) (fallback : Fallback) → close_in x.asked.close (outcome_of_failure table es now x kind came fallback) ≡ x.asked.close
   failed_closes now x kind came (Sends serial detail) = refl
@@ -406,7 +408,7 @@ module _ (table : Table) (start : StoreAtStart) (first : ℕ) where
         begins_as_it_may = begins trace g;
         comes_where_it_may = each (EventComesWhereItMay table start) comes trace g;
         reaches_where_allowed = each (RequestReachesExactlyWhereAllowed table start)
-            (λ item past g now id asked e. (λ line v. reaches_where_allowed table start first now id line asked item past g e v, λ n. refuses_where_not_allowed table start first now id asked item past g e n)) trace g;
+            (λ item past g now id asked e. (λ line v. reaches_where_allowed table start first now id line asked item past g e v, (λ p. purges_its_target table start first now id asked item past g e p, λ n p. refuses_where_not_allowed table start first now id asked item past g e n p))) trace g;
         goes_where_allowed = each (RequestGoesForwardWhereAllowed table start) goes trace g;
         goes_on_to_its_answer = each (ExchangeGoesOnToItsAnswer table start) goes_on trace g;
         sends_where_one_may_be = each (StoredResponseIsSentExactlyWhereItMayBe table start)
@@ -414,7 +416,7 @@ module _ (table : Table) (start : StoreAtStart) (first : ℕ) where
         sends_that_response = each (SentResponseIsTheStoredOne table start) (λ item past g s h. sends_what_is_held table start first s item past g h) trace g;
         names_the_first_rule = each (OtherAnswerNamesTheFirstRule table start first) (λ item past g. names_first_rules table start first item past g) trace g;
         stores_where_it_may = each (AnswerIsStoredExactlyWhereItMayBe table start first) stores trace g;
-        removes_what_goes = each (StoredResponsesAreRemovedExactlyWhereTheyMustBe table start) (λ item past g. removes_just_that table start first item past g) trace g;
+        removes_what_goes = each (StoredResponsesAreRemovedExactlyWhereTheyMustBe table start) (λ item past g. (removes_just_that table start first item past g, purges_where_said table start first item past g)) trace g;
         closes_as_asked = each ConnectionClosesAsAsked closes trace g;
         nothing_invalidated_is_sent = nothing_invalidated_is_sent table start first trace plain;
         nothing_invalidated_since = nothing_invalidated_since table start first trace plain;

@@ -1,10 +1,11 @@
 -- What is held is within the bounds of the store, and what is stored is held behind it.
-use Rattle.std.proofs.Common.{◌≡◌, ℕ, ◌≤◌, not, cond, ◌||◌, Option, None, Some, List, [], ◌∷◌, ◌++◌, map, refl, sym, ◌∙◌, ap, subst, arith}
+use Rattle.std.proofs.Common.{◌≡◌, ℕ, ◌≤◌, not, cond, ◌||◌, Bool, true, false, Option, None, Some, List, [], ◌∷◌, ◌++◌, map, refl, sym, ◌∙◌, ap, subst, arith}
 use Rattle.std.specs.Prelude.{IfSome, codes}
 use Rattle.std.proofs.lemmas.Bool.{eq-eqb}
 use Rattle.std.proofs.lemmas.List.Sums.{sum_by-cons}
 use Rattle.std.proofs.lemmas.List.Filters.{sum_by-filter_both}
 use Rattle.std.proofs.lemmas.Option.{IfSome_then}
+use Rattle.hx_fields.specs.declared.field_line.Field.{Field}
 use Rattle.hx_fields.specs.FieldLines.{without_named, is_named}
 use Rattle.hx_framing.specs.declared.messages.Response.{Response}
 use Rattle.hx_hop.specs.Answering.{answered_of}
@@ -21,6 +22,7 @@ use Rattle.proxy_core.specs.declared.open.exchange.Exchange.{Exchange}
 use Rattle.proxy_core.specs.declared.event.Event.TheVariants.{Answer}
 use Rattle.proxy_core.specs.Outcomes.{find_exchange, exchange_id_of_event}
 use Rattle.proxy_core.specs.Storing.{stored_response_made, weight_of_answer}
+use Rattle.proxy_core.specs.Validating.{without_cookies}
 use Rattle.proxy_core.specs.State.{bounds_of, serial_stored_by_outcome, serial_used_by_outcome, serials_removed_by_outcome, stored_response_by_answer, entries_after, entries_after_use, entries_after_storing, cut_where_touched}
 use Rattle.proxy_core.specs.Starts.{StoreAtStart, change_that_stores}
 use Rattle.proxy_core.specs.Traces.{Item, initial_state, state_after_trace}
@@ -54,13 +56,20 @@ held_by_number_alone table start past none =
 
 -- ---- what is stored
 
+fewer_weigh : (name : List ℕ) (fields : List Field) → weight_of_lines (without_named fields name) ≤ weight_of_lines fields
+fewer_weigh name fields = omega (arith, sum_by-filter_both (λ f. not (is_named name f)) (λ f. not (not (is_named name f))) (λ f. refl) weight_of_line fields)
+
+others_weigh : (removes : Bool) (fields : List Field) → weight_of_lines (without_cookies removes fields) ≤ weight_of_lines fields
+others_weigh true fields = fewer_weigh (codes "Set-Cookie") fields
+others_weigh false fields = omega arith
+
 -- what is kept of an answer weighs no more than the answer
 made_weighs : (serial : ℕ) (x : Exchange) (r : Response) (now : ℕ) → weight_of (stored_response_made serial x r now) ≤ weight_of_answer x r now
 made_weighs serial x r now =
     let fields = (answered_of r now).fields in
-    let fewer : weight_of_lines (without_named fields (codes "Age")) ≤ weight_of_lines fields =
-    omega (arith, sum_by-filter_both (λ f. not (is_named (codes "Age") f)) (λ f. not (not (is_named (codes "Age") f))) (λ f. refl) weight_of_line fields) in
-    omega arith
+    let others = others_weigh x.removes_cookies fields in
+    let fewer = fewer_weigh (codes "Age") (without_cookies x.removes_cookies fields) in
+    omega (arith, others, fewer)
 
 made_fits : (bound : Option ℕ) (serial : ℕ) (x : Exchange) (r : Response) (now : ℕ) → IfSome bound (λ most. weight_of_answer x r now ≤ most) → IfSome bound (λ most. weight_of (stored_response_made serial x r now) ≤ most)
 made_fits bound serial x r now h = IfSome_then bound h (λ most p. let less = made_weighs serial x r now in omega arith)

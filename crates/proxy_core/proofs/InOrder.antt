@@ -17,7 +17,7 @@ use Rattle.hx_allow.specs.Matching.{policy_of}
 use Rattle.proxy_core.specs.Allowing.{verdict_of_asked}
 use Rattle.hx_reuse.specs.Rules.{decision_of}
 use Rattle.proxy_core.specs.Validating.{condition_about_serial}
-use Rattle.proxy_core.specs.State.{overtaken_exchange, released_exchange, exchanges_after_end, exchanges_after_close, forwarded_exchange, waiting_exchange, line_of_verdict, rule_of_decision, serial_named_by_decision, exchange_forwarded_again, exchanges_after_wake, key_invalidated_by_response, open_exchanges_after}
+use Rattle.proxy_core.specs.State.{overtaken_exchange, released_exchange, exchanges_after_end, exchanges_after_purge, key_purged, exchanges_after_close, forwarded_exchange, waiting_exchange, line_of_verdict, rule_of_decision, serial_named_by_decision, exchange_forwarded_again, exchanges_after_wake, key_invalidated_by_response, open_exchanges_after}
 use Rattle.proxy_core.specs.Starts.{StoreAtStart}
 use Rattle.proxy_core.specs.Traces.{Item, initial_state, state_after_trace, IsGood}
 use Rattle.proxy_core.specs.Promises.{is_arrival_event, NoRequestArrives}
@@ -48,6 +48,10 @@ ids-left id (x ∷ xs) = by_id (eqb x.id id) (ids-left id xs)
 
 ids-closed : (id : ℕ) (xs : List Exchange) → exchange_ids (exchanges_after_close id xs) ≡ but id (exchange_ids xs)
 ids-closed id xs = ids-map (released_exchange id) (release-id id) (left_by id xs) ∙ ids-left id xs
+
+ids-purged : (key : Option Key) (xs : List Exchange) → exchange_ids (exchanges_after_purge key xs) ≡ exchange_ids xs
+ids-purged None xs = refl
+ids-purged (Some key) xs = ids-map (overtaken_exchange key) (overtake-id key) xs
 
 ids-left_open : (key : Option Key) (id : ℕ) (xs : List Exchange) → exchange_ids (exchanges_after_end key id xs) ≡ but id (exchange_ids xs)
 ids-left_open None id xs = ids-closed id xs
@@ -229,7 +233,8 @@ in_order_step table es xs past (Arrive now id asked) o free h = by_outcome o (wa
     by_outcome (Waits leader) f =
         let i : Item = record { event = Arrive now id asked; outcome = Waits leader } in
         same_ids (ids-push xs (waiting_exchange table es now id asked (line_of_verdict (verdict_of_asked table asked)) leader)) (with_one i past (exchange_ids xs) refl (new_apart now id asked (Waits leader) xs f) h)
-    by_outcome (Reply r) f = further (record { event = Arrive now id asked; outcome = Reply r }) past (exchange_ids xs) (new_apart now id asked (Reply r) xs f) h
+    by_outcome (Reply r) f =
+        same_ids (ids-purged (key_purged asked (Reply r)) xs) (further (record { event = Arrive now id asked; outcome = Reply r }) past (exchange_ids xs) (new_apart now id asked (Reply r) xs f) h)
     by_outcome Ended f = further (record { event = Arrive now id asked; outcome = Ended }) past (exchange_ids xs) (new_apart now id asked Ended xs f) h
 in_order_step table es xs past (Answer now id r) (Forward line bytes) free h =
     let i : Item = record { event = Answer now id r; outcome = Forward line bytes } in

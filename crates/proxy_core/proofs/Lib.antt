@@ -35,7 +35,8 @@ pub mod SinceItWent
 pub mod StoredAnswers
 pub mod Headlines
 pub mod OneOutcome
-pub mod Refusals
+pub mod Purged
+mod Refusals
 pub mod Driven
 pub mod Waits
 pub mod Indexed
@@ -49,3 +50,5 @@ pub mod Cutting
 pub mod HeldWithin
 pub mod Restarts
 pub mod ConditionsKept
+pub mod Cookies
+pub mod RangeReplies

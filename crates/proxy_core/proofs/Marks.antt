@@ -89,21 +89,24 @@ asked_is table start first (i ∷ past) g id a k =
     (λ a q. asked_is table start first past g.1 id a q) k
 
 -- what an item invalidates, by the exchange and by the items before
-key_is : (w : Option Exchange) (event : Event) (b : Option Asked) → fault_at_exchange w event ≡ None → ((a : Asked) → asked_of w ≡ Some a → b ≡ Some a) →
-    key_invalidated_by_event b event ≡ key_invalidated_by_event (asked_of w) event
-key_is (Some w) event b f h = ap (λ b. key_invalidated_by_event b event) (h w.asked refl)
-key_is None (Arrive now i asked) None f h = refl
-key_is None (Arrive now i asked) (Some a) f h = refl
-key_is None (Answer now i r) b f h = absurd (cc)
-key_is None (Fail now i kind) b f h = absurd (cc)
-key_is None (Wake now i) b f h = absurd (cc)
-key_is None (Abandon i) b f h = absurd (cc)
+key_is : (w : Option Exchange) (event : Event) (o : Outcome) (b : Option Asked) → fault_at_exchange w event ≡ None → ((a : Asked) → asked_of w ≡ Some a → b ≡ Some a) →
+    key_invalidated_by_event b event o ≡ key_invalidated_by_event (asked_of w) event o
+key_is (Some w) event o b f h = ap (λ b. key_invalidated_by_event b event o) (h w.asked refl)
+key_is None (Arrive now i asked) o b f h = refl
+key_is None (Answer now i r) o b f h = absurd (cc)
+key_is None (Fail now i kind) o b f h = absurd (cc)
+key_is None (Wake now i) o b f h = absurd (cc)
+key_is None (Abandon i) o b f h = absurd (cc)
 
 -- and as its outcome shows it
 shown : (table : Table) (start : StoreAtStart) (past : List Item) (es : List Stored) (xs : List Exchange) (next : Option ℕ) (w : Option Exchange) (event : Event) (o : Outcome) →
     ((z : Exchange) → w ≡ Some z → ExchangeWasJudged table start z past) → o ≡ outcome_of table es xs w next event →
-    key_invalidated_by_event (asked_of w) event ≡ key_taken_by_step (asked_of w) event o
-shown table start past es xs next None event o a is = refl
+    key_invalidated_by_event (asked_of w) event o ≡ key_taken_by_step (asked_of w) event o
+shown table start past es xs next None (Arrive now i asked) o a is = refl
+shown table start past es xs next None (Answer now i r) o a is = refl
+shown table start past es xs next None (Fail now i kind) o a is = refl
+shown table start past es xs next None (Wake now i) o a is = refl
+shown table start past es xs next None (Abandon i) o a is = refl
 shown table start past es xs next (Some z) (Answer now i r) o a is =
     status_is_shown table start z past (a z refl) es now r next ∙ ap (key_taken_by_answer z.asked r) (sym is)
 shown table start past es xs next (Some z) (Arrive now i asked) o a is = refl
@@ -112,13 +115,13 @@ shown table start past es xs next (Some z) (Wake now i) o a is = refl
 shown table start past es xs next (Some z) (Abandon i) o a is = refl
 
 pub same_key_of_step : (table : Table) (start : StoreAtStart) (first : ℕ) (i : Item) (past : List Item) → IsGood (initial_state table start first) (i ∷ past) →
-    key_invalidated_by_event (latest_request_of (exchange_id_of_event i.event) past) i.event
+    key_invalidated_by_event (latest_request_of (exchange_id_of_event i.event) past) i.event i.outcome
     ≡ key_taken_by_step (asked_of (find_exchange (exchange_id_of_event i.event) (state_after_trace (initial_state table start first) past).exchanges)) i.event i.outcome
 same_key_of_step table start first i past g =
     let s = state_after_trace (initial_state table start first) past in
     let id = exchange_id_of_event i.event in
     let w = find_exchange id s.exchanges in
-    key_is w i.event (latest_request_of id past) g.0.allowed (λ a q. asked_is table start first past g.1 id a q)
+    key_is w i.event i.outcome (latest_request_of id past) g.0.allowed (λ a q. asked_is table start first past g.1 id a q)
     ∙ shown table start past s.entries s.exchanges s.next w i.event i.outcome (λ z q. (carries table start first past g.1 id z q).0) g.0.outcome_is
 
 -- ---- from a going forward on

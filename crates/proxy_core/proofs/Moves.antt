@@ -34,12 +34,12 @@ use Rattle.proxy_core.specs.declared.event.Event.TheVariants.{Arrive, Answer, Fa
 use Rattle.proxy_core.specs.Validating.{condition_about_serial, is_304_to_own_conditions, stored_response_validated}
 use Rattle.proxy_core.specs.Storing.{is_304_without_condition, key_invalidated}
 use Rattle.proxy_core.specs.Outcomes.{find_exchange, exchange_id_of_event, fallback_for, outcome_of_failure, is_error_status, outcome_of_passing_on_or_stale, outcome_of_304, outcome_of_answer, outcome_of_wake, outcome_of, or_fault, fault_if_not_forwarded, fault_if_not_released, fault_at_exchange}
-use Rattle.proxy_core.specs.State.{State, state_after, open_exchanges_after, forwarded_exchange, waiting_exchange, line_of_verdict, rule_of_decision, serial_named_by_decision, exchange_gone_forward, exchange_forwarded_again, exchange_sent_forward, exchanges_after_wake, key_invalidated_by_response}
+use Rattle.proxy_core.specs.State.{State, state_after, open_exchanges_after, forwarded_exchange, waiting_exchange, line_of_verdict, rule_of_decision, serial_named_by_decision, exchange_gone_forward, exchange_forwarded_again, exchange_sent_forward, exchanges_after_wake, key_invalidated_by_response, key_purged}
 use Rattle.proxy_core.specs.Traces.{Item, ItemIsAccepted}
 use Rattle.proxy_core.specs.Promises.{outcome_goes_forward, outcome_is_reply, outcome_ends_exchange, is_arrival_event, reply_uses_no_stored_response}
 use Rattle.proxy_core.specs.Carrying.{judges_a_request}
 use Rattle.proxy_core.proofs.UnsafeRequests.{unsafe_refuses}
-use Rattle.proxy_core.proofs.ExchangeLists.{find-map, find-closed, find-push, find-gone_out, find-left_open, found-id, sent_out-id, overtaken_by, changed_by}
+use Rattle.proxy_core.proofs.ExchangeLists.{find-map, find-closed, find-push, find-gone_out, find-left_open, find-purged, none_overtaken, found-id, sent_out-id, overtaken_by, changed_by}
 
 abbrev pub asked_of : Option Exchange → Option Asked
 asked_of None = None
@@ -77,12 +77,12 @@ key_taken_by_answer asked r outcome =
     (Some asked.target.key) None
 
 abbrev pub key_taken_by_step : Option Asked → Event → Outcome → Option Key
-key_taken_by_step None event outcome = None
 key_taken_by_step (Some asked) (Answer now id r) outcome = key_taken_by_answer asked r outcome
-key_taken_by_step (Some asked) (Arrive now id other) outcome = None
-key_taken_by_step (Some asked) (Fail now id kind) outcome = None
-key_taken_by_step (Some asked) (Wake now id) outcome = None
-key_taken_by_step (Some asked) (Abandon id) outcome = None
+key_taken_by_step None (Answer now id r) outcome = None
+key_taken_by_step asked (Arrive now id other) outcome = key_purged other outcome
+key_taken_by_step asked (Fail now id kind) outcome = None
+key_taken_by_step asked (Wake now id) outcome = None
+key_taken_by_step asked (Abandon id) outcome = None
 
 -- of a step of the exchange w of its own id, what becomes of the exchange x of an id
 pub data Move (id : ℕ) (w : Option Exchange) (event : Event) (o : Outcome) (x y : Option Exchange) : Type 0 where
@@ -302,10 +302,15 @@ module _ (table : Table) (es : List Stored) (xs : List Exchange) (next : Option 
             )
         | inr n ↦ apart n (p ∙ ap (λ b. cond b (Some (waiting_exchange table es now i asked line leader)) (find_exchange id xs)) n)
       ]
-  arrives now i asked (Reply r) f = elim (cases_Bool (eqb i id)) [
-    | inl t ↦ passes t refl (ap (λ n. find_exchange n xs) (sym (eqb-true i id t)) ∙ f) refl (ap (λ n. find_exchange n xs) (sym (eqb-true i id t)) ∙ f)
-    | inr n ↦ apart n refl
-  ]
+  arrives now i asked (Reply r) f =
+      let purged = find-purged (key_purged asked (Reply r)) id xs in
+      elim (cases_Bool (eqb i id)) [
+        | inl t ↦ (
+            let none : find_exchange id xs ≡ None = ap (λ n. find_exchange n xs) (sym (eqb-true i id t)) ∙ f in
+            passes t refl none refl (purged ∙ ap (overtaken_by (key_purged asked (Reply r))) none ∙ none_overtaken (key_purged asked (Reply r)))
+            )
+        | inr n ↦ apart n purged
+      ]
   arrives now i asked Ended f = elim (cases_Bool (eqb i id)) [
     | inl t ↦ passes t refl (ap (λ n. find_exchange n xs) (sym (eqb-true i id t)) ∙ f) refl (ap (λ n. find_exchange n xs) (sym (eqb-true i id t)) ∙ f)
     | inr n ↦ apart n refl

@@ -13,7 +13,7 @@ use Rattle.hx_hop.specs.declared.request_view.Asked.{Asked}
 use Rattle.hx_hop.specs.Moments.{date_text_of}
 use Rattle.hx_allow.specs.TableLines.{Table}
 use Rattle.hx_allow.specs.Matching.{policy_of}
-use Rattle.proxy_core.specs.Allowing.{verdict_of_asked, exchanges_to_wait_for}
+use Rattle.proxy_core.specs.Allowing.{verdict_of_asked, is_purge, request_purges, exchanges_to_wait_for}
 use Rattle.hx_allow.specs.declared.verdicts.Verdict.{Verdict}
 use Rattle.hx_allow.specs.declared.verdicts.Verdict.TheVariants as verdict
 use Rattle.hx_allow.specs.declared.verdicts.Route.{Route}
@@ -46,14 +46,14 @@ use Rattle.proxy_core.specs.Storing.{storing_rule_to_explain, is_304_without_con
 use Rattle.proxy_core.specs.Validating.{condition_about_serial, is_304_to_own_conditions, stored_response_validated}
 use Rattle.proxy_core.specs.Replies.{stored_text, passed_answer_text, refusal_reply_text, is_head}
 use Rattle.proxy_core.specs.Outcomes.{hit_status_info, find_exchange, exchange_id_of_event, outcome_of_event, outcome_of_refusal, forwarded_status_info, forward_text, or_fault, fault_if_not_forwarded, fault_if_not_released, fault_at_exchange, step_fault}
-use Rattle.proxy_core.specs.State.{serial_stored_by_outcome, serial_used_by_outcome, serials_removed_by_outcome, stored_response_as_used, bounds_of}
+use Rattle.proxy_core.specs.State.{outcome_purges, serial_stored_by_outcome, serial_used_by_outcome, serials_removed_by_outcome, stored_response_as_used, bounds_of}
 use Rattle.proxy_core.specs.Starts.{StoreAtStart, StartStands}
 use Rattle.proxy_core.specs.Traces.{Item}
 use Rattle.proxy_core.specs.Histories.{held_entries, open_exchanges, next_serial, IsGoodHistory}
 use Rattle.proxy_core.specs.Sending.{StoredResponseIsReusable, StoredResponseMayBeSent, RequestGoesForward, NoLeaderIsOpen, RequestWaitsForTheFirst, RequestReachesCacheOrOrigin, RequestIsTurnedAway, DetailWordAfterError, DetailWordAtAnswer, DetailWordAtArrival, CacheStatusShowsHow, IsAbout, ReplyIsThatStoredResponse}
 use Rattle.proxy_core.specs.GoingOn.{EventMayCome, IsClientReply, ExchangeGoesOnBy}
 use Rattle.proxy_core.specs.Naming.{AnswerNamesErrorRule, AnswerAfterFailureNames, AnswerNamesByEvent, AnswerNamesFirstRule}
-use Rattle.proxy_core.specs.StoredAnswers.{ThoseAreRemoved}
+use Rattle.proxy_core.specs.StoredAnswers.{ThoseAreRemoved, event_purges}
 use Rattle.proxy_core.specs.Headline.{HoldsAtEachItem, ExchangeGoesOnToItsAnswer, RequestReachesExactlyWhereAllowed, StoredResponseIsSentExactlyWhereItMayBe, SentResponseIsTheStoredOne, OtherAnswerNamesTheFirstRule, AnswerIsStoredExactlyWhereItMayBe, StoredResponsesAreRemovedExactlyWhereTheyMustBe, ConnectionClosesAsAsked, Headline, AnswerHasFinalStatus, NoOtherTraceHasTheHeadline}
 use Rattle.proxy_core.proofs.FirstRules.{held_distinct}
 use Rattle.proxy_core.proofs.Leads.{leads_for_none, leads_for}
@@ -226,13 +226,14 @@ module _ (table : Table) (es : List Stored) (distinct : Distinct (serials es)) w
 
 -- ---- replies
 
-reply_same : (a b : Reply) → a.bytes ≡ b.bytes → a.close ≡ b.close → a.stored ≡ b.stored → a.used ≡ b.used → a.removed ≡ b.removed → a ≡ b
-reply_same a b bytes close stored used removed =
-    ap (λ (z : List ℕ). record { bytes = z; close = a.close; stored = a.stored; used = a.used; removed = a.removed }) bytes
-    ∙ ap (λ (z : Bool). record { bytes = b.bytes; close = z; stored = a.stored; used = a.used; removed = a.removed }) close
-    ∙ ap (λ (z : Option ℕ). record { bytes = b.bytes; close = b.close; stored = z; used = a.used; removed = a.removed }) stored
-    ∙ ap (λ (z : Option ℕ). record { bytes = b.bytes; close = b.close; stored = b.stored; used = z; removed = a.removed }) used
-    ∙ ap (λ (z : List ℕ). record { bytes = b.bytes; close = b.close; stored = b.stored; used = b.used; removed = z }) removed
+reply_same : (a b : Reply) → a.bytes ≡ b.bytes → a.close ≡ b.close → a.stored ≡ b.stored → a.used ≡ b.used → a.removed ≡ b.removed → a.purged ≡ b.purged → a ≡ b
+reply_same a b bytes close stored used removed purged =
+    ap (λ (z : List ℕ). record { bytes = z; close = a.close; stored = a.stored; used = a.used; removed = a.removed; purged = a.purged }) bytes
+    ∙ ap (λ (z : Bool). record { bytes = b.bytes; close = z; stored = a.stored; used = a.used; removed = a.removed; purged = a.purged }) close
+    ∙ ap (λ (z : Option ℕ). record { bytes = b.bytes; close = b.close; stored = z; used = a.used; removed = a.removed; purged = a.purged }) stored
+    ∙ ap (λ (z : Option ℕ). record { bytes = b.bytes; close = b.close; stored = b.stored; used = z; removed = a.removed; purged = a.purged }) used
+    ∙ ap (λ (z : List ℕ). record { bytes = b.bytes; close = b.close; stored = b.stored; used = b.used; removed = z; purged = a.purged }) removed
+    ∙ ap (λ (z : Bool). record { bytes = b.bytes; close = b.close; stored = b.stored; used = b.used; removed = b.removed; purged = z }) purged
 
 removed_same : (table : Table) (es : List Stored) (x : Option Exchange) (event : Event) (a b : Reply) → a.stored ≡ b.stored → a.used ≡ b.used →
     serials_removed_at table es x event (Replied a) ≡ serials_removed_at table es x event (Replied b)
@@ -251,6 +252,7 @@ record Fits (table : Table) (start : StoreAtStart) (first : ℕ) (past : List It
   that : (s : ℕ) → serial_used_by_outcome o ≡ Some s → ReplyIsThatStoredResponse table (held_entries table start past) x event o s
   names : AnswerNamesFirstRule table start past (next_serial first past) x event o
   removes : ThoseAreRemoved table (held_entries table start past) x event o
+  purges : outcome_purges o ≡ event_purges table event
   reaches : RequestReachesExactlyWhereAllowed table start (record { event = event; outcome = o }) past
   stores : AnswerIsStoredExactlyWhereItMayBe table start first (record { event = event; outcome = o }) past
   closes : ConnectionClosesAsAsked (record { event = event; outcome = o }) past
@@ -294,7 +296,8 @@ module _ (table : Table) (start : StoreAtStart) (first : ℕ) (past : List Item)
         let removed : m.removed ≡ n.removed =
         sym (ap serials_removed_by_outcome h) ∙ removed_by_words table es x event o a.removes ∙ ap (serials_removed_at table es x event) h ∙ removed_same table es x event m n stored used ∙ sym (ap (serials_removed_at table es x event) k) ∙ sym (removed_by_words table es x event p b.removes) ∙ ap serials_removed_by_outcome k
         in
-        h ∙ ap (λ (r : Reply). Replied r) (reply_same m n bytes close stored used removed) ∙ sym k
+        let purged : m.purged ≡ n.purged = sym (ap outcome_purges h) ∙ a.purges ∙ sym b.purges ∙ ap outcome_purges k in
+        h ∙ ap (λ (r : Reply). Replied r) (reply_same m n bytes close stored used removed purged) ∙ sym k
 
     both_send : (s : ℕ) → serial_used_by_outcome o ≡ Some s → o ≡ p
     both_send s h =
@@ -318,15 +321,16 @@ module _ (table : Table) (start : StoreAtStart) (first : ℕ) (past : List Item)
     arrival_same : (x : Option Exchange) (now id : ℕ) (asked : Asked) → Fits table start first past x (Arrive now id asked) o → Fits table start first past x (Arrive now id asked) p → o ≡ p
     arrival_same x now id asked a b = by_verdict (verdict_of_asked table asked) refl
       where
-        turned : ((line : Route) → verdict_of_asked table asked ≢ verdict.Allowed line) → o ≡ p
-        turned none = turned_same table es distinct (open_exchanges table start past) now asked o p ((a.reaches now id asked refl).1 none) ((b.reaches now id asked refl).1 none)
+        turned : ((line : Route) → verdict_of_asked table asked ≢ verdict.Allowed line) → request_purges table asked ≡ false → o ≡ p
+        turned none isnt = turned_same table es distinct (open_exchanges table start past) now asked o p ((a.reaches now id asked refl).1.1 none isnt) ((b.reaches now id asked refl).1.1 none isnt)
 
         by_verdict : (v : Verdict) → verdict_of_asked table asked ≡ v → o ≡ p
         by_verdict (verdict.Allowed line) v =
             reached_same table es distinct (open_exchanges table start past) now asked line o p unused other_unused ((a.reaches now id asked refl).0 line v) ((b.reaches now id asked refl).0 line v)
-        by_verdict (verdict.DeniedBy n) v = turned (λ line h. let no : verdict.DeniedBy n ≡ verdict.Allowed line = sym v ∙ h in absurd (cc))
-        by_verdict verdict.NoLine v = turned (λ line h. let no : verdict.NoLine ≡ verdict.Allowed line = sym v ∙ h in absurd (cc))
-        by_verdict (verdict.Looped n) v = turned (λ line h. let no : verdict.Looped n ≡ verdict.Allowed line = sym v ∙ h in absurd (cc))
+        by_verdict (verdict.DeniedBy n) v = turned (λ line h. let no : verdict.DeniedBy n ≡ verdict.Allowed line = sym v ∙ h in absurd (cc)) (ap is_purge v)
+        by_verdict verdict.NoLine v = turned (λ line h. let no : verdict.NoLine ≡ verdict.Allowed line = sym v ∙ h in absurd (cc)) (ap is_purge v)
+        by_verdict (verdict.Purged n) v = (a.reaches now id asked refl).1.0 (ap is_purge v) ∙ sym ((b.reaches now id asked refl).1.0 (ap is_purge v))
+        by_verdict (verdict.Looped n) v = turned (λ line h. let no : verdict.Looped n ≡ verdict.Allowed line = sym v ∙ h in absurd (cc)) (ap is_purge v)
 
     answer_same : (now id : ℕ) (x : Exchange) (r : Response) (a : Fits table start first past (Some x) (Answer now id r) o) (b : Fits table start first past (Some x) (Answer now id r) p) →
         AnswerHasFinalStatus (record { event = Answer now id r; outcome = o }) past → AnswerHasFinalStatus (record { event = Answer now id r; outcome = p }) past → o ≡ p
@@ -419,7 +423,8 @@ module _ (table : Table) (start : StoreAtStart) (first : ℕ) where
     sends = h.sends_where_one_may_be.0;
     that = h.sends_that_response.0;
     names = h.names_the_first_rule.0;
-    removes = h.removes_what_goes.0;
+    removes = h.removes_what_goes.0.0;
+    purges = h.removes_what_goes.0.1;
     reaches = h.reaches_where_allowed.0;
     stores = h.stores_where_it_may.0;
     closes = h.closes_as_asked.0;
@@ -458,7 +463,7 @@ module _ (table : Table) (start : StoreAtStart) (first : ℕ) where
           HoldsAtEachItem (λ item past. Fits table start first past (find_exchange (exchange_id_of_event item.event) (open_exchanges table start past)) item.event item.outcome) trace
       zip [] a b c d e f g i = tt
       zip (item ∷ past) a b c d e f g i =
-          (record { goes_on = a.0; sends = b.0; that = c.0; names = d.0; removes = e.0; reaches = f.0; stores = g.0; closes = i.0 }, zip past a.1 b.1 c.1 d.1 e.1 f.1 g.1 i.1)
+          (record { goes_on = a.0; sends = b.0; that = c.0; names = d.0; removes = e.0.0; purges = e.0.1; reaches = f.0; stores = g.0; closes = i.0 }, zip past a.1 b.1 c.1 d.1 e.1 f.1 g.1 i.1)
 
 pub no_other_trace_has_it : NoOtherTraceHasTheHeadline
 no_other_trace_has_it table start first trace h final = good table start first trace (record { begins = h.begins_as_it_may; comes = h.comes_where_it_may; fit = each_fits table start first trace h; final = final })

@@ -19,14 +19,14 @@ use Rattle.proxy_core.specs.declared.event.Event.TheVariants.{Arrive}
 use Rattle.proxy_core.specs.Outcomes.{find_exchange, exchange_id_of_event, fault_at_exchange}
 use Rattle.proxy_core.specs.declared.open.stage.Stage.TheVariants.{Released}
 use Rattle.proxy_core.specs.Leading.{waits_for}
-use Rattle.proxy_core.specs.State.{State, released_exchange, overtaken_exchange, forwarded_exchange, waiting_exchange, line_of_verdict, rule_of_decision, open_exchanges_after}
+use Rattle.proxy_core.specs.State.{State, key_purged, released_exchange, overtaken_exchange, forwarded_exchange, waiting_exchange, line_of_verdict, rule_of_decision, open_exchanges_after}
 use Rattle.proxy_core.specs.Starts.{StoreAtStart}
 use Rattle.proxy_core.specs.Traces.{Item, initial_state, state_after_trace, IsGood}
 use Rattle.proxy_core.specs.Histories.{held_entries, open_exchanges}
 use Rattle.proxy_core.specs.Promises.{outcome_goes_forward, outcome_ends_exchange, is_arrival_event, NoRequestArrives}
 use Rattle.proxy_core.specs.Carrying.{judges_a_request, NoRequestIsJudged}
 use Rattle.proxy_core.specs.TraceMeaning.{exchange_has_ended, opens_an_exchange, ExchangeIsOpenFromArrivalToEnd, ExchangeOpensByArrivalAlone, OpenExchangeHasItsRequest, OpenExchangeKeepsItsRule, ExchangeIsOvertakenWhereInvalidated}
-use Rattle.proxy_core.proofs.ExchangeLists.{overtaken_by, released_by, changed_by, find-push}
+use Rattle.proxy_core.proofs.ExchangeLists.{overtaken_by, released_by, changed_by, find-push, find-purged, none_overtaken}
 use Rattle.proxy_core.proofs.Moves.{Move, apart, opens, queues, passes, again, wakes, closes, asked_of, ended_by, forward_goes_on, move_of, and_none, key_taken_by_step}
 use Rattle.proxy_core.proofs.Tracing.{same_table}
 use Rattle.proxy_core.proofs.TwiceForward.{not_both, fresh_arrival, part}
@@ -205,7 +205,9 @@ rule_first table es xs now id asked (Forward line bytes) f =
 rule_first table es xs now id asked (Waits leader) f =
     let line : Route = line_of_verdict (verdict_of_asked table asked) in
     subst (HasRule (rule_for table es asked now)) (sym (find-push id xs (waiting_exchange table es now id asked line leader) f ∙ ap (λ b. cond b (Some (waiting_exchange table es now id asked line leader)) (find_exchange id xs)) (eq-eqb id id refl))) refl
-rule_first table es xs now id asked (Reply r) f = subst (HasRule (rule_for table es asked now)) (sym f) tt
+rule_first table es xs now id asked (Reply r) f =
+    let key = key_purged asked (Reply r) in
+    subst (HasRule (rule_for table es asked now)) (sym (find-purged key id xs ∙ ap (overtaken_by key) f ∙ none_overtaken key)) tt
 rule_first table es xs now id asked Ended f = subst (HasRule (rule_for table es asked now)) (sym f) tt
 
 -- what arrives has an id that is free

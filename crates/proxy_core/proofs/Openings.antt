@@ -33,6 +33,7 @@ form s now id asked line stage d = record {
   asked = asked;
   line = line;
   vary = vary_of s.table.lines line.number;
+  removes_cookies = (policy_of s.table.lines line).removes_cookies;
   rule = rule_of_decision d;
   named = serial_named_by_decision d;
   request_time = now;
@@ -60,13 +61,13 @@ both s event t u a (Ok o) is leaves m = leaves ∙ (m ∙ ap (state_after s even
 both s event t u a (Err e) is leaves m = tt
 
 -- the same of what the parts of the exchange are known to be
-pub opens_by : (s : State) (now id : ℕ) (line : Route) (asked other : Asked) (rule : ReuseRule) (against o : Option ℕ) (condition : Option Condition) (no_store : Bool) (vary : List (List ℕ)) →
+pub opens_by : (s : State) (now id : ℕ) (line : Route) (asked other : Asked) (rule : ReuseRule) (against o : Option ℕ) (condition : Option Condition) (no_store : Bool) (vary : List (List ℕ)) (removes : Bool) →
     verdict_of_asked s.table asked ≡ verdict.Allowed line → decision_of (policy_of s.table.lines line) s.entries asked now ≡ decision.Forward rule against →
-    other ≡ asked → condition ≡ condition_about_serial s.entries against → no_store ≡ has_no_store asked → vary ≡ vary_of s.table.lines line.number →
+    other ≡ asked → condition ≡ condition_about_serial s.entries against → no_store ≡ has_no_store asked → vary ≡ vary_of s.table.lines line.number → removes ≡ (policy_of s.table.lines line).removes_cookies →
     record s {
-      exchanges = s.exchanges ++ exchange_with_leader o (record { id = id; asked = other; line = line; vary = vary; rule = rule; named = against; request_time = now; condition = condition; overtaken = false; no_store = no_store; stage = Forwarded }) ∷ [];
+      exchanges = s.exchanges ++ exchange_with_leader o (record { id = id; asked = other; line = line; vary = vary; removes_cookies = removes; rule = rule; named = against; request_time = now; condition = condition; overtaken = false; no_store = no_store; stage = Forwarded }) ∷ [];
     } ≡ state_after s (Arrive now id asked) (outcome_of_waiting_or_forwarding s.table line other condition o)
-opens_by s now id line asked other rule against o condition no_store vary v d same asks is names = rw same (rw asks (rw is (rw names (opens_of s now id line asked rule against o v d))))
+opens_by s now id line asked other rule against o condition no_store vary removes v d same asks is names drops = rw same (rw asks (rw is (rw names (rw drops (opens_of s now id line asked rule against o v d)))))
 
 -- ---- a request that is sent a stored response
 

@@ -9,7 +9,7 @@ use Rattle.hx_framing.specs.declared.messages.Response.{Response}
 use Rattle.hx_hop.specs.declared.request_view.Asked.{Asked}
 use Rattle.hx_allow.specs.TableLines.{Table}
 use Rattle.hx_allow.specs.Matching.{policy_of}
-use Rattle.proxy_core.specs.Allowing.{verdict_of_asked, exchanges_to_wait_for}
+use Rattle.proxy_core.specs.Allowing.{verdict_of_asked, is_purge, request_purges, exchanges_to_wait_for}
 use Rattle.hx_allow.specs.declared.verdicts.Verdict.{Verdict}
 use Rattle.hx_allow.specs.declared.verdicts.Verdict.TheVariants as verdict
 use Rattle.hx_allow.specs.declared.verdicts.Route.{Route}
@@ -51,7 +51,7 @@ use Rattle.proxy_core.specs.State.{serial_used_by_outcome}
 use Rattle.proxy_core.specs.Starts.{StoreAtStart}
 use Rattle.proxy_core.specs.Traces.{Item}
 use Rattle.proxy_core.specs.Histories.{IsGoodHistory, held_entries, open_exchanges, next_serial}
-use Rattle.proxy_core.specs.Sending.{StoredResponseIsReusable, MayBeSentInsteadOfError, IsStoredFallback, StoredResponseMayBeSentAt, MayBeSentBesideLeader, StoredResponseMayBeSentBeside, StoredResponseMayBeSent, RequestReachesCacheOrOrigin, RequestIsTurnedAway, NoLeaderIsOpen, StoredResponseIsSentWhereItMayBe, StoredResponseIsSentNowhereElse, RequestIsForwardedWhereAllowed, RequestIsForwardedNowhereElse, AllowedRequestReachesCacheOrOrigin, OtherRequestIsRefused}
+use Rattle.proxy_core.specs.Sending.{StoredResponseIsReusable, MayBeSentInsteadOfError, IsStoredFallback, StoredResponseMayBeSentAt, MayBeSentBesideLeader, StoredResponseMayBeSentBeside, StoredResponseMayBeSent, RequestReachesCacheOrOrigin, RequestIsTurnedAway, NoLeaderIsOpen, StoredResponseIsSentWhereItMayBe, StoredResponseIsSentNowhereElse, RequestIsForwardedWhereAllowed, RequestIsForwardedNowhereElse, AllowedRequestReachesCacheOrOrigin, OtherRequestIsRefused, RequestPurges, PurgeTakesItsTargetAway}
 use Rattle.proxy_core.proofs.SentBeside.{led_over, sent_over, unless_sent, sent_is_no_forward}
 use Rattle.proxy_core.proofs.Beside.{beside_is, beside_for}
 use Rattle.proxy_core.proofs.Leaving.{serial_stays}
@@ -258,6 +258,7 @@ module _ (table : Table) (es : List Stored) (distinct : Distinct (serials es)) (
   used_arrived now asked s (verdict.DeniedBy line) v h = absurd (never_one s h)
   used_arrived now asked s verdict.NoLine v h = absurd (never_one s h)
   used_arrived now asked s (verdict.Looped line) v h = absurd (never_one s h)
+  used_arrived now asked s (verdict.Purged line) v h = absurd (never_one s h)
 
   module _ (x : Exchange) (now id : ℕ) (r : Response) (next : Option ℕ) (s : ℕ) where
     abbrev IsUsed : Outcome → Type 0
@@ -455,6 +456,7 @@ forward_parts table es distinct xs now line asked bytes (verdict.Allowed n) v h 
 forward_parts table es distinct xs now line asked bytes (verdict.DeniedBy n) v h = absurd (cc)
 forward_parts table es distinct xs now line asked bytes verdict.NoLine v h = absurd (cc)
 forward_parts table es distinct xs now line asked bytes (verdict.Looped n) v h = absurd (cc)
+forward_parts table es distinct xs now line asked bytes (verdict.Purged n) v h = absurd (cc)
 
 pub forwards_nothing_else : RequestIsForwardedNowhereElse
 forwards_nothing_else table start first now id line asked bytes item past g e h =
@@ -492,12 +494,20 @@ module _ (table : Table) (es : List Stored) (distinct : Distinct (serials es)) (
   reach line (decision.Hit s) d = inl (s, refl)
   reach line (decision.Forward rule against) d = reach_unless line rule against (is_only_if_cached asked) refl d
 
-  refuse : (v : Verdict) → verdict_of_asked table asked ≡ v → ((line : Route) → verdict_of_asked table asked ≢ verdict.Allowed line) →
+  refuse : (v : Verdict) → verdict_of_asked table asked ≡ v → ((line : Route) → verdict_of_asked table asked ≢ verdict.Allowed line) → request_purges table asked ≡ false →
       RequestIsTurnedAway table now asked (outcome_of_arrival table es xs now asked v)
-  refuse (verdict.Allowed line) v n = absurd (n line v)
-  refuse (verdict.DeniedBy line) v n = inl (line, v, refl)
-  refuse verdict.NoLine v n = inr (inl (v, refl))
-  refuse (verdict.Looped line) v n = inr (inr (line, v, refl))
+  refuse (verdict.Allowed line) v n p = absurd (n line v)
+  refuse (verdict.DeniedBy line) v n p = inl (line, v, refl)
+  refuse verdict.NoLine v n p = inr (inl (v, refl))
+  refuse (verdict.Looped line) v n p = inr (inr (line, v, refl))
+  refuse (verdict.Purged line) v n p = absurd (false≢true (sym p ∙ ap is_purge v))
+
+  purge : (v : Verdict) → is_purge v ≡ true → RequestPurges es now asked (outcome_of_arrival table es xs now asked v)
+  purge (verdict.Allowed line) p = absurd (false≢true p)
+  purge (verdict.DeniedBy line) p = absurd (false≢true p)
+  purge verdict.NoLine p = absurd (false≢true p)
+  purge (verdict.Looped line) p = absurd (false≢true p)
+  purge (verdict.Purged line) p = refl
 
 pub reaches_where_allowed : AllowedRequestReachesCacheOrOrigin
 reaches_where_allowed table start first now id line asked item past g e v =
@@ -508,8 +518,15 @@ reaches_where_allowed table start first now id line asked item past g e v =
     (reach table es (held_distinct table start first past g.1) xs now asked line (decision_of (policy_of table.lines line) es asked now) refl)
 
 pub refuses_where_not_allowed : OtherRequestIsRefused
-refuses_where_not_allowed table start first now id asked item past g e n =
+refuses_where_not_allowed table start first now id asked item past g e n p =
     let es = held_entries table start past in
     let xs = open_exchanges table start past in
     subst (RequestIsTurnedAway table now asked) (sym (arrival_is table start first now id asked item past g e))
-    (refuse table es (held_distinct table start first past g.1) xs now asked (verdict_of_asked table asked) refl n)
+    (refuse table es (held_distinct table start first past g.1) xs now asked (verdict_of_asked table asked) refl n p)
+
+pub purges_its_target : PurgeTakesItsTargetAway
+purges_its_target table start first now id asked item past g e p =
+    let es = held_entries table start past in
+    let xs = open_exchanges table start past in
+    subst (RequestPurges es now asked) (sym (arrival_is table start first now id asked item past g e))
+    (purge table es (held_distinct table start first past g.1) xs now asked (verdict_of_asked table asked) p)

@@ -110,7 +110,7 @@ module _ (table : Table) (es : List Stored) (distinct : Distinct (serials es)) w
     about = about;
     info = info;
     shows_how = how;
-    reply = record { bytes = sent_stored_text table.name (find_entry s es) now info asked; close = asked.close; stored = None; used = Some s; removed = _ };
+    reply = record { bytes = sent_stored_text table.name (find_entry s es) now info asked; close = asked.close; stored = None; used = Some s; removed = _; purged = false };
     outcome_is = refl;
     bytes_are = ap (λ (o : Option Stored). sent_stored_text table.name o now info asked) f.1 ∙ ap (λ (e : Stored). stored_text table.name e now info asked) (sym same);
   }
@@ -166,6 +166,7 @@ module _ (table : Table) (es : List Stored) (distinct : Distinct (serials es)) w
   arrival_sends xs x now id asked s (verdict.DeniedBy line) v h = absurd (never_one s h)
   arrival_sends xs x now id asked s verdict.NoLine v h = absurd (never_one s h)
   arrival_sends xs x now id asked s (verdict.Looped line) v h = absurd (never_one s h)
+  arrival_sends xs x now id asked s (verdict.Purged line) v h = absurd (never_one s h)
 
   -- after an error
   fallback_sends : (x : Exchange) (event : Event) (now : ℕ) (kind : FailKind) (came : Option ℕ) (s : ℕ) (fallback : Fallback) →
@@ -223,6 +224,7 @@ module _ (table : Table) (es : List Stored) (distinct : Distinct (serials es)) w
             stored = None;
             used = Some (freshened_by_304 x r now e).serial;
             removed = _;
+            purged = false;
           };
           outcome_is = refl;
           bytes_are = ap (λ b. stored_text table.name (cond b (freshened_by_304 x r now e) e) now (forwarded_status_info (policy_of table.lines x.line) x (Some r.status) None) x.asked) (sym valid.answered);

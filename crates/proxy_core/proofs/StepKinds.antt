@@ -129,6 +129,7 @@ module _ (table : Table) (es : List Stored) (x : Option Exchange) (event : Event
   kind_arrived xs now asked (verdict.DeniedBy line) = idle refl refl
   kind_arrived xs now asked verdict.NoLine = idle refl refl
   kind_arrived xs now asked (verdict.Looped line) = idle refl refl
+  kind_arrived xs now asked (verdict.Purged line) = idle refl refl
 
   kind_woken : (now : ℕ) (z : Exchange) (d : Decision) → ((s : ℕ) → d ≡ decision.Hit s → IsFound es s) → KindOf es x event next (outcome_of_wake table es now z d)
   unfolding KindOf

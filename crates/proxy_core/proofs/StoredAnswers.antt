@@ -8,7 +8,7 @@ use Rattle.hx_framing.specs.declared.messages.Response.{Response}
 use Rattle.hx_hop.specs.Answering.{answered_of}
 use Rattle.hx_allow.specs.TableLines.{Table}
 use Rattle.hx_allow.specs.Matching.{policy_of}
-use Rattle.proxy_core.specs.Allowing.{verdict_of_asked}
+use Rattle.proxy_core.specs.Allowing.{verdict_of_asked, is_purge, request_purges}
 use Rattle.hx_allow.specs.declared.verdicts.Verdict.{Verdict}
 use Rattle.hx_allow.specs.declared.verdicts.Verdict.TheVariants as verdict
 use Rattle.hx_allow.specs.declared.verdicts.Route.{Route}
@@ -280,7 +280,7 @@ removed_by_answer table held x now r stored =
 abbrev pub serials_removed_at : Table → List Stored → Option Exchange → Event → Outcome → List ℕ
 serials_removed_at table held (Some x) (Answer now id r) outcome = removed_by_answer table held x now r (serial_stored_by_outcome outcome)
 serials_removed_at table held None (Answer now id r) outcome = []
-serials_removed_at table held x (Arrive now id asked) outcome = []
+serials_removed_at table held x (Arrive now id asked) outcome = cond (request_purges table asked) (serials_of asked.target.key held) []
 serials_removed_at table held x (Fail now id kind) outcome = []
 serials_removed_at table held x (Wake now id) outcome = []
 serials_removed_at table held x (Abandon id) outcome = []
@@ -436,11 +436,12 @@ module _ (table : Table) (es : List Stored) (xs : List Exchange) (next : Option 
       by_decision line (decision.Hit s) = refl
       by_decision line (decision.Forward rule against) = unless line rule (condition_about_serial es against) (is_only_if_cached asked)
 
-      by_verdict : (v : Verdict) → serials_removed_by_outcome (outcome_of_arrival table es xs now asked v) ≡ []
+      by_verdict : (v : Verdict) → serials_removed_by_outcome (outcome_of_arrival table es xs now asked v) ≡ cond (is_purge v) (serials_of asked.target.key es) []
       by_verdict (verdict.Allowed line) = by_decision line (decision_of (policy_of table.lines line) es asked now)
       by_verdict (verdict.DeniedBy line) = refl
       by_verdict verdict.NoLine = refl
       by_verdict (verdict.Looped line) = refl
+      by_verdict (verdict.Purged line) = refl
   goes_by_event (Some x) (Answer now id r) shown =
       let o = outcome_of_answer table es now x r next (decision_of (policy_of table.lines x.line) es x.asked now) in
       answer_goes table es now x r next (decision_of (policy_of table.lines x.line) es x.asked now) ∙ ap (λ (key : Option Key). removed_with table es now x r next key o) (sym (shown x refl now r))

@@ -1,11 +1,11 @@
 -- Traces of runs.
-use Rattle.std.proofs.Common.{◌≡◌, ◌≢◌, inl, inr, ℕ, ◌<◌, Option, None, Some, List, [], ◌∷◌, ◌++◌, length, refl, sym, ◌∙◌, ap, subst, get_or}
+use Rattle.std.proofs.Common.{◌≡◌, ◌≢◌, inl, inr, ℕ, ◌<◌, false, Option, None, Some, List, [], ◌∷◌, ◌++◌, length, refl, sym, ◌∙◌, ap, subst, get_or}
 use Rattle.std.specs.Prelude.{slice_get, unwrap_or}
 use Rattle.std.proofs.lemmas.Option.{same_Some, slice_get_read}
 use Rattle.hx_allow.specs.TableLines.{Table}
-use Rattle.proxy_core.specs.Allowing.{verdict_of_asked}
+use Rattle.proxy_core.specs.Allowing.{verdict_of_asked, is_purge}
 use Rattle.hx_allow.specs.declared.verdicts.Verdict.{Verdict}
-use Rattle.hx_allow.specs.declared.verdicts.Verdict.TheVariants.{Allowed, DeniedBy, NoLine, Looped}
+use Rattle.hx_allow.specs.declared.verdicts.Verdict.TheVariants.{Allowed, DeniedBy, NoLine, Looped, Purged}
 use Rattle.hx_allow.specs.declared.verdicts.Route.{Route}
 use Rattle.hx_hop.specs.declared.request_view.Asked.{Asked}
 use Rattle.hx_store.specs.Stored.{Stored}
@@ -72,14 +72,15 @@ same_good start events outcomes more m g = subst (λ (os : List Outcome). IsGood
 
 -- ---- a denied request leaves no trace
 
-denied_by : (table : Table) (es : List Stored) (xs : List Exchange) (now : ℕ) (asked : Asked) (v : Verdict) → ((line : Route) → v ≢ Allowed line) → OutcomeLeavesNoTrace (outcome_of_arrival table es xs now asked v)
-denied_by table es xs now asked (Allowed line) n = absurd (n line refl)
-denied_by table es xs now asked (DeniedBy line) n = (refl, refl, refl)
-denied_by table es xs now asked NoLine n = (refl, refl, refl)
-denied_by table es xs now asked (Looped line) n = (refl, refl, refl)
+denied_by : (table : Table) (es : List Stored) (xs : List Exchange) (now : ℕ) (asked : Asked) (v : Verdict) → ((line : Route) → v ≢ Allowed line) → is_purge v ≡ false → OutcomeLeavesNoTrace (outcome_of_arrival table es xs now asked v)
+denied_by table es xs now asked (Allowed line) n p = absurd (n line refl)
+denied_by table es xs now asked (DeniedBy line) n p = (refl, refl, refl)
+denied_by table es xs now asked NoLine n p = (refl, refl, refl)
+denied_by table es xs now asked (Looped line) n p = (refl, refl, refl)
+denied_by table es xs now asked (Purged line) n p = absurd (cc)
 
 denied_item : (table : Table) (s : State) (event : Event) (outcome : Outcome) → ItemIsAccepted table s.entries s.exchanges s.next (record { event = event; outcome = outcome }) → ArrivalIsDenied table event → OutcomeLeavesNoTrace outcome
-denied_item table s (Arrive now id asked) outcome a d = subst OutcomeLeavesNoTrace (sym a.outcome_is) (denied_by table s.entries s.exchanges now asked (verdict_of_asked table asked) d)
+denied_item table s (Arrive now id asked) outcome a d = subst OutcomeLeavesNoTrace (sym a.outcome_is) (denied_by table s.entries s.exchanges now asked (verdict_of_asked table asked) d.0 d.1)
 denied_item table s (Answer now id r) outcome a d = absurd d
 denied_item table s (Fail now id kind) outcome a d = absurd d
 denied_item table s (Wake now id) outcome a d = absurd d

@@ -42,7 +42,7 @@ use Rattle.proxy_core.specs.Validating.{condition_about_serial, is_304_to_own_co
 use Rattle.proxy_core.specs.Storing.{storing_rule_to_explain, storing_facts_of_answer, is_storable, is_304_without_condition, answer_invalidates, key_invalidated}
 use Rattle.proxy_core.specs.Leading.{is_forwarded}
 use Rattle.proxy_core.specs.Outcomes.{find_exchange, exchange_id_of_event, outcome_of_arrival, outcome_of_allowed_request, outcome_of_waiting_or_forwarding, outcome_without_stored_response, outcome_of_wake, fault_at_exchange, is_only_if_cached, fallback_for, outcome_of_failure, is_error_status, outcome_of_passing_on, outcome_of_passing_on_or_stale, serials_removed_by_answer, serial_of_stored_answer, outcome_of_304, outcome_of_answer, outcome_of}
-use Rattle.proxy_core.specs.State.{State, serial_stored_by_outcome, serial_used_by_outcome, serials_removed_by_outcome, next_serial_after, serial_after_this, stored_response_by_answer, stored_response_as_used, bounds_of, NoSerialIsHeldFrom}
+use Rattle.proxy_core.specs.State.{State, outcome_purges, key_purged, serial_stored_by_outcome, serial_used_by_outcome, serials_removed_by_outcome, next_serial_after, serial_after_this, stored_response_by_answer, stored_response_as_used, bounds_of, NoSerialIsHeldFrom}
 use Rattle.proxy_core.specs.Starts.{StoreAtStart, StartStands}
 use Rattle.proxy_core.specs.Traces.{Item, initial_state, state_after_trace, IsGood}
 use Rattle.proxy_core.specs.Histories.{held_serials, held_entry, store_change_of, exchanges_and_responses_after}
@@ -56,6 +56,7 @@ use Rattle.proxy_core.proofs.HeldLaw.{look_after, held_before_cut, stands_for}
 use Rattle.proxy_core.specs.declared.open.stage.Stage.{Stage}
 use Rattle.proxy_core.specs.declared.open.stage.Stage.TheVariants.{Forwarded, Waiting, Released}
 use Rattle.proxy_core.specs.Moments.{moment_too_late_fault}
+use Rattle.proxy_core.proofs.Purged.{allowed_purges_none}
 use Rattle.proxy_core.proofs.Moves.{asked_of, same_key_invalidated, error_is_none, forwarded_by, key_taken_by_answer, key_taken_by_step}
 use Rattle.proxy_core.proofs.UnsafeRequests.{unsafe_refuses}
 use Rattle.proxy_core.proofs.TwiceForward.{part}
@@ -128,6 +129,7 @@ stored_arrival table es xs now asked (verdict.Allowed line) s h = by_decision (d
 stored_arrival table es xs now asked (verdict.DeniedBy line) s h = none_stored s h
 stored_arrival table es xs now asked verdict.NoLine s h = none_stored s h
 stored_arrival table es xs now asked (verdict.Looped line) s h = none_stored s h
+stored_arrival table es xs now asked (verdict.Purged line) s h = none_stored s h
 
 stored_failure : (table : Table) (es : List Stored) (now : ℕ) (x : Exchange) (kind : FailKind) (came : Option ℕ) (fallback : Fallback) (s : ℕ) → serial_stored_by_outcome (outcome_of_failure table es now x kind came fallback) ≡ Some s → ⊥
 stored_failure table es now x kind came (Sends serial detail) s h = none_stored s h
@@ -248,10 +250,30 @@ answer_removes table es now x r next k h =
     turned true h = sym h
     turned false h = refl
 
+purged_parts : (asked : Asked) (o : Outcome) (k : Key) → key_purged asked o ≡ Some k → (outcome_purges o ≡ true) × (asked.target.key ≡ k)
+purged_parts asked o k h = by_test (outcome_purges o) h
+  where
+    by_test : (b : Bool) → cond b (Some asked.target.key) None ≡ Some k → (b ≡ true) × (asked.target.key ≡ k)
+    by_test true h = (refl, same_Some asked.target.key k h)
+    by_test false h = absurd (cc)
+
+purge_removes : (table : Table) (es : List Stored) (xs : List Exchange) (now : ℕ) (asked : Asked) (v : Verdict) → outcome_purges (outcome_of_arrival table es xs now asked v) ≡ true →
+    serials_removed_by_outcome (outcome_of_arrival table es xs now asked v) ≡ serials_of asked.target.key es
+purge_removes table es xs now asked (verdict.Allowed line) h = absurd (false≢true (sym (allowed_purges_none table es xs now asked line) ∙ h))
+purge_removes table es xs now asked (verdict.DeniedBy line) h = absurd (false≢true h)
+purge_removes table es xs now asked verdict.NoLine h = absurd (false≢true h)
+purge_removes table es xs now asked (verdict.Looped line) h = absurd (false≢true h)
+purge_removes table es xs now asked (verdict.Purged line) h = refl
+
 removes_key : (table : Table) (es : List Stored) (xs : List Exchange) (w : Option Exchange) (next : Option ℕ) (event : Event) (o : Outcome) (k : Key) →
     o ≡ outcome_of table es xs w next event → key_taken_by_step (asked_of w) event o ≡ Some k → serials_removed_by_outcome o ≡ serials_of k es
-removes_key table es xs None next event o k e h = absurd (cc)
-removes_key table es xs (Some z) next (Arrive now i asked) o k e h = absurd (cc)
+removes_key table es xs w next (Arrive now i asked) o k e h =
+    let there = purged_parts asked o k h in
+    ap serials_removed_by_outcome e ∙ purge_removes table es xs now asked (verdict_of_asked table asked) (sym (ap outcome_purges e) ∙ there.0) ∙ ap (λ key. serials_of key es) there.1
+removes_key table es xs None next (Answer now i r) o k e h = absurd (cc)
+removes_key table es xs None next (Fail now i kind) o k e h = absurd (cc)
+removes_key table es xs None next (Wake now i) o k e h = absurd (cc)
+removes_key table es xs None next (Abandon i) o k e h = absurd (cc)
 removes_key table es xs (Some z) next (Answer now i r) o k e h =
     ap serials_removed_by_outcome e
     ∙ answer_removes table es now z r next k (same_key_invalidated table es now z r next ∙ ap (key_taken_by_answer z.asked r) (sym e) ∙ h)

@@ -1,5 +1,5 @@
 -- Who waits, for whom, until when, and what a woken request gets.
-use Rattle.std.proofs.Common.{◌≡◌, ◌⊎◌, inl, inr, ℕ, Bool, true, false, not, cond, ◌&&◌, ◌||◌, eqb, Option, None, Some, List, [], ◌∷◌, ◌++◌, refl, sym, ◌∙◌, ap, subst}
+use Rattle.std.proofs.Common.{arith, ◌≡◌, ◌⊎◌, inl, inr, ℕ, Bool, true, false, not, cond, ◌&&◌, ◌||◌, eqb, Option, None, Some, List, [], ◌∷◌, ◌++◌, refl, sym, ◌∙◌, ap, subst}
 use Rattle.std.specs.Prelude.{option_map, IfSome}
 use Rattle.std.specs.List.{AllByRecursion}
 use Rattle.std.proofs.lemmas.Bool.{eqb-true, eq-eqb, false≢true, false_from_ne_true}
@@ -24,7 +24,9 @@ use Rattle.hx_store.specs.Serials.{serial_is_in}
 use Rattle.hx_reuse.specs.Rules.{decision_of}
 use Rattle.hx_reuse.specs.ChosenAndNamed.{IsLeastReuseRule, RuleNamesTheResponse}
 use Rattle.hx_reuse.specs.declared.rule.ReuseRule.{ReuseRule}
-use Rattle.hx_reuse.specs.declared.rule.ReuseRule.TheVariants.{UriMiss}
+use Rattle.hx_reuse.specs.declared.rule.ReuseRule.TheVariants.{UriMiss, Range}
+use Rattle.hx_hop.specs.Bypass.{asks_for_range}
+use Rattle.hx_fields.proofs.JoinedTests.{second_false}
 use Rattle.hx_reuse.specs.declared.decision.Decision.{Decision}
 use Rattle.hx_reuse.specs.declared.decision.Decision.TheVariants as decision
 use Rattle.hx_reuse.proofs.MeaningLemmas.{names_the_least, forwards}
@@ -40,7 +42,7 @@ use Rattle.proxy_core.specs.declared.event.Event.{Event}
 use Rattle.proxy_core.specs.declared.event.Event.TheVariants.{Arrive, Answer, Fail, Wake, Abandon}
 use Rattle.proxy_core.specs.declared.core_fault.CoreFault.{CoreFault}
 use Rattle.proxy_core.specs.Moments.{moment_too_late_fault}
-use Rattle.proxy_core.specs.Leading.{is_forwarded, is_released, waits_for, is_get, is_uri_miss, names_serial, asks_for, may_serve, leads_waiters, leader, ready_ids}
+use Rattle.proxy_core.specs.Leading.{is_forwarded, is_released, waits_for, is_get, is_uri_miss, names_serial, asks_for, may_serve, answer_may_serve, leads_waiters, leader, ready_ids}
 use Rattle.proxy_core.specs.Awaiting.{asks_the_origin, RequestAwaits, leader_of_request}
 use Rattle.proxy_core.specs.declared.open.awaited.Awaited.{Awaited}
 use Rattle.proxy_core.specs.declared.open.awaited.Awaited.TheVariants.{Missing, Expired}
@@ -136,6 +138,7 @@ wait_parts table es distinct xs now l asked (verdict.Allowed line) v h = by_deci
 wait_parts table es distinct xs now l asked (verdict.DeniedBy line) v h = absurd (cc)
 wait_parts table es distinct xs now l asked verdict.NoLine v h = absurd (cc)
 wait_parts table es distinct xs now l asked (verdict.Looped line) v h = absurd (cc)
+wait_parts table es distinct xs now l asked (verdict.Purged line) v h = absurd (cc)
 
 -- none but a request that arrives waits
 abbrev pub is_wait : Outcome → Bool
@@ -632,7 +635,7 @@ asks_for_it Missing rule named x r n h = ap is_uri_miss r ∙ h
 asks_for_it (Expired serial) rule named x r n h = ap (λ m. names_serial m serial) n ∙ h
 
 pub one_goes_forward : OnlyOneGoesForwardForKey
-one_goes_forward table start first line awaited rule named bytes now id asked later earlier between before g arrives forward stays awaits e gets same went serves =
+one_goes_forward table start first line awaited rule named bytes now id asked later earlier between before g arrives forward stays awaits e gets whole same went serves =
     ap (λ (v : Event). exchange_has_closed (exchange_id_of_event v) between) e.arrives
     ∙ by_fate (origin table start first e.now e.id rule named e.asked before earlier.outcome between p
     (at_the_arrival table start first e.now e.id e.line rule named e.asked e.bytes before earlier.outcome e.forward (part (initial_state table start first) between (item ∷ before) p) e.is_least e.names))
@@ -657,9 +660,9 @@ one_goes_forward table start first line awaited rule named bytes now id asked la
 
     its_leads : (x : Exchange) → x.asked ≡ e.asked → x.rule ≡ rule → x.named ≡ named → x.stage ≡ Forwarded → (policy.waits_for_stale ≡ true → may_serve policy asked x ≡ true) → leads_waiters policy awaited asked x ≡ true
     its_leads x a r n t may =
-        all_five (same_key x.asked.target.key asked.target.key) (is_get x.asked) (is_forwarded x.stage) (asks_for awaited x) (not policy.waits_for_stale || may_serve policy asked x)
+        all_five (same_key x.asked.target.key asked.target.key) (is_get x.asked) (is_forwarded x.stage) (asks_for awaited x) (answer_may_serve policy asked x)
         (ap (λ (q : Asked). same_key q.target.key asked.target.key) a ∙ same) (ap is_get a ∙ gets) (ap is_forwarded t) (asks_for_it awaited rule named x r n went)
-        (where_the_word_stands policy.waits_for_stale (may_serve policy asked x) may)
+        (ap (λ (q : Asked). not (asks_for_range q) && (not policy.waits_for_stale || may_serve policy asked x)) a ∙ (ap (λ b. not b && (not policy.waits_for_stale || may_serve policy asked x)) whole ∙ where_the_word_stands policy.waits_for_stale (may_serve policy asked x) may))
 
     by_fate : (exchange_has_closed e.id between ≡ true) ⊎ AtTheOrigin rule named e.asked (its table start first e.now e.id rule named e.asked before earlier.outcome between) → exchange_has_closed e.id between ≡ true
     by_fate (inl c) = c
@@ -685,7 +688,7 @@ and_always true = refl
 and_always false = refl
 
 pub plain_lines_wait_for_misses : PlainLinesWaitForMisses
-plain_lines_wait_for_misses policy held asked now awaited x plain = (awaits_a_miss awaited, on_a_miss, it_leads)
+plain_lines_wait_for_misses policy held asked now awaited x plain = (awaits_a_miss awaited, on_a_miss, it_leads, is_whole)
   where
     awaits_a_miss : (awaited : Awaited) → RequestAwaits policy held asked now awaited → (awaited ≡ Missing) × IsLeastReuseRule policy held asked now UriMiss
     awaits_a_miss Missing w = (refl, subst (IsLeastReuseRule policy held asked now) w.leaves w.is_least)
@@ -694,7 +697,10 @@ plain_lines_wait_for_misses policy held asked now awaited x plain = (awaits_a_mi
     on_a_miss : is_get asked ≡ true → IsLeastReuseRule policy held asked now UriMiss → RequestAwaits policy held asked now Missing
     on_a_miss gets least = record { gets = gets; takes_what_is_fresh = ap (λ b. b && asks_the_origin policy asked) plain; rule = UriMiss; is_least = least; leaves = refl }
 
-    it_leads : leads_waiters policy Missing asked x ≡ (same_key x.asked.target.key asked.target.key && (is_get x.asked && (is_forwarded x.stage && is_uri_miss x.rule)))
+    is_whole : policy.forwards_ranges ≡ true → IsLeastReuseRule policy held asked now UriMiss → asks_for_range asked ≡ false
+    is_whole forwards least = second_false policy.forwards_ranges (asks_for_range asked) forwards (least.none_before Range (omega arith))
+
+    it_leads : leads_waiters policy Missing asked x ≡ (same_key x.asked.target.key asked.target.key && (is_get x.asked && (is_forwarded x.stage && (is_uri_miss x.rule && not (asks_for_range x.asked)))))
     it_leads =
-        ap (λ w. same_key x.asked.target.key asked.target.key && (is_get x.asked && (is_forwarded x.stage && (is_uri_miss x.rule && (not w || may_serve policy asked x))))) plain
-        ∙ ap (λ b. same_key x.asked.target.key asked.target.key && (is_get x.asked && (is_forwarded x.stage && b))) (and_always (is_uri_miss x.rule))
+        ap (λ w. same_key x.asked.target.key asked.target.key && (is_get x.asked && (is_forwarded x.stage && (is_uri_miss x.rule && (not (asks_for_range x.asked) && (not w || may_serve policy asked x)))))) plain
+        ∙ ap (λ b. same_key x.asked.target.key asked.target.key && (is_get x.asked && (is_forwarded x.stage && (is_uri_miss x.rule && b)))) (and_always (not (asks_for_range x.asked)))

@@ -1,15 +1,27 @@
 -- What the operator's table says of a request that arrives, and for whom it may wait.
-use Rattle.std.specs.Prelude.{Bool, List, [], if◌then◌else◌}
+use Rattle.std.specs.Prelude.{Bool, true, false, List, [], if◌then◌else◌}
 use Rattle.hx_hop.specs.declared.request_view.Asked.{Asked}
 use Rattle.hx_allow.specs.TableLines.{Table}
 use Rattle.hx_allow.specs.Matching.{verdict_of_request, request_came_back}
 use Rattle.hx_allow.specs.declared.verdicts.Route.{Route}
 use Rattle.hx_allow.specs.declared.verdicts.Verdict.{Verdict}
+use Rattle.hx_allow.specs.declared.verdicts.Verdict.TheVariants as verdict
 use Rattle.proxy_core.specs.declared.open.exchange.Exchange.{Exchange}
 
 -- by its method, its target and its fields, of which Via tells where it was before
 abbrev pub verdict_of_asked : Table → Asked → Verdict
 verdict_of_asked table asked = verdict_of_request table asked.method asked.target asked.fields
+
+abbrev pub is_purge : Verdict → Bool
+is_purge (verdict.Allowed line) = false
+is_purge (verdict.DeniedBy line) = false
+is_purge verdict.NoLine = false
+is_purge (verdict.Looped line) = false
+is_purge (verdict.Purged line) = true
+
+-- the request purges what is held for its target, by the first line that matches
+abbrev pub request_purges : Table → Asked → Bool
+request_purges table asked = is_purge (verdict_of_asked table asked)
 
 -- over a line that refuses loops the request was here before
 abbrev pub came_back : Table → Route → Asked → Bool

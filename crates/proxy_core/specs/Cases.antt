@@ -51,6 +51,7 @@ line_with_no_cache = record {
   session_cookies = [];
   vary = [];
   origin_timeout = None;
+  purge_key = None;
 }
 
 abbrev pub table : Table
@@ -100,6 +101,7 @@ forwarded_on_miss asked =
       asked = asked;
       line = over_line 1;
       vary = [];
+      removes_cookies = false;
       rule = UriMiss;
       named = None;
       request_time = 100;
@@ -112,6 +114,13 @@ forwarded_on_miss asked =
 -- the same over a line that names a field for Vary
 abbrev pub varied_by_scheme : Exchange → Exchange
 varied_by_scheme x = record x { vary = codes "X-Forwarded-Proto" ∷ [] }
+
+-- the same over a line that removes cookies
+abbrev pub removing_cookies : Exchange → Exchange
+removing_cookies x = record x { removes_cookies = true }
+
+abbrev pub removing_policy : Policy
+removing_policy = record (plain true) { removes_cookies = true }
 
 -- a request that a front got in this scheme
 abbrev pub get_a_by_scheme : List ℕ → Asked

@@ -10,13 +10,13 @@
 -- OtherAnswerNamesTheFirstRule: the third
 -- EventComesWhereItMay, ConnectionClosesAsAsked: which events, and what ends a connection
 -- Headline: all of them, of each step of a trace               docs/THE_PROMISE.md goes through them
-use Rattle.std.specs.Prelude.{◌≡◌, ◌≢◌, ℕ, List, [], ◌∷◌, Option, Some, None}
+use Rattle.std.specs.Prelude.{◌≡◌, ◌≢◌, ℕ, true, false, List, [], ◌∷◌, Option, Some, None}
 use Rattle.hx_framing.specs.declared.messages.Response.{Response}
 use Rattle.hx_hop.specs.Answering.{answered_of}
 use Rattle.hx_hop.specs.declared.request_view.Asked.{Asked}
 use Rattle.hx_allow.specs.TableLines.{Table}
 use Rattle.hx_allow.specs.Matching.{policy_of}
-use Rattle.proxy_core.specs.Allowing.{verdict_of_asked}
+use Rattle.proxy_core.specs.Allowing.{verdict_of_asked, request_purges}
 use Rattle.hx_allow.specs.declared.verdicts.Verdict.TheVariants.{Allowed}
 use Rattle.hx_allow.specs.declared.verdicts.Route.{Route}
 use Rattle.hx_storable.specs.Storable.{StatusIsFinal}
@@ -26,16 +26,18 @@ use Rattle.proxy_core.specs.declared.outcome.Reply.{Reply}
 use Rattle.proxy_core.specs.declared.outcome.Outcome.TheVariants.{Reply as Replied, Forward}
 use Rattle.proxy_core.specs.declared.event.Event.TheVariants.{Arrive, Answer}
 use Rattle.proxy_core.specs.Outcomes.{find_exchange, exchange_id_of_event, forward_text}
-use Rattle.proxy_core.specs.State.{serial_stored_by_outcome, serial_used_by_outcome, bounds_of}
+use Rattle.proxy_core.specs.State.{serial_stored_by_outcome, serial_used_by_outcome, outcome_purges, bounds_of}
 use Rattle.proxy_core.specs.Starts.{StoreAtStart, StartStands}
 use Rattle.proxy_core.specs.Traces.{Item, DeniedRequestsLeaveNoTrace}
 use Rattle.proxy_core.specs.Histories.{held_entries, open_exchanges, next_serial, IsGoodHistory}
 use Rattle.proxy_core.specs.Promises.{latest_request_of, TwiceForwardOneReply}
 use Rattle.proxy_core.specs.Promises.{NothingInvalidatedIsSent, NothingInvalidatedSinceTheStartIsSent}
-use Rattle.proxy_core.specs.Sending.{RequestReachesCacheOrOrigin, RequestIsTurnedAway, StoredResponseMayBeSent}
+use Rattle.proxy_core.specs.Sending.{RequestReachesCacheOrOrigin, RequestIsTurnedAway, RequestPurges}
+use Rattle.proxy_core.specs.Sending.{StoredResponseMayBeSent}
 use Rattle.proxy_core.specs.Sending.{ReplyIsThatStoredResponse}
 use Rattle.proxy_core.specs.GoingOn.{EventMayCome, ExchangeGoesOnBy, IsConditionOfEvent}
 use Rattle.proxy_core.specs.StoredAnswers.{AnswerMayBeStored, IsAnswerThatMayBeStored, ThoseAreRemoved}
+use Rattle.proxy_core.specs.StoredAnswers.{event_purges}
 use Rattle.proxy_core.specs.Naming.{AnswerNamesFirstRule}
 
 -- each item of a trace, with those before it
@@ -49,7 +51,8 @@ EventComesWhereItMay table start item past =
     EventMayCome (find_exchange (exchange_id_of_event item.event) (open_exchanges table start past)) item.event
 
 -- A request reaches the cache or the origin of its line exactly where the table's first line that
--- matches allows it; any other is turned away by the line, which denies it or refuses its loop, or
+-- matches allows it, and the cache alone, of which it purges its target, where that line purges and
+-- it shows the key; any other is turned away by the line, which denies it or refuses its loop, or
 -- because none matches.
 abbrev pub RequestReachesExactlyWhereAllowed : Table → StoreAtStart → Item → List Item → Type 0
 RequestReachesExactlyWhereAllowed table start item past = (now id : ℕ) (asked : Asked) → item.event
@@ -57,8 +60,9 @@ RequestReachesExactlyWhereAllowed table start item past = (now id : ℕ) (asked 
     ((line : Route) → verdict_of_asked table asked ≡ Allowed line
     → RequestReachesCacheOrOrigin table (held_entries table start past)
     (open_exchanges table start past) now asked line item.outcome)
-    × (((line : Route) → verdict_of_asked table asked ≢ Allowed line)
-    → RequestIsTurnedAway table now asked item.outcome)
+    × ((request_purges table asked ≡ true → RequestPurges (held_entries table start past) now asked item.outcome)
+    × (((line : Route) → verdict_of_asked table asked ≢ Allowed line) → request_purges table asked ≡ false
+    → RequestIsTurnedAway table now asked item.outcome))
 
 -- Whatever goes forward, at an arrival, a wake or a second time, goes to the origin of the line
 -- that allows its request, and is that request's text, with the proxy's conditions of that moment.
@@ -114,11 +118,13 @@ AnswerIsStoredExactlyWhereItMayBe table start first item past =
     → (next_serial first past ≡ Some s) × IsAnswerThatMayBeStored table start first item past)
 
 -- What goes: what a stored answer takes the place of, what is held for a key that an unsafe request
--- invalidates, and what a 304 freshens and may not be kept (RFC 9111, sections 4.1, 4.4, 4.3.4).
+-- invalidates, and what a 304 freshens and may not be kept (RFC 9111, sections 4.1, 4.4, 4.3.4); and
+-- what a request purges by the operator's word, and its outcome alone is that of a purge.
 abbrev pub StoredResponsesAreRemovedExactlyWhereTheyMustBe : Table → StoreAtStart → Item → List Item → Type 0
 StoredResponsesAreRemovedExactlyWhereTheyMustBe table start item past =
     ThoseAreRemoved table (held_entries table start past)
     (find_exchange (exchange_id_of_event item.event) (open_exchanges table start past)) item.event item.outcome
+    × (outcome_purges item.outcome ≡ event_purges table item.event)
 
 -- a client's connection closes behind its reply where its request says so
 abbrev pub ConnectionClosesAsAsked : Item → List Item → Type 0

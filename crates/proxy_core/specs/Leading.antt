@@ -1,7 +1,7 @@
 -- Which open exchange others wait for, and which may be woken.
 --
 -- asks_for: an exchange went forward for what a request could be sent
--- may_serve: nothing that is known keeps its answer from that request
+-- may_serve, answer_may_serve: nothing that is known keeps its answer from that request
 -- leads_waiters: the request waits for this exchange
 -- leader: the first of these to arrive
 -- waits_for: an exchange waits for another
@@ -17,6 +17,7 @@ use Rattle.hx_directives.specs.Answers.{directive_occurs as has_directive}
 use Rattle.hx_directives.specs.declared.names.Directive.TheVariants.{NoStore}
 use Rattle.hx_target.specs.Keys.{same_key}
 use Rattle.hx_hop.specs.declared.request_view.Asked.{Asked}
+use Rattle.hx_hop.specs.Bypass.{asks_for_range}
 use Rattle.hx_reuse.specs.Conditions.{forwards_condition}
 use Rattle.hx_reuse.specs.declared.rule.ReuseRule.{ReuseRule}
 use Rattle.hx_reuse.specs.declared.rule.ReuseRule.TheVariants.{UriMiss}
@@ -89,6 +90,12 @@ may_serve policy asked x = not x.no_store
     && (not x.overtaken
     && (not (sends_clients_condition policy x) && is_same_truth (has_authorization x.asked) (has_authorization asked)))
 
+-- The answer to a range is for who asked for it alone, whatever the line says (RFC 9110, section 14.2); what else may
+-- keep it back is looked at over a line with the word.
+abbrev pub answer_may_serve : Policy → Asked → Exchange → Bool
+answer_may_serve policy asked x =
+    not (asks_for_range x.asked) && (not policy.waits_for_stale || may_serve policy asked x)
+
 -- A GET for the key of this request went forward for what it could be sent, and isn't answered yet. A
 -- response "that is stored or storable" may "satisfy multiple requests", so a cache may "collapse
 -- requests" (RFC 9111, section 4).
@@ -97,7 +104,7 @@ abbrev pub leads_waiters : Policy → Awaited → Asked → Exchange → Bool
 leads_waiters policy awaited asked x =
     same_key x.asked.target.key asked.target.key
     && (is_get x.asked
-    && (is_forwarded x.stage && (asks_for awaited x && (not policy.waits_for_stale || may_serve policy asked x))))
+    && (is_forwarded x.stage && (asks_for awaited x && answer_may_serve policy asked x)))
 
 -- of those the first to arrive
 abbrev pub leader : Policy → Awaited → Asked → List Exchange → Option ℕ

@@ -35,3 +35,4 @@ pub mod WrongTraces
 pub mod ReadAnswers
 pub mod Bounds
 pub mod KeptConditions
+pub mod RangeReplies

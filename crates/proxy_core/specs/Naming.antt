@@ -1,13 +1,13 @@
 -- What an answer names that isn't a stored response: the first rule against one (RFC 9111, section
 -- 4; RFC 5861, section 4; RFC 9211).
 --
--- AnswerAtArrivalNames: the line of the table that denies, that none allows, the rule where only-if-cached stands, or
--- the line that refuses a loop
+-- AnswerAtArrivalNames: the line of the table that denies, that none allows, the rule where only-if-cached stands,
+-- the line that refuses a loop, or a purge
 -- AnswerAfterFailureNames: why nothing is sent in place of an error
 -- PassedAnswerNamesItsRule: of an answer that is passed on, the one it has kept
 -- AnswerNamesFirstRule: of an item
 -- EachOtherAnswerNamesTheFirstRule: of each item of a good trace
-use Rattle.std.specs.Prelude.{◌≡◌, ◌⊎◌, ℕ, true, false, List, ◌∷◌, Option, Some, None, is_some}
+use Rattle.std.specs.Prelude.{◌≡◌, ◌⊎◌, ℕ, true, false, List, ◌∷◌, Option, Some, None, is_some, length}
 use Rattle.hx_policy.specs.declared.words.Policy.{Policy}
 use Rattle.hx_directives.specs.Occurrences.{occurrences_of}
 use Rattle.hx_framing.specs.declared.messages.Response.{Response}
@@ -20,6 +20,7 @@ use Rattle.hx_allow.specs.declared.verdicts.Verdict.TheVariants.{Allowed, Denied
 use Rattle.hx_allow.specs.declared.verdicts.Verdict.TheVariants as verdict
 use Rattle.hx_allow.specs.declared.verdicts.Route.{Route}
 use Rattle.hx_store.specs.Stored.{Stored}
+use Rattle.hx_store.specs.Shelf.{serials_of}
 use Rattle.hx_reuse.specs.Chosen.{chosen_of}
 use Rattle.hx_reuse.specs.Rules.{names_chosen}
 use Rattle.hx_reuse.specs.ChosenAndNamed.{IsLeastReuseRule}
@@ -34,7 +35,7 @@ use Rattle.proxy_core.specs.declared.outcome.Outcome.{Outcome}
 use Rattle.proxy_core.specs.declared.outcome.Outcome.TheVariants.{Reply, Forward, Waits, Ended}
 use Rattle.proxy_core.specs.declared.event.Event.{Event}
 use Rattle.proxy_core.specs.declared.event.Event.TheVariants.{Arrive, Answer, Fail, Wake, Abandon}
-use Rattle.proxy_core.specs.Replies.{passed_answer_text, refusal_reply_text, is_head}
+use Rattle.proxy_core.specs.Replies.{passed_answer_text, refusal_reply_text, purge_reply_text, is_head}
 use Rattle.proxy_core.specs.Storing.{is_304_without_condition, storing_rule_to_explain}
 use Rattle.proxy_core.specs.Outcomes.{find_exchange, exchange_id_of_event, is_only_if_cached}
 use Rattle.proxy_core.specs.Traces.{Item}
@@ -45,7 +46,8 @@ use Rattle.proxy_core.specs.Starts.{StoreAtStart}
 
 -- To a request that arrives the proxy answers by itself alone: the line of the table that denies
 -- it; that none matches; the least reuse rule that stands, where the request takes no response
--- but a stored one; or the line that refuses its loop.
+-- but a stored one; the line that refuses its loop; or a purge, where the line purges, by how many
+-- went.
 abbrev pub AnswerAtArrivalNames : Table → List Stored → ℕ → Asked → List ℕ → Type 0
 AnswerAtArrivalNames table held now asked bytes =
     ((line : ℕ) × (verdict_of_asked table asked ≡ DeniedBy line)
@@ -55,8 +57,10 @@ AnswerAtArrivalNames table held now asked bytes =
     ⊎ (((line : Route) × (rule : ReuseRule) × (verdict_of_asked table asked ≡ Allowed line)
     × (is_only_if_cached asked ≡ true) × IsLeastReuseRule (policy_of table.lines line) held asked now rule
     × (bytes ≡ refusal_reply_text (date_text_of now) (OnlyIfCached rule) asked.close (is_head asked)))
-    ⊎ ((line : ℕ) × (verdict_of_asked table asked ≡ verdict.Looped line)
-    × (bytes ≡ refusal_reply_text (date_text_of now) (Looped line) asked.close (is_head asked)))))
+    ⊎ (((line : ℕ) × (verdict_of_asked table asked ≡ verdict.Looped line)
+    × (bytes ≡ refusal_reply_text (date_text_of now) (Looped line) asked.close (is_head asked)))
+    ⊎ ((line : ℕ) × (verdict_of_asked table asked ≡ verdict.Purged line)
+    × (bytes ≡ purge_reply_text (date_text_of now) (length (serials_of asked.target.key held)) asked.close)))))
 
 -- beside a reuse rule against the chosen response: the least rule against sending it in place of an error
 abbrev pub AnswerNamesErrorRule : Policy → List Stored → ℕ → Asked → ReuseRule → Option ErrorRule → Type 0

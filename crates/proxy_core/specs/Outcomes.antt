@@ -5,6 +5,7 @@
 -- outcome_of, outcome_of_event: of an event
 -- step_fault: the least fault that stands, out of memory aside
 use Rattle.std.specs.Prelude.{ℕ, ◌==◌, Bool, true, false, ◌||◌, List, [], ◌∷◌, Option, Some, None, cond, is_some}
+use Rattle.std.specs.Prelude.{length}
 use Rattle.hx_policy.specs.declared.words.Policy.{Policy}
 use Rattle.hx_directives.specs.Occurrences.{occurrences_of}
 use Rattle.hx_directives.specs.Answers.{directive_occurs as has_directive}
@@ -55,7 +56,7 @@ use Rattle.proxy_core.specs.Moments.{moment_too_late_fault}
 use Rattle.proxy_core.specs.Leading.{is_forwarded, is_released}
 use Rattle.proxy_core.specs.Awaiting.{awaited_of, leader_of_request}
 use Rattle.proxy_core.specs.Revalidating.{sent_beside}
-use Rattle.proxy_core.specs.Replies.{stored_text, passed_answer_text, refusal_reply_text, is_head}
+use Rattle.proxy_core.specs.Replies.{stored_text, passed_answer_text, refusal_reply_text, purge_reply_text, is_head}
 use Rattle.proxy_core.specs.Validating.{conditions_to_send, condition_about_serial, is_304_to_own_conditions}
 use Rattle.proxy_core.specs.Validating.{stored_response_validated, freshened_by_304, freshened_may_be_kept}
 use Rattle.proxy_core.specs.Storing.{is_storable, storing_rule_to_explain, replaced_by, is_304_without_condition}
@@ -80,6 +81,7 @@ outcome_of_sending_stored table es serial now info asked =
       stored = None;
       used = Some serial;
       removed = [];
+      purged = false;
     })
 
 -- the proxy answers by itself
@@ -90,6 +92,18 @@ outcome_of_refusal now cause asked = Reply (record {
   stored = None;
   used = None;
   removed = [];
+  purged = false;
+})
+
+-- a purge: what is held for the target of its request goes
+abbrev pub outcome_of_purge : List Stored → ℕ → Asked → Outcome
+outcome_of_purge es now asked = Reply (record {
+  bytes = purge_reply_text (date_text_of now) (length (serials_of asked.target.key es)) asked.close;
+  close = asked.close;
+  stored = None;
+  used = None;
+  removed = serials_of asked.target.key es;
+  purged = true;
 })
 
 -- the bytes of a request that goes forward over a line; its own conditions may stay with the proxy
@@ -149,6 +163,7 @@ outcome_of_arrival table es xs now asked (verdict.Allowed line) =
 outcome_of_arrival table es xs now asked (verdict.DeniedBy line) = outcome_of_refusal now (Denied line) asked
 outcome_of_arrival table es xs now asked verdict.NoLine = outcome_of_refusal now NoLine asked
 outcome_of_arrival table es xs now asked (verdict.Looped line) = outcome_of_refusal now (Looped line) asked
+outcome_of_arrival table es xs now asked (verdict.Purged line) = outcome_of_purge es now asked
 
 -- what is told of a stored response that is sent after going forward: the rule at arrival, the status of an answer
 -- that came, and the word of the step
@@ -218,6 +233,7 @@ outcome_of_passing_on table es now x r rule stored =
       stored = stored;
       used = None;
       removed = serials_removed_by_answer es x r stored;
+      purged = false;
     })
 
 -- the statuses in whose place a stored response may be sent (RFC 5861, section 4)
@@ -247,6 +263,7 @@ outcome_of_sending_freshened table x r now e =
       stored = None;
       used = Some e.serial;
       removed = cond (freshened_may_be_kept table x r e) [] (e.serial ∷ []);
+      purged = false;
     })
 
 -- a 304 to the proxy's conditions sends the response that it answers, and keeps it where it may be kept (RFC 9111,

@@ -46,6 +46,7 @@ outcome_of_pending_reply p = Reply (record {
   stored = serial_stored_by_change p.change;
   used = serial_used_by_change p.change;
   removed = p.removed;
+  purged = false;
 })
 
 -- the held responses after a change, and after these serials are gone, before any goes for the bounds

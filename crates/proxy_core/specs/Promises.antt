@@ -18,7 +18,7 @@ use Rattle.proxy_core.specs.declared.event.Event.{Event}
 use Rattle.proxy_core.specs.declared.event.Event.TheVariants.{Arrive, Answer, Fail, Wake, Abandon}
 use Rattle.proxy_core.specs.Storing.{status_invalidates}
 use Rattle.proxy_core.specs.Outcomes.{exchange_id_of_event}
-use Rattle.proxy_core.specs.State.{serial_stored_by_outcome, serial_used_by_outcome}
+use Rattle.proxy_core.specs.State.{serial_stored_by_outcome, serial_used_by_outcome, key_purged}
 use Rattle.proxy_core.specs.Traces.{Item}
 
 abbrev pub outcome_goes_forward : Outcome → Bool
@@ -96,14 +96,15 @@ reply_uses_no_stored_response Ended = false
 abbrev pub key_invalidated_by_answer : Asked → Response → Option Key
 key_invalidated_by_answer asked r = cond (status_invalidates asked r.status) (Some asked.target.key) None
 
--- the key that an event invalidates, of an exchange with this request
-abbrev pub key_invalidated_by_event : Option Asked → Event → Option Key
-key_invalidated_by_event None event = None
-key_invalidated_by_event (Some asked) (Answer now id r) = key_invalidated_by_answer asked r
-key_invalidated_by_event (Some asked) (Arrive now id other) = None
-key_invalidated_by_event (Some asked) (Fail now id kind) = None
-key_invalidated_by_event (Some asked) (Wake now id) = None
-key_invalidated_by_event (Some asked) (Abandon id) = None
+-- The key that an event with its outcome invalidates: where it is an answer, of an exchange with this request.
+-- own: so does a request that purges ("A purge has a key")
+abbrev pub key_invalidated_by_event : Option Asked → Event → Outcome → Option Key
+key_invalidated_by_event (Some asked) (Answer now id r) outcome = key_invalidated_by_answer asked r
+key_invalidated_by_event None (Answer now id r) outcome = None
+key_invalidated_by_event asked (Arrive now id other) outcome = key_purged other outcome
+key_invalidated_by_event asked (Fail now id kind) outcome = None
+key_invalidated_by_event asked (Wake now id) outcome = None
+key_invalidated_by_event asked (Abandon id) outcome = None
 
 abbrev pub is_invalidated_key : Option Key → Key → Bool
 is_invalidated_key None key = false
@@ -112,7 +113,7 @@ is_invalidated_key (Some gone) key = same_key key gone
 -- this item, after this past, invalidates the key
 abbrev pub invalidates_key : Key → Item → List Item → Bool
 invalidates_key key i past = is_invalidated_key
-    (key_invalidated_by_event (latest_request_of (exchange_id_of_event i.event) past) i.event) key
+    (key_invalidated_by_event (latest_request_of (exchange_id_of_event i.event) past) i.event i.outcome) key
 
 -- none of these items, after this past, invalidates the key
 abbrev pub NoItemInvalidates : Key → List Item → List Item → Type 0

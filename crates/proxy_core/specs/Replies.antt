@@ -1,10 +1,10 @@
 -- The bytes of each answer (RFC 9110, section 6; RFC 9111, section 5.1; RFC 9211).
 --
--- stored_text: a stored response, whole or as a 304
+-- stored_text: a stored response, whole, in part or as a 304
 -- passed_answer_text: an answer of the origin, whole or as a 304
 -- refusal_reply_text: the proxy's own
-use Rattle.std.specs.Prelude.{ℕ, ℤ, ◌==◌, ◌&&◌, ◌||◌, List, [], ◌∷◌, ◌++◌, length, codes, bytes_eq, Bool, true, false}
-use Rattle.std.specs.Prelude.{Option}
+use Rattle.std.specs.Prelude.{ℕ, ℤ, ◌==◌, ◌&&◌, ◌||◌, List, [], ◌∷◌, ◌++◌, length, codes, bytes_eq, decimal, Bool, true}
+use Rattle.std.specs.Prelude.{false, Option}
 use Rattle.std.specs.Prelude.{Some, None, cond}
 use Rattle.std.specs.Fmt.{decimal}
 use Rattle.hx_fields.specs.declared.field_line.Field.{Field}
@@ -18,6 +18,7 @@ use Rattle.hx_allow.specs.declared.verdicts.Route.{Route}
 use Rattle.hx_store.specs.Stored.{Stored}
 use Rattle.hx_reuse.specs.Conditions.{keeps_conditions}
 use Rattle.hx_reuse.specs.Lifetimes.{lifetime_under}
+use Rattle.hx_validate.specs.Ranges.{response_in_range}
 use Rattle.hx_validate.specs.NotModified.{gets_304, fields_of_304, answer_gets_304, fields_of_304_to_answer}
 use Rattle.hx_storable.specs.declared.rule.StoreRule.{StoreRule}
 use Rattle.hx_status.specs.Member.{member_text}
@@ -29,6 +30,7 @@ use Rattle.hx_status.specs.declared.status.Detail.TheVariants.{SessionCookie}
 use Rattle.hx_status.specs.declared.cause.Cause.{Cause}
 use Rattle.proxy_core.specs.declared.open.exchange.Exchange.{Exchange}
 use Rattle.proxy_core.specs.declared.replies.stored_reply.CacheStatusInfo.{CacheStatusInfo}
+use Rattle.proxy_core.specs.Validating.{without_cookies}
 
 abbrev pub line : List ℕ → List ℕ → Field
 line name value = record { name = name; value = value }
@@ -71,9 +73,12 @@ abbrev pub length_unless_forbidden : ℕ → Option ℕ → Option ℕ
 length_unless_forbidden status length = cond ((status == 204) || (status == 304)) None length
 
 -- a stored response is sent whole
+-- own: over a line that removes cookies without those, whatever line it was stored over ("A cookie stays with the one
+-- whom it was set for")
 abbrev pub whole_stored_text : List ℕ → Stored → ℕ → CacheStatusInfo → Asked → List ℕ
 whole_stored_text name e now info asked =
-    response_text e.status (fields_of_sent_response name e.status e.fields e now info)
+    response_text e.status
+    (fields_of_sent_response name e.status (without_cookies info.policy.removes_cookies e.fields) e now info)
     (length_unless_forbidden e.status (Some (length e.content))) asked.close
     (content_unless_head (is_head asked) e.content)
 
@@ -82,10 +87,26 @@ abbrev pub not_modified_text : List ℕ → Stored → ℕ → CacheStatusInfo �
 not_modified_text name e now info asked =
     response_text 304 (fields_of_sent_response name 304 (fields_of_304 e.fields) e now info) None asked.close []
 
--- a stored response is sent
+-- the form in which a stored response is sent: over a line that doesn't forward ranges the part of it that the request
+-- asks for, or that none is there (RFC 9110, sections 14.2, 15.3.7 and 15.5.17)
+abbrev pub form_sent : Policy → Asked → Stored → Stored
+form_sent policy asked e = cond policy.forwards_ranges e (response_in_range asked e)
+
+-- a stored response is sent in a form: of that are the status, the lines and the content
+-- own: over a line that removes cookies without those, whatever line it was stored over ("A cookie stays with the one
+-- whom it was set for")
+abbrev pub text_in_form : List ℕ → Stored → Stored → ℕ → CacheStatusInfo → Asked → List ℕ
+text_in_form name form e now info asked =
+    response_text form.status
+    (fields_of_sent_response name form.status (without_cookies info.policy.removes_cookies form.fields) e now info)
+    (length_unless_forbidden form.status (Some (length form.content))) asked.close
+    (content_unless_head (is_head asked) form.content)
+
+-- A stored response is sent: the client's own conditions come first, then its range (RFC 9110, section 13.2.2).
 abbrev pub stored_text : List ℕ → Stored → ℕ → CacheStatusInfo → Asked → List ℕ
 stored_text name e now info asked =
-    cond (gets_304 asked e) (not_modified_text name e now info asked) (whole_stored_text name e now info asked)
+    cond (gets_304 asked e) (not_modified_text name e now info asked)
+    (text_in_form name (form_sent info.policy asked e) e now info asked)
 
 -- to HEAD an answer of the origin has the length that it announced
 abbrev pub length_of_passed_answer : Bool → Response → Option ℕ
@@ -162,3 +183,11 @@ refusal_reply_text date cause close head =
     response_text (refusal_status cause) (fields_of_refusal date (refusal_text cause))
     (Some (length (refusal_text cause))) close
     (content_unless_head head (refusal_text cause))
+
+-- own: the answer to a purge: 204, without content (RFC 9110, section 15.3.5), and how many went ("A purge has a
+-- key")
+abbrev pub fields_of_purge : List ℕ → ℕ → List Field
+fields_of_purge date count = line (codes "Date") date ∷ line (codes "Purged") (decimal count) ∷ []
+
+abbrev pub purge_reply_text : List ℕ → ℕ → Bool → List ℕ
+purge_reply_text date count close = response_text 204 (fields_of_purge date count) None close []

@@ -17,7 +17,7 @@ use Rattle.hx_framing.specs.declared.messages.Response.{Response}
 use Rattle.hx_hop.specs.declared.request_view.Asked.{Asked}
 use Rattle.hx_allow.specs.TableLines.{Table}
 use Rattle.hx_allow.specs.Matching.{policy_of}
-use Rattle.proxy_core.specs.Allowing.{verdict_of_asked, exchanges_to_wait_for}
+use Rattle.proxy_core.specs.Allowing.{verdict_of_asked, request_purges, exchanges_to_wait_for}
 use Rattle.hx_allow.specs.declared.verdicts.Verdict.TheVariants.{Allowed, DeniedBy, NoLine as Unmatched}
 use Rattle.hx_allow.specs.declared.verdicts.Verdict.TheVariants as verdict
 use Rattle.hx_allow.specs.declared.verdicts.Route.{Route}
@@ -44,7 +44,7 @@ use Rattle.proxy_core.specs.Storing.{is_304_without_condition}
 use Rattle.proxy_core.specs.Validating.{condition_about_serial, is_304_to_own_conditions, stored_response_validated}
 use Rattle.proxy_core.specs.Replies.{stored_text}
 use Rattle.proxy_core.specs.Outcomes.{find_exchange, exchange_id_of_event, is_only_if_cached, is_error_status}
-use Rattle.proxy_core.specs.Outcomes.{outcome_of_refusal, forward_text}
+use Rattle.proxy_core.specs.Outcomes.{outcome_of_refusal, outcome_of_purge, forward_text}
 use Rattle.proxy_core.specs.Outcomes.{hit_status_info, forwarded_status_info, collapsed_status_info}
 use Rattle.proxy_core.specs.declared.open.awaited.Awaited.{Awaited}
 use Rattle.proxy_core.specs.declared.open.awaited.Awaited.TheVariants.{Expired}
@@ -185,6 +185,10 @@ RequestIsTurnedAway table now asked outcome =
     ⊎ ((line : ℕ) × (verdict_of_asked table asked ≡ verdict.Looped line)
     × (outcome ≡ outcome_of_refusal now (Looped line) asked)))
 
+-- one that purges: what is held for its target goes, and it is told how many
+abbrev pub RequestPurges : List Stored → ℕ → Asked → Outcome → Type 0
+RequestPurges held now asked outcome = outcome ≡ outcome_of_purge held now asked
+
 -- The word of one that is sent in place of an error: it may be sent anyway, or in that place alone.
 abbrev pub DetailWordAfterError : Policy → List Stored → Asked → ℕ → ℕ → Option Detail → Type 0
 DetailWordAfterError policy held asked now s detail =
@@ -319,8 +323,15 @@ abbrev pub OtherRequestIsRefused : Type 0
 OtherRequestIsRefused = (table : Table) (start : StoreAtStart) (first now id : ℕ) (asked : Asked) (item : Item)
     (past : List Item) →
     IsGoodHistory table start first (item ∷ past) → item.event ≡ Arrive now id asked →
-    ((line : Route) → verdict_of_asked table asked ≢ Allowed line)
+    ((line : Route) → verdict_of_asked table asked ≢ Allowed line) → request_purges table asked ≡ false
     → RequestIsTurnedAway table now asked item.outcome
+
+-- One that purges takes away what is held for its target.
+abbrev pub PurgeTakesItsTargetAway : Type 0
+PurgeTakesItsTargetAway = (table : Table) (start : StoreAtStart) (first now id : ℕ) (asked : Asked) (item : Item)
+    (past : List Item) →
+    IsGoodHistory table start first (item ∷ past) → item.event ≡ Arrive now id asked →
+    request_purges table asked ≡ true → RequestPurges (held_entries table start past) now asked item.outcome
 
 -- and what is sent is that response
 abbrev pub SendsWhatIsHeld : Type 0

@@ -5,7 +5,7 @@
 -- bounds_of: what the store is bounded by
 -- state_after: what a step leaves
 -- StepIsAccepted: a step that was done             StepIsRefusedWith: one that wasn't
-use Rattle.std.specs.Prelude.{◌≡◌, ◌⊎◌, ℕ, ◌+◌, ◌^◌, ◌≤◌, ◌==◌, nat_lt, not, true, false, List, [], ◌∷◌, ◌++◌}
+use Rattle.std.specs.Prelude.{◌≡◌, ◌⊎◌, ℕ, ◌+◌, ◌^◌, ◌≤◌, ◌==◌, nat_lt, not, Bool, true, false, List, [], ◌∷◌, ◌++◌}
 use Rattle.std.specs.Prelude.{filter, map, Option, Some, None, option_map, cond}
 use Rattle.hx_target.specs.declared.keys.Key.{Key}
 use Rattle.hx_target.specs.Keys.{same_key}
@@ -65,6 +65,13 @@ serials_removed_by_outcome (Reply r) = r.removed
 serials_removed_by_outcome (Forward line bytes) = []
 serials_removed_by_outcome (Waits leader) = []
 serials_removed_by_outcome Ended = []
+
+-- the outcome is that of a purge
+abbrev pub outcome_purges : Outcome → Bool
+outcome_purges (Reply r) = r.purged
+outcome_purges (Forward line bytes) = false
+outcome_purges (Waits leader) = false
+outcome_purges Ended = false
 
 -- what a step makes of a held response that it sends: one that a 304 answers is freshened
 abbrev pub stored_response_as_used : Option Exchange → Event → Stored → Stored
@@ -137,6 +144,16 @@ abbrev pub exchanges_after_end : Option Key → ℕ → List Exchange → List E
 exchanges_after_end None id xs = exchanges_after_close id xs
 exchanges_after_end (Some key) id xs = map (overtaken_exchange key) (exchanges_after_close id xs)
 
+-- the key of which a request that arrives purges what is held
+abbrev pub key_purged : Asked → Outcome → Option Key
+key_purged asked outcome = cond (outcome_purges outcome) (Some asked.target.key) None
+
+-- own: what was asked for before a purge may be what it was to drop, so it isn't stored, as behind an invalidation ("An
+-- overtaken answer is not stored")
+abbrev pub exchanges_after_purge : Option Key → List Exchange → List Exchange
+exchanges_after_purge None xs = xs
+exchanges_after_purge (Some key) xs = map (overtaken_exchange key) xs
+
 -- the key that an answer to an exchange invalidates
 abbrev pub key_invalidated_by_response : Option Exchange → Response → Option Key
 key_invalidated_by_response None r = None
@@ -158,6 +175,7 @@ forwarded_exchange table es now id asked line = record {
   asked = asked;
   line = line;
   vary = vary_of table.lines line.number;
+  removes_cookies = (policy_of table.lines line).removes_cookies;
   rule = rule_of_decision (decision_of (policy_of table.lines line) es asked now);
   named = serial_named_by_decision (decision_of (policy_of table.lines line) es asked now);
   request_time = now;
@@ -174,6 +192,7 @@ line_of_verdict (verdict.Allowed line) = line
 line_of_verdict (verdict.DeniedBy line) = over_line line
 line_of_verdict verdict.NoLine = over_line 0
 line_of_verdict (verdict.Looped line) = over_line line
+line_of_verdict (verdict.Purged line) = over_line line
 
 -- the same of a request that waits for another's answer
 abbrev pub waiting_exchange : Table → List Stored → ℕ → ℕ → Asked → Route → ℕ → Exchange
@@ -223,7 +242,7 @@ open_exchanges_after table es xs (Arrive now id asked)
 open_exchanges_after table es xs (Arrive now id asked) (Waits leader) =
     xs ++ waiting_exchange table es now id asked
     (line_of_verdict (verdict_of_asked table asked)) leader ∷ []
-open_exchanges_after table es xs (Arrive now id asked) (Reply r) = xs
+open_exchanges_after table es xs (Arrive now id asked) (Reply r) = exchanges_after_purge (key_purged asked (Reply r)) xs
 open_exchanges_after table es xs (Arrive now id asked) Ended = xs
 open_exchanges_after table es xs (Answer now id r) (Forward line bytes) = map (exchange_forwarded_again id now) xs
 open_exchanges_after table es xs (Answer now id r) (Reply reply) = exchanges_after_end

@@ -7,8 +7,8 @@
 -- AnswerMayBeStored: all that is asked             IsAnswerThatMayBeStored: an item that stores it
 -- FreshenedMayBeKept: what is asked of a response that a 304 freshens
 -- ThoseAreRemoved: what an item takes away
-use Rattle.std.specs.Prelude.{◌≡◌, ◌⊎◌, ℕ, ◌≤◌, true, false, bytes_eq, List, [], ◌∷◌, ◌++◌, length, codes, is_some}
-use Rattle.std.specs.Prelude.{All, Option, Some, None, IfSome}
+use Rattle.std.specs.Prelude.{◌≡◌, ◌⊎◌, ℕ, ◌≤◌, Bool, true, false, cond, bytes_eq, List, [], ◌∷◌, ◌++◌, length, codes}
+use Rattle.std.specs.Prelude.{is_some, All, Option, Some, None, IfSome}
 use Rattle.hx_fields.specs.declared.field_line.Field.{Field}
 use Rattle.hx_fields.specs.FieldLines.{has_field as has_line}
 use Rattle.hx_fields.specs.Tokens.{is_token}
@@ -19,7 +19,7 @@ use Rattle.hx_directives.specs.declared.names.Directive.TheVariants.{MaxAge, SMa
 use Rattle.hx_target.specs.declared.keys.Key.{Key}
 use Rattle.hx_vary.specs.Vary.{vary_names}
 use Rattle.hx_hop.specs.Answering.{answered_of}
-use Rattle.hx_hop.specs.Bypass.{request_has_content, asks_for_range, has_precondition}
+use Rattle.hx_hop.specs.Bypass.{request_has_content, has_precondition}
 use Rattle.hx_hop.specs.Stripping.{cache_names, connection_names}
 use Rattle.hx_policy.specs.Policies.{given_lifetime}
 use Rattle.hx_policy.specs.declared.words.Policy.{Policy}
@@ -28,7 +28,8 @@ use Rattle.hx_allow.specs.Matching.{policy_of}
 use Rattle.hx_store.specs.Stored.{Stored}
 use Rattle.hx_store.specs.Shelf.{serials_of}
 use Rattle.hx_store.specs.Weights.{weight_of}
-use Rattle.hx_storable.specs.Storable.{StatusIsFinal, RequestIsForTheStore, ResponseIsWithinTheWords}
+use Rattle.hx_storable.specs.Storable.{StatusIsFinal, RequestIsForTheStore, IsNotForItsRange}
+use Rattle.hx_storable.specs.Storable.{ResponseIsWithinTheWords}
 use Rattle.hx_storable.specs.Storable.{ResponseIsStorable, NeedsUnderstanding, NoStoreIsAbsentOrLifted}
 use Rattle.hx_storable.specs.Storable.{ResponseAllowsShared, ResponseAllowsStoring}
 use Rattle.hx_storable.specs.Rules.{is_understood_status, request_has, response_has}
@@ -43,6 +44,8 @@ use Rattle.proxy_core.specs.Validating.{stored_response_validated, freshened_by_
 use Rattle.proxy_core.specs.Validating.{head_of_stored}
 use Rattle.proxy_core.specs.Outcomes.{find_exchange, exchange_id_of_event}
 use Rattle.proxy_core.specs.State.{serial_stored_by_outcome, serial_used_by_outcome, serials_removed_by_outcome}
+use Rattle.proxy_core.specs.State.{outcome_purges}
+use Rattle.proxy_core.specs.Allowing.{request_purges}
 use Rattle.proxy_core.specs.Starts.{StoreAtStart}
 use Rattle.proxy_core.specs.Traces.{Item}
 use Rattle.proxy_core.specs.Histories.{IsGoodHistory, held_entries, next_serial, open_exchanges}
@@ -94,7 +97,7 @@ pub record AnswerMayBeStored (table : Table) (next : Option ℕ) (past : List It
     (now : ℕ) : Type 0 where
   pub operator_allows : (policy_of table.lines x.line).caches ≡ true
   pub is_storable : ResponseIsStorable x.asked (answered_of r now)
-  pub is_for_the_store : RequestIsForTheStore x.asked
+  pub is_for_the_store : RequestIsForTheStore x.asked (answered_of r now) (policy_of table.lines x.line)
   pub is_within_the_words : ResponseIsWithinTheWords x.asked (answered_of r now) (policy_of table.lines x.line)
   pub names_fields : VaryNamesFields (answered_of r now).fields
   pub keeps_its_fields : ConnectionTookNoCacheField r.fields
@@ -136,7 +139,7 @@ pub record FreshenedMayBeKept (table : Table) (x : Exchange) (r : Response) (e :
   pub allowed : ResponseAllowsStoring (head_of_stored e)
   pub not_asked_not_to : request_has x.asked NoStore ≡ false
   pub no_content : request_has_content x.asked ≡ false
-  pub no_range : asks_for_range x.asked ≡ false
+  pub is_not_for_its_range : IsNotForItsRange x.asked (head_of_stored e) (policy_of table.lines x.line)
   pub no_precondition : has_precondition x.asked ≡ false
   pub is_within_the_words : ResponseIsWithinTheWords x.asked (head_of_stored e) (policy_of table.lines x.line)
   pub names_fields : VaryNamesFields e.fields
@@ -167,15 +170,24 @@ RemovedByAnswer table held x now r (Some stored) gone = gone ≡ replaced_by hel
 RemovedByAnswer table held x now r None gone = RemovedByStatus table held x now r
     (key_invalidated_by_answer x.asked r) gone
 
--- no other event takes anything away
+-- a request that purges takes away all that is held for its target; no other event takes anything away
 abbrev pub ThoseAreRemoved : Table → List Stored → Option Exchange → Event → Outcome → Type 0
 ThoseAreRemoved table held (Some x) (Answer now id r) outcome = RemovedByAnswer table held x now r
     (serial_stored_by_outcome outcome) (serials_removed_by_outcome outcome)
 ThoseAreRemoved table held None (Answer now id r) outcome = serials_removed_by_outcome outcome ≡ []
-ThoseAreRemoved table held x (Arrive now id asked) outcome = serials_removed_by_outcome outcome ≡ []
+ThoseAreRemoved table held x (Arrive now id asked) outcome = serials_removed_by_outcome outcome
+    ≡ cond (request_purges table asked) (serials_of asked.target.key held) []
 ThoseAreRemoved table held x (Fail now id kind) outcome = serials_removed_by_outcome outcome ≡ []
 ThoseAreRemoved table held x (Wake now id) outcome = serials_removed_by_outcome outcome ≡ []
 ThoseAreRemoved table held x (Abandon id) outcome = serials_removed_by_outcome outcome ≡ []
+
+-- by the table an event purges
+abbrev pub event_purges : Table → Event → Bool
+event_purges table (Arrive now id asked) = request_purges table asked
+event_purges table (Answer now id r) = false
+event_purges table (Fail now id kind) = false
+event_purges table (Wake now id) = false
+event_purges table (Abandon id) = false
 
 -- ---- the statements
 
@@ -203,6 +215,13 @@ ItemRemovesExactlyThese =
     → IsGoodHistory table start first (item ∷ past) →
     ThoseAreRemoved table (held_entries table start past)
     (find_exchange (exchange_id_of_event item.event) (open_exchanges table start past)) item.event item.outcome
+
+-- an outcome is that of a purge exactly where the request purges
+abbrev pub ItemPurgesWhereItsLineSaysSo : Type 0
+ItemPurgesWhereItsLineSaysSo =
+    (table : Table) (start : StoreAtStart) (first : ℕ) (item : Item) (past : List Item)
+    → IsGoodHistory table start first (item ∷ past) →
+    outcome_purges item.outcome ≡ event_purges table item.event
 
 -- what the storing rules and the room of a head let be kept is what may be
 abbrev pub FreshenedIsKeptWhereItMayBe : Type 0

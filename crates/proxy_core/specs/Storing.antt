@@ -32,7 +32,7 @@ use Rattle.hx_storable.specs.declared.known_facts.StoringFacts.{StoringFacts}
 use Rattle.hx_storable.specs.declared.rule.StoreRule.{StoreRule}
 use Rattle.hx_validate.specs.Validators.{has_validator}
 use Rattle.proxy_core.specs.declared.open.exchange.Exchange.{Exchange}
-use Rattle.proxy_core.specs.Validating.{is_304_to_own_conditions, is_above}
+use Rattle.proxy_core.specs.Validating.{is_304_to_own_conditions, is_above, without_cookies}
 
 -- no request may be answered by the response but the one that it answered
 abbrev pub nominates_a_star : Nomination → Bool
@@ -40,7 +40,7 @@ nominates_a_star Star = true
 nominates_a_star (Names values) = false
 
 -- What an answer would weigh in the store.
--- own: with its Age, which isn't kept there ("The store is bounded in bytes")
+-- own: with its Age, and with cookies that are removed, which aren't kept there ("The store is bounded in bytes")
 abbrev pub weight_of_answer : Exchange → Response → ℕ → ℕ
 weight_of_answer x r now =
     length r.content + weight_of_lines (answered_of r now).fields
@@ -80,15 +80,15 @@ storing_rule_to_explain table x r now next =
     cond (policy_of table.lines x.line).explains_storing
     (storage_rule_of x.asked (answered_of r now) (storing_facts_of_answer table x r now next)) None
 
--- the stored response that an answer to an exchange makes (RFC 9111, sections 3, 3.1 and 4.2.3); its age is told anew
--- each time that it is sent
+-- the stored response that an answer to an exchange makes (RFC 9111, sections 3, 3.1 and 4.2.3), without its cookies
+-- where the exchange's line removes those; its age is told anew each time that it is sent
 abbrev pub stored_response_made : ℕ → Exchange → Response → ℕ → Stored
 stored_response_made serial x r now = record {
   serial = serial;
   key = x.asked.target.key;
   nominated = kept_values_with x.vary (answered_of r now).fields x.asked.fields;
   status = r.status;
-  fields = without_named (answered_of r now).fields (codes "Age");
+  fields = without_named (without_cookies x.removes_cookies (answered_of r now).fields) (codes "Age");
   content = r.content;
   times = times_of (answered_of r now).fields x.request_time now;
 }

@@ -3,10 +3,10 @@
 -- Item: an accepted step       trace_of: the items of events and their outcomes
 -- state_after_trace: what a trace leaves    IsGood: each item is what its case gives, over the list that a core keeps
 -- RunStopsAt: why a run stopped     ArrivalIsDenied, OutcomeLeavesNoTrace: requests that the operator's table denies
-use Rattle.std.specs.Prelude.{◌≡◌, ◌≢◌, ℕ, Option, None, Some, List, [], ◌∷◌}
+use Rattle.std.specs.Prelude.{◌≡◌, ◌≢◌, ℕ, false, Option, None, Some, List, [], ◌∷◌}
 use Rattle.std.specs.List.{AllByRecursion}
 use Rattle.hx_allow.specs.TableLines.{Table}
-use Rattle.proxy_core.specs.Allowing.{verdict_of_asked}
+use Rattle.proxy_core.specs.Allowing.{verdict_of_asked, request_purges}
 use Rattle.hx_allow.specs.declared.verdicts.Verdict.TheVariants.{Allowed}
 use Rattle.hx_allow.specs.declared.verdicts.Route.{Route}
 use Rattle.proxy_core.specs.declared.outcome.Outcome.{Outcome}
@@ -71,10 +71,10 @@ abbrev pub RunStopsAt : State → Option Event → CoreFault → Type 0
 RunStopsAt s None fault = ⊥
 RunStopsAt s (Some event) fault = StepIsRefusedWith s event fault
 
--- no line of the table allows the request that arrives
+-- no line of the table allows the request that arrives, nor purges for it
 abbrev pub ArrivalIsDenied : Table → Event → Type 0
-ArrivalIsDenied table (Arrive now id asked) = (line : Route)
-    → verdict_of_asked table asked ≢ Allowed line
+ArrivalIsDenied table (Arrive now id asked) =
+    ((line : Route) → verdict_of_asked table asked ≢ Allowed line) × (request_purges table asked ≡ false)
 ArrivalIsDenied table (Answer now id r) = ⊥
 ArrivalIsDenied table (Fail now id kind) = ⊥
 ArrivalIsDenied table (Wake now id) = ⊥

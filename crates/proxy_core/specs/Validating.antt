@@ -3,11 +3,14 @@
 -- condition_about_stored, condition_about_serial: what a request carries of a held response
 -- is_304_to_own_conditions: a 304 to what it carried
 -- stored_response_is_answered: the 304 answers a held response
+-- without_cookies, stored_without_cookies: what is left where cookies are removed
 -- freshened_by_304: what that becomes
 -- freshened_may_be_kept: and whether it is kept, by the storing rules
 use Rattle.std.specs.Prelude.{ℕ, ◌==◌, nat_lt, ◌&&◌, ◌||◌, Bool, false, List, length, codes, Option, Some, None}
 use Rattle.std.specs.Prelude.{option_map, is_some, is_none, cond}
 use Rattle.std.specs.Option.{option_and_then}
+use Rattle.hx_fields.specs.declared.field_line.Field.{Field}
+use Rattle.hx_fields.specs.FieldLines.{without_named}
 use Rattle.hx_framing.specs.declared.messages.Response.{Response}
 use Rattle.hx_age.specs.Age.{times_of}
 use Rattle.hx_vary.specs.Vary.{is_star}
@@ -74,10 +77,21 @@ stored_response_if_answered x r now (Some e) = cond (stored_response_is_answered
 abbrev pub stored_response_validated : List Stored → Exchange → Response → ℕ → Option Stored
 stored_response_validated es x r now = stored_response_if_answered x r now (stored_response_asked_about es x)
 
+-- The lines that are left where cookies are removed. Set-Cookie is for the one who asked (RFC 6265, section 3), and a
+-- response with it may be stored (RFC 9111, section 7.3).
+-- own: without it, where the operator says so ("A cookie stays with the one whom it was set for")
+abbrev pub without_cookies : Bool → List Field → List Field
+without_cookies removes fields = cond removes (without_named fields (codes "Set-Cookie")) fields
+
+-- what an exchange leaves in the store
+abbrev pub stored_without_cookies : Exchange → Stored → Stored
+stored_without_cookies x e = record e { fields = without_cookies x.removes_cookies e.fields }
+
 -- what it becomes: the times are those of the 304 (RFC 9111, section 4.3.4), and what the line names for Vary counts
 abbrev pub freshened_by_304 : Exchange → Response → ℕ → Stored → Stored
 freshened_by_304 x r now e =
-    freshened_of x.vary e (answered_of r now) x.asked (times_of (answered_of r now).fields x.request_time now)
+    stored_without_cookies x
+    (freshened_of x.vary e (answered_of r now) x.asked (times_of (answered_of r now).fields x.request_time now))
 
 -- the same request, of method GET
 -- own: what a HEAD had validated is judged as if a GET had asked, and may be kept for one

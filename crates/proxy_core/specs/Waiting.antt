@@ -12,6 +12,7 @@ use Rattle.std.specs.Prelude.{None, IfSome, option_map, cond}
 use Rattle.std.specs.List.{AllByRecursion}
 use Rattle.hx_target.specs.Keys.{same_key}
 use Rattle.hx_hop.specs.declared.request_view.Asked.{Asked}
+use Rattle.hx_hop.specs.Bypass.{asks_for_range}
 use Rattle.hx_allow.specs.TableLines.{Table}
 use Rattle.hx_allow.specs.Matching.{policy_of}
 use Rattle.proxy_core.specs.Allowing.{verdict_of_asked, came_back, exchanges_to_wait_for}
@@ -131,14 +132,15 @@ OnlyOneGoesForwardForKey = (table : Table) (start : StoreAtStart) (first : ℕ) 
     → RequestAwaits (policy_of table.lines line) (held_entries table start (between ++ earlier ∷ before)) asked now
     awaited
     → (went : RequestGoesOutBy table start rule named earlier before)
-    → is_get went.asked ≡ true → same_key went.asked.target.key asked.target.key ≡ true
+    → is_get went.asked ≡ true → asks_for_range went.asked ≡ false
+    → same_key went.asked.target.key asked.target.key ≡ true
     → went_for awaited rule named ≡ true
     → AnswerMayServe (policy_of table.lines line) asked
     (find_exchange went.id (open_exchanges table start (between ++ earlier ∷ before))) →
     exchange_has_closed (exchange_id_of_event earlier.event) between ≡ true
 
 -- A line without the word lets a GET wait where nothing is held for its key, and nowhere else; and
--- for any that went for that.
+-- for any that went for that, but for a range. Where the line forwards ranges none went for that with one.
 abbrev pub PlainLinesWaitForMisses : Type 0
 PlainLinesWaitForMisses = (policy : Policy) (held : List Stored) (asked : Asked) (now : ℕ) (awaited : Awaited)
     (x : Exchange) → policy.waits_for_stale ≡ false →
@@ -148,7 +150,8 @@ PlainLinesWaitForMisses = (policy : Policy) (held : List Stored) (asked : Asked)
     → RequestAwaits policy held asked now Missing)
     × (leads_waiters policy Missing asked x
     ≡ (same_key x.asked.target.key asked.target.key
-    && (is_get x.asked && (is_forwarded x.stage && is_uri_miss x.rule))))
+    && (is_get x.asked && (is_forwarded x.stage && (is_uri_miss x.rule && not (asks_for_range x.asked))))))
+    × (policy.forwards_ranges ≡ true → IsLeastReuseRule policy held asked now UriMiss → asks_for_range asked ≡ false)
 
 -- ---- until when
 

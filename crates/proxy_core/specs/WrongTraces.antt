@@ -7,8 +7,10 @@
 use Rattle.std.specs.Prelude.{ℕ, false, List, [], ◌∷◌, codes, Option, Some, None}
 use Rattle.hx_policy.specs.Policies.{plain}
 use Rattle.hx_fields.specs.declared.field_line.Field.{Field}
+use Rattle.hx_fields.specs.Examples.{line}
 use Rattle.hx_framing.specs.declared.messages.Response.{Response}
 use Rattle.hx_hop.specs.declared.request_view.Asked.{Asked}
+use Rattle.hx_allow.specs.Examples.{purge_key}
 use Rattle.hx_allow.specs.TableLines.{Table}
 use Rattle.hx_allow.specs.Matching.{over_line}
 use Rattle.proxy_core.specs.declared.steps.condition.Condition.{Condition}
@@ -24,7 +26,8 @@ use Rattle.proxy_core.specs.Headline.{RequestGoesForwardWhereAllowed, Headline}
 use Rattle.proxy_core.specs.Cases.{request_for, response_with, cache_control, etag_field, vary_field, accept_language}
 use Rattle.proxy_core.specs.Cases.{line_with_no_cache}
 
--- line 1 denies /admin, line 2 has no cache, line 3 lets all others through; two responses are held at most
+-- line 1 denies /admin, but purges it by a key, line 2 has no cache, line 3 lets all others through; two responses are
+-- held at most
 abbrev pub edge_table : Table
 edge_table = record {
   name = codes "edge";
@@ -32,7 +35,7 @@ edge_table = record {
   max_body = 1000;
   max_stored = 10;
   max_store = None;
-  lines = record line_with_no_cache { paths = codes "/admin" ∷ []; origin = None }
+  lines = record line_with_no_cache { paths = codes "/admin" ∷ []; origin = None; purge_key = Some purge_key }
       ∷ record line_with_no_cache { paths = codes "/raw" ∷ []; policy = plain false } ∷ line_with_no_cache ∷ [];
 }
 
@@ -71,6 +74,10 @@ get_c = get_of (codes "/c")
 abbrev pub get_admin : Asked
 get_admin = get_of (codes "/admin")
 
+-- the same with the key by which line 1 purges
+abbrev pub purge_admin : Asked
+purge_admin = get_or_other_request (codes "PURGE") (codes "/admin") (line (codes "Purge-Key") purge_key ∷ [])
+
 abbrev pub get_raw : Asked
 get_raw = get_of (codes "/raw")
 
@@ -102,17 +109,24 @@ response_304 fields = response_with 304 fields
 
 -- a reply of these bytes, that the store has no part in
 abbrev pub reply_without_store : List ℕ → Outcome
-reply_without_store bytes = Reply (record { bytes = bytes; close = false; stored = None; used = None; removed = [] })
+reply_without_store bytes = Reply (record {
+  bytes = bytes;
+  close = false;
+  stored = None;
+  used = None;
+  removed = [];
+  purged = false;
+})
 
 -- a reply of these bytes, which is stored as this and takes these away
 abbrev pub reply_that_stores : List ℕ → Option ℕ → List ℕ → Outcome
 reply_that_stores bytes stored removed =
-    Reply (record { bytes = bytes; close = false; stored = stored; used = None; removed = removed })
+    Reply (record { bytes = bytes; close = false; stored = stored; used = None; removed = removed; purged = false })
 
 -- the stored response of this serial, in these bytes
 abbrev pub reply_that_sends_stored : ℕ → List ℕ → Outcome
 reply_that_sends_stored serial bytes = Reply
-    (record { bytes = bytes; close = false; stored = None; used = Some serial; removed = [] })
+    (record { bytes = bytes; close = false; stored = None; used = Some serial; removed = []; purged = false })
 
 -- ---- what went before, the latest first
 

@@ -16,12 +16,14 @@ ghost use Rattle.proxy_core.specs.KeptConditions.{FalseConditionIsAnswered304, O
 ghost use Rattle.proxy_core.specs.KeptConditions.{NoClientsConditionGoesForward, LeadsAsOneWithoutConditions};
 ghost use Rattle.proxy_core.specs.KeptConditions.{EachUnasked304IsAFailure};
 ghost use Rattle.proxy_core.specs.Naming.{EachOtherAnswerNamesTheFirstRule};
+ghost use Rattle.proxy_core.specs.RangeReplies.{ConditionsComeFirst, ForwardedRangesChangeNothing};
+ghost use Rattle.proxy_core.specs.RangeReplies.{WithoutARangeAllIsSent, PartIsCutFromTheWhole, UnsatisfiableIsTold};
 ghost use Rattle.proxy_core.specs.Restarts.{OneTraceIsThose, ThatIsWhatIsLeft, ThoseAreOneTrace};
 ghost use Rattle.proxy_core.specs.Sending.{StoredResponseIsSentWhereItMayBe, StoredResponseIsSentNowhereElse};
 ghost use Rattle.proxy_core.specs.Sending.{SendsWhatIsHeld};
 ghost use Rattle.proxy_core.specs.Sending.{RequestIsForwardedWhereAllowed, RequestIsForwardedNowhereElse};
 ghost use Rattle.proxy_core.specs.Sending.{AllowedRequestReachesCacheOrOrigin};
-ghost use Rattle.proxy_core.specs.Sending.{OtherRequestIsRefused};
+ghost use Rattle.proxy_core.specs.Sending.{OtherRequestIsRefused, PurgeTakesItsTargetAway};
 ghost use Rattle.proxy_core.specs.Waiting.{RequestWaitsWhereOneLeads, RequestWaitsNowhereElse};
 ghost use Rattle.proxy_core.specs.Waiting.{OnlyOneGoesForwardForKey};
 ghost use Rattle.proxy_core.specs.Waiting.{RequestWaitsUntilItsLeaderEnds, RequestIsWokenOnceBehindItsLeader};
@@ -29,13 +31,15 @@ ghost use Rattle.proxy_core.specs.Waiting.{ReleasedAreInOrderOfArrival};
 ghost use Rattle.proxy_core.specs.Waiting.{WakeIsAcceptedExactlyWhereReady, WokenRequestIsJudgedAnew};
 ghost use Rattle.proxy_core.specs.Waiting.{PlainLinesWaitForMisses};
 ghost use Rattle.proxy_core.specs.Awaiting.{WhoWaitedIsKeptBackByTheAnswerAlone};
-ghost use Rattle.proxy_core.specs.StoredAnswers.{ItemRemovesExactlyThese, NothingElseIsStored};
+ghost use Rattle.proxy_core.specs.StoredAnswers.{ItemRemovesExactlyThese, ItemPurgesWhereItsLineSaysSo};
+ghost use Rattle.proxy_core.specs.StoredAnswers.{NothingElseIsStored};
 ghost use Rattle.proxy_core.specs.StoredAnswers.{AnswerIsStoredWhereItMayBe, FreshenedIsKeptWhereItMayBe};
 ghost use Rattle.proxy_core.specs.StoredAnswers.{NothingElseIsKept};
 ghost use Rattle.proxy_core.specs.Uncached.{NothingIsStoredOverUncachedLine, NothingStoredIsSentOverUncachedLine};
 ghost use Rattle.proxy_core.specs.Uncached.{RequestGoesForwardOverUncachedLine};
 
 mod bound_cases;
+mod cookie_cases;
 mod event_cases;
 mod headline_cases;
 mod promise_cases;
@@ -44,12 +48,14 @@ mod worked_cases;
 pub use bound_cases::{
     what_an_answer_weighs, what_is_held_at_first, what_is_held_by_weight, what_is_too_heavy_alone,
 };
+pub use cookie_cases::{worked_cookies_that_are_sent, worked_cookies_that_are_stored};
 pub use event_cases::{worked_counts_of_traces, worked_kinds_of_events, worked_kinds_of_outcomes};
 pub use headline_cases::{
     the_headline_refuses_no_answer, the_headline_refuses_other_names,
     the_headline_refuses_other_requests, the_headline_refuses_other_waits,
     the_headline_refuses_what_may_not_be_sent, the_headline_refuses_what_never_comes,
-    the_headline_refuses_what_the_table_forbids, the_headline_refuses_wrong_storing,
+    the_headline_refuses_what_the_table_forbids, the_headline_refuses_wrong_purges,
+    the_headline_refuses_wrong_storing,
 };
 pub use promise_cases::{
     a_denied_request_leaves_no_trace, an_exchange_goes_twice_and_replies_once,
@@ -124,10 +130,12 @@ pub fn a_request_goes_forward_where_it_is_allowed()
     ensures only { RequestIsForwardedNowhereElse }
 {}
 
-/// In a good trace a request reaches cache or origin exactly where the table allows it; any other is refused.
+/// In a good trace a request reaches cache or origin exactly where the table allows it, and the cache alone where it
+/// purges: then what is held for its target goes. Any other is refused.
 pub fn a_request_reaches_cache_or_origin_where_it_is_allowed()
     ensures allowed { AllowedRequestReachesCacheOrOrigin }
     ensures refused { OtherRequestIsRefused }
+    ensures purged { PurgeTakesItsTargetAway }
 {}
 
 /// In a good trace a stored response is sent exactly where one is held that RFC 9111, section 4
@@ -137,6 +145,18 @@ pub fn a_stored_response_is_sent_where_one_may_be()
     ensures every { StoredResponseIsSentWhereItMayBe }
     ensures only { StoredResponseIsSentNowhereElse }
     ensures itself { SendsWhatIsHeld }
+{}
+
+/// Where a stored response is sent to a request for a range, over a line that doesn't forward ranges, its part has just
+/// the bytes that are asked for of what would be sent whole, and says which they are; or a 416 says that none is there.
+/// A condition that is false comes first. Over another line, and without a range, the whole is sent (RFC 9110, sections
+/// 13.2.2 and 14.2).
+pub fn a_part_is_cut_from_the_whole()
+    ensures conditions { ConditionsComeFirst }
+    ensures forwarded { ForwardedRangesChangeNothing }
+    ensures whole { WithoutARangeAllIsSent }
+    ensures part { PartIsCutFromTheWhole }
+    ensures unsatisfiable { UnsatisfiableIsTold }
 {}
 
 /// In a good trace each answer that isn't a stored response names the first rule against one: the
@@ -194,11 +214,12 @@ pub fn a_waiting_request_is_woken_once_behind_its_leader()
 /// In a good trace the answer to an open exchange is stored exactly where RFC 9111, section 3 lets
 /// it be, with the choices that the definition marks *own*, and no stored response is sent in its
 /// place: under the next serial. What goes with a step is what a stored answer takes the place of,
-/// what an unsafe request invalidates, and what a 304 freshens and may not be kept.
+/// what an unsafe request invalidates, what a 304 freshens and may not be kept, and what a request purges.
 pub fn an_answer_is_stored_where_it_may_be()
     ensures every { AnswerIsStoredWhereItMayBe }
     ensures only { NothingElseIsStored }
     ensures removed { ItemRemovesExactlyThese }
+    ensures purges { ItemPurgesWhereItsLineSaysSo }
 {}
 
 /// What a 304 makes of a held response is kept exactly where a response with its lines could be

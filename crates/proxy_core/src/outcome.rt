@@ -18,6 +18,8 @@ pub struct Reply {
     pub used: Option<u64>,
     /// The serials that were taken out, ascending. An evicted one isn't among them.
     pub removed: Serials,
+    /// Whether the request purged what was held for its target.
+    pub purged: bool,
 }
 
 /// What a step gives.

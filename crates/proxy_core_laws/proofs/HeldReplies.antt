@@ -50,7 +50,7 @@ pub left_so : (x : Option Exchange) (event : Event) (e : Stored) → fault_at_ex
 left_so (Some x) (Answer now id r) e allowed is sendable =
     let early = in_time now (first_none (moment_too_late_fault now) (fault_if_not_forwarded x.stage) allowed) in
     let fresh : StoredIsSendable (freshened_by_304 x r now e) =
-    freshens_sendable is.max_body now is.to_head is.ended is.bytes is.rest e r x.asked (times_of (answered_of r now).fields x.request_time now) x.vary sendable is.reads early in
+    freshens_sendable is.max_body now is.to_head is.ended is.bytes is.rest e r x.asked (times_of (answered_of r now).fields x.request_time now) x.vary x sendable is.reads early in
     elim (stored_response_is_answered x r now e) as (λ b. StoredIsSendable (cond b (freshened_by_304 x r now e) e)) [ true ↦ fresh | false ↦ sendable ]
 left_so (Some x) (Arrive now id asked) e allowed is sendable = sendable
 left_so (Some x) (Fail now id kind) e allowed is sendable = sendable

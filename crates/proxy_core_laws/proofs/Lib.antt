@@ -1,8 +1,10 @@
 pub mod Words
+pub mod OtherLines
 pub mod ClientConditions
 pub mod ReplyValues
 pub mod OneResponse
 pub mod StoredReplies
+pub mod RangeForms
 pub mod HeldReplies
 pub mod ReadTables
 pub mod HeldValues
@@ -16,3 +18,4 @@ pub mod LeftStores
 pub mod ComingBack
 pub mod PastStore
 pub mod Varied
+pub mod RemovedCookies

@@ -1,6 +1,6 @@
 -- What is passed on and what the proxy answers by itself is one response.
 use Rattle.std.proofs.Common.{◌≡◌, ℕ, ◌<◌, ◌≤◌, ◌^◌, ◌||◌, ◌==◌, Bool, true, false, not, cond, List, [], ◌∷◌, ◌++◌, length, refl, arith}
-use Rattle.std.specs.Prelude.{IfSome, None, Option, Some, codes, filter}
+use Rattle.std.specs.Prelude.{IfSome, None, Option, Some, codes, decimal, filter}
 use Rattle.std.specs.List.{list_all}
 use Rattle.std.proofs.lemmas.List.Elements.{All-nil, All-cons, All-append, All-filter}
 use Rattle.std.proofs.lemmas.List.Folds.{list_any-append}
@@ -39,9 +39,9 @@ use Rattle.hx_storable.specs.declared.rule.StoreRule.{StoreRule}
 use Rattle.hx_validate.specs.NotModified.{is_carried_to_asker}
 use Rattle.proxy_core.specs.declared.open.exchange.Exchange.{Exchange}
 use Rattle.proxy_core.specs.Replies.{content_unless_head, is_head, line, cache_status_of_passed_answer, cache_status_of_304_to_answer, client_has_answer, not_modified_answer_text, whole_answer_text}
-use Rattle.proxy_core_laws.specs.OneResponse.{PassedAnswerIsOneResponse, ProxysAnswerIsOneResponse, not_modified_answer_sent, proxys_answer_sent, whole_answer_sent}
+use Rattle.proxy_core_laws.specs.OneResponse.{PassedAnswerIsOneResponse, ProxysAnswerIsOneResponse, PurgeAnswerIsOneResponse, not_modified_answer_sent, proxys_answer_sent, purge_answer_sent, whole_answer_sent}
 use Rattle.proxy_core_laws.proofs.StoredReplies.{widened}
-use Rattle.proxy_core_laws.proofs.ReplyValues.{member_value, plain_value, text_value}
+use Rattle.proxy_core_laws.proofs.ReplyValues.{decimal_value, member_value, plain_value, text_value}
 
 shown_name : list_all is_token_byte (codes "Cache-Status") ≡ true
 unfolding is_token_byte
@@ -227,3 +227,31 @@ refuses_as_one_response most now cause close head early small length_small limit
     shown : (h : Bool) → response_has_no_content h (refusal_status cause) ≡ false → Some (length (refusal_text cause)) ≡ Some (length (content_unless_head h (refusal_text cause)))
     shown true some = absurd cc
     shown false some = refl
+
+-- ---- the answer to a purge
+
+purged_name : list_all is_token_byte (codes "Purged") ≡ true
+unfolding is_token_byte
+purged_name = refl
+
+pub purges_as_one_response : PurgeAnswerIsOneResponse
+purges_as_one_response most now count close head early limits over behind =
+    let date : List ℕ = date_text_of now in
+    response_is_read_back head (purge_answer_sent now count close) most over behind (record {
+      status = (omega arith, omega arith);
+      fields =
+          All-cons FieldIsWritable (line (codes "Date") date) (line (codes "Purged") (decimal count) ∷ [])
+          (line_of (codes "Date") date date_name (omega arith) (date_value now early))
+          (All-cons FieldIsWritable (line (codes "Purged") (decimal count)) [] (line_of (codes "Purged") (decimal count) purged_name (omega arith) (decimal_value count)) (All-nil FieldIsWritable));
+      lengths = refl;
+      codings = refl;
+      small = tt;
+      without = λ none. refl;
+      behind = λ some. absurd (never head some);
+      few = limits.few;
+      short = limits.short;
+    }) limits.content
+  where
+    never : (h : Bool) → response_has_no_content h 204 ≡ false → ⊥
+    never true some = cc
+    never false some = cc

@@ -17,7 +17,7 @@ use Rattle.proxy_core.specs.declared.outcome.Outcome.{Outcome}
 use Rattle.proxy_core.specs.declared.outcome.Outcome.TheVariants.{Reply, Forward, Waits, Ended}
 use Rattle.proxy_core.specs.Histories.{held_entries, open_exchanges}
 use Rattle.proxy_core.specs.Outcomes.{find_exchange}
-use Rattle.proxy_core.specs.State.{exchanges_after_close, exchanges_after_end, exchange_forwarded_again, open_exchanges_after, forwarded_exchange, overtaken_exchange, waiting_exchange, released_exchange, exchange_gone_forward, exchange_sent_forward, exchanges_after_wake, key_invalidated_by_response}
+use Rattle.proxy_core.specs.State.{exchanges_after_close, exchanges_after_end, exchanges_after_purge, key_purged, exchange_forwarded_again, open_exchanges_after, forwarded_exchange, overtaken_exchange, waiting_exchange, released_exchange, exchange_gone_forward, exchange_sent_forward, exchanges_after_wake, key_invalidated_by_response}
 use Rattle.proxy_core.specs.Starts.{StoreAtStart}
 use Rattle.proxy_core.specs.Traces.{Item}
 use Rattle.proxy_core_laws.specs.SentMessages.{EventsWereRead, EventWasRead, RequestWasRead, OpenRequestsWereRead}
@@ -50,6 +50,10 @@ left_so : (key : Option Key) (id : ℕ) (xs : List Exchange) → All HasReadRequ
 left_so None id xs all = closed_so id xs all
 left_so (Some key) id xs all = mapped (overtaken_exchange key) (overtake-asked key) (exchanges_after_close id xs) (closed_so id xs all)
 
+purged_so : (key : Option Key) (xs : List Exchange) → All HasReadRequest xs → All HasReadRequest (exchanges_after_purge key xs)
+purged_so None xs all = all
+purged_so (Some key) xs all = mapped (overtaken_exchange key) (overtake-asked key) xs all
+
 woken_so : (table : Table) (es : List Stored) (id now : ℕ) (o : Option Exchange) (xs : List Exchange) → All HasReadRequest xs → All HasReadRequest (exchanges_after_wake table es id now o xs)
 woken_so table es id now None xs all = all
 woken_so table es id now (Some x) xs all = mapped (exchange_sent_forward id now _ _ _) (sent_out-asked id now _ _ _) xs all
@@ -60,7 +64,7 @@ added xs x all is = All-append HasReadRequest xs (x ∷ []) all (All-cons HasRea
 after_so : (table : Table) (es : List Stored) (xs : List Exchange) (event : Event) (outcome : Outcome) → EventWasRead event → All HasReadRequest xs → All HasReadRequest (open_exchanges_after table es xs event outcome)
 after_so table es xs (Arrive now id asked) (Forward line bytes) is all = added xs (forwarded_exchange table es now id asked line) all is
 after_so table es xs (Arrive now id asked) (Waits leader) is all = added xs (waiting_exchange table es now id asked _ leader) all is
-after_so table es xs (Arrive now id asked) (Reply r) is all = all
+after_so table es xs (Arrive now id asked) (Reply r) is all = purged_so (key_purged asked (Reply r)) xs all
 after_so table es xs (Arrive now id asked) Ended is all = all
 after_so table es xs (Answer now id r) (Forward line bytes) is all = mapped (exchange_forwarded_again id now) (gone_out-asked id now) xs all
 after_so table es xs (Answer now id r) (Reply reply) is all = left_so (key_invalidated_by_response (find_exchange id xs) r) id xs all

@@ -21,7 +21,7 @@ use Rattle.proxy_core.specs.declared.outcome.Outcome.{Outcome}
 use Rattle.proxy_core.specs.declared.outcome.Outcome.TheVariants.{Waits}
 use Rattle.proxy_core.specs.declared.event.Event.{Event}
 use Rattle.proxy_core.specs.declared.event.Event.TheVariants.{Arrive, Answer, Fail, Wake, Abandon}
-use Rattle.proxy_core.specs.Leading.{is_get, is_uri_miss, names_serial, asks_for, may_serve}
+use Rattle.proxy_core.specs.Leading.{is_get, is_uri_miss, names_serial, asks_for, answer_may_serve}
 use Rattle.proxy_core.specs.Outcomes.{find_exchange, exchange_id_of_event}
 use Rattle.proxy_core.specs.State.{rule_of_decision, serial_named_by_decision, forwarded_exchange}
 use Rattle.proxy_core.specs.Histories.{open_exchanges}
@@ -84,7 +84,7 @@ falls false b = refl
 
 pub leads_nobody : WhoGoesPastTheStoreLeadsNobody
 leads_nobody table held now id asked other line policy awaited past =
-    ap (λ t. same_key asked.target.key other.target.key && (is_get asked && (t && (not policy.waits_for_stale || may_serve policy other (forwarded_exchange table held now id asked line))))) (asks awaited)
+    ap (λ t. same_key asked.target.key other.target.key && (is_get asked && (t && answer_may_serve policy other (forwarded_exchange table held now id asked line)))) (asks awaited)
     ∙ falls (same_key asked.target.key other.target.key) (is_get asked)
   where
     decided : decision_of (policy_of table.lines line) held asked now ≡ decision.Forward Operator None

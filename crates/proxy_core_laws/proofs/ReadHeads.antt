@@ -30,6 +30,7 @@ use Rattle.hx_hop.specs.Moments.{date_parts_of, date_text_of}
 use Rattle.hx_hop.specs.Stripping.{is_hop_line, stripped}
 use Rattle.proxy_core.specs.declared.open.exchange.Exchange.{Exchange}
 use Rattle.proxy_core.specs.Storing.{stored_response_made}
+use Rattle.proxy_core.specs.Validating.{without_cookies}
 use Rattle.proxy_core_laws.specs.HeldHeads.{StoredHeadIsBounded, StoredHeadLeavesRoom}
 
 -- ---- the head that was read
@@ -246,7 +247,11 @@ stored_within : (lines bytes serial now : ℕ) (x : Exchange) (r : Response) →
 stored_within lines bytes serial now x r are =
     let own = within_fewer lines bytes (λ f. not (is_hop_line r.fields f)) r.fields are in
     let dated = dated_within lines bytes (stripped r.fields) now own in
-    within_fewer (lines + 1) (bytes + 37) (λ f. not (is_named (codes "Age") f)) (dated_of (stripped r.fields) now) dated
+    within_fewer (lines + 1) (bytes + 37) (λ f. not (is_named (codes "Age") f)) (without_cookies x.removes_cookies (dated_of (stripped r.fields) now)) (others_within x.removes_cookies dated)
+  where
+    others_within : (removes : Bool) → AreWithin (lines + 1) (bytes + 37) (dated_of (stripped r.fields) now) → AreWithin (lines + 1) (bytes + 37) (without_cookies removes (dated_of (stripped r.fields) now))
+    others_within true dated = within_fewer (lines + 1) (bytes + 37) (λ f. not (is_named (codes "Set-Cookie") f)) (dated_of (stripped r.fields) now) dated
+    others_within false dated = dated
 
 pub stores_bounded : StoredHeadIsBounded
 stores_bounded max_body serial now h ended bytes rest x r reads early =

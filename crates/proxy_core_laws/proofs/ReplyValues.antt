@@ -29,6 +29,7 @@ use Rattle.hx_storable.specs.declared.rule.StoreRule.{StoreRule}
 use Rattle.hx_storable.specs.declared.rule.StoreRule.TheVariants.{Operator}
 use Rattle.hx_status.specs.Member.{detail_of_step_or_rule, flag_text, fwd_status_text, hit_or_forward_text, member_text, not_stored_word, ttl_text, detail_word, word_or_not_stored, detail_word_text}
 use Rattle.hx_status.specs.Refusals.{error_rule_text, frame_word, fail_kind_word, origin_text, fwd_parameters_of_rule, target_word, refusal_text}
+use Rattle.hx_validate.specs.Ranges.{part_text, unsatisfied_text}
 use Rattle.hx_hop_laws.specs.OneMessage.{IsFieldValue}
 use Rattle.hx_hop_laws.proofs.ReadTargets.{IsVisible, pass_visible}
 use Rattle.hx_hop_laws.proofs.SentRequests.{visible_seen, visible_value}
@@ -240,6 +241,23 @@ text_value (OnlyIfCached rule) = visible_field_value (codes "only-if-cached" ++ 
 text_value (Origin kind rule error) = origin_value kind rule error
 text_value (Frame fault) = fronted 114 (codes "efused: ") (frame_word fault) refl refl (some_by (frame_word fault) (some_frame fault)) (word (frame_word fault) (frame_visible fault))
 text_value (Target fault) = fronted 114 (codes "efused: ") (target_word fault) refl refl (some_by (target_word fault) (some_target fault)) (word (target_word fault) (target_visible fault))
+
+-- what Content-Range tells
+pub part_value : (first last total : ℕ) → IsFieldValue (part_text first last total)
+part_value first last total =
+    let last_word : List ℕ = decimal first ++ codes "-" ++ decimal last ++ codes "/" ++ decimal total in
+    let are : AreVisible last_word =
+    joined (decimal first ++ codes "-" ++ decimal last ++ codes "/") (decimal total)
+    (joined (decimal first ++ codes "-" ++ decimal last) (codes "/")
+    (joined (decimal first ++ codes "-") (decimal last) (joined (decimal first) (codes "-") (decimal_visible first) (word (codes "-") refl)) (decimal_visible last)) (word (codes "/") refl)) (decimal_visible total) in
+    let some : 0 < length last_word = omega (arith, some_decimal total, length-append (decimal first ++ codes "-" ++ decimal last ++ codes "/") (decimal total)) in
+    subst IsFieldValue (regroup (decimal first) (codes "-") (decimal last) (codes "/") (decimal total)) (fronted 98 (codes "ytes ") last_word refl refl some are)
+  where
+    regroup : (a b c d e : List ℕ) → codes "bytes " ++ (a ++ b ++ c ++ d ++ e) ≡ codes "bytes " ++ a ++ b ++ c ++ d ++ e
+    regroup a b c d e = simp append_assoc refl
+
+pub unsatisfied_value : (total : ℕ) → IsFieldValue (unsatisfied_text total)
+unsatisfied_value total = fronted 98 (codes "ytes */") (decimal total) refl refl (some_decimal total) (decimal_visible total)
 
 pub plain_value : IsFieldValue (codes "text/plain")
 plain_value = visible_field_value (codes "text/plain") (word (codes "text/plain") refl)

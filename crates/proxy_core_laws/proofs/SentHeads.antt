@@ -1,12 +1,12 @@
 -- What leaves room is within the limits of a reader, as it is sent with what the proxy adds.
-use Rattle.std.proofs.Common.{◌≡◌, ℕ, suc, ◌+◌, ◌<◌, ◌≤◌, ◌^◌, ◌==◌, ◌||◌, Bool, true, false, cond, List, [], ◌∷◌, ◌++◌, length, length-append, min, refl, ap, ◌∙◌, arith, nat_le}
+use Rattle.std.proofs.Common.{◌≡◌, ℕ, suc, ◌+◌, ◌<◌, ◌≤◌, ◌^◌, ◌==◌, ◌||◌, not, Bool, true, false, cond, List, [], ◌∷◌, ◌++◌, length, length-append, min, refl, ap, ◌∙◌, arith, nat_le}
 use Rattle.std.specs.Prelude.{IfSome, Option, None, Some, codes, decimal, ℤ, pos, negsuc}
 use Rattle.std.specs.Fmt.{signed_decimal}
 use Rattle.std.proofs.lemmas.Bool.{and_parts, leb-true}
 use Rattle.std.proofs.lemmas.Fmt.{length-decimal-le}
 use Rattle.std.proofs.lemmas.Grind.{flat_map-append}
 use Rattle.hx_fields.specs.declared.field_line.Field.{Field}
-use Rattle.hx_fields.specs.FieldLines.{has_field}
+use Rattle.hx_fields.specs.FieldLines.{has_field, is_named}
 use Rattle.hx_framing.specs.Text.{connection_close_line, field_line_text, field_lines_text, content_length_line, status_line_text}
 use Rattle.hx_framing.specs.Written.{content_length_fields}
 use Rattle.hx_framing.specs.WrittenResponse.{connection_close_fields}
@@ -25,6 +25,7 @@ use Rattle.hx_store.specs.Stored.{Stored}
 use Rattle.hx_validate.specs.NotModified.{is_carried_by_304, fields_of_304}
 use Rattle.hx_validate.specs.Room.{head_leaves_room}
 use Rattle.proxy_core.specs.Replies.{line}
+use Rattle.proxy_core.specs.Validating.{without_cookies}
 use Rattle.proxy_core_laws.specs.HeldHeads.{FitsAReaderAs304WithRoom, FitsAReaderWithRoom, SecondsAreInRange, StatusIsInRange}
 use Rattle.proxy_core_laws.specs.StoredReplies.{fields_as_sent}
 use Rattle.proxy_core_laws.proofs.ReadHeads.{AreWithin, within_fewer}
@@ -203,10 +204,15 @@ module _ (name : List ℕ) (fields : List Field) (e : Stored) (now : ℕ) (shown
       let short = are.short in
       omega (arith, all, first, lines, one, other, short)
 
+-- cookies may be taken out
+others_within : (removes : Bool) (fields : List Field) → AreWithin 96 32512 fields → AreWithin 96 32512 (without_cookies removes fields)
+others_within true fields are = within_fewer 96 32512 (λ f. not (is_named (codes "Set-Cookie") f)) fields are
+others_within false fields are = are
+
 pub fits_where_room_is_left : FitsAReaderWithRoom
-fits_where_room_is_left most now name e shown asked room named is final small within = record {
-  few = lines_fit name e.fields e now shown named is (room_left e.fields room) (cond ((e.status == 204) || (e.status == 304)) None (Some (length e.content))) asked.close;
-  short = bytes_fit name e.fields e now shown named is (room_left e.fields room) (cond ((e.status == 204) || (e.status == 304)) None (Some (length e.content))) asked.close e.status (omega (arith, final)) (shown_small ((e.status == 204) || (e.status == 304)));
+fits_where_room_is_left removes most now name e shown asked room named is final small within = record {
+  few = lines_fit name (without_cookies removes e.fields) e now shown named is (others_within removes e.fields (room_left e.fields room)) (cond ((e.status == 204) || (e.status == 304)) None (Some (length e.content))) asked.close;
+  short = bytes_fit name (without_cookies removes e.fields) e now shown named is (others_within removes e.fields (room_left e.fields room)) (cond ((e.status == 204) || (e.status == 304)) None (Some (length e.content))) asked.close e.status (omega (arith, final)) (shown_small ((e.status == 204) || (e.status == 304)));
   content = within;
 }
   where

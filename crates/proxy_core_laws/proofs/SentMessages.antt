@@ -10,6 +10,7 @@ use Rattle.hx_framing.specs.declared.messages.Response.{Response}
 use Rattle.hx_framing.specs.Reading.{Spelled}
 use Rattle.hx_framing.specs.declared.messages.Request.{Request}
 use Rattle.hx_framing.specs.RequestReading.{Reads as ReadsRequest}
+use Rattle.hx_framing.specs.ResponseReading.{Reads as ReadsResponse}
 use Rattle.hx_framing.specs.Text.{request_text}
 use Rattle.hx_framing.specs.Written.{request_as_read_back}
 use Rattle.hx_framing.specs.WrittenResponse.{response_as_read_back, sent_response_head_text, sent_response_text}
@@ -27,7 +28,7 @@ use Rattle.hx_hop.specs.Asking.{asked_with_target}
 use Rattle.hx_hop.specs.Forwarding.{forwarded_of}
 use Rattle.hx_hop.specs.Moments.{date_text_of}
 use Rattle.hx_store.specs.Stored.{Stored}
-use Rattle.hx_store.specs.Shelf.{find_entry}
+use Rattle.hx_store.specs.Shelf.{find_entry, serials_of}
 use Rattle.hx_reuse.specs.Conditions.{keeps_conditions}
 use Rattle.hx_reuse.specs.Rules.{decision_of}
 use Rattle.hx_reuse.specs.declared.rule.ReuseRule.{ReuseRule}
@@ -56,7 +57,7 @@ use Rattle.proxy_core.specs.Histories.{held_entries, held_entry, held_serials, n
 use Rattle.proxy_core.specs.Outcomes.{outcome_of_allowed_request, outcome_of_answer, outcome_of_arrival, outcome_of_failure, fallback_for, fault_at_exchange, find_exchange, forward_text, exchange_id_of_event, is_error_status, is_only_if_cached, fault_if_not_forwarded, fault_if_not_released, outcome_of, outcome_of_passing_on, outcome_of_passing_on_or_stale, outcome_of_refusal, outcome_of_304, outcome_of_waiting_or_forwarding, serial_of_stored_answer, outcome_without_stored_response, outcome_of_wake}
 use Rattle.proxy_core.specs.Moments.{moment_too_late_fault}
 use Rattle.proxy_core.specs.ReadAnswers.{WasReadFromAStream, EventIsReadFromAStream}
-use Rattle.proxy_core.specs.Replies.{client_has_answer, is_head, not_modified_answer_text, not_modified_text, passed_answer_text, whole_answer_text, refusal_reply_text, cache_status_of_sent, stored_text, whole_stored_text}
+use Rattle.proxy_core.specs.Replies.{client_has_answer, form_sent, is_head, not_modified_answer_text, not_modified_text, passed_answer_text, whole_answer_text, purge_reply_text, refusal_reply_text, cache_status_of_sent, stored_text, text_in_form}
 use Rattle.proxy_core.specs.Sending.{IsAbout, ReplyIsThatStoredResponse}
 use Rattle.proxy_core.specs.State.{stored_response_as_used, serial_used_by_outcome}
 use Rattle.proxy_core.specs.Storing.{is_304_without_condition}
@@ -64,11 +65,12 @@ use Rattle.proxy_core.specs.Traces.{Item}
 use Rattle.proxy_core.specs.Validating.{condition_about_serial, condition_about_stored, is_304_to_own_conditions, freshened_by_304, conditions_to_send, stored_response_validated}
 use Rattle.proxy_core.proofs.SentBeside.{led_over, sent_over, unless_sent}
 use Rattle.proxy_core.proofs.SentResponses.{sends_what_is_held}
-use Rattle.proxy_core_laws.specs.OneResponse.{not_modified_answer_sent, passed_answer_sent, proxys_answer_sent, whole_answer_sent}
+use Rattle.proxy_core_laws.specs.OneResponse.{not_modified_answer_sent, passed_answer_sent, proxys_answer_sent, purge_answer_sent, whole_answer_sent}
 use Rattle.proxy_core_laws.specs.StoredReplies.{StoredIsSendable, stored_sent_as_304, stored_sent_whole}
 use Rattle.proxy_core_laws.specs.SentMessages.{EventsWereRead, EventWasRead, OutcomeIsOneMessage, BytesAreOneRequest, BytesAreOneResponse, RequestWasRead, OneRequestIsNoMore, OneResponseIsNoMore, EachStepSendsOneMessage, event_is_to_head}
-use Rattle.proxy_core_laws.proofs.OneResponse.{passes_one_response, refuses_as_one_response}
+use Rattle.proxy_core_laws.proofs.OneResponse.{passes_one_response, purges_as_one_response, refuses_as_one_response}
 use Rattle.proxy_core_laws.proofs.StoredReplies.{sends_a_304_as_one, sends_whole_as_one}
+use Rattle.proxy_core_laws.proofs.RangeForms.{form_sendable, form_small, text_of_form}
 use Rattle.proxy_core_laws.proofs.HeldReplies.{first_none, holds_sendable, in_time, left_so}
 use Rattle.proxy_core_laws.proofs.HeldValues.{conditions_fit, fits_in_memory, found_held, used_content}
 use Rattle.proxy_core_laws.proofs.OpenRequests.{keeps_what_was_read}
@@ -107,6 +109,13 @@ one_refusal now cause close head early = record {
   sent = proxys_answer_sent now cause close head;
   text_is = refl;
   alone = λ most small limits over behind. refuses_as_one_response most now cause close head early small (short_text now cause close head limits.short) limits over behind;
+}
+
+pub one_purge : (now count : ℕ) (close head : Bool) → now < END_OF_TIME → BytesAreOneResponse head (purge_reply_text (date_text_of now) count close)
+one_purge now count close head early = record {
+  sent = purge_answer_sent now count close;
+  text_is = refl;
+  alone = λ most small limits over behind. purges_as_one_response most now count close head early limits over behind;
 }
 
 one_passed : (policy : Policy) (rule : Option StoreRule) (name : List ℕ) (x : Exchange) (r : Response) (now : ℕ) (stored : Bool) → now < END_OF_TIME → IsToken name → WasReadFromAStream r → BytesAreOneResponse (is_head x.asked) (passed_answer_text policy name x r now stored rule)
@@ -155,6 +164,7 @@ module _ (table : Table) (es : List Stored) (token : IsToken table.name) (fit : 
     arrived_one xs (verdict.DeniedBy line) unused = refused_one (Denied line)
     arrived_one xs verdict.NoLine unused = refused_one NoLine
     arrived_one xs (verdict.Looped line) unused = refused_one (Looped line)
+    arrived_one xs (verdict.Purged line) unused = one_purge now (length (serials_of asked.target.key es)) asked.close (is_head asked) early
 
   module _ (now : ℕ) (early : now < END_OF_TIME) (x : Exchange) (is : RequestWasRead x.asked) where
     woken_one : (d : Decision) → serial_used_by_outcome (outcome_of_wake table es now x d) ≡ None → OutcomeIsOneMessage table.name (is_head x.asked) (outcome_of_wake table es now x d)
@@ -236,16 +246,20 @@ module _ (table : Table) (held : List Stored) (x : Option Exchange) (event : Eve
   one_stored : StoredIsSendable form → length form.content < 2 ^ 64 → BytesAreOneResponse (is_head is.asked) (stored_text table.name form is.now is.info is.asked)
   one_stored sendable small = by_test (gets_304 is.asked form)
     where
-      by_test : (t : Bool) → BytesAreOneResponse (is_head is.asked) (cond t (not_modified_text table.name form is.now is.info is.asked) (whole_stored_text table.name form is.now is.info is.asked))
+      by_test : (t : Bool) → BytesAreOneResponse (is_head is.asked) (cond t (not_modified_text table.name form is.now is.info is.asked) (text_in_form table.name (form_sent is.info.policy is.asked form) form is.now is.info is.asked))
       by_test true = record {
         sent = stored_sent_as_304 table.name form is.now (cache_status_of_sent 304 form is.now is.info) is.asked;
         text_is = refl;
         alone = λ most little limits over behind. sends_a_304_as_one most is.now table.name form (cache_status_of_sent 304 form is.now is.info) is.asked sendable token limits over behind;
       }
       by_test false = record {
-        sent = stored_sent_whole table.name form is.now (cache_status_of_sent form.status form is.now is.info) is.asked;
-        text_is = refl;
-        alone = λ most little limits over behind. sends_whole_as_one most is.now table.name form (cache_status_of_sent form.status form is.now is.info) is.asked sendable token small limits over behind;
+        sent = stored_sent_whole is.info.policy.removes_cookies table.name (form_sent is.info.policy is.asked form) is.now (cache_status_of_sent (form_sent is.info.policy is.asked form).status form is.now is.info) is.asked;
+        text_is = text_of_form table.name form is.now is.info is.asked;
+        alone = λ most little limits over behind.
+            subst (λ (bytes : List ℕ). ReadsResponse most (is_head is.asked) over (bytes ++ behind) (Spelled (response_as_read_back (is_head is.asked) (stored_sent_whole is.info.policy.removes_cookies table.name (form_sent is.info.policy is.asked form) is.now (cache_status_of_sent (form_sent is.info.policy is.asked form).status form is.now is.info) is.asked)) behind))
+            (sym (text_of_form table.name form is.now is.info is.asked))
+            (sends_whole_as_one is.info.policy.removes_cookies most is.now table.name (form_sent is.info.policy is.asked form) (cache_status_of_sent (form_sent is.info.policy is.asked form).status form is.now is.info) is.asked
+            (form_sendable is.info.policy is.asked form sendable) token (form_small is.info.policy is.asked form small) limits over behind);
       }
 
   sent_one : StoredIsSendable form → length form.content < 2 ^ 64 → OutcomeIsOneMessage table.name (event_is_to_head x event) outcome

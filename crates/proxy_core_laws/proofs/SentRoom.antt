@@ -1,5 +1,5 @@
 -- A stored response that leaves room is sent as one response, with no premise on its head.
-use Rattle.std.proofs.Common.{◌≡◌, ℕ, zero, suc, ◌-◌, ◌<◌, ◌≤◌, ◌^◌, ◌==◌, Bool, true, false, cond, List, ◌∷◌, length, refl, sym, ap, ◌∙◌, subst, arith}
+use Rattle.std.proofs.Common.{◌≡◌, ℕ, zero, suc, ◌-◌, ◌<◌, ◌≤◌, ◌^◌, ◌==◌, Bool, true, false, cond, List, ◌∷◌, ◌++◌, length, refl, sym, ap, ◌∙◌, subst, arith}
 use Rattle.std.specs.Prelude.{IfSome, Option, None, Some, pos, negsuc, ◌-ℤ◌, codes, if◌then◌else◌, nat_lt}
 use Rattle.std.specs.List.{AllByRecursion}
 use Rattle.std.proofs.Math.Nat.{min-le_left, min-le_right}
@@ -18,6 +18,9 @@ use Rattle.hx_age.specs.declared.lifetimes.Lifetime.{Lifetime}
 use Rattle.hx_age.specs.Lifetime.{explicit_lifetime, lifetime_of, stated_seconds, until_expires}
 use Rattle.hx_framing.specs.declared.messages.Response.{Response}
 use Rattle.hx_framing.proofs.ReadResponses.{final_status}
+use Rattle.hx_framing.specs.Reading.{Spelled}
+use Rattle.hx_framing.specs.ResponseReading.{Reads}
+use Rattle.hx_framing.specs.WrittenResponse.{SentResponse, response_as_read_back}
 use Rattle.hx_allow.specs.TableLines.{Table}
 use Rattle.hx_store.specs.Stored.{Stored}
 use Rattle.hx_validate.specs.NotModified.{gets_304}
@@ -31,7 +34,7 @@ use Rattle.proxy_core.specs.declared.outcome.Reply.{Reply}
 use Rattle.proxy_core.specs.Histories.{held_entries, held_entry, held_serials, open_exchanges}
 use Rattle.proxy_core.specs.Outcomes.{find_exchange, exchange_id_of_event}
 use Rattle.proxy_core.specs.ReadAnswers.{WasReadFromAStream, EventIsReadFromAStream}
-use Rattle.proxy_core.specs.Replies.{fwd_status_of, is_head, not_modified_text, cache_status_of_sent, stored_text, ttl_of_stored, whole_stored_text}
+use Rattle.proxy_core.specs.Replies.{form_sent, fwd_status_of, is_head, not_modified_text, cache_status_of_sent, stored_text, text_in_form, ttl_of_stored}
 use Rattle.proxy_core.specs.Sending.{ReplyIsThatStoredResponse}
 use Rattle.proxy_core.specs.State.{stored_response_as_used}
 use Rattle.proxy_core.proofs.SentResponses.{sends_what_is_held}
@@ -41,6 +44,7 @@ use Rattle.proxy_core_laws.specs.StoredReplies.{StoredIsSendable, stored_sent_as
 use Rattle.proxy_core_laws.proofs.HeldReplies.{holds_sendable, left_so}
 use Rattle.proxy_core_laws.proofs.HeldValues.{fits_in_memory, found_held, used_content}
 use Rattle.proxy_core_laws.proofs.ReadTables.{names_a_token, names_are_short}
+use Rattle.proxy_core_laws.proofs.RangeForms.{form_roomy, form_sendable, form_small, text_of_form}
 use Rattle.proxy_core_laws.proofs.SentHeads.{fits_as_304_where_room_is_left, fits_where_room_is_left}
 use Rattle.proxy_core_laws.proofs.SentMessages.{about_head, answers_of}
 use Rattle.proxy_core_laws.proofs.StoredReplies.{sends_a_304_as_one, sends_whole_as_one}
@@ -124,10 +128,22 @@ module _ (table : Table) (held : List Stored) (x : Option Exchange) (event : Eve
   abbrev form : Stored
   form = stored_response_as_used x event is.response
 
+  abbrev as_sent : Stored
+  as_sent = form_sent is.info.policy is.asked form
+
+  abbrev whole_form : SentResponse
+  whole_form = stored_sent_whole is.info.policy.removes_cookies table.name as_sent is.now (cache_status_of_sent as_sent.status form is.now is.info) is.asked
+
   one_anyway : StoredIsSendable form → length form.content < 2 ^ 64 → head_leaves_room form.fields ≡ true → IsOneSentResponse (is_head is.asked) (stored_text table.name form is.now is.info is.asked)
   one_anyway sendable small room = by_test (gets_304 is.asked form)
     where
-      by_test : (t : Bool) → IsOneSentResponse (is_head is.asked) (cond t (not_modified_text table.name form is.now is.info is.asked) (whole_stored_text table.name form is.now is.info is.asked))
+      as_one : StoredIsSendable as_sent
+      as_one = form_sendable is.info.policy is.asked form sendable
+
+      little_enough : length as_sent.content < 2 ^ 64
+      little_enough = form_small is.info.policy is.asked form small
+
+      by_test : (t : Bool) → IsOneSentResponse (is_head is.asked) (cond t (not_modified_text table.name form is.now is.info is.asked) (text_in_form table.name (form_sent is.info.policy is.asked form) form is.now is.info is.asked))
       by_test true = record {
         sent = stored_sent_as_304 table.name form is.now (cache_status_of_sent 304 form is.now is.info) is.asked;
         text_is = refl;
@@ -136,11 +152,13 @@ module _ (table : Table) (held : List Stored) (x : Option Exchange) (event : Eve
             (fits_as_304_where_room_is_left most is.now table.name form (cache_status_of_sent 304 form is.now is.info) is.asked room short (shown_of table held x event outcome s is read 304 form)) over behind;
       }
       by_test false = record {
-        sent = stored_sent_whole table.name form is.now (cache_status_of_sent form.status form is.now is.info) is.asked;
-        text_is = refl;
+        sent = whole_form;
+        text_is = text_of_form table.name form is.now is.info is.asked;
         alone = λ most little within over behind.
-            sends_whole_as_one most is.now table.name form (cache_status_of_sent form.status form is.now is.info) is.asked sendable token small
-            (fits_where_room_is_left most is.now table.name form (cache_status_of_sent form.status form is.now is.info) is.asked room short (shown_of table held x event outcome s is read form.status form) sendable.status.1 small within) over behind;
+            subst (λ (bytes : List ℕ). Reads most (is_head is.asked) over (bytes ++ behind) (Spelled (response_as_read_back (is_head is.asked) whole_form) behind))
+            (sym (text_of_form table.name form is.now is.info is.asked))
+            (sends_whole_as_one is.info.policy.removes_cookies most is.now table.name as_sent (cache_status_of_sent as_sent.status form is.now is.info) is.asked as_one token little_enough
+            (fits_where_room_is_left is.info.policy.removes_cookies most is.now table.name as_sent (cache_status_of_sent as_sent.status form is.now is.info) is.asked (form_roomy is.info.policy is.asked form room) short (shown_of table held x event outcome s is read as_sent.status form) as_one.status.1 little_enough within) over behind);
       }
 
 same_reply : (a b : Reply) → Replied a ≡ Replied b → a ≡ b

@@ -25,6 +25,7 @@ use Rattle.hx_validate.specs.NotModified.{is_carried_by_304, fields_of_304}
 use Rattle.hx_hop_laws.proofs.SentRequests.{line_of}
 use Rattle.hx_hop_laws.proofs.SentResponses.{IsCleanAnswer, clean, dated_fit, dated_without, stripped_without}
 use Rattle.proxy_core.specs.Replies.{content_unless_head, is_head, line}
+use Rattle.proxy_core.specs.Validating.{without_cookies}
 use Rattle.proxy_core_laws.specs.StoredReplies.{FreshenedIsSendable, A304IsSentAsOneResponse, WholeIsSentAsOneResponse, StoredAnswerIsSendable, fields_as_sent, stored_sent_as_304, stored_sent_whole}
 use Rattle.proxy_core_laws.proofs.ReplyValues.{decimal_value, member_value}
 
@@ -41,14 +42,26 @@ module _ (h : Bool) (r : Response) (now : ℕ) (is : IsCleanAnswer h r) (early :
   answer_without : (name : List ℕ) → has_field r.fields name ≡ false → is_named name (line (codes "Date") []) ≡ false → has_field (dated_of (stripped r.fields) now) name ≡ false
   answer_without name none other = dated_without (stripped r.fields) now name (stripped_without r.fields name none) other
 
+-- cookies may be taken out
+others_fit : (removes : Bool) (fields : List Field) → All FieldIsWritable fields → All FieldIsWritable (without_cookies removes fields)
+others_fit true fields all = All-filter (λ f. not (is_named (codes "Set-Cookie") f)) FieldIsWritable fields all
+others_fit false fields all = all
+
+others_without : (removes : Bool) (fields : List Field) (name : List ℕ) → has_field fields name ≡ false → has_field (without_cookies removes fields) name ≡ false
+others_without true fields name none = list_any_fewer (λ f. not (is_named (codes "Set-Cookie") f)) (is_named name) fields none
+others_without false fields name none = none
+
 pub stores_sendable : StoredAnswerIsSendable
 stores_sendable max_body serial now h ended bytes rest x r reads early =
     let is = clean max_body h ended bytes r rest reads in
-    let answer : List Field = dated_of (stripped r.fields) now in record {
+    let answer : List Field = dated_of (stripped r.fields) now in
+    let others : List Field = without_cookies x.removes_cookies answer in record {
       status = is.status;
-      fields = All-filter (λ f. not (is_named (codes "Age") f)) FieldIsWritable answer (answer_fits h r now is early);
-      lengths = list_any_fewer (λ f. not (is_named (codes "Age") f)) (is_named (codes "content-length")) answer (answer_without h r now is early (codes "content-length") is.lengths refl);
-      codings = list_any_fewer (λ f. not (is_named (codes "Age") f)) (is_named (codes "transfer-encoding")) answer (answer_without h r now is early (codes "transfer-encoding") is.codings refl);
+      fields = All-filter (λ f. not (is_named (codes "Age") f)) FieldIsWritable others (others_fit x.removes_cookies answer (answer_fits h r now is early));
+      lengths = list_any_fewer (λ f. not (is_named (codes "Age") f)) (is_named (codes "content-length")) others
+          (others_without x.removes_cookies answer (codes "content-length") (answer_without h r now is early (codes "content-length") is.lengths refl));
+      codings = list_any_fewer (λ f. not (is_named (codes "Age") f)) (is_named (codes "transfer-encoding")) others
+          (others_without x.removes_cookies answer (codes "transfer-encoding") (answer_without h r now is early (codes "transfer-encoding") is.codings refl));
       without = λ none. is.without (widened h r.status none);
     }
 
@@ -60,15 +73,19 @@ kept_without stored answer name none other =
 
 pub freshens_sendable : FreshenedIsSendable
 unfolding freshened_of
-freshens_sendable max_body now h ended bytes rest e r asked times further sendable reads early =
+freshens_sendable max_body now h ended bytes rest e r asked times further x sendable reads early =
     let is = clean max_body h ended bytes r rest reads in
-    let answer : List Field = dated_of (stripped r.fields) now in record {
+    let answer : List Field = dated_of (stripped r.fields) now in
+    let fresh : List Field = filter (λ line. not (is_replaced_by_304 answer line)) e.fields ++ filter is_line_of_304 answer in record {
       status = sendable.status;
-      fields = All-append FieldIsWritable (filter (λ line. not (is_replaced_by_304 answer line)) e.fields) (filter is_line_of_304 answer)
+      fields = others_fit x.removes_cookies fresh
+          (All-append FieldIsWritable (filter (λ line. not (is_replaced_by_304 answer line)) e.fields) (filter is_line_of_304 answer)
           (All-filter (λ line. not (is_replaced_by_304 answer line)) FieldIsWritable e.fields sendable.fields)
-          (All-filter is_line_of_304 FieldIsWritable answer (answer_fits h r now is early));
-      lengths = kept_without e.fields answer (codes "content-length") sendable.lengths (answer_without h r now is early (codes "content-length") is.lengths refl);
-      codings = kept_without e.fields answer (codes "transfer-encoding") sendable.codings (answer_without h r now is early (codes "transfer-encoding") is.codings refl);
+          (All-filter is_line_of_304 FieldIsWritable answer (answer_fits h r now is early)));
+      lengths = others_without x.removes_cookies fresh (codes "content-length")
+          (kept_without e.fields answer (codes "content-length") sendable.lengths (answer_without h r now is early (codes "content-length") is.lengths refl));
+      codings = others_without x.removes_cookies fresh (codes "transfer-encoding")
+          (kept_without e.fields answer (codes "transfer-encoding") sendable.codings (answer_without h r now is early (codes "transfer-encoding") is.codings refl));
       without = sendable.without;
     }
 
@@ -92,19 +109,19 @@ module _ (name : List ℕ) (fields : List Field) (e : Stored) (now : ℕ) (shown
       (All-cons FieldIsWritable (line (codes "Cache-Status") (member_text name shown)) []
       (line_of (codes "Cache-Status") (member_text name shown) status_name (omega arith) (member_value name shown token)) (All-nil FieldIsWritable))
 
-  lines_without : (other : List ℕ) → has_field fields other ≡ false → is_named other (line (codes "Age") (decimal (age_of e.times now))) ≡ false
+  pub lines_without : (other : List ℕ) → has_field fields other ≡ false → is_named other (line (codes "Age") (decimal (age_of e.times now))) ≡ false
       → is_named other (line (codes "Cache-Status") (member_text name shown)) ≡ false → has_field (fields_as_sent name fields e now shown) other ≡ false
   lines_without other none no_age no_status =
       list_any-append (is_named other) (fields ++ line (codes "Age") (decimal (age_of e.times now)) ∷ []) (line (codes "Cache-Status") (member_text name shown) ∷ [])
       ∙ or_from _ _ (list_any-append (is_named other) fields (line (codes "Age") (decimal (age_of e.times now)) ∷ []) ∙ or_from _ _ none (or_from _ _ no_age refl)) (or_from _ _ no_status refl)
 
 pub sends_whole_as_one : WholeIsSentAsOneResponse
-sends_whole_as_one most now name e shown asked sendable token small limits over behind =
-    response_is_read_back (is_head asked) (stored_sent_whole name e now shown asked) most over behind (record {
+sends_whole_as_one removes most now name e shown asked sendable token small limits over behind =
+    response_is_read_back (is_head asked) (stored_sent_whole removes name e now shown asked) most over behind (record {
       status = sendable.status;
-      fields = lines_fit name e.fields e now shown token sendable.fields;
-      lengths = lines_without name e.fields e now shown (codes "content-length") sendable.lengths refl refl;
-      codings = lines_without name e.fields e now shown (codes "transfer-encoding") sendable.codings refl refl;
+      fields = lines_fit name (without_cookies removes e.fields) e now shown token (others_fit removes e.fields sendable.fields);
+      lengths = lines_without name (without_cookies removes e.fields) e now shown (codes "content-length") (others_without removes e.fields (codes "content-length") sendable.lengths) refl refl;
+      codings = lines_without name (without_cookies removes e.fields) e now shown (codes "transfer-encoding") (others_without removes e.fields (codes "transfer-encoding") sendable.codings) refl refl;
       small = shown_small ((e.status == 204) || (e.status == 304));
       without = none_sent (is_head asked);
       behind = announced (is_head asked);

@@ -8,7 +8,7 @@ use Rattle.hx_fields.specs.FieldLines.{combined_of}
 use Rattle.hx_framing.specs.declared.messages.Response.{Response}
 use Rattle.hx_hop.specs.Answering.{answered_of}
 use Rattle.hx_hop.specs.declared.request_view.Asked.{Asked}
-use Rattle.hx_allow.specs.Matching.{vary_of}
+use Rattle.hx_allow.specs.Matching.{policy_of, vary_of}
 use Rattle.hx_allow.specs.TableLines.{Table}
 use Rattle.hx_allow.specs.declared.verdicts.Route.{Route}
 use Rattle.hx_policy.specs.declared.words.Policy.{Policy}
@@ -21,6 +21,7 @@ use Rattle.hx_store.specs.Shelf.{find_entry, serials}
 use Rattle.hx_reuse.specs.ChosenAndNamed.{ResponseIsChosen}
 use Rattle.hx_reuse.specs.declared.rule.ReuseRule.{ReuseRule}
 use Rattle.hx_reuse.proofs.Choice.{found_by_serial}
+use Rattle.hx_age.specs.Age.{times_of}
 use Rattle.hx_validate.specs.Answering.{freshened_of, nominated_or_none}
 use Rattle.hx_vary.specs.Vary.{both_have_same, both_select_alike, is_same_value, is_star, kept_values_with, vary_matches}
 use Rattle.hx_vary.specs.declared.nominated_values.NominatedValue.{NominatedValue}
@@ -38,7 +39,7 @@ use Rattle.proxy_core.specs.Leading.{waits_for}
 use Rattle.proxy_core.specs.Outcomes.{find_exchange, exchange_id_of_event, outcome_of}
 use Rattle.proxy_core.specs.Sending.{IsStoredFallback, ReplyIsThatStoredResponse, StoredResponseIsReusable, StoredResponseMayBeSent, StoredResponseMayBeSentAt, StoredResponseMayBeSentBeside}
 use Rattle.proxy_core.specs.Starts.{StoreAtStart}
-use Rattle.proxy_core.specs.State.{exchanges_after_close, exchanges_after_end, exchange_forwarded_again, open_exchanges_after, forwarded_exchange, overtaken_exchange, waiting_exchange, released_exchange, exchange_gone_forward, exchange_sent_forward, exchanges_after_wake, key_invalidated_by_response, serial_stored_by_outcome, serial_used_by_outcome, serials_removed_by_outcome, stored_response_as_used, stored_response_by_answer}
+use Rattle.proxy_core.specs.State.{exchanges_after_close, exchanges_after_end, exchanges_after_purge, key_purged, exchange_forwarded_again, open_exchanges_after, forwarded_exchange, overtaken_exchange, waiting_exchange, released_exchange, exchange_gone_forward, exchange_sent_forward, exchanges_after_wake, key_invalidated_by_response, serial_stored_by_outcome, serial_used_by_outcome, serials_removed_by_outcome, stored_response_as_used, stored_response_by_answer}
 use Rattle.proxy_core.specs.Storing.{stored_response_made}
 use Rattle.proxy_core.specs.Traces.{Item}
 use Rattle.proxy_core.specs.Validating.{freshened_by_304, freshened_may_be_kept, stored_response_is_answered}
@@ -50,21 +51,27 @@ use Rattle.proxy_core.proofs.SentResponses.{sends_what_is_held}
 use Rattle.proxy_core.proofs.StoringWords.{star_absent}
 use Rattle.proxy_core_laws.specs.PastStore.{request_of_event}
 use Rattle.proxy_core_laws.specs.Varied.{NothingOfAnotherValueIsSent, OpenExchangeHasTheNamesOfItsLine, exchange_left_by, exchange_that_left, is_answered_by}
+use Rattle.proxy_core_laws.proofs.OtherLines.{star_stays}
 use Rattle.proxy_core_laws.proofs.HeldHeads.{entry_of, held_in, kept_so, not_removed, stays_in}
 
 -- ---- an exchange has the names of its line
 
 abbrev Names2 : Type 0
-Names2 = List (List ℕ) × Route
+Names2 = List (List ℕ) × Route × Bool
 
 abbrev names_and_line : Exchange → Names2
-names_and_line x = (x.vary, x.line)
+names_and_line x = (x.vary, x.line, x.removes_cookies)
 
+-- it has them, and says of cookies what the line says
 record HasNames (table : Table) (x : Exchange) : Type 0 where
   is : x.vary ≡ vary_of table.lines x.line.number
+  removes : x.removes_cookies ≡ (policy_of table.lines x.line).removes_cookies
 
 carried : (table : Table) (x y : Exchange) → names_and_line y ≡ names_and_line x → HasNames table x → HasNames table y
-carried table x y same has = record { is = subst (λ (p : Names2). p.0 ≡ vary_of table.lines p.1.number) (sym same) has.is }
+carried table x y same has = record {
+  is = subst (λ (p : Names2). p.0 ≡ vary_of table.lines p.1.number) (sym same) has.is;
+  removes = subst (λ (p : Names2). p.2 ≡ (policy_of table.lines p.1).removes_cookies) (sym same) has.removes;
+}
 
 sent_out-names : (id now : ℕ) (rule : ReuseRule) (named : Option ℕ) (condition : Option Condition) (x : Exchange) → names_and_line (exchange_sent_forward id now rule named condition x) ≡ names_and_line x
 sent_out-names id now rule named condition x = elim (eqb x.id id) as (λ b. names_and_line (cond b (exchange_gone_forward now rule named condition x) x) ≡ names_and_line x) [ true ↦ refl | false ↦ refl ]
@@ -90,17 +97,21 @@ module _ (table : Table) where
   left_so None id xs all = closed_so id xs all
   left_so (Some key) id xs all = mapped (overtaken_exchange key) (overtake-names key) (exchanges_after_close id xs) (closed_so id xs all)
 
+  purged_so : (key : Option Key) (xs : List Exchange) → All (HasNames table) xs → All (HasNames table) (exchanges_after_purge key xs)
+  purged_so None xs all = all
+  purged_so (Some key) xs all = mapped (overtaken_exchange key) (overtake-names key) xs all
+
   woken_so : (es : List Stored) (id now : ℕ) (o : Option Exchange) (xs : List Exchange) → All (HasNames table) xs → All (HasNames table) (exchanges_after_wake table es id now o xs)
   woken_so es id now None xs all = all
   woken_so es id now (Some x) xs all = mapped (exchange_sent_forward id now _ _ _) (sent_out-names id now _ _ _) xs all
 
-  added : (xs : List Exchange) (x : Exchange) → All (HasNames table) xs → x.vary ≡ vary_of table.lines x.line.number → All (HasNames table) (xs ++ x ∷ [])
-  added xs x all is = All-append (HasNames table) xs (x ∷ []) all (All-cons (HasNames table) x [] (record { is = is }) (All-nil (HasNames table)))
+  added : (xs : List Exchange) (x : Exchange) → All (HasNames table) xs → x.vary ≡ vary_of table.lines x.line.number → x.removes_cookies ≡ (policy_of table.lines x.line).removes_cookies → All (HasNames table) (xs ++ x ∷ [])
+  added xs x all is removes = All-append (HasNames table) xs (x ∷ []) all (All-cons (HasNames table) x [] (record { is = is; removes = removes }) (All-nil (HasNames table)))
 
   after_so : (es : List Stored) (xs : List Exchange) (event : Event) (outcome : Outcome) → All (HasNames table) xs → All (HasNames table) (open_exchanges_after table es xs event outcome)
-  after_so es xs (Arrive now id asked) (Forward line bytes) all = added xs (forwarded_exchange table es now id asked line) all refl
-  after_so es xs (Arrive now id asked) (Waits leader) all = added xs (waiting_exchange table es now id asked _ leader) all refl
-  after_so es xs (Arrive now id asked) (Reply r) all = all
+  after_so es xs (Arrive now id asked) (Forward line bytes) all = added xs (forwarded_exchange table es now id asked line) all refl refl
+  after_so es xs (Arrive now id asked) (Waits leader) all = added xs (waiting_exchange table es now id asked _ leader) all refl refl
+  after_so es xs (Arrive now id asked) (Reply r) all = purged_so (key_purged asked (Reply r)) xs all
   after_so es xs (Arrive now id asked) Ended all = all
   after_so es xs (Answer now id r) (Forward line bytes) all = mapped (exchange_forwarded_again id now) (gone_out-names id now) xs all
   after_so es xs (Answer now id r) (Reply reply) all = left_so (key_invalidated_by_response (find_exchange id xs) r) id xs all
@@ -132,6 +143,9 @@ module _ (table : Table) where
 pub named_so : OpenExchangeHasTheNamesOfItsLine
 named_so table start id trace x h = (found_so table id (open_exchanges table start trace) x (open_so table start trace) h).is
 
+pub removes_so : (table : Table) (start : StoreAtStart) (id : ℕ) (trace : List Item) (x : Exchange) → find_exchange id (open_exchanges table start trace) ≡ Some x → x.removes_cookies ≡ (policy_of table.lines x.line).removes_cookies
+removes_so table start id trace x h = (found_so table id (open_exchanges table start trace) x (open_so table start trace) h).removes
+
 -- ---- what is left compares the names of its exchange
 
 abbrev ComparesNames : Exchange → Stored → Type 0
@@ -152,8 +166,9 @@ freshened_so : (table : Table) (x : Exchange) (r : Response) (now : ℕ) (e : St
 unfolding freshened_of
 freshened_so table x r now e kept =
     let f : Stored = freshened_by_304 x r now e in
+    let g : Stored = freshened_of x.vary e (answered_of r now) x.asked (times_of (answered_of r now).fields x.request_time now) in
     let none : is_star f.fields ≡ false = star_absent f.fields (may_be_kept table x r f kept).names_fields in
-    by_names x f (is_star f.fields) refl none refl
+    by_names x g (is_star g.fields) refl (sym (star_stays x.removes_cookies g.fields) ∙ none) refl
 
 -- ---- who is sent a response matches it, or has it freshened
 

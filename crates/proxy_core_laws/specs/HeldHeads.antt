@@ -124,11 +124,11 @@ HeldHeadIsBounded = (table : Table) (start : StoreAtStart) (first : ℕ) (trace 
 -- has at most 32 bytes.
 abbrev pub FitsAReaderWithRoom : Type 0
 FitsAReaderWithRoom =
-    (most now : ℕ) (name : List ℕ) (e : Stored) (shown : Status) (asked : Asked) → head_leaves_room e.fields ≡ true
-    → length name ≤ 32
+    (removes : Bool) (most now : ℕ) (name : List ℕ) (e : Stored) (shown : Status) (asked : Asked)
+    → head_leaves_room e.fields ≡ true → length name ≤ 32
     → StatusIsInRange shown → e.status ≤ 599 → length e.content < 2 ^ 64
-    → length (stored_sent_whole name e now shown asked).content ≤ most
-    → ResponseFitsAReader most (stored_sent_whole name e now shown asked)
+    → length (stored_sent_whole removes name e now shown asked).content ≤ most
+    → ResponseFitsAReader most (stored_sent_whole removes name e now shown asked)
 
 abbrev pub FitsAReaderAs304WithRoom : Type 0
 FitsAReaderAs304WithRoom =

@@ -7,3 +7,4 @@ pub mod LeftStores
 pub mod ComingBack
 pub mod PastStore
 pub mod Varied
+pub mod RemovedCookies

@@ -17,7 +17,7 @@ use Rattle.hx_status.specs.Refusals.{refusal_status, refusal_text}
 use Rattle.hx_hop_laws.specs.OneResponse.{ResponseFitsAReader, response_passed_on}
 use Rattle.proxy_core.specs.declared.open.exchange.Exchange.{Exchange}
 use Rattle.proxy_core.specs.Replies.{content_unless_head, is_head, line, fields_of_refusal, passed_answer_text}
-use Rattle.proxy_core.specs.Replies.{refusal_reply_text}
+use Rattle.proxy_core.specs.Replies.{refusal_reply_text, fields_of_purge, purge_reply_text}
 use Rattle.proxy_core.specs.Replies.{cache_status_of_passed_answer, client_has_answer, fields_of_304_sent}
 
 -- an answer whole, with the line of Cache-Status behind its own
@@ -52,6 +52,16 @@ proxys_answer_sent now cause close head = record {
   content = content_unless_head head (refusal_text cause);
 }
 
+-- the answer to a purge
+abbrev pub purge_answer_sent : ℕ → ℕ → Bool → SentResponse
+purge_answer_sent now count close = record {
+  status = 204;
+  fields = fields_of_purge (date_text_of now) count;
+  shown = None;
+  close = close;
+  content = [];
+}
+
 -- ---- the statements
 
 -- What was read of an answer, to a HEAD or not, and is passed on to an open exchange is read by the client as it was
@@ -75,3 +85,12 @@ ProxysAnswerIsOneResponse =
     → (over : Bool) (behind : List ℕ)
     → Reads most head over (refusal_reply_text (date_text_of now) cause close head ++ behind)
     (Spelled (response_as_read_back head (proxys_answer_sent now cause close head)) behind)
+
+-- and what it answers to a purge
+abbrev pub PurgeAnswerIsOneResponse : Type 0
+PurgeAnswerIsOneResponse =
+    (most now count : ℕ) (close head : Bool)
+    → now < END_OF_TIME → ResponseFitsAReader most (purge_answer_sent now count close)
+    → (over : Bool) (behind : List ℕ)
+    → Reads most head over (purge_reply_text (date_text_of now) count close ++ behind)
+    (Spelled (response_as_read_back head (purge_answer_sent now count close)) behind)

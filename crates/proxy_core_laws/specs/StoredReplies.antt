@@ -32,6 +32,7 @@ use Rattle.proxy_core.specs.Histories.{IsGoodHistory, held_entry}
 use Rattle.proxy_core.specs.ReadAnswers.{EventIsReadFromAStream}
 use Rattle.proxy_core.specs.Replies.{content_unless_head, is_head, length_unless_forbidden, line}
 use Rattle.proxy_core.specs.Storing.{stored_response_made}
+use Rattle.proxy_core.specs.Validating.{stored_without_cookies, without_cookies}
 use Rattle.proxy_core.specs.Traces.{Item}
 use Rattle.proxy_core.specs.Starts.{StoreAtStart, EachHeldAtFirst}
 
@@ -51,11 +52,12 @@ fields_as_sent name fields e now shown =
     (fields ++ line (codes "Age") (decimal (age_of e.times now)) ∷ [])
     ++ line (codes "Cache-Status") (member_text name shown) ∷ []
 
--- it as it is sent whole (`whole_stored_text` of the core), and as a 304 (`not_modified_text`)
-abbrev pub stored_sent_whole : List ℕ → Stored → ℕ → Status → Asked → SentResponse
-stored_sent_whole name e now shown asked = record {
+-- it as it is sent whole (`whole_stored_text` of the core), over a line that removes cookies or another, and as a 304
+-- (`not_modified_text`)
+abbrev pub stored_sent_whole : Bool → List ℕ → Stored → ℕ → Status → Asked → SentResponse
+stored_sent_whole removes name e now shown asked = record {
   status = e.status;
-  fields = fields_as_sent name e.fields e now shown;
+  fields = fields_as_sent name (without_cookies removes e.fields) e now shown;
   shown = length_unless_forbidden e.status (Some (length e.content));
   close = asked.close;
   content = content_unless_head (is_head asked) e.content;
@@ -81,9 +83,9 @@ StoredAnswerIsSendable = (max_body serial now : ℕ) (to_head ended : Bool) (byt
 abbrev pub FreshenedIsSendable : Type 0
 FreshenedIsSendable =
     (max_body now : ℕ) (to_head ended : Bool) (bytes rest : List ℕ) (e : Stored) (r : Response) (asked : Asked)
-    (times : Times) (further : List (List ℕ))
+    (times : Times) (further : List (List ℕ)) (x : Exchange)
     → StoredIsSendable e → Reads max_body to_head ended bytes (Spelled r rest) → now < END_OF_TIME
-    → StoredIsSendable (freshened_of further e (answered_of r now) asked times)
+    → StoredIsSendable (stored_without_cookies x (freshened_of further e (answered_of r now) asked times))
 
 -- at each moment of a good history whose answers were read (law `answers_are_final` of proxy_engine says that they
 -- are), so is the response of each serial, held or not, where each that was held at first is
@@ -95,12 +97,12 @@ HeldIsSendable = (table : Table) (start : StoreAtStart) (first : ℕ) (trace : L
     → held_entry table start trace serial ≡ Some e → StoredIsSendable e
 
 abbrev pub WholeIsSentAsOneResponse : Type 0
-WholeIsSentAsOneResponse = (most now : ℕ) (name : List ℕ) (e : Stored) (shown : Status) (asked : Asked)
+WholeIsSentAsOneResponse = (removes : Bool) (most now : ℕ) (name : List ℕ) (e : Stored) (shown : Status) (asked : Asked)
     → StoredIsSendable e → IsToken name → length e.content < 2 ^ 64 → ResponseFitsAReader most
-    (stored_sent_whole name e now shown asked)
+    (stored_sent_whole removes name e now shown asked)
     → (over : Bool) (behind : List ℕ)
-    → Reads most (is_head asked) over (sent_response_text (stored_sent_whole name e now shown asked) ++ behind)
-    (Spelled (response_as_read_back (is_head asked) (stored_sent_whole name e now shown asked)) behind)
+    → Reads most (is_head asked) over (sent_response_text (stored_sent_whole removes name e now shown asked) ++ behind)
+    (Spelled (response_as_read_back (is_head asked) (stored_sent_whole removes name e now shown asked)) behind)
 
 abbrev pub A304IsSentAsOneResponse : Type 0
 A304IsSentAsOneResponse = (most now : ℕ) (name : List ℕ) (e : Stored) (shown : Status) (asked : Asked)

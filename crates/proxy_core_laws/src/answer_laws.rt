@@ -7,6 +7,7 @@ ghost use Rattle.proxy_core_laws.specs.HeldHeads.{ResponseWithRoomIsSentAsOne};
 ghost use Rattle.proxy_core_laws.specs.HeldHeads.{StoredHeadIsBounded, StoredHeadLeavesRoom};
 ghost use Rattle.proxy_core_laws.specs.LeftStores.{WhatIsLeftIsSound};
 ghost use Rattle.proxy_core_laws.specs.OneResponse.{PassedAnswerIsOneResponse, ProxysAnswerIsOneResponse};
+ghost use Rattle.proxy_core_laws.specs.OneResponse.{PurgeAnswerIsOneResponse};
 ghost use Rattle.proxy_core_laws.specs.StoredReplies.{FreshenedIsSendable, HeldIsSendable, A304IsSentAsOneResponse};
 ghost use Rattle.proxy_core_laws.specs.StoredReplies.{WholeIsSentAsOneResponse};
 ghost use Rattle.proxy_core_laws.specs.StoredReplies.{StoredAnswerIsSendable};
@@ -23,6 +24,7 @@ pub fn a_client_gets_its_304_where_it_may()
 pub fn a_client_gets_one_response()
     ensures passed { PassedAnswerIsOneResponse }
     ensures own { ProxysAnswerIsOneResponse }
+    ensures purge { PurgeAnswerIsOneResponse }
 {}
 
 /// So is a stored response, whole and as a 304: what is made of an answer that was read can be sent, and so can what a

@@ -13,7 +13,9 @@ pub use crate::answer_laws::{
     a_stored_response_is_sent_as_one, what_is_left_can_be_sent_again,
     what_leaves_room_is_sent_as_one,
 };
-pub use crate::cookie_laws::who_is_signed_in_goes_past_the_store;
+pub use crate::cookie_laws::{
+    a_cookie_stays_with_the_one_who_asked, who_is_signed_in_goes_past_the_store,
+};
 pub use crate::loop_laws::a_request_that_comes_back_is_known;
 pub use crate::message_laws::{a_core_sends_one_message_each_time, what_was_read_can_be_sent};
 pub use crate::vary_laws::nothing_of_another_value_is_sent;

@@ -11,12 +11,13 @@ ghost use Rattle.hx_status.specs.declared.cause.Cause.TheVariants.{Denied, NoLin
 ghost use Rattle.proxy_core.specs.declared.event.Event.TheVariants.{Arrive, Answer, Fail, Wake, Abandon};
 ghost use Rattle.proxy_core.specs.declared.outcome.Outcome.TheVariants.{Reply, Forward, Waits, Ended};
 ghost use Rattle.proxy_core.specs.Replies.{passed_answer_text};
-ghost use Rattle.proxy_core.specs.Outcomes.{forward_text, outcome_of_refusal};
+ghost use Rattle.proxy_core.specs.Outcomes.{forward_text, outcome_of_purge, outcome_of_refusal};
 ghost use Rattle.proxy_core.specs.Cases.{response_with, cache_control, etag_field, forwarded_on_miss};
 ghost use Rattle.proxy_core.specs.WrongTraces.{HeadlineRefuses, get_a_in_language, get_or_other_request};
 ghost use Rattle.proxy_core.specs.WrongTraces.{events_that_revalidate, varies_by_language, edge_table};
 ghost use Rattle.proxy_core.specs.WrongTraces.{fresh_for_a_minute};
-ghost use Rattle.proxy_core.specs.WrongTraces.{fresh_or_stale_if_error, get_a, get_admin, get_b, get_c, get_raw};
+ghost use Rattle.proxy_core.specs.WrongTraces.{fresh_or_stale_if_error, get_a, get_admin, purge_admin, get_b, get_c};
+ghost use Rattle.proxy_core.specs.WrongTraces.{get_raw};
 ghost use Rattle.proxy_core.specs.WrongTraces.{events_that_store_a, events_that_store_english_and_default};
 ghost use Rattle.proxy_core.specs.WrongTraces.{events_before_a_wake, response_304, events_where_one_waits};
 ghost use Rattle.proxy_core.specs.WrongTraces.{get_a_only_if_cached, post_a, reply_that_stores, reply_without_store};
@@ -44,6 +45,16 @@ pub fn the_headline_refuses_what_the_table_forbids()
     ensures left_without_answer { HeadlineRefuses (trace_with_wrong_item [] (Arrive 100 1 get_admin) Ended) }
     ensures allowed_is_denied { HeadlineRefuses (trace_with_wrong_item [] (Arrive 100 1 get_a)
         (outcome_of_refusal 100 (Denied 1) get_a)) }
+{}
+
+/// A request purges by its key alone, and what it takes away is held for its target.
+pub fn the_headline_refuses_wrong_purges()
+    ensures denied_purges { HeadlineRefuses (trace_with_wrong_item events_that_store_a (Arrive 110 2 get_admin)
+        (outcome_of_purge [] 110 get_admin)) }
+    ensures with_its_key_is_denied { HeadlineRefuses (trace_with_wrong_item events_that_store_a
+        (Arrive 110 2 purge_admin) (outcome_of_refusal 110 (Denied 1) purge_admin)) }
+    ensures another_goes { HeadlineRefuses (trace_with_wrong_item events_that_store_a (Arrive 110 2 purge_admin)
+        (reply_that_stores [] None (1 ∷ []))) }
 {}
 
 /// What goes forward is the client's request, to the origin of its line, with the proxy's
@@ -167,7 +178,7 @@ pub fn the_headline_refuses_what_may_not_be_sent()
     ensures other_bytes { HeadlineRefuses (trace_with_wrong_item events_that_store_a (Arrive 110 2 get_a)
         (reply_that_sends_stored 1 (codes "x"))) }
     ensures closing_its_connection { HeadlineRefuses (trace_with_wrong_item events_that_store_a (Arrive 110 2 get_a)
-        (Reply (record { bytes = []; close = true; stored = None; used = Some 1; removed = [] }))) }
+        (Reply (record { bytes = []; close = true; stored = None; used = Some 1; removed = []; purged = false }))) }
     ensures to_a_woken_one_that_it_may_not_answer { HeadlineRefuses (trace_with_wrong_item events_before_a_wake
         (Wake 102 2) (reply_that_sends_stored 1 (codes "x"))) }
 {}

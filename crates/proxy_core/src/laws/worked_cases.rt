@@ -19,7 +19,7 @@ ghost use Rattle.hx_status.specs.declared.cause.FailKind.TheVariants.{BadAnswer,
 ghost use Rattle.hx_status.specs.declared.cause.Cause.TheVariants.{Denied, NoLine, Looped, OnlyIfCached, Origin};
 ghost use Rattle.proxy_core.specs.declared.steps.fallback.Fallback.TheVariants.{Sends, Refuses};
 ghost use Rattle.proxy_core.specs.declared.event.Event.TheVariants.{Arrive, Answer, Fail, Wake, Abandon};
-ghost use Rattle.proxy_core.specs.declared.outcome.Outcome.TheVariants.{Forward, Waits, Ended};
+ghost use Rattle.proxy_core.specs.declared.outcome.Outcome.TheVariants.{Reply, Forward, Waits, Ended};
 ghost use Rattle.proxy_core.specs.declared.open.stage.Stage.TheVariants.{Waiting, Released};
 ghost use Rattle.proxy_core.specs.declared.core_fault.CoreFault.TheVariants.{IdTaken, UnknownId, MomentTooLate};
 ghost use Rattle.proxy_core.specs.declared.core_fault.CoreFault.TheVariants.{NotForwarded, NotReady};
@@ -34,6 +34,7 @@ ghost use Rattle.proxy_core.specs.Awaiting.{leader_of_request};
 ghost use Rattle.proxy_core.specs.Outcomes.{outcome_of_answer, outcome_of_arrival, hit_status_info, fallback_for};
 ghost use Rattle.proxy_core.specs.Outcomes.{fault_at_exchange, forwarded_status_info};
 ghost use Rattle.proxy_core.specs.Outcomes.{is_error_status, outcome_of_passing_on_or_stale, outcome_of_refusal};
+ghost use Rattle.proxy_core.specs.Outcomes.{outcome_of_purge};
 ghost use Rattle.proxy_core.specs.Outcomes.{serials_removed_by_answer, outcome_of_sending_freshened, outcome_of_wake};
 ghost use Rattle.proxy_core.specs.State.{next_serial_after, serial_after_this, open_exchanges_after};
 ghost use Rattle.proxy_core.specs.State.{serials_removed_by_outcome, serial_stored_by_outcome, entries_after_storing};
@@ -513,6 +514,17 @@ pub fn what_an_arrival_gives()
         ≡ outcome_of_refusal 130 NoLine (get_a_with []) }
     ensures looped { outcome_of_arrival table (first_stored ∷ []) [] 130 (get_a_with []) (verdict.Looped 3)
         ≡ outcome_of_refusal 130 (Looped 3) (get_a_with []) }
+    ensures purges { outcome_of_arrival table (first_stored ∷ []) [] 130 (get_a_with []) (verdict.Purged 3)
+        ≡ Reply (record {
+          bytes = codes "HTTP/1.1 204 \r\nDate: Thu, 01 Jan 1970 00:02:10 GMT\r\nPurged: 1\r\n\r\n";
+          close = false;
+          stored = None;
+          used = None;
+          removed = 1 ∷ [];
+          purged = true;
+        }) }
+    ensures purges_nothing { serials_removed_by_outcome
+        (outcome_of_arrival table [] [] 130 (get_a_with []) (verdict.Purged 3)) ≡ [] }
     ensures hit { serial_used_by_outcome (outcome_of_arrival table (first_stored ∷ []) [] 130 (get_a_with [])
         (verdict.Allowed (over_line 1))) ≡ Some 1 }
     ensures stays { serials_removed_by_outcome (outcome_of_arrival table (first_stored ∷ []) [] 130 (get_a_with [])
@@ -583,6 +595,11 @@ pub fn what_a_step_leaves_open()
         ∷ post_exchange 3 (codes "/b")
         ∷ []) (Answer 130 1 (response_with 204 [])) Ended
         ≡ record (post_exchange 2 (codes "/a")) { overtaken = true } ∷ post_exchange 3 (codes "/b") ∷ [] }
+    ensures purged { open_exchanges_after table [] (record (post_exchange 1 (codes "/a")) { overtaken = false }
+        ∷ post_exchange 2 (codes "/b") ∷ []) (Arrive 130 3 (get_a_with [])) (outcome_of_purge [] 130 (get_a_with []))
+        ≡ record (post_exchange 1 (codes "/a")) { overtaken = true } ∷ post_exchange 2 (codes "/b") ∷ [] }
+    ensures denied { open_exchanges_after table [] (post_exchange 1 (codes "/a") ∷ []) (Arrive 130 3 (get_a_with []))
+        (outcome_of_refusal 130 (Denied 1) (get_a_with [])) ≡ post_exchange 1 (codes "/a") ∷ [] }
     ensures behind { open_exchanges_after table [] (post_exchange 1 (codes "/b") ∷ []) (Arrive 130 2 (get_a_with []))
         (Forward (over_line 1) [])
         ≡ post_exchange 1 (codes "/b") ∷ record (forwarded_on_miss (get_a_with [])) { id = 2; request_time = 130 } ∷ [] }

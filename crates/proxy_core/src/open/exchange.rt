@@ -19,6 +19,8 @@ pub struct Exchange {
     pub line: Route,
     /// The fields that count as if the Vary of its answer named them: those of its line when it arrived.
     pub vary: FieldNames,
+    /// What is stored of its answer has no Set-Cookie, as its line said when it arrived (RFC 9111, section 7.3).
+    pub removes_cookies: bool,
     /// The rule at arrival, or when it was woken. It is named in the answer even if the store has changed since.
     pub rule: ReuseRule,
     /// The held response that this rule names.
@@ -80,6 +82,7 @@ impl Drop for Exchange {
             asked: _,
             line: _,
             vary: _,
+            removes_cookies: _,
             rule: _,
             named: _,
             request_time: _,

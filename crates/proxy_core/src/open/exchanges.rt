@@ -260,8 +260,8 @@ impl Exchanges {
         }
     }
 
-    /// Marks each exchange of a key that was invalidated. It goes through those alone.
-    fn overtake(&mut self, key: &Key)
+    /// Marks each exchange of a key that was invalidated or purged. It goes through those alone.
+    pub(crate) fn overtake(&mut self, key: &Key)
         ensures { self.new ≡ map (overtaken_exchange key.now) self.old }
     {
         overtake_indexed(&mut self.by_arrival, &self.by_key.gets, key);

@@ -3,7 +3,7 @@ ghost use Rattle.std.specs.Prelude.{◌≡◌, option_copied, IfOk};
 ghost use Rattle.hx_directives.specs.Occurrences.{occurrences_of};
 ghost use Rattle.proxy_core.specs.Leading.{is_forwarded, is_released, waits_for, is_get, is_uri_miss};
 ghost use Rattle.proxy_core.specs.Leading.{has_authorization, has_no_store, asks_for, sends_clients_condition};
-ghost use Rattle.proxy_core.specs.Leading.{may_serve, leads_waiters};
+ghost use Rattle.proxy_core.specs.Leading.{may_serve, answer_may_serve, leads_waiters};
 ghost use Rattle.proxy_core.specs.Awaiting.{has_expired, asks_the_origin, awaited_of_chosen, awaited_by_rule};
 
 use crate::open::awaited::Awaited;
@@ -109,6 +109,14 @@ fn may_serve(exchange: &Exchange, policy: Policy, asked: &Asked) -> bool
         && has_authorization(&exchange.asked) == has_authorization(asked)
 }
 
+/// Whether the answer to an exchange isn't for a range, and nothing that is looked at over this line keeps it back.
+fn answer_may_serve(exchange: &Exchange, policy: Policy, asked: &Asked) -> bool
+    ensures { result ≡ answer_may_serve policy asked.now exchange.now }
+{
+    !exchange.asked.asks_for_range()
+        && (!policy.waits_for_stale || may_serve(exchange, policy, asked))
+}
+
 /// Whether a GET that could be sent this, over a line of this policy, waits for an exchange.
 pub(crate) fn leads_waiters(
     exchange: &Exchange,
@@ -122,7 +130,7 @@ pub(crate) fn leads_waiters(
         && is_get(&exchange.asked)
         && is_forwarded(exchange.stage)
         && asks_for(exchange, awaited)
-        && (!policy.waits_for_stale || may_serve(exchange, policy, asked))
+        && answer_may_serve(exchange, policy, asked)
 }
 
 /// Whether a request has no-store (RFC 9111, section 5.2.1.5).

@@ -8,7 +8,7 @@ ghost use Rattle.proxy_core.specs.Replies.{passed_answer_text, fields_of_passed_
 ghost use Rattle.proxy_core.specs.Replies.{whole_answer_text, client_has_answer, fields_of_304_sent};
 ghost use Rattle.proxy_core.specs.Replies.{not_modified_answer_text};
 ghost use Rattle.proxy_core.specs.Replies.{cache_status_of_passed_answer, detail_past_store};
-ghost use Rattle.proxy_core.specs.Replies.{ttl_of_passed_answer, refusal_reply_text};
+ghost use Rattle.proxy_core.specs.Replies.{ttl_of_passed_answer, refusal_reply_text, fields_of_purge, purge_reply_text};
 ghost use Rattle.proxy_core.specs.Replies.{fields_of_refusal, content_unless_head, is_head, length_unless_forbidden};
 
 use crate::replies::origin_answer::OriginAnswer;
@@ -24,6 +24,7 @@ use hx_reuse::{keeps_conditions, lifetime_under};
 use hx_status::{Cause, Detail, How, Status, member, refusal};
 use hx_storable::StoreRule;
 use hx_validate::{answer_not_modified, client_has_answer};
+use itoa::Buffer;
 use std::alloc::{AllocError, Global};
 
 /// Whether a request is a HEAD, whose answers have no content (RFC 9110, section 9.3.2).
@@ -260,5 +261,31 @@ pub fn refused(
     let content = content_unless_head(head, text.as_slice());
     let length = text.len() as u64;
     let message = write_response(alloc, status, &lines, Some(length), close, content)?;
+    Ok(message)
+}
+
+fn fields_of_purge(alloc: Global, now: u64, count: usize) -> Result<Fields, AllocError>
+    requires { now < 253_402_300_800 }
+    ensures { IfOk result (λ lines. lines ≡ fields_of_purge (date_text_of now) count) }
+{
+    let mut lines = Fields::new(alloc);
+    let mut digits = Buffer::new();
+    lines.push(b"Date", &date_text(now))?;
+    lines.push(b"Purged", digits.format(count).as_bytes())?;
+    Ok(lines)
+}
+
+/// The answer to a purge at a moment, in Unix seconds below the year 10000: how many went (RFC 9110, section 15.3.5).
+pub(crate) fn purged(
+    alloc: Global,
+    now: u64,
+    count: usize,
+    close: bool,
+) -> Result<Bytes, AllocError>
+    requires { now < 253_402_300_800 }
+    ensures { IfOk result (λ text. text ≡ purge_reply_text (date_text_of now) count close) }
+{
+    let lines = fields_of_purge(alloc, now, count)?;
+    let message = write_response(alloc, 204, &lines, None, close, &[])?;
     Ok(message)
 }

@@ -1,12 +1,15 @@
 //! The bytes of a stored response that is sent.
-ghost use Rattle.std.specs.Prelude.{◌≡◌, IfOk};
+ghost use Rattle.std.specs.Prelude.{◌≡◌, ◌≤◌, ◌<◌, ◌+◌, [], IfOk, Some, length, slice_range};
+ghost use Rattle.hx_validate.specs.Ranges.{in_form_of, response_in_range};
+ghost use Rattle.hx_validate.specs.declared.ranges.RangeAnswer.TheVariants.{Part, Unsatisfiable};
 ghost use Rattle.hx_age.specs.Age.{age_of};
 ghost use Rattle.hx_framing.specs.Text.{response_text};
 ghost use Rattle.hx_status.specs.Member.{member_text};
 ghost use Rattle.proxy_core.specs.Outcomes.{forwarded_status_info, collapsed_status_info};
 ghost use Rattle.proxy_core.specs.Replies.{cache_status_of_sent, stored_text, whole_stored_text, not_modified_text};
-ghost use Rattle.proxy_core.specs.Replies.{fields_of_sent_response};
+ghost use Rattle.proxy_core.specs.Replies.{content_unless_head, fields_of_sent_response, is_head, text_in_form};
 ghost use Rattle.proxy_core.specs.Replies.{fwd_status_of};
+ghost use Rattle.proxy_core.specs.Validating.{without_cookies};
 
 use crate::open::exchange::Exchange;
 use crate::replies::reply_text::{content_unless_head, is_head, length_unless_forbidden};
@@ -18,9 +21,18 @@ use hx_policy::Policy;
 use hx_reuse::lifetime_under;
 use hx_status::{Detail, How, Status, member};
 use hx_store::Entry;
-use hx_validate::{client_wants_304, not_modified};
+use hx_validate::{
+    RangeAnswer, client_wants_304, head_leaves_room, not_modified, part_fields, range_answer,
+    unsatisfied_fields,
+};
 use itoa::Buffer;
 use std::alloc::{AllocError, Global};
+
+/// The status of a part of a response (RFC 9110, section 15.3.7).
+const PARTIAL_CONTENT: u16 = 206;
+
+/// The status where no byte of a range is there (RFC 9110, section 15.5.17).
+const RANGE_NOT_SATISFIABLE: u16 = 416;
 
 /// What Cache-Status tells of a stored response that is sent, beside the response itself (RFC 9211, section 2).
 #[derive(Clone, Copy)]
@@ -81,18 +93,114 @@ pub(crate) struct StoredReply<'a> {
 }
 
 impl StoredReply<'_> {
-    /// Its bytes: the whole response, or a 304 to a client that has it already.
+    /// Its bytes: the whole response, the part of it that is asked for, or a 304 to a client that has it already.
     pub(crate) fn text(&self, alloc: Global) -> Result<Bytes, AllocError>
         ensures { IfOk result (λ text. text
             ≡ stored_text self.now.name.now self.now.entry.now self.now.sent_at self.now.info self.now.asked.now) }
     {
         if client_wants_304(self.asked, self.entry) {
             self.not_modified_text(alloc)
+        } else if self.info.policy.forwards_ranges {
+            self.whole_text(alloc)
+        } else {
+            self.text_in_range(alloc)
+        }
+    }
+
+    /// What the request asks for of it, for a range or not.
+    fn text_in_range(&self, alloc: Global) -> Result<Bytes, AllocError>
+        ensures { IfOk result (λ text. text ≡ text_in_form self.now.name.now
+            (response_in_range self.now.asked.now self.now.entry.now) self.now.entry.now self.now.sent_at self.now.info
+            self.now.asked.now) }
+    {
+        match range_answer(self.asked, self.entry) {
+            RangeAnswer::Whole => self.whole_text(alloc),
+            RangeAnswer::Part(first, last) => self.part_text(alloc, first, last),
+            RangeAnswer::Unsatisfiable => self.unsatisfied_text(alloc),
+        }
+    }
+
+    /// Its bytes from the first to the last, where its head has room for the line that tells them.
+    fn part_text(&self, alloc: Global, first: usize, last: usize) -> Result<Bytes, AllocError>
+        requires order { first ≤ last }
+        requires within { last < length self.now.entry.now.content }
+        ensures { IfOk result (λ text. text ≡ text_in_form self.now.name.now
+            (in_form_of (Part first last) self.now.entry.now) self.now.entry.now self.now.sent_at self.now.info
+            self.now.asked.now) }
+    {
+        let fields = part_fields(alloc, self.entry, first, last)?;
+        if head_leaves_room(&fields) {
+            self.text_of_part(alloc, fields, first, last)
         } else {
             self.whole_text(alloc)
         }
     }
 
+    /// A 206 of these lines, with its bytes from the first to the last.
+    fn text_of_part(
+        &self,
+        alloc: Global,
+        fields: Fields,
+        first: usize,
+        last: usize,
+    ) -> Result<Bytes, AllocError>
+        requires order { first ≤ last }
+        requires within { last < length self.now.entry.now.content }
+        ensures { IfOk result (λ text. text ≡ response_text 206
+            (fields_of_sent_response self.now.name.now 206
+            (without_cookies self.now.info.policy.removes_cookies fields)
+            self.now.entry.now self.now.sent_at self.now.info)
+            (Some (length (slice_range self.now.entry.now.content first (last + 1)))) self.now.asked.now.close
+            (content_unless_head (is_head self.now.asked.now)
+            (slice_range self.now.entry.now.content first (last + 1)))) }
+    {
+        let entry = self.entry;
+        let content = &entry.content.as_slice()[first..last + 1];
+        let length = Some(content.len() as u64);
+        let content = content_unless_head(is_head(self.asked), content);
+        let mut fields = fields;
+        self.remove_cookies(&mut fields);
+        self.written(alloc, PARTIAL_CONTENT, &fields, length, content)
+    }
+
+    /// That none of the bytes which are asked for is there, where its head has room for the line that tells it.
+    fn unsatisfied_text(&self, alloc: Global) -> Result<Bytes, AllocError>
+        ensures { IfOk result (λ text. text ≡ text_in_form self.now.name.now
+            (in_form_of Unsatisfiable self.now.entry.now) self.now.entry.now self.now.sent_at self.now.info
+            self.now.asked.now) }
+    {
+        let fields = unsatisfied_fields(alloc, self.entry)?;
+        if head_leaves_room(&fields) {
+            self.text_of_416(alloc, fields)
+        } else {
+            self.whole_text(alloc)
+        }
+    }
+
+    /// A 416 of these lines, which has no content.
+    fn text_of_416(&self, alloc: Global, fields: Fields) -> Result<Bytes, AllocError>
+        ensures { IfOk result (λ text. text ≡ response_text 416
+            (fields_of_sent_response self.now.name.now 416
+            (without_cookies self.now.info.policy.removes_cookies fields)
+            self.now.entry.now self.now.sent_at self.now.info) (Some 0) self.now.asked.now.close
+            (content_unless_head (is_head self.now.asked.now) [])) }
+    {
+        let content = content_unless_head(is_head(self.asked), &[]);
+        let mut fields = fields;
+        self.remove_cookies(&mut fields);
+        self.written(alloc, RANGE_NOT_SATISFIABLE, &fields, Some(0), content)
+    }
+
+    /// Takes out the lines of Set-Cookie, over a line that removes them.
+    fn remove_cookies(&self, fields: &mut Fields)
+        ensures { fields.new ≡ without_cookies self.now.info.policy.removes_cookies fields.old }
+    {
+        if self.info.policy.removes_cookies {
+            fields.remove_named(b"Set-Cookie");
+        }
+    }
+
+    #[tactic(auto, using(crate::proofs::Cookies::none_removed))]
     fn whole_text(&self, alloc: Global) -> Result<Bytes, AllocError>
         ensures { IfOk result (λ text. text ≡ whole_stored_text self.now.name.now self.now.entry.now self.now.sent_at
             self.now.info self.now.asked.now) }
@@ -100,6 +208,11 @@ impl StoredReply<'_> {
         let entry = self.entry;
         let length = length_unless_forbidden(entry.status, Some(entry.content.len() as u64));
         let content = content_unless_head(is_head(self.asked), entry.content.as_slice());
+        if self.info.policy.removes_cookies && entry.fields.has(b"Set-Cookie") {
+            let mut fields = entry.fields.copy(alloc)?;
+            fields.remove_named(b"Set-Cookie");
+            return self.written(alloc, entry.status, &fields, length, content);
+        }
         self.written(alloc, entry.status, &entry.fields, length, content)
     }
 

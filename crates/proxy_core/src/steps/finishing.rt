@@ -66,7 +66,7 @@ fn put_in<S: Shelf>(
 }
 
 /// Takes out the responses of these serials. No memory is taken.
-fn remove_each<S: Shelf>(shelf: &mut S, removed: &[u64])
+pub(crate) fn remove_each<S: Shelf>(shelf: &mut S, removed: &[u64])
     ensures entries { S.entries shelf.new ≡ entries_without_serials removed.now (S.entries shelf.old) }
     ensures limit { S.limit shelf.new ≡ S.limit shelf.old }
 {
@@ -183,6 +183,7 @@ impl<S: Shelf> Core<S> {
             stored,
             used,
             removed,
+            purged: false,
         }))
     }
 }

@@ -71,6 +71,9 @@ impl NewEntry {
         let key = exchange.asked.target.key.detached(alloc)?;
         let content = answer.response.content.copy(alloc)?;
         let times = Times::of(&fields, exchange.request_time, answer.response_time);
+        if exchange.removes_cookies {
+            fields.remove_named(b"Set-Cookie");
+        }
         fields.remove_named(b"Age");
         // What is stored stays long: its lists get room for just what they have.
         let fields = fields.copy(alloc)?;

@@ -10,7 +10,7 @@ ghost use Rattle.proxy_core.specs.Pending.{outcome_of_pending_reply, outcome_aft
 ghost use Rattle.proxy_core.specs.Pending.{AnswerChangeFits, AnswerStoresNothing, IsChangeAfterFreshening};
 ghost use Rattle.proxy_core.specs.Validating.{stored_response_is_answered, stored_response_asked_about};
 ghost use Rattle.proxy_core.specs.Validating.{stored_response_validated, freshened_by_304, as_get_request};
-ghost use Rattle.proxy_core.specs.Validating.{head_of_stored};
+ghost use Rattle.proxy_core.specs.Validating.{head_of_stored, stored_without_cookies};
 ghost use Rattle.proxy_core.specs.Validating.{storing_facts_of_freshened, freshened_may_be_kept, stored_is_too_large};
 ghost use Rattle.proxy_core.specs.State.{bounds_of};
 
@@ -93,7 +93,32 @@ fn freshened_by_304(
 {
     let exchange = answer.exchange;
     let times = Times::of(&head.fields, exchange.request_time, answer.response_time);
-    freshened(alloc, &exchange.vary, entry, head, &exchange.asked, times)
+    let fresh = freshened(alloc, &exchange.vary, entry, head, &exchange.asked, times)?;
+    without_cookies(alloc, exchange, fresh)
+}
+
+/// What an exchange leaves of a response in the store. Mostly that is the whole of it, and nothing is copied.
+#[tactic(auto, using(crate::proofs::Cookies::stays_whole))]
+fn without_cookies(alloc: Global, exchange: &Exchange, entry: Entry) -> Result<Entry, AllocError>
+    ensures { IfOk result (λ kept. kept ≡ stored_without_cookies exchange.now entry) }
+{
+    if !(exchange.removes_cookies && entry.fields.has(b"Set-Cookie")) {
+        return Ok(entry);
+    }
+    let mut fields = entry.fields.copy(alloc)?;
+    fields.remove_named(b"Set-Cookie");
+    let fields = fields.copy(alloc)?;
+    let directives = Directives::of(alloc, &fields)?.copy(alloc)?;
+    Ok(Entry {
+        serial: entry.serial,
+        key: entry.key.copy(alloc)?,
+        nominated: entry.nominated.copy(alloc)?,
+        status: entry.status,
+        fields,
+        directives,
+        content: entry.content.copy(alloc)?,
+        times: entry.times,
+    })
 }
 
 /// The same request, of method GET.

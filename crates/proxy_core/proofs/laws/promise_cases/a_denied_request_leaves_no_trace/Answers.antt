@@ -1,4 +1,4 @@
-use Rattle.std.proofs.Common.{◌≡◌, ℕ, List, [], ◌∷◌, Option, None, Some}
+use Rattle.std.proofs.Common.{◌≡◌, ℕ, List, [], ◌∷◌, Option, None, Some, refl}
 use Rattle.std.specs.Fmt.{digits}
 use Rattle.httpdate.proofs.OnLiterals.{httpdate_on_literals}
 use Rattle.hx_hop.specs.Forwarding.{forwarded_of}
@@ -13,28 +13,28 @@ use Rattle.proxy_core.proofs.laws.promise_cases.a_denied_request_leaves_no_trace
 
 pub returns-clause-forwarded : goal.returns-clause-forwarded
 unfolding digits httpdate_on_literals matches_line verdict_of verdict_of_request policy_of decision_of reuse_rule_of storage_rule_of forwarded_of part_holding_day freshened_of error_rule_on
-returns-clause-forwarded c = λ h. h.0 (λ line is. let never : DeniedBy 1 ≡ Allowed line = is in absurd (cc))
+returns-clause-forwarded c = λ h. h.0 ((λ line is. let never : DeniedBy 1 ≡ Allowed line = is in absurd (cc)), refl)
 
 pub returns-clause-waits : goal.returns-clause-waits
 unfolding digits httpdate_on_literals matches_line verdict_of verdict_of_request policy_of decision_of reuse_rule_of storage_rule_of forwarded_of part_holding_day freshened_of error_rule_on
-returns-clause-waits c = λ h. h.0 (λ line is. let never : DeniedBy 1 ≡ Allowed line = is in absurd (cc))
+returns-clause-waits c = λ h. h.0 ((λ line is. let never : DeniedBy 1 ≡ Allowed line = is in absurd (cc)), refl)
 
 pub returns-clause-left : goal.returns-clause-left
 unfolding digits httpdate_on_literals matches_line verdict_of verdict_of_request policy_of decision_of reuse_rule_of storage_rule_of forwarded_of part_holding_day freshened_of error_rule_on
-returns-clause-left c = λ h. h.0 (λ line is. let never : DeniedBy 1 ≡ Allowed line = is in absurd (cc))
+returns-clause-left c = λ h. h.0 ((λ line is. let never : DeniedBy 1 ≡ Allowed line = is in absurd (cc)), refl)
 
 pub returns-clause-sent : goal.returns-clause-sent
 unfolding digits httpdate_on_literals matches_line verdict_of verdict_of_request policy_of decision_of reuse_rule_of storage_rule_of forwarded_of part_holding_day freshened_of error_rule_on
-returns-clause-sent c = λ h. let never : ◌≡◌ {A = Option ℕ} (Some 1) None = (h.0 (λ line is. let never : DeniedBy 1 ≡ Allowed line = is in absurd (cc))).1 in absurd (cc)
+returns-clause-sent c = λ h. let never : ◌≡◌ {A = Option ℕ} (Some 1) None = (h.0 ((λ line is. let never : DeniedBy 1 ≡ Allowed line = is in absurd (cc)), refl)).1 in absurd (cc)
 
 pub returns-clause-stored : goal.returns-clause-stored
 unfolding digits httpdate_on_literals matches_line verdict_of verdict_of_request policy_of decision_of reuse_rule_of storage_rule_of forwarded_of part_holding_day freshened_of error_rule_on
-returns-clause-stored c = λ h. let never : ◌≡◌ {A = Option ℕ} (Some 1) None = (h.0 (λ line is. let never : DeniedBy 1 ≡ Allowed line = is in absurd (cc))).0 in absurd (cc)
+returns-clause-stored c = λ h. let never : ◌≡◌ {A = Option ℕ} (Some 1) None = (h.0 ((λ line is. let never : DeniedBy 1 ≡ Allowed line = is in absurd (cc)), refl)).0 in absurd (cc)
 
 pub returns-clause-removed : goal.returns-clause-removed
 unfolding digits httpdate_on_literals matches_line verdict_of verdict_of_request policy_of decision_of reuse_rule_of storage_rule_of forwarded_of part_holding_day freshened_of error_rule_on
-returns-clause-removed c = λ h. let never : ◌≡◌ {A = List ℕ} (1 ∷ []) [] = (h.0 (λ line is. let never : DeniedBy 1 ≡ Allowed line = is in absurd (cc))).2 in absurd (cc)
+returns-clause-removed c = λ h. let never : ◌≡◌ {A = List ℕ} (1 ∷ []) [] = (h.0 ((λ line is. let never : DeniedBy 1 ≡ Allowed line = is in absurd (cc)), refl)).2 in absurd (cc)
 
 pub returns-clause-an_earlier_one : goal.returns-clause-an_earlier_one
 unfolding digits httpdate_on_literals matches_line verdict_of verdict_of_request policy_of decision_of reuse_rule_of storage_rule_of forwarded_of part_holding_day freshened_of error_rule_on
-returns-clause-an_earlier_one c = λ h. h.1.0 (λ line is. let never : DeniedBy 1 ≡ Allowed line = is in absurd (cc))
+returns-clause-an_earlier_one c = λ h. h.1.0 ((λ line is. let never : DeniedBy 1 ≡ Allowed line = is in absurd (cc)), refl)
