@@ -18,7 +18,7 @@ use Rattle.proxy_core.specs.declared.outcome.Outcome.{Outcome}
 use Rattle.proxy_core.specs.declared.outcome.Outcome.TheVariants as outcomes
 use Rattle.proxy_core.specs.Outcomes.{find_exchange}
 use Rattle.proxy_core.specs.Replies.{is_head}
-use Rattle.proxy_core.specs.State.{State as CoreState, StepIsAccepted, exchanges_after_close, exchanges_after_end, forwarded_exchange as opened_exchange, waiting_exchange as queued_exchange, line_of_verdict}
+use Rattle.proxy_core.specs.State.{State as CoreState, StepIsAccepted, exchanges_after_close, exchanges_after_end, forwarded_exchange as opened_exchange, waiting_exchange as queued_exchange, line_of_verdict, exchanges_after_purge, key_purged}
 use Rattle.proxy_core.specs.Allowing.{verdict_of_asked}
 use Rattle.proxy_core.specs.Leading.{is_forwarded}
 use Rattle.proxy_core.specs.Waiting.{ExchangeMayBeWoken}
@@ -37,7 +37,7 @@ use Rattle.proxy_engine.specs.declared.endpoints.activities.Activity.TheVariants
 use Rattle.proxy_engine.proofs.ActivityCases.{free_from, open_from, forwarded_from, waiting_from}
 use Rattle.proxy_engine.proofs.Shown.{lost_by}
 use Rattle.proxy_engine.proofs.Ending.{Remains, Renews, renewed, remains, woken_remains}
-use Rattle.proxy_engine.proofs.Pairs.{within, has_place, waits_inside, some_out, ready_waits, paired_more, paired_freed, paired_unqueued, paired_opened, paired_queued, paired_left, paired_again, paired_awake}
+use Rattle.proxy_engine.proofs.Pairs.{within, has_place, waits_inside, some_out, ready_waits, paired_more, paired_freed, paired_unqueued, paired_opened, paired_queued, paired_left, paired_again, paired_awake, paired_purged}
 
 -- what stands at a place of either list
 doing_here : (cs : List ConnectionModel) (i : ℕ) → activity_at (map activity_of_model cs) i ≡ (get_or cs i no_connection).activity
@@ -521,9 +521,11 @@ arrived_order s now i m asked o core to_head emitted after h inside unshut unclo
 
     by_outcome : (o : Outcome) → StepIsAccepted s.core (events.Arrive now (i + 1) asked) o core → emitted ≡ effects_of_outcome i (next_link_number s) (outcome_by_table s.core.table o) → after ≡ model_after_outcome i to_head (outcome_by_table s.core.table o) base → ModelIsOrderly after × EffectsNameOpenEnds s after emitted
     by_outcome (outcomes.Reply r) steps emitted_is after_is =
-        let same : core.exchanges ≡ s.core.exchanges = ap (λ (k : CoreState). k.exchanges) steps.leaves in
+        let key = key_purged asked (outcomes.Reply r) in
+        let same : core.exchanges ≡ exchanges_after_purge key s.core.exchanges = ap (λ (k : CoreState). k.exchanges) steps.leaves in
+        let purged : Order cs s.links (exchanges_after_purge key s.core.exchanges) = (paired_purged (map activity_of_model cs) (map owner_of_model s.links) s.core.exchanges key passed.0, passed.1) in
         both_moved s (with_connection base i (with_closed r.close)) after emitted (effects_of_outcome i (next_link_number s) (Replies r.bytes r.close)) after_is emitted_is
-        (orderly (with_connection base i (with_closed r.close)) (closing_order cs s.links core.exchanges i r.close none_now (subst (λ (xs : List Exchange). Order cs s.links xs) (sym same) passed)))
+        (orderly (with_connection base i (with_closed r.close)) (closing_order cs s.links core.exchanges i r.close none_now (subst (λ (xs : List Exchange). Order cs s.links xs) (sym same) purged)))
         (names_reply s (with_connection base i (with_closed r.close)) i (next_link_number s) r.bytes r.close unshut (λ shut. shut_there cs i (get_or cs i no_connection) r.close inside_now shut))
     by_outcome (outcomes.Forward line bytes) steps emitted_is after_is =
         let x = opened_exchange s.core.table s.core.entries now (i + 1) asked line in

@@ -24,7 +24,7 @@ use Rattle.hx_store.specs.Stored.{Stored}
 use Rattle.hx_target.specs.declared.keys.Key.{Key}
 use Rattle.hx_target.specs.Keys.{same_key}
 use Rattle.proxy_engine.proofs.Ending.{Remains, Renews, renewed}
-use Rattle.proxy_core.specs.State.{exchanges_after_close, released_exchange, forwarded_exchange, waiting_exchange, line_of_verdict, open_exchanges_after, overtaken_exchange, exchanges_after_end}
+use Rattle.proxy_core.specs.State.{exchanges_after_close, released_exchange, forwarded_exchange, waiting_exchange, line_of_verdict, open_exchanges_after, overtaken_exchange, exchanges_after_end, exchanges_after_purge, key_purged}
 use Rattle.proxy_core.specs.declared.outcome.Outcome.{Outcome}
 use Rattle.proxy_core.specs.declared.event.Event.{Event}
 use Rattle.proxy_core.specs.declared.event.Event.TheVariants.{Arrive, Answer, Fail, Wake}
@@ -435,10 +435,25 @@ paired_awake activities owners xs i g r here there h =
     renewed_paired (set activities i Free) owners xs i g r (subst (λ n. i < n) (sym (length-set activities i Free)) (waits_inside activities i here))
     (get_or-set_same activities i Free Free (waits_inside activities i here)) there (paired_unqueued activities owners xs i here h)
 
+-- a purge overtakes exchanges
+find_purged : (key : Option Key) (id : ℕ) (xs : List Exchange) → forwarded_or_waiting_at id (exchanges_after_purge key xs) ≡ forwarded_or_waiting_at id xs
+find_purged None id xs = refl
+find_purged (Some key) id xs = find_overtaken key id xs
+
+pub paired_purged : (activities : List Activity) (owners : List (Option ℕ)) (xs : List Exchange) (key : Option Key) → ConnectionsAndLinksArePaired activities owners xs → ConnectionsAndLinksArePaired activities owners (exchanges_after_purge key xs)
+paired_purged activities owners xs key h = record {
+  owned = h.owned;
+  linked = h.linked;
+  opened = λ k. find_purged key (k + 1) xs ∙ h.opened k;
+  numbered = find_purged key 0 xs ∙ h.numbered;
+}
+
 -- a request has arrived: it goes forward, or not
 pub paired_arrived : (table : Table) (cs cs1 cs2 : List (Option Connection)) (ks ks2 : List (Option Link)) (held : List Stored) (xs : List Exchange) (now i : ℕ) (asked : Asked) (o : Outcome) → i < length cs → activities_of cs1 ≡ activities_of cs → activity_at (activities_of cs) i ≡ Free
     → activities_of cs2 ≡ activities_after i (length ks) o (activities_of cs1) → owners_of ks2 ≡ owners_after i o (owners_of ks) → ConnectionsAndLinksArePaired (activities_of cs) (owners_of ks) xs → ConnectionsAndLinksArePaired (activities_of cs2) (owners_of ks2) (open_exchanges_after table held xs (Arrive now (i + 1) asked) o)
-paired_arrived table cs cs1 cs2 ks ks2 held xs now i asked (Reply r) inside same free links owners h = paired_same _ _ _ _ xs (links ∙ same) owners h
+paired_arrived table cs cs1 cs2 ks ks2 held xs now i asked (Reply r) inside same free links owners h =
+    let key = key_purged asked (Reply r) in
+    paired_same _ _ _ _ (exchanges_after_purge key xs) (links ∙ same) owners (paired_purged (activities_of cs) (owners_of ks) xs key h)
 paired_arrived table cs cs1 cs2 ks ks2 held xs now i asked (Forward line bytes) inside same free links owners h =
     let size : length (owners_of ks) ≡ length ks = length-map ks owner_of in
     let pairing : length (activities_of cs) ≡ length cs = length-map cs activity_of in

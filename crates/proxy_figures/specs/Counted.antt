@@ -46,7 +46,7 @@ EachStoringRuleIsCounted = (rule : StoreRule) → named_storing_rule (not_stored
 
 -- the lists of counts are long enough
 abbrev pub ReplyPlacesAreWithin : Type 0
-ReplyPlacesAreWithin = (reason : Reason) (detail : Detail) → reply_place reason detail < 198
+ReplyPlacesAreWithin = (reason : Reason) (detail : Detail) → reply_place reason detail < 216
 
 abbrev pub CausePlacesAreWithin : Type 0
 CausePlacesAreWithin = (cause : Cause) → cause_place cause < 25

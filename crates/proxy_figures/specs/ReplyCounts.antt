@@ -30,6 +30,7 @@ reason_row reason.Denied = 7
 reason_row reason.OnlyIfCached = 8
 reason_row reason.OriginFailed = 9
 reason_row reason.Refused = 10
+reason_row reason.Purged = 11
 
 -- the place of a detail in a row
 abbrev pub detail_column : Detail → ℕ

@@ -27,6 +27,7 @@ reason_name reason.Denied = codes "denied"
 reason_name reason.OnlyIfCached = codes "only-if-cached"
 reason_name reason.OriginFailed = codes "origin-failed"
 reason_name reason.Refused = codes "refused"
+reason_name reason.Purged = codes "purged"
 
 -- why a request goes forward
 abbrev pub forward_reasons : List Reason
@@ -124,6 +125,7 @@ source_by_reason reason.Hit collapsed = source.Store
 source_by_reason reason.Denied collapsed = source.Proxy
 source_by_reason reason.OnlyIfCached collapsed = source.Proxy
 source_by_reason reason.Refused collapsed = source.Proxy
+source_by_reason reason.Purged collapsed = source.Proxy
 source_by_reason _ collapsed = if collapsed then source.Store else source.Origin
 
 abbrev pub source_of : ReplySort → Source

@@ -34,7 +34,7 @@ pub struct ReplyTimes {
 #[derive(Clone, Copy)]
 pub struct ReplyCounts {
     /// By reason, and in a row of each by detail.
-    reasons: [u64; 198],
+    reasons: [u64; 216],
     causes: [u64; 25],
     /// Answers that weren't stored, by storing rule.
     not_stored: [u64; 19],
@@ -94,7 +94,7 @@ impl ReplyTimes {
 
 impl ReplyCounts {
     pub fn new() -> ReplyCounts
-        ensures reasons { result.reasons ≡ replicate 198 0 }
+        ensures reasons { result.reasons ≡ replicate 216 0 }
         ensures causes { result.causes ≡ replicate 25 0 }
         ensures not_stored { result.not_stored ≡ replicate 19 0 }
         ensures statuses { result.statuses ≡ replicate 400 0 }
@@ -104,7 +104,7 @@ impl ReplyCounts {
         ensures from_proxy { result.from_proxy ≡ no_times }
     {
         ReplyCounts {
-            reasons: [0; 198],
+            reasons: [0; 216],
             causes: [0; 25],
             not_stored: [0; 19],
             statuses: [0; 400],

@@ -1,4 +1,4 @@
-//! What a reply counts as, by the words that it says of itself in Cache-Status or Refusal.
+//! What a reply counts as, by the words that it says of itself in Cache-Status, Refusal or Purged.
 //!
 //! Each count has its place in a closed list: so nothing that a client or an origin sends makes a new one.
 ghost use Rattle.std.specs.Prelude.{◌≡◌, find, bytes_eq};
@@ -24,6 +24,8 @@ pub enum Reason {
     OnlyIfCached,
     OriginFailed,
     Refused,
+    /// What was held for its target went, by the operator's word.
+    Purged,
 }
 
 /// What a reason says besides.
@@ -83,7 +85,7 @@ pub enum Cause {
 /// How many details there are.
 pub(crate) const DETAIL_COUNT: usize = 18;
 
-pub(crate) const ALL_REASONS: [Reason; 11] = [
+pub(crate) const ALL_REASONS: [Reason; 12] = [
     Reason::Hit,
     Reason::UriMiss,
     Reason::VaryMiss,
@@ -95,6 +97,7 @@ pub(crate) const ALL_REASONS: [Reason; 11] = [
     Reason::OnlyIfCached,
     Reason::OriginFailed,
     Reason::Refused,
+    Reason::Purged,
 ];
 
 pub(crate) const ALL_DETAILS: [Detail; 18] = [
@@ -162,6 +165,7 @@ impl Reason {
             Reason::OnlyIfCached => "only-if-cached",
             Reason::OriginFailed => "origin-failed",
             Reason::Refused => "refused",
+            Reason::Purged => "purged",
         }
     }
 
@@ -361,7 +365,7 @@ pub enum Source {
     Store,
     /// An origin was asked.
     Origin,
-    /// The proxy refused or denied the request.
+    /// The proxy refused or denied the request, or purged by it.
     Proxy,
 }
 
@@ -408,6 +412,7 @@ impl ReplySort {
             Reason::Denied => Source::Proxy,
             Reason::OnlyIfCached => Source::Proxy,
             Reason::Refused => Source::Proxy,
+            Reason::Purged => Source::Proxy,
             _ => if self.collapsed {
                 Source::Store
             } else {
@@ -468,7 +473,7 @@ fn forwarded(text: &[u8]) -> Option<ReplySort> {
     Some(sort)
 }
 
-/// What Refusal says.
+/// What Refusal or Purged says.
 fn refused(text: &[u8]) -> Option<ReplySort> {
     if text.starts_with(b"denied by line ") {
         return Some(ReplySort::of_own_answer(Reason::Denied, Cause::Denied));
@@ -481,6 +486,9 @@ fn refused(text: &[u8]) -> Option<ReplySort> {
     }
     if text.starts_with(b"only-if-cached") {
         return Some(ReplySort::of_own_answer(Reason::OnlyIfCached, Cause::OnlyIfCached));
+    }
+    if text.starts_with(b"Purged: ") {
+        return Some(ReplySort::plain(Reason::Purged));
     }
     if let Some(rest) = text.strip_prefix(b"origin ".as_slice()) {
         let cause = Cause::of_failure(first_part(rest).0)?;

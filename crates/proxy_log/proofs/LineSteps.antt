@@ -5,7 +5,7 @@ use Rattle.std.specs.Option.{option_map, option_and_then, option_or}
 use Rattle.memchr.specs.Find.{IsFirstByte, is_byte}
 use Rattle.hx_fields.specs.Names.{cut_at}
 use Rattle.hx_framing.specs.HeadLines.{is_empty_line}
-use Rattle.proxy_log.specs.ReplyFacts.{whole_lines, byte_in_first_line, head_and_content, last_value, value_of_named_line, reason_or_refusal, own_reason, reason_and_content}
+use Rattle.proxy_log.specs.ReplyFacts.{whole_lines, byte_in_first_line, head_and_content, last_own_text, last_value, own_text, value_of_named_line, reason_or_refusal, own_reason, reason_and_content}
 
 pub cut_found : (byte k : ℕ) (text : List ℕ) → IsFirstByte (is_byte byte) text (Some k) → cut_at byte text ≡ Some (take k text, drop (suc k) text)
 cut_found byte k [] found = absurd (omega (arith, found.0.high))
@@ -49,7 +49,7 @@ lines_are_cut (b ∷ bs) = by_test (b == 10) (lines_are_cut bs)
 -- what a head says whose lines in front said this
 abbrev pub reason_behind : Option (List ℕ) → Option (List ℕ) → List (List ℕ) → Option (List ℕ)
 reason_behind member refusal lines =
-    reason_or_refusal (option_or (last_value (codes "Cache-Status: ") lines) member) (option_or (last_value (codes "Refusal: ") lines) refusal)
+    reason_or_refusal (option_or (last_value (codes "Cache-Status: ") lines) member) (option_or (last_own_text lines) refusal)
 
 abbrev pub reason_from : Option (List ℕ) → Option (List ℕ) → List (List ℕ × List ℕ) → Option (List ℕ × List ℕ)
 reason_from member refusal lines =
@@ -68,19 +68,19 @@ reason_at_first text = by_head (head_and_content (whole_lines text))
   where
     by_head : (r : Option (List (List ℕ) × List ℕ)) → option_and_then {U = List ℕ × List ℕ} (λ h. option_map (λ reason. (reason, h.1)) (reason_behind None None h.0)) r ≡ option_and_then {U = List ℕ × List ℕ} (λ h. option_map (λ reason. (reason, h.1)) (own_reason h.0)) r
     by_head None = refl
-    by_head (Some h) = rw (or_none (last_value (codes "Cache-Status: ") h.0), or_none (last_value (codes "Refusal: ") h.0)) refl
+    by_head (Some h) = rw (or_none (last_value (codes "Cache-Status: ") h.0), or_none (last_own_text h.0)) refl
 
 -- one line further
 pub reason_further : (member refusal : Option (List ℕ)) (line : List ℕ) (behind : List ℕ) (lines : List (List ℕ × List ℕ)) → is_empty_line line ≡ false
-    → reason_from (option_or (value_of_named_line (codes "Cache-Status: ") line) member) (option_or (value_of_named_line (codes "Refusal: ") line) refusal) lines ≡ reason_from member refusal ((line, behind) ∷ lines)
+    → reason_from (option_or (value_of_named_line (codes "Cache-Status: ") line) member) (option_or (own_text line) refusal) lines ≡ reason_from member refusal ((line, behind) ∷ lines)
 reason_further member refusal line behind lines other = rw other (by_head (head_and_content lines))
   where
     by_head : (r : Option (List (List ℕ) × List ℕ)) →
-        option_and_then {U = List ℕ × List ℕ} (λ (h : List (List ℕ) × List ℕ). option_map (λ reason. (reason, h.1)) (reason_behind (option_or (value_of_named_line (codes "Cache-Status: ") line) member) (option_or (value_of_named_line (codes "Refusal: ") line) refusal) h.0)) r
+        option_and_then {U = List ℕ × List ℕ} (λ (h : List (List ℕ) × List ℕ). option_map (λ reason. (reason, h.1)) (reason_behind (option_or (value_of_named_line (codes "Cache-Status: ") line) member) (option_or (own_text line) refusal) h.0)) r
         ≡ option_and_then {U = List ℕ × List ℕ} (λ (h : List (List ℕ) × List ℕ). option_map (λ reason. (reason, h.1)) (reason_behind member refusal h.0)) (option_map (λ h. (line ∷ h.0, h.1)) r)
     by_head None = refl
     by_head (Some h) =
-        rw (or_or (last_value (codes "Cache-Status: ") h.0) (value_of_named_line (codes "Cache-Status: ") line) member, or_or (last_value (codes "Refusal: ") h.0) (value_of_named_line (codes "Refusal: ") line) refusal) refl
+        rw (or_or (last_value (codes "Cache-Status: ") h.0) (value_of_named_line (codes "Cache-Status: ") line) member, or_or (last_own_text h.0) (own_text line) refusal) refl
 
 -- the end of a head
 pub reason_at_end : (member refusal : Option (List ℕ)) (line : List ℕ) (behind : List ℕ) (lines : List (List ℕ × List ℕ)) → is_empty_line line ≡ true

@@ -1,10 +1,10 @@
 -- What a reply tells of itself: its status (RFC 9112, section 4), what the proxy says of how it came by it, in the last
--- line of Cache-Status (RFC 9211, section 2) or of Refusal, and its content. Nothing behind the empty line is read for
--- the first two.
+-- line of Cache-Status (RFC 9211, section 2), of Refusal or of Purged, and its content. Nothing behind the empty line
+-- is read for the first two.
 --
 -- whole_lines: the lines of a text
 -- head_and_content: the lines of a head, and the content behind it
--- last_value, own_reason: what the proxy's line says
+-- last_value, own_text, own_reason: what the proxy's line says
 -- status_of_status_line: the status of the first line
 -- reply_facts_of: status, reason and content
 use Rattle.std.specs.Prelude.{ℕ, ◌+◌, ◌-◌, ◌*◌, ◌==◌, nat_eq, nat_lt, ◌&&◌, if◌then◌else◌, List, [], ◌∷◌, length, take}
@@ -47,13 +47,23 @@ last_value front (l ∷ ls) = option_or (last_value front ls) (value_of_named_li
 abbrev pub without_cache_name : List ℕ → List ℕ
 without_cache_name member = unwrap_or (option_map (λ p. p.1) (cut_at 59 member)) member
 
--- what a member of Cache-Status says, or where there is none the text of Refusal
+-- what a member of Cache-Status says, or where there is none what the proxy's answer of its own says
 abbrev pub reason_or_refusal : Option (List ℕ) → Option (List ℕ) → Option (List ℕ)
 reason_or_refusal member refusal = option_or (option_map without_cache_name member) refusal
 
+-- what a line of Refusal says; a line of Purged, with how many went, is told as it stands
+abbrev pub own_text : List ℕ → Option (List ℕ)
+own_text line = option_or (value_of_named_line (codes "Refusal: ") line)
+    (if starts_with nat_eq line (codes "Purged: ") then Some (without_return line) else None)
+
+-- the last of these
+abbrev pub last_own_text : List (List ℕ) → Option (List ℕ)
+last_own_text [] = None
+last_own_text (l ∷ ls) = option_or (last_own_text ls) (own_text l)
+
 -- what the proxy says: lines of others stand in front of its own
 abbrev pub own_reason : List (List ℕ) → Option (List ℕ)
-own_reason lines = reason_or_refusal (last_value (codes "Cache-Status: ") lines) (last_value (codes "Refusal: ") lines)
+own_reason lines = reason_or_refusal (last_value (codes "Cache-Status: ") lines) (last_own_text lines)
 
 -- the number that three digits spell
 abbrev pub three_digit_number : List ℕ → Option ℕ

@@ -3,7 +3,7 @@ ghost use Rattle.std.specs.Prelude.{◌≡◌, ◌∷◌, ◌++◌, ℕ, List, N
 ghost use Rattle.std.specs.List.{list_all};
 ghost use Rattle.proxy_log.specs.Line.{log_line_text, logged_word};
 ghost use Rattle.proxy_log.specs.OneLine.{LineIsInRange, TextIsOneLine, is_byte, is_log_word};
-ghost use Rattle.proxy_log.specs.ReplyFacts.{without_cache_name, last_value, own_reason};
+ghost use Rattle.proxy_log.specs.ReplyFacts.{without_cache_name, last_own_text, last_value, own_reason};
 ghost use Rattle.hx_framing.specs.Version.{without_return};
 ghost use Rattle.proxy_log.specs.declared.line.Line.{Line};
 
@@ -21,7 +21,11 @@ pub fn a_word_has_no_space()
 pub fn no_line_in_front_is_read()
     ensures member { (value : List ℕ) (front behind : List (List ℕ)) → last_value (codes "Cache-Status: ") behind ≡ None
         → own_reason (front ++ (codes "Cache-Status: " ++ value) ∷ behind) ≡ Some (without_cache_name (without_return value)) }
-    ensures refusal { (value : List ℕ) (front behind : List (List ℕ)) → last_value (codes "Refusal: ") behind ≡ None
+    ensures refusal { (value : List ℕ) (front behind : List (List ℕ)) → last_own_text behind ≡ None
         → last_value (codes "Cache-Status: ") (front ++ (codes "Refusal: " ++ value) ∷ behind) ≡ None
         → own_reason (front ++ (codes "Refusal: " ++ value) ∷ behind) ≡ Some (without_return value) }
+    ensures purged { (value : List ℕ) (front behind : List (List ℕ)) → last_own_text behind ≡ None
+        → last_value (codes "Cache-Status: ") (front ++ (codes "Purged: " ++ value) ∷ behind) ≡ None
+        → own_reason (front ++ (codes "Purged: " ++ value) ∷ behind)
+        ≡ Some (without_return (codes "Purged: " ++ value)) }
 {}

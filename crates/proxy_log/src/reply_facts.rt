@@ -5,7 +5,7 @@ ghost use Rattle.hx_fields.specs.Names.{cut_at};
 ghost use Rattle.proxy_log.specs.ReplyFacts.{without_cache_name, final_status, three_digit_number, reason_or_refusal};
 ghost use Rattle.proxy_log.specs.ReplyFacts.{reason_and_content};
 ghost use Rattle.proxy_log.specs.ReplyFacts.{reply_facts_of};
-ghost use Rattle.proxy_log.specs.ReplyFacts.{value_of_named_line};
+ghost use Rattle.proxy_log.specs.ReplyFacts.{own_text, value_of_named_line};
 
 use crate::text_lines::{first_line_cut, is_empty_line, without_return};
 use hx_fields::cut_at;
@@ -15,7 +15,7 @@ use hx_fields::cut_at;
 pub struct ReplyFacts<'a> {
     pub status: u16,
     /// What the proxy's member of Cache-Status says behind the proxy's name; in an answer of the proxy's own, the text
-    /// of Refusal.
+    /// of Refusal, or the line of Purged.
     pub reason: &'a [u8],
     content: &'a [u8],
 }
@@ -76,7 +76,7 @@ fn without_cache_name(member: &[u8]) -> &[u8]
     }
 }
 
-/// What the proxy's line of Cache-Status says, or where it wrote none that of Refusal.
+/// What the proxy's line of Cache-Status says, or where it wrote none that of Refusal or of Purged.
 fn own_reason<'a>(member: Option<&'a [u8]>, refusal: Option<&'a [u8]>) -> Option<&'a [u8]>
     ensures { option_map (λ reason. reason.now) result
         ≡ reason_or_refusal (option_map (λ value. value.now) member.entry)
@@ -101,6 +101,17 @@ fn value_of_named_line<'a>(front: &[u8], line: &'a [u8]) -> Option<&'a [u8]>
     }
 }
 
+/// What a line of Refusal says; a line of Purged is told as it stands.
+fn own_text(line: &[u8]) -> Option<&[u8]>
+    ensures { option_map (λ value. value.now) result ≡ own_text line.now }
+{
+    match value_of_named_line(b"Refusal: ", line) {
+        Some(text) => Some(text),
+        None if line.starts_with(b"Purged: ") => Some(without_return(line)),
+        None => None,
+    }
+}
+
 /// The reason in a head, and the content behind it. Lines of others stand in front of the proxy's own.
 fn reason_and_content(reply: &[u8]) -> Option<(&[u8], &[u8])>
     ensures { option_map (λ p. (p.0.now, p.1.now)) result ≡ reason_and_content reply.now }
@@ -114,7 +125,7 @@ fn reason_and_content(reply: &[u8]) -> Option<(&[u8], &[u8])>
             return Some((reason, behind));
         }
         member = value_of_named_line(b"Cache-Status: ", line).or(member);
-        refusal = value_of_named_line(b"Refusal: ", line).or(refusal);
+        refusal = own_text(line).or(refusal);
         rest = behind;
     }
     None

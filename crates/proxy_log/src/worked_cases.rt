@@ -31,13 +31,18 @@ pub fn bytes_that_break_a_line_are_escaped()
         ≡ codes "0.007 127.0.0.1:40001 GET \\x00\\x1B! 400 13 refused: form 0.000 -\n" }
 {}
 
-/// Answers of an origin and of the store, a refusal, an interim response, and what stands behind a head.
+/// Answers of an origin and of the store, a refusal, the answer to a purge, an interim response, and what stands behind
+/// a head.
 pub fn replies_name_their_reasons()
     ensures last { reply_facts_of
         (codes "HTTP/1.1 200 OK\r\nCache-Status: o;hit\r\nCache-Status: p;fwd=uri-miss;stored\r\nContent-Length: 2\r\n\r\nhi") ≡ Some (200, (codes "fwd=uri-miss;stored", codes "hi")) }
     ensures refusal { reply_facts_of
         (codes "HTTP/1.1 403 Forbidden\r\nRefusal: denied by line 1\r\nConnection: close\r\n\r\ndenied by line 1")
         ≡ Some (403, (codes "denied by line 1", codes "denied by line 1")) }
+    ensures purge { reply_facts_of (codes "HTTP/1.1 204 No Content\r\nPurged: 2\r\n\r\n")
+        ≡ Some (204, (codes "Purged: 2", [])) }
+    ensures others_purge { reply_facts_of (codes "HTTP/1.1 204 No Content\r\nPurged: 2\r\nCache-Status: p;fwd=method\r\n\r\n")
+        ≡ Some (204, (codes "fwd=method", [])) }
     ensures others_refusal { reply_facts_of (codes "HTTP/1.1 404 Not Found\r\nRefusal: o\r\nCache-Status: p;hit;ttl=9\r\n\r\n")
         ≡ Some (404, (codes "hit;ttl=9", [])) }
     ensures content { reply_facts_of (codes "HTTP/1.1 200 OK\r\nCache-Status: p;hit\r\n\r\nCache-Status: o;fwd=miss\r\n\r\n")

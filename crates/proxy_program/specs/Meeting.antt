@@ -3,7 +3,7 @@ use Rattle.std.specs.Prelude.{ℕ, Bool, true, false, ◌==◌}
 use Rattle.hx_allow.specs.declared.verdicts.Verdict.{Verdict}
 use Rattle.hx_allow.specs.declared.verdicts.Verdict.TheVariants as verdict
 use Rattle.proxy_program.specs.declared.meeting.Met.{Met}
-use Rattle.proxy_program.specs.declared.meeting.Met.TheVariants.{Allowed, DeniedBy, NoLine, Looped, Refused}
+use Rattle.proxy_program.specs.declared.meeting.Met.TheVariants.{Allowed, DeniedBy, NoLine, Looped, Purged, Refused}
 use Rattle.proxy_program.specs.declared.questions.Expected.{Expected}
 use Rattle.proxy_program.specs.declared.questions.Expected.TheVariants as expected
 
@@ -12,6 +12,7 @@ met_by_verdict (verdict.Allowed route) = Allowed route.number
 met_by_verdict (verdict.DeniedBy line) = DeniedBy line
 met_by_verdict verdict.NoLine = NoLine
 met_by_verdict (verdict.Looped line) = Looped line
+met_by_verdict (verdict.Purged line) = Purged line
 
 -- a line denies it or refuses its loop, or none allows it
 abbrev pub is_denied : Met → Bool
@@ -19,6 +20,7 @@ is_denied (Allowed line) = false
 is_denied (DeniedBy line) = true
 is_denied NoLine = true
 is_denied (Looped line) = true
+is_denied (Purged line) = false
 is_denied Refused = false
 
 abbrev pub is_allowed_by : Met → ℕ → Bool
@@ -26,6 +28,7 @@ is_allowed_by (Allowed line) n = line == n
 is_allowed_by (DeniedBy line) n = false
 is_allowed_by NoLine n = false
 is_allowed_by (Looped line) n = false
+is_allowed_by (Purged line) n = false
 is_allowed_by Refused n = false
 
 abbrev pub is_denied_by : Met → ℕ → Bool
@@ -33,6 +36,7 @@ is_denied_by (Allowed line) n = false
 is_denied_by (DeniedBy line) n = line == n
 is_denied_by NoLine n = false
 is_denied_by (Looped line) n = false
+is_denied_by (Purged line) n = false
 is_denied_by Refused n = false
 
 abbrev pub is_on_no_line : Met → Bool
@@ -40,6 +44,7 @@ is_on_no_line (Allowed line) = false
 is_on_no_line (DeniedBy line) = false
 is_on_no_line NoLine = true
 is_on_no_line (Looped line) = false
+is_on_no_line (Purged line) = false
 is_on_no_line Refused = false
 
 abbrev pub is_refused : Met → Bool
@@ -47,6 +52,7 @@ is_refused (Allowed line) = false
 is_refused (DeniedBy line) = false
 is_refused NoLine = false
 is_refused (Looped line) = false
+is_refused (Purged line) = false
 is_refused Refused = true
 
 abbrev pub expectation_is_met : Expected → Met → Bool

@@ -19,10 +19,18 @@ fn default_or_word(is_default: bool, word: &'static str) -> &'static str {
     if is_default { "" } else { word }
 }
 
+fn gives_a_lifetime(policy: Policy) -> bool {
+    policy.lifetime.is_some() || policy.error_lifetime.is_some()
+}
+
 /// Whether a line gives a lifetime, and to no request with a cookie.
 fn withholds_from_cookies(policy: Policy) -> bool {
-    let gives = policy.lifetime.is_some() || policy.error_lifetime.is_some();
-    gives && !policy.gives_to_cookies
+    gives_a_lifetime(policy) && !policy.gives_to_cookies
+}
+
+/// Whether a line gives a lifetime, and to no response with Set-Cookie.
+fn withholds_from_set_cookie(policy: Policy) -> bool {
+    gives_a_lifetime(policy) && !policy.gives_to_set_cookie
 }
 
 /// Tells a word of a line that has seconds.
@@ -59,12 +67,18 @@ fn print_policy<R: Print>(rt: &R, policy: Policy) -> io::Result<()> {
     print_stale_while_revalidate(rt, policy)?;
     for word in [
         default_or_word(policy.stores_cookies, "set-cookie = \"not-stored\""),
+        default_or_word(!policy.removes_cookies, "set-cookie = \"removed\""),
+        default_or_word(
+            !withholds_from_set_cookie(policy),
+            "an answer with Set-Cookie is given no lifetime",
+        ),
         default_or_word(!withholds_from_cookies(policy), "cookies = \"private\""),
         default_or_word(policy.stores_errors, "errors = \"not-stored\""),
         default_or_word(policy.heeds_requests, "request-directives = \"ignored\""),
         default_or_word(!policy.waits_for_stale, "wait = \"missing-or-stale\""),
         default_or_word(!policy.explains_storing, "explain = \"storing\""),
         default_or_word(policy.forwards_conditions, "conditions = \"answered\""),
+        default_or_word(policy.forwards_ranges, "ranges = \"served\""),
     ] {
         if !word.is_empty() {
             println!(rt; "    {word}")?;
@@ -117,9 +131,13 @@ fn print_verdict<R: Print>(
             print_loops(rt, config, line)?;
             print_seconds(rt, "origin-timeout", config.origin_timeout(line))
         }
+        Verdict::DeniedBy(line) if config.purges(line) => println!(rt;
+            "{text} is denied by line {line}, which purges for a request that shows its key"
+        ),
         Verdict::DeniedBy(line) => println!(rt; "{text} is denied by line {line}"),
         Verdict::NoLine => println!(rt; "{text} is denied: no line allows it"),
         Verdict::Looped(line) => println!(rt; "{text} is refused by line {line} as a loop"),
+        Verdict::Purged(line) => println!(rt; "{text} is purged by line {line}"),
     }
 }
 

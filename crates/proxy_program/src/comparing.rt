@@ -21,6 +21,7 @@ enum Way {
     /// To this origin, by these words of its line.
     To(SocketAddrV4, Policy),
     Denied,
+    Purged,
     Refused,
 }
 
@@ -33,6 +34,7 @@ fn way_of(config: &Config, met: Met) -> Way {
         Met::DeniedBy(_) => Way::Denied,
         Met::NoLine => Way::Denied,
         Met::Looped(_) => Way::Denied,
+        Met::Purged(_) => Way::Purged,
         Met::Refused => Way::Refused,
     }
 }

@@ -74,6 +74,8 @@ pub(crate) enum Met {
     NoLine,
     /// This line refuses it, since it loops.
     Looped(u16),
+    /// This line purges for it, since it shows the key.
+    Purged(u16),
     /// It is refused before the table is asked.
     Refused,
 }
@@ -88,6 +90,7 @@ impl Met {
             Verdict::DeniedBy(line) => Met::DeniedBy(line),
             Verdict::NoLine => Met::NoLine,
             Verdict::Looped(line) => Met::Looped(line),
+            Verdict::Purged(line) => Met::Purged(line),
         }
     }
 }
@@ -99,6 +102,7 @@ impl fmt::Display for Met {
             Met::DeniedBy(line) => write!(f, "denied by line {line}"),
             Met::NoLine => write!(f, "denied: no line allows it"),
             Met::Looped(line) => write!(f, "refused by line {line} as a loop"),
+            Met::Purged(line) => write!(f, "purged by line {line}"),
             Met::Refused => write!(f, "refused before the table is asked"),
         }
     }

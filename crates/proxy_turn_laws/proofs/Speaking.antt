@@ -125,6 +125,7 @@ arrival_tells table es xs now asked (verdict.Allowed line) = by_decision (decisi
 arrival_tells table es xs now asked (verdict.DeniedBy line) = refl
 arrival_tells table es xs now asked verdict.NoLine = refl
 arrival_tells table es xs now asked (verdict.Looped line) = refl
+arrival_tells table es xs now asked (verdict.Purged line) = refl
 
 either_tells : (o : Outcome) → is_either o ≡ true → is_end o ≡ false
 either_tells (outcomes.Reply r) h = refl

@@ -2,7 +2,7 @@ use Rattle.std.proofs.Common.{◌≡◌, sym, ◌∙◌, ap, ℕ, List, Option, 
 use Rattle.std.specs.Option.{option_map, option_or}
 use Rattle.hx_fields.specs.Names.{cut_at}
 use Rattle.hx_framing.specs.HeadLines.{is_empty_line}
-use Rattle.proxy_log.specs.ReplyFacts.{whole_lines, reason_or_refusal, reason_and_content, value_of_named_line}
+use Rattle.proxy_log.specs.ReplyFacts.{whole_lines, reason_or_refusal, own_text, reason_and_content, value_of_named_line}
 use Rattle.proxy_log.proofs.LineSteps.{reason_from, reason_at_first, reason_at_end, reason_further, lines_at, no_lines, map_or}
 use Rattle.proxy_log.proofs.reply_facts.reason_and_content.Goals as goal
 
@@ -27,8 +27,8 @@ pub loop-line-preserved : goal.loop-line-preserved
 loop-line-preserved c =
     let member : values c.or-member.result ≡ option_or (value_of_named_line (codes "Cache-Status: ") c.in-Some.line.now) (values c.loop-line.member)
     = ap values c.or-member.ensures ∙ map_or (λ v. v.now) c.value_of_named_line.result c.loop-line.member ∙ ap (λ r. option_or r (values c.loop-line.member)) c.value_of_named_line.ensures in
-    let refusal : values c.or-refusal.result ≡ option_or (value_of_named_line (codes "Refusal: ") c.in-Some.line.now) (values c.loop-line.refusal)
-    = ap values c.or-refusal.ensures ∙ map_or (λ v. v.now) c.value_of_named_line-in-Some.result c.loop-line.refusal ∙ ap (λ r. option_or r (values c.loop-line.refusal)) c.value_of_named_line-in-Some.ensures in
+    let refusal : values c.or-refusal.result ≡ option_or (own_text c.in-Some.line.now) (values c.loop-line.refusal)
+    = ap values c.or-refusal.ensures ∙ map_or (λ v. v.now) c.own_text.result c.loop-line.refusal ∙ ap (λ r. option_or r (values c.loop-line.refusal)) c.own_text.ensures in
     ap (λ m. reason_from m (values c.or-refusal.result) (whole_lines c.in-Some.behind.now)) member
     ∙ ap (λ r. reason_from (option_or (value_of_named_line (codes "Cache-Status: ") c.in-Some.line.now) (values c.loop-line.member)) r (whole_lines c.in-Some.behind.now)) refusal
     ∙ reason_further (values c.loop-line.member) (values c.loop-line.refusal) c.in-Some.line.now c.in-Some.behind.now (whole_lines c.in-Some.behind.now) (sym c.is_empty_line.ensures ∙ c.if-is_empty_line.false)
