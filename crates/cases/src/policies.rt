@@ -1,7 +1,8 @@
 //! What a line says of caching, in a case: `words` and each word as `lifetime=60`, with the values of the operator's
-//! table of version 4. A line of version 3 with that lifetime has `error-lifetime=60` too, and one of version 4 has
-//! `conditions=answered` without that word, where it gives a lifetime `cookies=private`, and where it has
-//! `wait=missing-or-stale` also `while-revalidating=sent`, which is no word of a table.
+//! table of version 4. A line of version 3 with that lifetime has `error-lifetime=60` too. One of version 4 has
+//! `conditions=answered` and `ranges=served` without these words, and where it gives a lifetime `cookies=private` and,
+//! without a word on Set-Cookie, `set-cookie-lifetime=none`; where it has `wait=missing-or-stale` also
+//! `while-revalidating=sent`. The last two are no words of a table.
 
 use hx_policy::Policy;
 use std::alloc::AllocError;
@@ -18,6 +19,8 @@ fn with_word(policy: Policy, word: &str) -> Option<Policy> {
             policy.stale_while_revalidate = Some(seconds.parse::<u32>().ok()?);
         }
         ("set-cookie", "not-stored") => policy.stores_cookies = false,
+        ("set-cookie", "removed") => policy.removes_cookies = true,
+        ("set-cookie-lifetime", "none") => policy.gives_to_set_cookie = false,
         ("cookies", "private") => policy.gives_to_cookies = false,
         ("errors", "not-stored") => policy.stores_errors = false,
         ("request-directives", "ignored") => policy.heeds_requests = false,
@@ -25,6 +28,7 @@ fn with_word(policy: Policy, word: &str) -> Option<Policy> {
         ("while-revalidating", "sent") => policy.sends_while_revalidating = true,
         ("explain", "storing") => policy.explains_storing = true,
         ("conditions", "answered") => policy.forwards_conditions = false,
+        ("ranges", "served") => policy.forwards_ranges = false,
         _ => return None,
     }
     Some(policy)
@@ -50,16 +54,25 @@ fn write_unless(text: &mut String, kept: bool, word: &str) -> Result<(), AllocEr
     if kept { Ok(()) } else { text.push_str(word) }
 }
 
+fn gives_a_lifetime(policy: Policy) -> bool {
+    policy.lifetime.is_some() || policy.error_lifetime.is_some()
+}
+
 /// Whether a line gives a lifetime, and to no request with a cookie.
 fn withholds_from_cookies(policy: Policy) -> bool {
-    let gives = policy.lifetime.is_some() || policy.error_lifetime.is_some();
-    gives && !policy.gives_to_cookies
+    gives_a_lifetime(policy) && !policy.gives_to_cookies
+}
+
+/// Whether a line gives a lifetime, and to no response with Set-Cookie.
+fn withholds_from_set_cookie(policy: Policy) -> bool {
+    gives_a_lifetime(policy) && !policy.gives_to_set_cookie
 }
 
 /// Whether a policy has a word that isn't as it is without words in versions 1 to 3.
 pub fn has_words(policy: Policy) -> bool {
     let mut shown = policy;
     shown.gives_to_cookies = !withholds_from_cookies(policy);
+    shown.gives_to_set_cookie = !withholds_from_set_cookie(policy);
     shown != Policy::plain(true)
 }
 
@@ -76,6 +89,12 @@ pub fn write_words(text: &mut String, policy: Policy) -> Result<(), AllocError> 
         policy.stale_while_revalidate,
     )?;
     write_unless(text, policy.stores_cookies, " set-cookie=not-stored")?;
+    write_unless(text, !policy.removes_cookies, " set-cookie=removed")?;
+    write_unless(
+        text,
+        !withholds_from_set_cookie(policy),
+        " set-cookie-lifetime=none",
+    )?;
     write_unless(text, !withholds_from_cookies(policy), " cookies=private")?;
     write_unless(text, policy.stores_errors, " errors=not-stored")?;
     write_unless(text, policy.heeds_requests, " request-directives=ignored")?;
@@ -86,5 +105,6 @@ pub fn write_words(text: &mut String, policy: Policy) -> Result<(), AllocError> 
         " while-revalidating=sent",
     )?;
     write_unless(text, !policy.explains_storing, " explain=storing")?;
-    write_unless(text, policy.forwards_conditions, " conditions=answered")
+    write_unless(text, policy.forwards_conditions, " conditions=answered")?;
+    write_unless(text, policy.forwards_ranges, " ranges=served")
 }

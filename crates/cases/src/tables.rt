@@ -66,6 +66,9 @@ fn write_line_words(text: &mut String, config: &Config, line: u16) -> Result<(),
     if refuses_loops(config, line) {
         text.push_str(" loops=refused")?;
     }
+    if config.purges(line) {
+        text.push_str(" purges")?;
+    }
     match config.origin_timeout(line) {
         Some(seconds) => write!(text, " origin-timeout={seconds}"),
         None => Ok(()),
@@ -80,6 +83,7 @@ fn write_read(text: &mut String, config: &Config) -> Result<(), AllocError> {
             || !config.session_cookies(line).is_empty()
             || !config.vary(line).is_empty()
             || refuses_loops(config, line)
+            || config.purges(line)
             || config.origin_timeout(line).is_some();
         if usize::from(line) <= config.lines() && has_any {
             write!(text, ", line {line}")?;
@@ -193,6 +197,7 @@ fn write_verdict(
         Verdict::DeniedBy(line) => write!(text, "denied by line {line}"),
         Verdict::NoLine => text.push_str("no line"),
         Verdict::Looped(line) => write!(text, "loop refused by line {line}"),
+        Verdict::Purged(line) => write!(text, "purged by line {line}"),
     }
 }
 
