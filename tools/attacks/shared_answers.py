@@ -37,8 +37,10 @@ LINES = {
     "waiting": (3, {"wait": "missing-or-stale", "stale-if-error": 60}),
     "all words of version 3": (3, {**ALL_WORDS, "explain": "storing"}),
     "version 4": (4, {}),
+    "forwarded ranges": (4, {"ranges": "forwarded"}),
     "lifetime of version 4": (4, {"lifetime": 60}),
     "shared cookies": (4, {"lifetime": 60, "cookies": "shared"}),
+    "removed cookies": (4, {"lifetime": 60, "set-cookie": "removed"}),
     "a most": (4, {"lifetime-most": 60}),
     "both lifetimes": (4, {"lifetime": 60, "error-lifetime": 30}),
     "all words of version 4": (4, {**ALL_WORDS, "error-lifetime": 30, "explain": "storing"}),
@@ -105,12 +107,18 @@ class Answering:
         fetch.send(head_of(case.status, [*dated, *([] if case.status == 204 else [f"Content-Length: {len(content)}"])]) + content)
 
 
-def forbids_storing(case, who, words):
+def forwards_ranges(line):
+    """Whether a request for a range goes past the store; else it is answered by what is stored, and a whole answer to it is (RFC 9110, 14.2)."""
+    version, words = line
+    return version < 4 or words.get("ranges") == "forwarded"
+
+
+def forbids_storing(case, who, line):
     """Why what the case's origin answered to `who` may be given to nobody else (RFC 9111, section 3); none where it may."""
-    answer, asked = case.lines, case.asked[who]
+    answer, asked, words = case.lines, case.asked[who], line[1]
     if words.get("cache") == "off":
         return "the line has no cache"
-    if case.status == 206 or any(it.startswith("Range") for it in asked):
+    if case.status == 206 or (forwards_ranges(line) and any(it.startswith("Range") for it in asked)):
         return "a part"
     if has(answer, "must-understand") and case.status not in UNDERSTOOD:
         return "must-understand"
@@ -127,21 +135,30 @@ def forbids_storing(case, who, words):
         return "Vary: *"
     if "cache-control" in words_of(answer, "connection"):
         return "Connection names Cache-Control"
-    if words.get("set-cookie") == "not-stored" and any(it.startswith("Set-Cookie") for it in answer) and not has(answer, "public"):
+    if words.get("set-cookie") == "not-stored" and sets_cookie(answer) and not has(answer, "public"):
         return "Set-Cookie"
     if words.get("errors") == "not-stored" and case.status >= 400 and case.status not in HEURISTIC:
         return "an error"
     return None
 
 
+def sets_cookie(lines):
+    return any(it.startswith("Set-Cookie") for it in lines)
+
+
 def is_for_one(case, who, version, words):
-    """What was asked for with a cookie or credentials, and others may have by the lifetime of the line alone (docs/COOKIES.md)."""
-    if version < 4 or words.get("cookies") == "shared" or has(case.lines, "public"):
+    """What sets a cookie, or was asked for with a cookie or credentials, and others may have by the lifetime of the line alone
+    (docs/COOKIES.md)."""
+    if version < 4 or has(case.lines, "public"):
+        return False
+    by_answer = sets_cookie(case.lines) and "set-cookie" not in words
+    by_request = words.get("cookies") != "shared" and any(it.startswith(("Cookie", "Authorization")) for it in case.asked[who])
+    if not (by_answer or by_request):
         return False
     stated = any(it.partition("=")[0] in ("max-age", "s-maxage") for it in words_of(case.lines, "cache-control"))
     if stated or any(it.startswith("Expires") for it in case.lines):
         return False
-    return lifetime_of(case, version, words) > 0 and any(it.startswith(("Cookie", "Authorization")) for it in case.asked[who])
+    return lifetime_of(case, version, words) > 0
 
 
 def lifetime_of(case, version, words):
@@ -168,7 +185,7 @@ def forbids_sending(case, maker, who, was_asked, line):
         values = [", ".join(words_of(case.asked[it], name)) for it in (maker, who)]
         if values[0] != values[1]:
             return f"another {name}"
-    if any(it.startswith("Range") for it in asked):
+    if forwards_ranges(line) and any(it.startswith("Range") for it in asked):
         return "a range was asked for"
     if was_asked:
         return None
@@ -195,7 +212,7 @@ def judge(case, who, response, came, line):
     told_from_store = ";hit" in status or ";collapsed" in status or ";fwd-status=304" in status or (was_asked and ";fwd=" in status)
     if not told_from_store:
         return f"it came from the store, and its reason is {status!r}"
-    return forbids_storing(case, maker, line[1]) or forbids_sending(case, maker, who, was_asked, line)
+    return forbids_storing(case, maker, line) or forbids_sending(case, maker, who, was_asked, line)
 
 
 def play_case(port, case, came, line, tally):

@@ -86,6 +86,18 @@ class InHand:
         of_errors = self.status >= 400 and (self.words or {}).get("version", 4) >= 4
         return "error-lifetime" if of_errors else "lifetime"
 
+    def with_a_cookie(self):
+        """The rule of answers with Set-Cookie: those that the line stores none of, and those that only the line gives a lifetime."""
+        sets_cookie = self.has("Set-Cookie") and "public" not in self.said
+        verdict, why = self.by_table(sets_cookie, "set-cookie", lambda it: it == "not-stored", 'if the line has set-cookie = "not-stored"')
+        word = self.word_of_lifetime()
+        if sets_cookie and self.status in HEURISTIC and not self.has_lifetime():
+            if self.words is None:
+                why += f", or in a table of version 4 {word} and no set-cookie"
+            elif self.words.get("version", 4) >= 4 and word in self.words and "set-cookie" not in self.words:
+                verdict, why = STANDS, f"the line's {word} isn't given to such an answer without a word on set-cookie"
+        return verdict, f"it sets a cookie, {self.control()}: {why}"
+
     def for_one_visitor(self):
         """The rule of answers to a request with a cookie or credentials that only the line gives a lifetime."""
         tells = [name for name in ("Cookie", "Authorization") if values_of(self.asked, name)]
@@ -127,9 +139,7 @@ class InHand:
         yield "TooLarge", *self.too_large()
         yield "Overtaken", MAY, "if the target was written (POST, PUT, PURGE ..) while the answer was on its way"
         yield "Serials", FALLS, "no server lives that long"
-        sets_cookie = self.has("Set-Cookie") and "public" not in self.said
-        verdict, why = self.by_table(sets_cookie, "set-cookie", lambda it: it == "not-stored", 'if the line has set-cookie = "not-stored"')
-        yield "SetCookie", verdict, f"it sets a cookie, {self.control()}: {why}"
+        yield "SetCookie", *self.with_a_cookie()
         is_error = self.status >= 400 and self.status not in HEURISTIC
         verdict, why = self.by_table(is_error, "errors", lambda it: it == "not-stored", 'if the line has errors = "not-stored"')
         yield "ErrorStatus", verdict, f"status {self.status}: {why}"

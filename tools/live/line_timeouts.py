@@ -91,9 +91,9 @@ def a_check_shows_the_time_out_of_a_line(stage):
     """`check --ask` shows what a line gives its origin, with its cache on or off, and says which seconds may stand where."""
     file = f"{stage.room.name}/table.toml"
     for words, told in (
-        ({"origin-timeout": 5}, ['cache = "on"', 'conditions = "answered"', 'loops = "refused"', "origin-timeout = 5"]),
+        ({"origin-timeout": 5}, ['cache = "on"', 'conditions = "answered"', 'ranges = "served"', 'loops = "refused"', "origin-timeout = 5"]),
         ({"origin-timeout": 86400, "cache": "off"}, ['cache = "off"', 'loops = "refused"', "origin-timeout = 86400"]),
-        ({}, ['cache = "on"', 'conditions = "answered"', 'loops = "refused"']),
+        ({}, ['cache = "on"', 'conditions = "answered"', 'ranges = "served"', 'loops = "refused"']),
     ):
         with open(file, "w", encoding="utf-8") as it:
             it.write(table_of([("/", ["*"], "127.0.0.1:1", words)], version=4))
@@ -104,5 +104,5 @@ def a_check_shows_the_time_out_of_a_line(stage):
         with open(file, "w", encoding="utf-8") as it:
             it.write(table_of([("/", ["*"], origin, {"origin-timeout": seconds})], version=4))
         status, out, err = run(stage, "check", file)
-        said = "be a whole number of seconds from 1 to 86400, without quotes, and not to stand in a line that denies" in out
+        said = "be a whole number of seconds from 1 to 86400, without quotes, and not to stand in a line that denies or purges" in out
         expect(f"of {seconds}", (2, "config fault 12 line 1 key origin-timeout\n", True), (status, err, said))

@@ -127,7 +127,7 @@ def an_answer_that_was_overtaken_tells_it(stage):
 VALUES = [
     ("lifetime", [1, 60, 2147483648], [0, -1, 2147483649, "60", 1.5, True], "a whole number of seconds from 1 to 2147483648, without quotes"),
     ("stale-if-error", [0, 60, 2147483648], [-1, 2147483649, "60", 1.5], "a whole number of seconds from 0 to 2147483648, without quotes"),
-    ("set-cookie", ["stored", "not-stored"], ["Stored", "off", "", 0, False], '"stored" or "not-stored"'),
+    ("set-cookie", ["stored", "not-stored"], ["Stored", "off", "", 0, False], '"stored" or "not-stored", in version 4 also "removed"'),
     ("errors", ["stored", "not-stored"], ["not stored", "no", 0], '"stored" or "not-stored"'),
     ("request-directives", ["heeded", "ignored"], ["ignore", "off", 1], '"heeded" or "ignored"'),
     ("wait", ["missing", "missing-or-stale"], ["stale", "Missing", "off", "", 1, True], '"missing" or "missing-or-stale"'),

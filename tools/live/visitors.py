@@ -1,10 +1,12 @@
 """Scenarios of requests with a cookie, and of what an origin states by mistake, over tables of version 4. The counts at the origin are
 those of docs/COOKIES.md and of docs/LINE_OPTIONS.md, "lifetime-most"."""
+import threading
 import time
 
 from live.expect import expect, expect_answer, expect_member
-from live.line_words import PAST_A_SECOND, by_words, expect_asked
-from live.origin import whole
+from live.client import request
+from live.line_words import MINUTE, MISS, PAST_A_SECOND, by_words, counted, expect_asked, expect_cookie
+from live.origin import held_back, whole
 from live.programs import run
 from live.proxy import table_of
 from live.scenario import scenario
@@ -17,6 +19,8 @@ STORED_SHORTLY, HIT_SHORTLY = "edge;fwd=uri-miss;ttl=1;stored", "edge;hit;ttl=1"
 # A framework that says nothing of caching, and operators who give such pages a minute.
 SILENT = {"lifetime": 60, "error-lifetime": 60, "explain": "storing"}
 YEAR = "Cache-Control: max-age=31536000"
+# What `check` tells of a line that has a lifetime and no word on Set-Cookie.
+NO_LIFETIME = "an answer with Set-Cookie is given no lifetime"
 
 
 def visitor_of(fetch):
@@ -138,6 +142,85 @@ def a_304_for_one_visitor_keeps_nothing_for_all(stage):
             expect_answer(client.ask("/a"), 200, it, b"nobody")
 
 
+def expect_no_cookie(answer, member, content=b"welcome"):
+    expect_answer(answer, 200, member, content)
+    expect("a cookie that was set for another visitor", None, answer.value("Set-Cookie"))
+
+
+@scenario
+def a_cookie_stays_with_the_first_visitor(stage):
+    """`set-cookie = "removed"`, RFC 6265, 3, and RFC 9111, 7.3: the first visitor has the page with its cookie; all others have the page out of
+    the store, without one. What isn't stored goes out whole, to each."""
+    answers = {"/": counted(), "/own": counted(MINUTE), "/private": counted("Cache-Control: private, max-age=60")}
+    client, origin = by_words(stage, {"lifetime": 60, "set-cookie": "removed"}, answers, 4)
+    other = stage.proxies[-1].client()
+    for target in ("/", "/own"):
+        expect_cookie(client.ask(target), STORED, 1)
+        for it in (other, client, other):
+            expect_no_cookie(it.ask(target), HIT)
+        expect_no_cookie(other.ask(target, method="HEAD"), HIT, b"")
+    expect_asked(origin, 2)
+    for i, it in enumerate((client, other, client), 1):
+        expect_cookie(it.ask("/private"), MISS, i)
+    expect_asked(origin, 5)
+
+
+@scenario
+def a_crowd_shares_a_page_and_no_cookie(stage):
+    """Five ask for a page at once over a line that removes cookies, and wait for the first one's answer: the first has its cookie, the others
+    have the page alone."""
+    go = threading.Event()
+    client, origin = by_words(stage, {"lifetime": 60, "set-cookie": "removed"}, {"/": held_back(go, counted())}, 4)
+    others = [stage.proxies[-1].client() for _ in range(4)]
+    client.send(request("/"))
+    origin.wait_for(1)
+    for it in others:
+        it.send(request("/"))
+    expect("an answer before the first one's", False, not others[-1].has_nothing_to_read(0.5))
+    go.set()
+    expect_cookie(client.response(), STORED, 1)
+    for it in others:
+        expect_no_cookie(it.response(), "edge;fwd=uri-miss;ttl=60;collapsed")
+    expect_asked(origin, 1)
+
+
+@scenario
+def a_304_brings_a_cookie_to_nobody(stage):
+    """RFC 9111, 4.3.4, over a line that removes cookies: a 304 with Set-Cookie freshens the page without it, for who asked and for others. And
+    where the origin fails the stale page has none."""
+    client, origin = by_words(stage, {"stale-if-error": 60, "set-cookie": "removed"}, {"/a": counted("Cache-Control: max-age=0", 'ETag: "v1"')}, 4)
+    expect_cookie(client.ask("/a"), "edge;fwd=uri-miss;ttl=0;stored", 1)
+    origin.answers["/a"] = whole(503)
+    stale = client.ask("/a")
+    expect("the stale page", (200, b"welcome", None), (stale.status, stale.content, stale.value("Set-Cookie")))
+    origin.answers["/a"] = counted(MINUTE, 'ETag: "v1"', status=304)
+    expect_no_cookie(client.ask("/a"), "edge;fwd=stale;fwd-status=304;ttl=60")
+    expect("the condition at the origin", '"v1"', origin.fetches[2].value("If-None-Match"))
+    expect_no_cookie(stage.proxies[-1].client().ask("/a"), HIT)
+    expect_asked(origin, 3)
+
+
+@scenario
+def a_page_with_a_cookie_is_given_no_lifetime(stage):
+    """RFC 9111, 4.2.2 and 7.3: over a line of version 4 without a word on Set-Cookie a page that sets one and states no lifetime is each
+    visitor's own. With `set-cookie = "stored"`, and in version 3, the line gives it one, and the first visitor's cookie goes to all."""
+    for_one = "edge;fwd=uri-miss;detail=not-stored-set-cookie"
+    answers = {"/": counted(), "/tagged": counted('ETag: "v1"'), "/own": counted(MINUTE), "/public": counted("Cache-Control: public")}
+    client, origin = by_words(stage, SILENT, answers, 4)
+    for target in ("/", "/tagged"):
+        for i in (1, 2):
+            expect_cookie(client.ask(target), for_one, i)
+    for target in ("/own", "/public"):
+        expect_cookie(client.ask(target), STORED, 1)
+        expect_cookie(client.ask(target), HIT, 1)
+    expect_asked(origin, 6)
+    for version, words in ((4, {"lifetime": 60, "set-cookie": "stored"}), (3, {"lifetime": 60})):
+        client, origin = by_words(stage, words, {"/": counted()}, version)
+        expect_cookie(client.ask("/"), STORED, 1)
+        expect_cookie(client.ask("/"), HIT, 1)
+        expect_asked(origin, 1)
+
+
 @scenario
 def a_year_by_mistake_counts_as_the_most(stage):
     """RFC 9111, 4.2.1, and `lifetime-most`: what states a year is asked about again behind the most, and the client is told what the origin
@@ -161,9 +244,12 @@ def a_check_shows_words_of_version_four(stage):
     """`check --ask` shows what a line of version 4 says of cookies and of the most seconds, and where a value may not stand."""
     file = f"{stage.room.name}/table.toml"
     for words, told in (
-        ({"lifetime": 60}, ["lifetime = 60", 'cookies = "private"']),
-        ({"lifetime": 60, "lifetime-most": 86400, "cookies": "shared"}, ["lifetime = 60", "lifetime-most = 86400"]),
-        ({"error-lifetime": 5, "cookies": "private"}, ["error-lifetime = 5", 'cookies = "private"']),
+        ({"lifetime": 60}, ["lifetime = 60", NO_LIFETIME, 'cookies = "private"']),
+        ({"lifetime": 60, "lifetime-most": 86400, "cookies": "shared"}, ["lifetime = 60", "lifetime-most = 86400", NO_LIFETIME]),
+        ({"error-lifetime": 5, "cookies": "private"}, ["error-lifetime = 5", NO_LIFETIME, 'cookies = "private"']),
+        ({"lifetime": 60, "set-cookie": "stored"}, ["lifetime = 60", 'cookies = "private"']),
+        ({"lifetime": 60, "set-cookie": "removed"}, ["lifetime = 60", 'set-cookie = "removed"', 'cookies = "private"']),
+        ({"set-cookie": "removed"}, ['set-cookie = "removed"']),
         ({"cookies": "private"}, []),
         ({"session-cookies": ["sid", "login"]}, ['session-cookies = ["sid", "login"]']),
         ({"vary": ["X-Forwarded-Proto"]}, ['vary = ["X-Forwarded-Proto"]']),
@@ -173,11 +259,12 @@ def a_check_shows_words_of_version_four(stage):
         _, out, _ = run(stage, "check", file, "--ask", "GET http://h.example/")
         shown = [it.strip() for it in out.splitlines() if it.startswith("    ")]
         names = {"session-cookies", "vary"} & set(words)
-        rest = ['conditions = "answered"', *(told if names else [])]
+        rest = ['conditions = "answered"', 'ranges = "served"', *(told if names else [])]
         first = [] if names else told
         expect(f"of {words}", ['cache = "on"', *first, *rest, 'loops = "refused"', "key h.example:80/"], shown)
     for key, value, said in (
         ("cookies", "ignored", '"private" or "shared"'),
+        ("set-cookie", "hidden", '"stored" or "not-stored", in version 4 also "removed"'),
         ("lifetime-most", 0, "from 1 to 2147483648"),
         ("session-cookies", [], "a list of 1 to 16 names"),
         ("session-cookies", ["*"], 'but not "*"'),

@@ -1,4 +1,4 @@
-"""What a reason in a log says: the words of Cache-Status behind the proxy's name, or those of Refusal."""
+"""What a reason in a log says: the words of Cache-Status behind the proxy's name, or those of Refusal or Purged."""
 import re
 
 from reported.hints import hint_of
@@ -45,7 +45,7 @@ class Reason:
     """A reason, read once. `word` is what it says but for what differs from one answer to the next."""
 
     __slots__ = ("word", "ttl", "is_refusal", "family", "is_failure", "is_hit", "is_stored", "is_new", "is_covered")
-    __slots__ += ("is_left", "is_covered_error", "asks", "kind", "lane", "left_out", "hint", "same")
+    __slots__ += ("is_left", "is_purge", "is_covered_error", "asks", "kind", "lane", "left_out", "hint", "same")
 
     def __init__(self, text):
         words = text.decode("ascii").split(";")
@@ -54,7 +54,10 @@ class Reason:
         self.ttl = int(found[1]) if found else 0
         # A client that left before its answer, or whose exchange ended without one.
         self.is_left = words[0] == "left"
-        self.is_refusal = not self.is_left and not self.word.startswith(("hit", "fwd="))
+        self.is_purge = words[0].startswith("Purged: ")
+        if self.is_purge:
+            self.word = "purged"
+        self.is_refusal = not self.is_left and not self.word.startswith(("hit", "fwd=", "purged"))
         self.family = (
             FAMILIES.get(words[0].partition(" ")[0].rstrip(":"), "refused, only-if-cached")
             if self.is_refusal
@@ -70,17 +73,19 @@ class Reason:
         )
         statuses = [it for it in words if it.startswith("fwd-status=5")]
         self.is_covered_error = self.is_covered and bool(statuses)
-        self.asks = self.is_failure or not (self.is_refusal or self.is_hit or self.is_left)
+        self.asks = self.is_failure or not (self.is_refusal or self.is_hit or self.is_left or self.is_purge)
         self.kind = self.kind_of(words, is_hit, is_collapsed)
-        self.lane = LEFT if self.is_left else OWN if self.is_refusal else HIT if is_hit else COLLAPSED if is_collapsed else FORWARDED
+        self.lane = LEFT if self.is_left else OWN if self.is_refusal or self.is_purge else HIT if is_hit else COLLAPSED if is_collapsed else FORWARDED
         self.left_out = self.why_left_out(words)
-        self.hint = hint_of(words, self.is_refusal, self.is_stored)
+        self.hint = None if self.is_purge else hint_of(words, self.is_refusal, self.is_stored)
 
     def kind_of(self, words, is_hit, is_collapsed):
         if self.is_refusal:
             return FAILED if self.is_failure else REFUSED
         if self.is_left:
             return GONE
+        if self.is_purge:
+            return KINDS.index("fwd=method")
         name = "hit" if is_hit else "collapsed" if is_collapsed else words[0]
         return KINDS.index(name) if name in KINDS else KINDS.index("fwd=bypass")
 
@@ -92,7 +97,7 @@ class Reason:
             return 4
         if words[0] == "fwd=bypass":
             return 1 if "detail=operator" in words else 3
-        return 2 if words[0] == "fwd=method" else None
+        return 2 if words[0] == "fwd=method" or self.is_purge else None
 
 
 class Reasons(dict):

@@ -1,0 +1,92 @@
+"""Scenarios of lines that purge: what docs/TABLE.md, "Lines that purge", says of the key, of what goes and of what is on its way."""
+import threading
+import time
+
+from live.expect import expect, expect_answer, expect_refusal, expect_within
+from live.figures import expect_samples, figures_with, of
+from live.line_words import MINUTE, expect_asked
+from live.origin import Origin, held_back, whole
+from live.scenario import scenario
+from live.stale_crowds import sent
+from live.waiting import READ
+
+KEY = "c2d9f1b07a5e4d38Z"
+SHOWN = f"Purge-Key: {KEY}"
+STORED = "edge;fwd=uri-miss;ttl=60;stored"
+DENIED = "denied by line 1"
+
+
+def purging(stage, answers, words=None, **more):
+    """A proxy that purges by its first line, and the origin of the second, which may have words."""
+    stage.finish()
+    while stage.origins:
+        stage.origins.pop().close()
+    origin = stage.origin(Origin(answers))
+    return stage.proxy(("/", ["PURGE"], "purge", {"key": KEY}), ("/", ["*"], origin.address, words or {}), version=4, **more), origin
+
+
+def expect_purged(answer, count):
+    expect("status, Purged, content and Cache-Status", (204, str(count), b"", None), (answer.status, answer.value("Purged"), answer.content, answer.value("Cache-Status")))
+
+
+@scenario
+def what_is_held_for_a_target_is_purged_by_its_key(stage):
+    """All variants of one target go, and no other target; without the key, with another or with an order that isn't known nothing goes."""
+    varied = whole(200, MINUTE, "Vary: X-A", content=b"page")
+    file = f"{stage.room.name}/figures"
+    proxy, origin = purging(stage, {"/a": varied, "/a/b": varied, "/a?b": varied}, options=["--stats", file])
+    client = proxy.client()
+    for path, lines in (("/a", ("X-A: 1",)), ("/a", ("X-A: 2",)), ("/a/b", ()), ("/a?b", ())):
+        expect("status", 200, client.ask(path, *lines).status)
+    others = ("Purge-Scope: prefix", "purge-tag: news", "Purge-Mode: stale", "Purge-Anything: x")
+    for lines in ((), (f"Purge-Key: {KEY[:-1]}z",), (f"Purge-Key: {KEY[:-1]}",), (f"Purge-Key: {KEY}x",), (f"Key: {KEY}",), *((SHOWN, it) for it in others)):
+        expect_refusal(client.ask("/a", *lines, method="PURGE"), 403, DENIED)
+    expect_answer(client.ask("/a", "X-A: 1"), 200, "edge;hit;ttl=60", b"page")
+    expect_purged(client.ask("/a", SHOWN, method="PURGE"), 2)
+    expect_purged(client.ask("/a", SHOWN, method="PURGE"), 0)
+    expect_answer(client.ask("/a", "X-A: 1"), 200, STORED, b"page")
+    expect("a hit", b"page", client.ask("/a/b").content)
+    expect("another hit", b"page", client.ask("/a?b").content)
+    expect_asked(origin, 5)
+    samples = figures_with(file, of("responses_total", code=204), 2)
+    expect_samples(samples, {of("responses_total", code=403): 9, of("requests_total", reason="purged", detail=""): 2})
+
+
+@scenario
+def what_was_asked_for_before_a_purge_is_not_stored(stage):
+    """An answer that was on its way when the purge came goes to its client and isn't stored. Over a line with
+    `wait = "missing-or-stale"` no later GET waits for it."""
+    go = threading.Event()
+    answers = {"/a": held_back(go, whole(200, MINUTE, content=b"old"))}
+    proxy, origin = purging(stage, answers, {"wait": "missing-or-stale"})
+    first = sent(proxy, "/a")
+    time.sleep(READ)
+    begun = time.monotonic()
+    expect_purged(proxy.client().ask("/a", SHOWN, method="PURGE"), 0)
+    expect_within("the purge", 0, 1, time.monotonic() - begun)
+    origin.answers["/a"] = whole(200, MINUTE, content=b"new")
+    expect_answer(proxy.client().ask("/a"), 200, STORED, b"new")
+    go.set()
+    expect_answer(first.response(), 200, "edge;fwd=uri-miss", b"old")
+    expect_answer(proxy.client().ask("/a"), 200, "edge;hit;ttl=60", b"new")
+    expect_asked(origin, 2)
+
+
+@scenario
+def the_key_stands_in_no_log(stage):
+    """Neither a purge nor a request with a wrong key leaves a key in the log or in the figures; each has its line."""
+    log, file = f"{stage.room.name}/log", f"{stage.room.name}/figures"
+    proxy, _ = purging(stage, {"/a": whole(200, MINUTE, content=b"page")}, options=["--log", log, "--stats", file])
+    client = proxy.client()
+    expect("status", 200, client.ask("/a").status)
+    expect_purged(client.ask("/a", SHOWN, method="PURGE"), 1)
+    expect_refusal(client.ask("/b", "Purge-Key: another-try-of-a-key", method="PURGE"), 403, DENIED)
+    figures_with(file, of("responses_total", code=403), 1)
+    stage.finish()
+    for path in (log, file):
+        with open(path, encoding="utf-8") as it:
+            text = it.read()
+        expect(f"keys in {path}", (False, False), (KEY in text, "another-try" in text))
+        if path == log:
+            told = [" ".join(line.split()[2:-2]) for line in text.splitlines()]
+            expect("lines of the log", ["PURGE http://h/a 204 0 Purged: 1", "PURGE http://h/b 403 16 denied by line 1"], told[1:])
