@@ -49,7 +49,8 @@ def what_is_held_for_a_target_is_purged_by_its_key(stage):
     expect("another hit", b"page", client.ask("/a?b").content)
     expect_asked(origin, 5)
     samples = figures_with(file, of("responses_total", code=204), 2)
-    expect_samples(samples, {of("responses_total", code=403): 9, of("requests_total", reason="purged", detail=""): 2})
+    counts = {"hit": 3, "uri-miss": 4, "vary-miss": 1, "denied": 9, "purged": 2}
+    expect_samples(samples, {of("requests_total", reason=reason, detail=""): n for reason, n in counts.items()})
 
 
 @scenario
