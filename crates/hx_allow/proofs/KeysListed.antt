@@ -8,7 +8,7 @@ use Rattle.std.proofs.lemmas.List.Elements.{All-nil, All-cons}
 use Rattle.toml.specs.Data.{Members, get_member}
 use Rattle.hx_policy.specs.Policies.{plain}
 use Rattle.hx_allow.specs.LineTables.{is_good, first_bad_key}
-use Rattle.hx_allow.specs.LineWords.{key_has_text, word_of_error_lifetime, line_takes_words, removes_cookies, gives_lifetimes_to_set_cookie, gives_lifetimes_to_cookies, leaves_conditions_to_origin, leaves_ranges_to_origin, policy_of_line_table}
+use Rattle.hx_allow.specs.LineWords.{key_has_text, word_of_error_lifetime, line_takes_words, removes_cookies, gives_lifetimes_to_set_cookie, gives_lifetimes_to_cookies, leaves_conditions_to_origin, leaves_ranges_to_origin, fills_ranges, policy_of_line_table}
 use Rattle.hx_allow.specs.Keys.{word_key}
 use Rattle.hx_allow.specs.Rows.{line_keys, word_row, has_keys_of}
 use Rattle.hx_allow.specs.Versions.{LineHasNoCachingWord}
@@ -75,7 +75,9 @@ plain_policy version ms none older =
     let removed : removes_cookies version ms ≡ false = rw set_cookie (and_false (has_keys_of version Four)) in
     let given : gives_lifetimes_to_set_cookie version ms ≡ true = rw older refl in
     let ranges : leaves_ranges_to_origin version ms ≡ true = rw older refl in
-    rw cookies (rw conditions (rw ranges (rw removed (rw given (rw error_lifetime (rw lifetime (rw lifetime_most (rw stale_if_error (rw stale_while_revalidate (rw set_cookie (rw errors (rw request_directives (rw wait (rw explain refl))))))))))))))
+    let ranges_word : get_member (codes "ranges") ms ≡ None = none Ranges refl in
+    let filled : fills_ranges version ms ≡ false = rw ranges_word (and_false (has_keys_of version Four)) in
+    rw filled (rw cookies (rw conditions (rw ranges (rw removed (rw given (rw error_lifetime (rw lifetime (rw lifetime_most (rw stale_if_error (rw stale_while_revalidate (rw set_cookie (rw errors (rw request_directives (rw wait (rw explain refl)))))))))))))))
 
 -- ---- what a test of the list tells of each
 

@@ -17,6 +17,7 @@ pub mod Loops
 pub mod WordsRead
 pub mod PathTails
 pub mod Purging
+mod ScopesTold
 pub mod LeastUnknown
 pub mod Deciding
 pub mod TomlTables

@@ -127,9 +127,9 @@ pub earlier_as_before : (t : Members) (table : Table) (method : List ℕ) (targe
     verdict_of_request table method target fields ≡ verdict_of table.lines method target
 earlier_as_before t table method target fields before e =
     let each : All LineIsOfThree table.lines = each_is_of_three t table before e in
-    forwarded_as_before table method target fields (λ route is. none_refuses table.lines (λ i d within. (each i d within).9) route.number)
-    ∙ ap (verdict_on_purges table.lines fields) (none_past table.lines method target fields (λ n. none_named table.lines (λ i d within. (each i d within).10) n))
-    ∙ none_purged table.lines fields (verdict_of table.lines method target) (λ n. none_keyed table.lines (λ i d within. (each i d within).13) n)
+    forwarded_as_before table method target fields (λ route is. none_refuses table.lines (λ i d within. (each i d within).10) route.number)
+    ∙ ap (verdict_on_purges table.lines fields) (none_past table.lines method target fields (λ n. none_named table.lines (λ i d within. (each i d within).11) n))
+    ∙ none_purged table.lines fields (verdict_of table.lines method target) (λ n. none_keyed table.lines (λ i d within. (each i d within).14) n)
 
 -- lines of Via count together
 pub times_together : (name : List ℕ) (fields more : List Field) → times_named name (fields ++ more) ≡ times_named name fields + times_named name more

@@ -15,7 +15,7 @@ use Rattle.hx_allow.specs.Addresses.{address_of, is_address}
 use Rattle.hx_allow.specs.LineHosts.{begins_with_star_dot, is_for_hosts_below, line_host_of}
 use Rattle.hx_allow.specs.LineWords.{is_one_of_two, key_has_one_of_two, key_has_text, line_has_no_origin, line_takes_words, line_purges, says_third_of}
 use Rattle.hx_allow.specs.LineTables.{is_line_origin, is_host_in_lower_case, names_hosts_below, is_line_host, is_line_path, is_text_of, are_texts_of, is_text_or_list, is_of_kind, is_good_at, is_good, first_bad_key, line_fault, line_read, first_fault_or_later, spelling_fault}
-use Rattle.hx_allow.specs.Rows.{Kind, a_number, some_seconds, a_store_bound, a_version, one_of, one_of_in_four, some_names, a_name, some_lines, a_purge_key, a_host, some_methods, a_path, an_origin, Row, line_row, word_row, fault_of_line_key, has_keys_of}
+use Rattle.hx_allow.specs.Rows.{Kind, a_number, some_seconds, a_store_bound, a_version, one_of, one_of_in_four, one_of_three, some_names, a_name, some_lines, a_purge_key, a_host, some_methods, a_path, an_origin, Row, line_row, word_row, fault_of_line_key, has_keys_of}
 use Rattle.hx_allow.specs.TableLines.{Line as PlainLine, Table}
 use Rattle.hx_allow.specs.Tables.{version_of, judge_table}
 use Rattle.hx_allow.specs.Values.{first_unknown, is_some_and, text_at, items_at, texts_or_one}
@@ -81,6 +81,7 @@ kind_before version a_version key ms before = refl
 kind_before version (one_of first second) key ms before = refl
 kind_before version (one_of_in_four first second third) key ms before =
     ap (λ four. key_has_one_of_two key first second ms || (four && key_has_text key third ms)) before
+kind_before version (one_of_three first second third) key ms before = refl
 kind_before version (some_names most) key ms before = refl
 kind_before version a_name key ms before = refl
 kind_before version some_lines key ms before = refl
@@ -101,6 +102,7 @@ kind_in_four (a_store_bound low high) key ms other third = refl
 kind_in_four a_version key ms other third = refl
 kind_in_four (one_of first second) key ms other third = refl
 kind_in_four (one_of_in_four first second third) key ms other no_third = ap (λ t. key_has_one_of_two key first second ms || t) no_third
+kind_in_four (one_of_three first second third_text) key ms other third = refl
 kind_in_four (some_names most) key ms other third = refl
 kind_in_four a_name key ms other third = refl
 kind_in_four some_lines key ms other third = refl

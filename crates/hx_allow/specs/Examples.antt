@@ -1,6 +1,7 @@
 -- Tables, lines and requests for worked cases.
 use Rattle.std.specs.Prelude.{ℕ, zero, suc, pos, true, false, List, [], ◌∷◌, ◌++◌, codes, Option, Some, None, map}
 use Rattle.toml.specs.Data.{Data, string, integer, array, Items, no_items, item, Members, no_members, member}
+use Rattle.hx_target.specs.declared.keys.Key.{Key}
 use Rattle.hx_target.specs.declared.targets.Target.{Target}
 use Rattle.hx_target.specs.Paths.{table_path_of}
 use Rattle.hx_policy.specs.Policies.{plain}
@@ -82,6 +83,9 @@ bounded_table version max_stored max_store lines =
     ∷ key_with_text (codes "name") (codes "edge") ∷ key_with_number (codes "version") version ∷ [])
 
 -- a request for a path, of this host
+abbrev pub key_at : List ℕ → ℕ → List ℕ → Key
+key_at host port path_query = record { host = host; port = port; path_query = path_query }
+
 abbrev pub target_for_path : List ℕ → List ℕ → Target
 target_for_path host path = record {
   key = record { host = host; port = 80; path_query = path };

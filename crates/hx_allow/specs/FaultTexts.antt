@@ -12,7 +12,7 @@ use Rattle.hx_allow.specs.declared.rows.Place.{Place}
 use Rattle.hx_allow.specs.declared.rows.TopKey.TheVariants.{Name}
 use Rattle.hx_allow.specs.declared.rows.Place.TheVariants.{Needed, Optional, AllowingLine, CachingLine, PurgingLine}
 use Rattle.hx_allow.specs.Rows.{Kind, a_number, some_seconds, a_store_bound, a_version, one_of, a_name, some_lines}
-use Rattle.hx_allow.specs.Rows.{some_names, one_of_in_four, a_purge_key}
+use Rattle.hx_allow.specs.Rows.{some_names, one_of_in_four, one_of_three, a_purge_key}
 use Rattle.hx_allow.specs.Rows.{a_host, some_methods, a_path, an_origin}
 use Rattle.hx_allow.specs.Rows.{Row, number_row, top_row, word_row, line_row, words_of_unknown_key}
 
@@ -43,6 +43,8 @@ words_of_kind a_version = codes "be 1, 2, 3 or 4, without quotes"
 words_of_kind (one_of first second) = codes "be \"" ++ (first ++ (codes "\" or \"" ++ (second ++ codes "\"")))
 words_of_kind (one_of_in_four first second third) =
     codes "be \"" ++ (first ++ (codes "\" or \"" ++ (second ++ (codes "\", in version 4 also \"" ++ (third ++ codes "\"")))))
+words_of_kind (one_of_three first second third) =
+    codes "be \"" ++ (first ++ (codes "\", \"" ++ (second ++ (codes "\" or \"" ++ (third ++ codes "\"")))))
 words_of_kind (some_names most) =
     codes "be a list of 1 to " ++ (decimal most ++ codes " names, each of letters, digits and !#$%&'*+-.^_`|~, but not \"*\"")
 words_of_kind a_name = codes "be a lower-case letter and at most 31 of a-z, 0-9 and -, in quotes"

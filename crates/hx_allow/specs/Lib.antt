@@ -10,6 +10,7 @@ pub mod TableLines
 pub mod Matching
 pub mod PathTails
 pub mod Purges
+pub mod Scopes
 pub mod NeverReached
 pub mod OneByOne
 pub mod Rows

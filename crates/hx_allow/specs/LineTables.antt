@@ -19,7 +19,7 @@ use Rattle.hx_allow.specs.LineWords.{policy_of_line_table, refuses_loops, second
 use Rattle.hx_allow.specs.Matching.{is_never_allowed}
 use Rattle.hx_allow.specs.Purges.{is_purge_key}
 use Rattle.hx_allow.specs.Rows.{Kind, a_number, some_seconds, one_of, a_host, some_methods, a_path, an_origin, Row}
-use Rattle.hx_allow.specs.Rows.{some_names, one_of_in_four, a_purge_key, word_row}
+use Rattle.hx_allow.specs.Rows.{some_names, one_of_in_four, one_of_three, a_purge_key, word_row}
 use Rattle.hx_allow.specs.Rows.{line_row, has_keys_of}
 use Rattle.hx_allow.specs.Rows.{line_keys, fault_of_line_key}
 use Rattle.hx_allow.specs.Values.{first_unknown, text_at, number_between, is_some_and, has_one_to_most, all_items}
@@ -115,6 +115,8 @@ is_of_kind version (some_seconds low high) key ms = is_some (number_between low 
 is_of_kind version (one_of first second) key ms = key_has_one_of_two key first second ms
 is_of_kind version (one_of_in_four first second third) key ms =
     key_has_one_of_two key first second ms || (has_keys_of version Four && key_has_text key third ms)
+is_of_kind version (one_of_three first second third) key ms =
+    key_has_one_of_two key first second ms || key_has_text key third ms
 is_of_kind version a_host key ms = is_text_or_list version a_host key ms
 is_of_kind version some_methods key ms = is_some_and (are_texts_of version some_methods) (items_at key ms)
 is_of_kind version a_path key ms = is_text_or_list version a_path key ms

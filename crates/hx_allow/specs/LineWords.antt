@@ -8,6 +8,7 @@
 -- gives_lifetimes_to_cookies: the line gives its lifetimes to requests with a cookie, too
 -- leaves_conditions_to_origin: the conditions of clients are the origin's to judge
 -- leaves_ranges_to_origin: requests for a range are the origin's to answer
+-- fills_ranges: what is missing to answer one is asked for whole
 -- refuses_loops: requests that loop are refused
 -- seconds_for_origin: for how long the origin may send no byte
 -- sends_while_revalidating: what is stale is sent while it is validated
@@ -16,7 +17,7 @@ use Rattle.std.specs.Prelude.{ℕ, Bool, false, not, ◌&&◌, ◌||◌, if◌th
 use Rattle.std.specs.Prelude.{is_some}
 use Rattle.toml.specs.Data.{Members, get_member}
 use Rattle.hx_policy.specs.declared.words.Policy.{Policy}
-use Rattle.hx_allow.specs.Rows.{Kind, one_of, one_of_in_four, Row, word_row, line_row, has_keys_of}
+use Rattle.hx_allow.specs.Rows.{Kind, one_of, one_of_in_four, one_of_three, Row, word_row, line_row, has_keys_of}
 use Rattle.hx_allow.specs.Values.{text_at, is_some_and, number_in}
 use Rattle.hx_allow.specs.declared.config_faults.LineWord.{LineWord}
 use Rattle.hx_allow.specs.declared.config_faults.LineWord.TheVariants.{Lifetime, ErrorLifetime, StaleIfError, SetCookie}
@@ -50,10 +51,11 @@ line_has_no_origin ms = key_has_one_of_two (codes "origin") (codes "deny") (code
 abbrev pub line_takes_words : Members → Bool
 line_takes_words ms = not (line_has_no_origin ms) && not (key_has_text (codes "cache") (codes "off") ms)
 
--- a key says the second of its two texts
+-- a key says the second of its texts
 abbrev pub says_second_of : Kind → List ℕ → Members → Bool
 says_second_of (one_of first second) key ms = key_has_text key second ms
 says_second_of (one_of_in_four first second third) key ms = key_has_text key second ms
+says_second_of (one_of_three first second third) key ms = key_has_text key second ms
 says_second_of _ key ms = false
 
 abbrev pub says_second : Row → Members → Bool
@@ -66,6 +68,14 @@ says_third_of _ key ms = false
 
 abbrev pub says_third : TableVersion → Row → Members → Bool
 says_third version row ms = has_keys_of version Four && says_third_of row.kind row.key ms
+
+-- a key says the last of three texts
+abbrev pub says_last_of : Kind → List ℕ → Members → Bool
+says_last_of (one_of_three first second third) key ms = key_has_text key third ms
+says_last_of _ key ms = false
+
+abbrev pub says_last : Row → Members → Bool
+says_last row ms = says_last_of row.kind row.key ms
 
 -- own: the word that gives errors their lifetime, which is that of all others in a version without a word of its own
 abbrev pub word_of_error_lifetime : TableVersion → LineWord
@@ -100,6 +110,11 @@ leaves_conditions_to_origin version ms =
 abbrev pub leaves_ranges_to_origin : TableVersion → Members → Bool
 leaves_ranges_to_origin version ms =
     not (has_keys_of version (word_row Ranges).since && line_takes_words ms) || says_second (word_row Ranges) ms
+
+-- own: from the fourth version on, where the line says so, the whole is asked for where a range can't be cut from what
+-- is stored ("A range is filled by the whole")
+abbrev pub fills_ranges : TableVersion → Members → Bool
+fills_ranges version ms = has_keys_of version (word_row Ranges).since && says_last (word_row Ranges) ms
 
 -- own: from the fourth version on requests that loop are refused, unless the line says else ("A request that loops is
 -- refused")
@@ -137,4 +152,5 @@ policy_of_line_table version ms = record {
   explains_storing = says_second (word_row Explain) ms;
   forwards_conditions = leaves_conditions_to_origin version ms;
   forwards_ranges = leaves_ranges_to_origin version ms;
+  fills_ranges = fills_ranges version ms;
 }

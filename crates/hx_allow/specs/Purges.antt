@@ -1,14 +1,20 @@
--- Which requests purge what is held for their target, over a line that purges.
+-- Which requests purge, over a line that purges, and for which targets.
 --
 -- is_purge_key: the key of such a line          shows_key: a request shows it
--- asks_for_more: a request asks for what isn't known here
--- asks_to_purge: a request purges
-use Rattle.std.specs.Prelude.{ℕ, nat_le, Bool, not, ◌&&◌, ◌||◌, List, length, take, codes, bytes_eq}
+-- purge_scope_of: the targets that it is for    asks_for_more: a request asks for what isn't known here
+-- asks_to_purge: a request purges               is_within_scope: what is held for a key is within what it purges
+use Rattle.std.specs.Prelude.{ℕ, ◌==◌, ◌-◌, nat_lt, nat_le, Bool, true, not, ◌&&◌, ◌||◌, List, [], ◌∷◌, length, take}
+use Rattle.std.specs.Prelude.{codes}
+use Rattle.std.specs.Prelude.{bytes_eq, slice_index, Option, Some, None, is_none, unwrap_or, option_map, if◌then◌else◌}
 use Rattle.std.specs.List.{list_any, list_all}
 use Rattle.std.specs.Char.{is_ascii_uppercase, is_ascii_lowercase, is_ascii_digit}
 use Rattle.hx_fields.specs.declared.field_line.Field.{Field}
 use Rattle.hx_fields.specs.FieldLines.{is_named, values_of}
-use Rattle.hx_fields.specs.Names.{is_same_name}
+use Rattle.hx_fields.specs.Names.{is_same_name, cut_at}
+use Rattle.hx_target.specs.declared.keys.Key.{Key}
+use Rattle.hx_target.specs.Keys.{same_key}
+use Rattle.hx_allow.specs.declared.purges.PurgeScope.{PurgeScope}
+use Rattle.hx_allow.specs.declared.purges.PurgeScope.TheVariants.{Target, Prefix, Host, All}
 
 abbrev pub is_letter_or_digit : ℕ → Bool
 is_letter_or_digit b = is_ascii_lowercase b || is_ascii_uppercase b || is_ascii_digit b
@@ -21,16 +27,73 @@ is_purge_key text = nat_le 16 (length text) && nat_le (length text) 64 && list_a
 abbrev pub shows_key : List ℕ → List Field → Bool
 shows_key key fields = list_any (λ value. bytes_eq key value) (values_of fields (codes "Purge-Key"))
 
+-- the words of Purge-Scope, byte for byte
+abbrev pub scope_of_word : List ℕ → Option PurgeScope
+scope_of_word word =
+    if bytes_eq word (codes "prefix") then Some Prefix
+    else if bytes_eq word (codes "host") then Some Host
+    else if bytes_eq word (codes "all") then Some All
+    else None
+
+abbrev pub scope_of_values : List (List ℕ) → Option PurgeScope
+scope_of_values [] = Some Target
+scope_of_values (word ∷ []) = scope_of_word word
+scope_of_values (word ∷ other ∷ more) = None
+
+-- The targets that a request purges: those that its one line of Purge-Scope names, and without one its own target. With
+-- two lines, or another word, none are named.
+abbrev pub purge_scope_of : List Field → Option PurgeScope
+purge_scope_of fields = scope_of_values (values_of fields (codes "Purge-Scope"))
+
 abbrev pub begins_with_purge : List ℕ → Bool
 begins_with_purge name = nat_le 6 (length name) && is_same_name (take 6 name) (codes "Purge-")
 
 abbrev pub is_unknown_purge_field : Field → Bool
-is_unknown_purge_field field = begins_with_purge field.name && not (is_named (codes "Purge-Key") field)
+is_unknown_purge_field field =
+    begins_with_purge field.name && not (is_named (codes "Purge-Key") field || is_named (codes "Purge-Scope") field)
 
 -- own: a field whose name begins with `Purge-` is an order; one that isn't known could ask for less than all of the
--- target, so nothing goes ("A purge has a key")
+-- scope, so nothing goes ("A purge has a key")
 abbrev pub asks_for_more : List Field → Bool
-asks_for_more fields = list_any is_unknown_purge_field fields
+asks_for_more fields = list_any is_unknown_purge_field fields || is_none (purge_scope_of fields)
 
 abbrev pub asks_to_purge : List ℕ → List Field → Bool
 asks_to_purge key fields = shows_key key fields && not (asks_for_more fields)
+
+-- ---- what is within a scope
+
+-- the path before the query (RFC 3986, section 3.3)
+abbrev pub path_before_query : List ℕ → List ℕ
+path_before_query path_query = unwrap_or (option_map (λ p. p.0) (cut_at 63 path_query)) path_query
+
+abbrev pub ends_with_slash : List ℕ → Bool
+ends_with_slash path = nat_lt 0 (length path) && (slice_index path (length path - 1) == 47)
+
+-- the text begins with this one
+abbrev pub begins_with : List ℕ → List ℕ → Bool
+begins_with beginning text =
+    nat_le (length beginning) (length text) && bytes_eq (take (length beginning) text) beginning
+
+-- the text goes on with a slash behind as many bytes as the path has
+abbrev pub goes_on_with_slash : List ℕ → List ℕ → Bool
+goes_on_with_slash path text = nat_lt (length path) (length text) && (slice_index text (length path) == 47)
+
+-- own: at a path is the path itself, byte for byte; below it is what continues it with a slash, and below one that ends
+-- with a slash what continues it ("A purge has a key")
+abbrev pub is_at_or_below : List ℕ → List ℕ → Bool
+is_at_or_below path other =
+    bytes_eq path other || (begins_with path other && (ends_with_slash path || goes_on_with_slash path other))
+
+-- What is held for a key is within the scope of a purge that was asked for this one: the target itself; what is at and
+-- below its path, on the same host and port, whatever the queries; what its host has, on each port; or all.
+abbrev pub is_within_scope : PurgeScope → Key → Key → Bool
+is_within_scope Target asked key = same_key key asked
+is_within_scope Prefix asked key =
+    bytes_eq key.host asked.host && (key.port == asked.port)
+    && is_at_or_below (path_before_query asked.path_query) (path_before_query key.path_query)
+is_within_scope Host asked key = bytes_eq key.host asked.host
+is_within_scope All asked key = true
+
+-- the scope of a request that purges
+abbrev pub scope_to_purge : List Field → PurgeScope
+scope_to_purge fields = unwrap_or (purge_scope_of fields) Target

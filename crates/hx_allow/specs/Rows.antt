@@ -43,6 +43,8 @@ pub data Kind : Type 0 where
   one_of : List ℕ → List ℕ → Kind
   -- the same, or from the fourth version on the third text
   one_of_in_four : List ℕ → List ℕ → List ℕ → Kind
+  -- one of three texts; where the key doesn't stand it is as with the first
+  one_of_three : List ℕ → List ℕ → List ℕ → Kind
   -- a list of 1 to so many tokens, of which none is `*`
   some_names : ℕ → Kind
   a_name : Kind
@@ -124,7 +126,7 @@ word_row StaleWhileRevalidate = row_for_caching_lines (codes "stale-while-revali
 word_row Vary = row_for_caching_lines (codes "vary") Four (some_names 8)
 word_row OriginTimeout = row_for_allowing_lines (codes "origin-timeout") Four (some_seconds 1 most_timeout_seconds)
 word_row PurgeKey = record { key = codes "key"; since = Four; kind = a_purge_key; place = PurgingLine }
-word_row Ranges = row_for_caching_lines (codes "ranges") Four (one_of (codes "served") (codes "forwarded"))
+word_row Ranges = row_for_caching_lines (codes "ranges") Four (one_of_three (codes "served") (codes "forwarded") (codes "filled"))
 
 -- the words of a line, in the order in which they are looked at
 abbrev pub line_words : List LineWord
@@ -196,6 +198,7 @@ plain_kind (source.StoreBound low high) = a_store_bound low high
 plain_kind source.Version = a_version
 plain_kind (source.OneOf first second) = one_of first.now second.now
 plain_kind (source.OneOfInFour first second third) = one_of_in_four first.now second.now third.now
+plain_kind (source.OneOfThree first second third) = one_of_three first.now second.now third.now
 plain_kind (source.Names most) = some_names most
 plain_kind source.Name = a_name
 plain_kind source.Lines = some_lines

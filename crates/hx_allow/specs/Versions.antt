@@ -54,7 +54,7 @@ LineIsOfThree line =
     (line.policy.error_lifetime ≡ line.policy.lifetime) × (line.policy.lifetime_most ≡ None)
     × (line.policy.removes_cookies ≡ false) × (line.policy.gives_to_set_cookie ≡ true)
     × (line.policy.gives_to_cookies ≡ true) × (line.policy.forwards_conditions ≡ true)
-    × (line.policy.forwards_ranges ≡ true)
+    × (line.policy.forwards_ranges ≡ true) × (line.policy.fills_ranges ≡ false)
     × (line.policy.stale_while_revalidate ≡ None) × (line.policy.sends_while_revalidating ≡ false)
     × (line.refuses_loops ≡ false) × (line.session_cookies ≡ []) × (line.vary ≡ [])
     × (line.origin_timeout ≡ None) × (line.purge_key ≡ None)

@@ -238,7 +238,7 @@ impl Config {
         ensures { result ≡ line_purges_for self.now.lines line fields.now }
     {
         match self.purge_key_at(line) {
-            Some(key) => asks_to_purge(key.as_slice(), fields.as_slice()),
+            Some(key) => asks_to_purge(key.as_slice(), fields),
             None => false,
         }
     }

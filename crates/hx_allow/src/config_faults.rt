@@ -75,8 +75,8 @@ pub enum LineWord {
     OriginTimeout,
     /// What a request has to show over a line that purges, 16 to 64 letters and digits. It needs version 4.
     PurgeKey,
-    /// Whether a range is cut from a stored response, or goes to the origin (RFC 9110, section 14.2). It needs
-    /// version 4.
+    /// Whether a range is cut from a stored response, goes to the origin, or is also cut from a response that is asked
+    /// for whole (RFC 9110, section 14.2). It needs version 4.
     Ranges,
 }
 

@@ -60,7 +60,7 @@ pub fn worked_words_of_words()
     ensures vary { (line : ℕ) → expected_words (BadWord line Vary) ≡ codes "vary has to be a list of 1 to 8 names, each of letters, digits and !#$%&'*+-.^_`|~, but not \"*\", in a line that has an origin and its cache on" }
     ensures origin_timeout { (line : ℕ) → expected_words (BadWord line OriginTimeout) ≡ codes "origin-timeout has to be a whole number of seconds from 1 to 86400, without quotes, and not to stand in a line that denies or purges" }
     ensures key { (line : ℕ) → expected_words (BadWord line PurgeKey) ≡ codes "key has to be 16 to 64 letters and digits, in quotes, in a line with origin = \"purge\" and in no other" }
-    ensures ranges { (line : ℕ) → expected_words (BadWord line Ranges) ≡ codes "ranges has to be \"served\" or \"forwarded\", in a line that has an origin and its cache on" }
+    ensures ranges { (line : ℕ) → expected_words (BadWord line Ranges) ≡ codes "ranges has to be \"served\", \"forwarded\" or \"filled\", in a line that has an origin and its cache on" }
     ensures loops { (line : ℕ) → expected_words (BadWord line Loops) ≡ codes "loops has to be \"refused\" or \"forwarded\", and not to stand in a line that denies or purges" }
 {}
 

@@ -88,6 +88,9 @@ impl fmt::Display for Kind {
                 f,
                 "be \"{first}\" or \"{second}\", in version 4 also \"{third}\""
             ),
+            Kind::OneOfThree(first, second, third) => {
+                write!(f, "be \"{first}\", \"{second}\" or \"{third}\"")
+            }
             Kind::Names(most) => write!(
                 f,
                 "be a list of 1 to {most} names, each of letters, digits and !#$%&'*+-.^_`|~, but not \"*\""

@@ -60,9 +60,11 @@ pub use crate::loop_laws::{
 };
 pub use crate::purge_cases::{
     worked_purge_keys, worked_purging_lines, worked_requests_that_purge, worked_requests_with_keys,
+    worked_scopes,
 };
 pub use crate::purge_laws::{
     a_line_with_a_key_purges, a_request_purges_where_it_shows_the_key_of_its_line,
+    a_scope_has_what_its_word_says,
 };
 pub use crate::table_cases::{
     a_table_has_1_to_256_lines, faults_of_a_line_in_order, faults_of_a_store_bound,

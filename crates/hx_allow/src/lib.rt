@@ -48,4 +48,5 @@ mod worked_cases;
 pub use config::Config;
 pub use config_faults::{ConfigFault, LineWord, NumberKey};
 pub use limits::{MOST_LINES, MOST_TABLE_BYTES};
+pub use purges::{PurgeScope, scope_to_purge};
 pub use verdicts::{Route, Verdict};

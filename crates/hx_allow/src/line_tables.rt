@@ -215,6 +215,9 @@ fn is_of_kind(version: TableVersion, kind: Kind, key: &str, table: &Table) -> bo
             key_has_one_of_two(table, key, first, second)
                 || (version.has_keys_of(Four) && key_has_text(table, key, third))
         }
+        Kind::OneOfThree(first, second, third) => {
+            key_has_one_of_two(table, key, first, second) || key_has_text(table, key, third)
+        }
         Kind::Host => is_text_or_list(version, kind, key, table),
         Kind::Methods => is_good_list(version, kind, array_at(table, key)),
         Kind::Path => is_text_or_list(version, kind, key, table),

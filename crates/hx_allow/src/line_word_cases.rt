@@ -424,6 +424,7 @@ pub fn a_table_with_words_is_read()
           explains_storing = true;
           forwards_conditions = true;
           forwards_ranges = true;
+          fills_ranges = false;
         };
       } ∷ [];
     })) }

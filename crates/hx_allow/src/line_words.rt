@@ -5,7 +5,7 @@ ghost use Rattle.hx_allow.specs.LineWords.{key_has_one_of_two, key_has_text, lin
 ghost use Rattle.hx_allow.specs.LineWords.{says_second, says_third, word_of_error_lifetime};
 ghost use Rattle.hx_allow.specs.LineWords.{removes_cookies, gives_lifetimes_to_set_cookie};
 ghost use Rattle.hx_allow.specs.LineWords.{gives_lifetimes_to_cookies, leaves_conditions_to_origin};
-ghost use Rattle.hx_allow.specs.LineWords.{leaves_ranges_to_origin};
+ghost use Rattle.hx_allow.specs.LineWords.{leaves_ranges_to_origin, fills_ranges, says_last};
 ghost use Rattle.hx_allow.specs.LineWords.{refuses_loops, sends_while_revalidating, policy_of_line_table};
 ghost use Rattle.hx_allow.specs.LineWords.{seconds_for_origin, line_purges};
 ghost use Rattle.hx_allow.specs.Rows.{plain_row, word_row};
@@ -61,13 +61,14 @@ pub fn line_takes_words(table: &Table) -> bool
     !line_has_no_origin(table) && !key_has_text(table, "cache", "off")
 }
 
-/// Whether a key says the second of its two texts.
+/// Whether a key says the second of its texts.
 fn says_second(row: Row, table: &Table) -> bool
     ensures { result ≡ says_second (plain_row row) (table_view table.now) }
 {
     match row.kind {
         Kind::OneOf(_, second) => key_has_text(table, row.key, second),
         Kind::OneOfInFour(_, second, _) => key_has_text(table, row.key, second),
+        Kind::OneOfThree(_, second, _) => key_has_text(table, row.key, second),
         _ => false,
     }
 }
@@ -80,6 +81,16 @@ fn says_third(version: TableVersion, row: Row, table: &Table) -> bool
         Kind::OneOfInFour(_, _, third) => {
             version.has_keys_of(Four) && key_has_text(table, row.key, third)
         }
+        _ => false,
+    }
+}
+
+/// Whether a key says the last of three texts.
+fn says_last(row: Row, table: &Table) -> bool
+    ensures { result ≡ says_last (plain_row row) (table_view table.now) }
+{
+    match row.kind {
+        Kind::OneOfThree(_, _, third) => key_has_text(table, row.key, third),
         _ => false,
     }
 }
@@ -132,6 +143,14 @@ fn leaves_ranges_to_origin(version: TableVersion, table: &Table) -> bool
 {
     let row = LineWord::Ranges.row();
     !(row.is_known_in(version) && line_takes_words(table)) || says_second(row, table)
+}
+
+/// Whether the whole is asked for where a range can't be cut from what is stored.
+fn fills_ranges(version: TableVersion, table: &Table) -> bool
+    ensures { result ≡ fills_ranges version (table_view table.now) }
+{
+    let row = LineWord::Ranges.row();
+    row.is_known_in(version) && says_last(row, table)
 }
 
 /// Whether requests that loop are refused.
@@ -199,6 +218,7 @@ pub fn policy_of_line_table(version: TableVersion, table: &Table) -> Policy
         explains_storing: says_second(LineWord::Explain.row(), table),
         forwards_conditions: leaves_conditions_to_origin(version, table),
         forwards_ranges: leaves_ranges_to_origin(version, table),
+        fills_ranges: fills_ranges(version, table),
     };
     with_seconds_of_line(words, version, table)
 }

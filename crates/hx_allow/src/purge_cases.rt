@@ -1,12 +1,13 @@
 //! Worked cases of purges: each function's contract is the cases, and its body is empty.
 ghost use Rattle.std.specs.Prelude.{◌≡◌, ◌∷◌, [], true, false, codes, None, Some};
 ghost use Rattle.hx_fields.specs.Examples.{line};
-ghost use Rattle.hx_allow.specs.Examples.{key_with_text, key_with_number, line_table_with_keys};
+ghost use Rattle.hx_allow.specs.Examples.{key_at, key_with_text, key_with_number, line_table_with_keys};
 ghost use Rattle.hx_allow.specs.Examples.{purging_line_table_with, purging_table, target_for_path, purge_key};
 ghost use Rattle.hx_allow.specs.LineTables.{is_line_origin, line_fault, line_read};
 ghost use Rattle.hx_allow.specs.Keys.{word_key};
 ghost use Rattle.hx_allow.specs.Matching.{verdict_of, verdict_of_request};
-ghost use Rattle.hx_allow.specs.Purges.{is_purge_key, shows_key, asks_for_more};
+ghost use Rattle.hx_allow.specs.Purges.{is_purge_key, shows_key, asks_for_more, scope_to_purge, is_within_scope};
+ghost use Rattle.hx_allow.specs.declared.purges.PurgeScope.TheVariants.{Target, Prefix, Host, All};
 ghost use Rattle.hx_allow.specs.Values.{is_known};
 ghost use Rattle.hx_allow.specs.declared.config_faults.ConfigFault.TheVariants.{BadWord, UnknownKey};
 ghost use Rattle.hx_allow.specs.declared.config_faults.ConfigFault.TheVariants.{BadCache, BadOrigin};
@@ -43,12 +44,64 @@ pub fn worked_requests_with_keys()
     ensures empty { shows_key purge_key (line (codes "Purge-Key") [] ∷ []) ≡ false }
     ensures quoted { shows_key purge_key (line (codes "Purge-Key") (codes "\"0123456789abcXYZ\"") ∷ []) ≡ false }
     ensures no_more { asks_for_more (line (codes "Purge-Key") purge_key ∷ line (codes "Host") (codes "h") ∷ []) ≡ false }
-    ensures a_scope { asks_for_more (line (codes "Purge-Scope") (codes "prefix") ∷ []) ≡ true }
+    ensures a_scope { asks_for_more (line (codes "Purge-Scope") (codes "prefix") ∷ []) ≡ false }
+    ensures any_case_of_scope { asks_for_more (line (codes "purge-scope") (codes "host") ∷ []) ≡ false }
+    ensures an_unknown_scope { asks_for_more (line (codes "Purge-Scope") (codes "site") ∷ []) ≡ true }
+    ensures a_scope_in_capitals { asks_for_more (line (codes "Purge-Scope") (codes "ALL") ∷ []) ≡ true }
+    ensures an_empty_scope { asks_for_more (line (codes "Purge-Scope") [] ∷ []) ≡ true }
+    ensures two_scopes { asks_for_more (line (codes "Purge-Scope") (codes "all") ∷ line (codes "Purge-Scope")
+        (codes "all") ∷ []) ≡ true }
+    ensures listed_scopes { asks_for_more (line (codes "Purge-Scope") (codes "host, all") ∷ []) ≡ true }
+    ensures a_longer_scope { asks_for_more (line (codes "Purge-Scopes") (codes "all") ∷ []) ≡ true }
     ensures a_tag { asks_for_more (line (codes "purge-tag") (codes "news") ∷ []) ≡ true }
     ensures a_mode { asks_for_more (line (codes "PURGE-MODE") (codes "stale") ∷ []) ≡ true }
     ensures any { asks_for_more (line (codes "Host") (codes "h") ∷ line (codes "Purge-") [] ∷ []) ≡ true }
     ensures a_longer_key { asks_for_more (line (codes "Purge-Keys") purge_key ∷ []) ≡ true }
     ensures its_begin { asks_for_more (line (codes "Purge") (codes "x") ∷ []) ≡ false }
+{}
+
+/// Which targets are within the scope of a purge.
+pub fn worked_scopes()
+    ensures by_default { scope_to_purge [] ≡ Target }
+    ensures of_a_prefix { scope_to_purge (line (codes "Purge-Scope") (codes "prefix") ∷ []) ≡ Prefix }
+    ensures of_a_host { scope_to_purge (line (codes "Purge-Scope") (codes "host") ∷ []) ≡ Host }
+    ensures of_all { scope_to_purge (line (codes "Purge-Scope") (codes "all") ∷ []) ≡ All }
+    ensures the_path { is_within_scope Prefix (key_at (codes "h") 80 (codes "/a"))
+        (key_at (codes "h") 80 (codes "/a")) ≡ true }
+    ensures below { is_within_scope Prefix (key_at (codes "h") 80 (codes "/a"))
+        (key_at (codes "h") 80 (codes "/a/b")) ≡ true }
+    ensures the_folder { is_within_scope Prefix (key_at (codes "h") 80 (codes "/a"))
+        (key_at (codes "h") 80 (codes "/a/")) ≡ true }
+    ensures no_segment_of_it { is_within_scope Prefix (key_at (codes "h") 80 (codes "/a"))
+        (key_at (codes "h") 80 (codes "/ab")) ≡ false }
+    ensures above { is_within_scope Prefix (key_at (codes "h") 80 (codes "/a/b"))
+        (key_at (codes "h") 80 (codes "/a")) ≡ false }
+    ensures with_a_query { is_within_scope Prefix (key_at (codes "h") 80 (codes "/a"))
+        (key_at (codes "h") 80 (codes "/a?b")) ≡ true }
+    ensures for_a_query { is_within_scope Prefix (key_at (codes "h") 80 (codes "/a?b"))
+        (key_at (codes "h") 80 (codes "/a/c?d")) ≡ true }
+    ensures a_slash_of_a_query { is_within_scope Prefix (key_at (codes "h") 80 (codes "/a"))
+        (key_at (codes "h") 80 (codes "/b?/a/c")) ≡ false }
+    ensures below_a_folder { is_within_scope Prefix (key_at (codes "h") 80 (codes "/a/"))
+        (key_at (codes "h") 80 (codes "/a/b")) ≡ true }
+    ensures beside_a_folder { is_within_scope Prefix (key_at (codes "h") 80 (codes "/a/"))
+        (key_at (codes "h") 80 (codes "/a")) ≡ false }
+    ensures below_the_root { is_within_scope Prefix (key_at (codes "h") 80 (codes "/"))
+        (key_at (codes "h") 80 (codes "/a/b?c")) ≡ true }
+    ensures on_another_port { is_within_scope Prefix (key_at (codes "h") 80 (codes "/"))
+        (key_at (codes "h") 81 (codes "/a")) ≡ false }
+    ensures on_another_host { is_within_scope Prefix (key_at (codes "h") 80 (codes "/"))
+        (key_at (codes "g") 80 (codes "/a")) ≡ false }
+    ensures of_the_host { is_within_scope Host (key_at (codes "h") 80 (codes "/a"))
+        (key_at (codes "h") 81 (codes "/b")) ≡ true }
+    ensures of_another_host { is_within_scope Host (key_at (codes "h") 80 (codes "/a"))
+        (key_at (codes "g.h") 80 (codes "/a")) ≡ false }
+    ensures all { is_within_scope All (key_at (codes "h") 80 (codes "/a"))
+        (key_at (codes "g") 81 (codes "/b")) ≡ true }
+    ensures the_target { is_within_scope Target (key_at (codes "h") 80 (codes "/a"))
+        (key_at (codes "h") 80 (codes "/a")) ≡ true }
+    ensures another_target { is_within_scope Target (key_at (codes "h") 80 (codes "/a"))
+        (key_at (codes "h") 80 (codes "/a/b")) ≡ false }
 {}
 
 /// What a table says of requests to a line that purges, behind which another allows.
@@ -61,7 +114,12 @@ pub fn worked_requests_that_purge()
     ensures with_another { verdict_of_request purging_table (codes "PURGE") (target_for_path (codes "x") (codes "/a"))
         (line (codes "Purge-Key") (codes "0123456789abcXYz") ∷ []) ≡ DeniedBy 1 }
     ensures with_a_scope { verdict_of_request purging_table (codes "PURGE") (target_for_path (codes "x") (codes "/a"))
-        (line (codes "Purge-Key") purge_key ∷ line (codes "Purge-Scope") (codes "prefix") ∷ []) ≡ DeniedBy 1 }
+        (line (codes "Purge-Key") purge_key ∷ line (codes "Purge-Scope") (codes "prefix") ∷ []) ≡ Purged 1 }
+    ensures with_another_scope { verdict_of_request purging_table (codes "PURGE")
+        (target_for_path (codes "x") (codes "/a")) (line (codes "Purge-Key") purge_key
+        ∷ line (codes "Purge-Scope") (codes "prefix/") ∷ []) ≡ DeniedBy 1 }
+    ensures with_a_tag { verdict_of_request purging_table (codes "PURGE") (target_for_path (codes "x") (codes "/a"))
+        (line (codes "Purge-Key") purge_key ∷ line (codes "Purge-Tag") (codes "news") ∷ []) ≡ DeniedBy 1 }
     ensures another_path { verdict_of_request purging_table (codes "PURGE") (target_for_path (codes "x") (codes "/b"))
         (line (codes "Purge-Key") purge_key ∷ []) ≡ NoLine }
     ensures with_the_key_of_another_line { verdict_of_request purging_table (codes "PURGE")

@@ -1,10 +1,27 @@
-//! Which requests purge what is held for their target. No function here takes memory.
+//! Which requests purge, and which targets. No function here takes memory.
 ghost use Rattle.std.specs.Prelude.{◌≡◌, ◌==◌, ◌≤◌, bytes_eq, length, take};
 ghost use Rattle.std.specs.List.{list_any, list_all};
 ghost use Rattle.hx_allow.specs.Purges.{is_letter_or_digit, is_purge_key, shows_key, begins_with_purge};
 ghost use Rattle.hx_allow.specs.Purges.{is_unknown_purge_field, asks_for_more, asks_to_purge};
+ghost use Rattle.hx_allow.specs.Purges.{scope_of_word, purge_scope_of, scope_to_purge};
+ghost use Rattle.hx_allow.specs.Purges.{path_before_query, ends_with_slash, begins_with, goes_on_with_slash};
+ghost use Rattle.hx_allow.specs.Purges.{is_at_or_below, is_within_scope};
 
-use hx_fields::{Field, is_same_name};
+use hx_fields::{Field, Fields, cut_at, is_same_name};
+use hx_target::Key;
+
+/// Which targets a request purges.
+#[derive(Clone, Copy, Debug, PartialEq, Eq, Hash)]
+pub enum PurgeScope {
+    /// Its own.
+    Target,
+    /// Those of its host and port at and below its path.
+    Prefix,
+    /// Those of its host, on each port.
+    Host,
+    /// All that the store holds.
+    All,
+}
 
 fn is_letter_or_digit(b: u8) -> bool
     ensures { result ≡ is_letter_or_digit b }
@@ -54,6 +71,43 @@ fn shows_key(key: &[u8], fields: &[Field]) -> bool
     false
 }
 
+fn scope_of_word(word: &[u8]) -> Option<PurgeScope>
+    ensures { result ≡ scope_of_word word.now }
+{
+    if word == b"prefix".as_slice() {
+        Some(PurgeScope::Prefix)
+    } else if word == b"host".as_slice() {
+        Some(PurgeScope::Host)
+    } else if word == b"all".as_slice() {
+        Some(PurgeScope::All)
+    } else {
+        None
+    }
+}
+
+/// The targets that a request purges, unless two lines name them or another word.
+fn purge_scope_of(fields: &Fields) -> Option<PurgeScope>
+    ensures { result ≡ purge_scope_of fields.now }
+{
+    match fields.value(b"Purge-Scope") {
+        None => Some(PurgeScope::Target),
+        Some(_) => match fields.only_value(b"Purge-Scope") {
+            None => None,
+            Some(word) => scope_of_word(word),
+        },
+    }
+}
+
+/// The targets that a request purges; its own, where none are named.
+pub fn scope_to_purge(fields: &Fields) -> PurgeScope
+    ensures { result ≡ scope_to_purge fields.now }
+{
+    match purge_scope_of(fields) {
+        None => PurgeScope::Target,
+        Some(scope) => scope,
+    }
+}
+
 fn begins_with_purge(name: &[u8]) -> bool
     ensures { result ≡ begins_with_purge name.now }
 {
@@ -64,19 +118,88 @@ fn is_unknown_purge_field(field: &Field) -> bool
     ensures { result ≡ is_unknown_purge_field field.now }
 {
     let name = field.name.as_slice();
-    begins_with_purge(name) && !is_same_name(name, b"Purge-Key")
+    begins_with_purge(name)
+        && !(is_same_name(name, b"Purge-Key") || is_same_name(name, b"Purge-Scope"))
 }
 
-/// Whether a request asks for what isn't known here.
-fn asks_for_more(fields: &[Field]) -> bool
-    ensures { result ≡ asks_for_more fields.now }
+fn has_unknown_purge_field(fields: &[Field]) -> bool
+    ensures { result ≡ list_any is_unknown_purge_field fields.now }
 {
     fields.iter().any(|field| is_unknown_purge_field(field))
 }
 
+/// Whether a request asks for what isn't known here.
+fn asks_for_more(fields: &Fields) -> bool
+    ensures { result ≡ asks_for_more fields.now }
+{
+    has_unknown_purge_field(fields.as_slice()) || purge_scope_of(fields).is_none()
+}
+
 /// Whether a request with these lines purges over a line with this key.
-pub(crate) fn asks_to_purge(key: &[u8], fields: &[Field]) -> bool
+pub(crate) fn asks_to_purge(key: &[u8], fields: &Fields) -> bool
     ensures { result ≡ asks_to_purge key.now fields.now }
 {
-    shows_key(key, fields) && !asks_for_more(fields)
+    shows_key(key, fields.as_slice()) && !asks_for_more(fields)
+}
+
+/// The path before the query.
+fn path_before_query(path_query: &[u8]) -> &[u8]
+    ensures { result.now ≡ path_before_query path_query.now }
+{
+    match cut_at(b'?', path_query) {
+        None => path_query,
+        Some((path, _)) => path,
+    }
+}
+
+fn ends_with_slash(path: &[u8]) -> bool
+    ensures { result ≡ ends_with_slash path.now }
+{
+    0 < path.len() && path[path.len() - 1] == b'/'
+}
+
+fn begins_with(beginning: &[u8], text: &[u8]) -> bool
+    ensures { result ≡ begins_with beginning.now text.now }
+{
+    beginning.len() <= text.len() && &text[..beginning.len()] == beginning
+}
+
+/// Whether a path continues another with a slash. It is longer.
+fn goes_on_with_slash(path: &[u8], other: &[u8]) -> bool
+    ensures { result ≡ goes_on_with_slash path.now other.now }
+{
+    path.len() < other.len() && other[path.len()] == b'/'
+}
+
+/// Whether a path is another one, or below it.
+fn is_at_or_below(path: &[u8], other: &[u8]) -> bool
+    ensures { result ≡ is_at_or_below path.now other.now }
+{
+    path == other
+        || begins_with(path, other) && (ends_with_slash(path) || goes_on_with_slash(path, other))
+}
+
+impl PurgeScope {
+    /// Whether what is held for a key is within this scope of a purge that is asked for `asked`.
+    pub fn has(self, asked: &Key, key: &Key) -> bool
+        ensures { result ≡ is_within_scope self asked.now key.now }
+    {
+        match self {
+            PurgeScope::Target => key.is_same(asked),
+            PurgeScope::Prefix => is_within_prefix(asked, key),
+            PurgeScope::Host => key.host.as_slice() == asked.host.as_slice(),
+            PurgeScope::All => true,
+        }
+    }
+}
+
+fn is_within_prefix(asked: &Key, key: &Key) -> bool
+    ensures { result ≡ is_within_scope PurgeScope.Prefix asked.now key.now }
+{
+    key.host.as_slice() == asked.host.as_slice()
+        && key.port == asked.port
+        && is_at_or_below(
+            path_before_query(asked.path_query.as_slice()),
+            path_before_query(key.path_query.as_slice()),
+        )
 }

@@ -1,5 +1,5 @@
 //! Worked cases of the word on ranges, and its law: each function's contract says them, and its body is empty.
-ghost use Rattle.std.specs.Prelude.{◌≡◌, ◌∷◌, [], true, false, codes, None, Some};
+ghost use Rattle.std.specs.Prelude.{◌≡◌, ◌&&◌, ◌∷◌, [], true, false, codes, None, Some};
 ghost use Rattle.toml.specs.Data.{Members, boolean};
 ghost use Rattle.hx_policy.specs.Policies.{plain};
 ghost use Rattle.hx_allow.specs.Examples.{key_with_text, line_table_with_keys, denying_line_table_with};
@@ -7,10 +7,12 @@ ghost use Rattle.hx_allow.specs.Examples.{plain_of_four};
 ghost use Rattle.hx_allow.specs.LineTables.{line_fault, line_read};
 ghost use Rattle.hx_allow.specs.LineWords.{line_takes_words, key_has_text};
 ghost use Rattle.hx_allow.specs.Keys.{word_key};
+ghost use Rattle.hx_allow.specs.Rows.{has_keys_of};
 ghost use Rattle.hx_allow.specs.Values.{is_known};
 ghost use Rattle.hx_allow.specs.declared.config_faults.ConfigFault.TheVariants.{BadWord, UnknownKey};
 ghost use Rattle.hx_allow.specs.declared.config_faults.LineWord.TheVariants.{OriginTimeout, Ranges};
 ghost use Rattle.hx_allow.specs.declared.values.Scope.TheVariants.{Top, Line};
+ghost use Rattle.hx_allow.specs.declared.values.TableVersion.{TableVersion};
 ghost use Rattle.hx_allow.specs.declared.values.TableVersion.TheVariants.{Three, Four};
 
 /// Over a line of version 4 that has an origin and its cache on requests for a range go to the origin, whatever is
@@ -21,8 +23,16 @@ pub fn ranges_are_served_in_version_four()
         → (line_read Four members).policy.forwards_ranges ≡ key_has_text (codes "ranges") (codes "forwarded") members }
 {}
 
-/// The key `ranges`: one of two words, in version 4 alone, in each line that has an origin and its cache on, and looked
-/// at last. No line says that what is missing is filled.
+/// Over a line of any version the whole is asked for, for who asks for a range of what is missing, exactly where the
+/// table is of version 4 and the line says so.
+#[tactic(auto, unfolding(crate::specs::LineTables::line_read))]
+pub fn ranges_are_filled_where_a_line_says_so()
+    ensures { (version : TableVersion) (members : Members) → (line_read version members).policy.fills_ranges
+        ≡ (has_keys_of version Four && key_has_text (codes "ranges") (codes "filled") members) }
+{}
+
+/// The key `ranges`: one of three words, in version 4 alone, in each line that has an origin and its cache on, and
+/// looked at last.
 #[tactic(auto, unfolding(crate::specs::LineTables::line_fault, crate::specs::LineTables::is_line_host, crate::specs::LineTables::is_line_method, crate::specs::LineTables::is_line_path, crate::specs::Addresses::address_of, hx_target::specs::Hosts::is_host, hx_target::specs::Hosts::short_number, hx_target::specs::Paths::has_dot_segment))]
 pub fn worked_words_on_ranges()
     ensures known { is_known (Line Four) (word_key Ranges) ≡ true }
@@ -33,6 +43,8 @@ pub fn worked_words_on_ranges()
     ensures forwarded { line_fault Four 1 (line_table_with_keys (key_with_text (codes "ranges") (codes "forwarded") ∷ []))
         ≡ None }
     ensures filled { line_fault Four 1 (line_table_with_keys (key_with_text (codes "ranges") (codes "filled") ∷ []))
+        ≡ None }
+    ensures other { line_fault Four 1 (line_table_with_keys (key_with_text (codes "ranges") (codes "missing") ∷ []))
         ≡ Some (BadWord 1 Ranges) }
     ensures no_text { line_fault Four 1 (line_table_with_keys ((codes "ranges", boolean true) ∷ []))
         ≡ Some (BadWord 1 Ranges) }
@@ -47,7 +59,7 @@ pub fn worked_words_on_ranges()
 {}
 
 /// In the fourth version ranges are cut from what is stored, unless the line says else, denies or has its cache off; in
-/// the third they are the origin's.
+/// the third they are the origin's. They are filled where the line says that.
 #[tactic(auto, unfolding(crate::specs::LineTables::line_read))]
 pub fn worked_ranges_of_versions()
     ensures of_three { (line_read Three (line_table_with_keys [])).policy.forwards_ranges ≡ true }
@@ -56,6 +68,10 @@ pub fn worked_ranges_of_versions()
         ≡ plain_of_four }
     ensures forwarded { (line_read Four (line_table_with_keys (key_with_text (codes "ranges") (codes "forwarded") ∷ []))).policy
         ≡ record plain_of_four { forwards_ranges = true } }
+    ensures filled { (line_read Four (line_table_with_keys (key_with_text (codes "ranges") (codes "filled") ∷ []))).policy
+        ≡ record plain_of_four { fills_ranges = true } }
+    ensures filled_of_three { (line_read Three (line_table_with_keys (key_with_text (codes "ranges") (codes "filled") ∷ []))).policy
+        ≡ plain true }
     ensures off { (line_read Four (line_table_with_keys (key_with_text (codes "cache") (codes "off") ∷ []))).policy
         ≡ plain false }
     ensures denying { (line_read Four (denying_line_table_with [])).policy ≡ plain true }

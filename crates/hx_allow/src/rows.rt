@@ -10,7 +10,7 @@ use crate::config_faults::{ConfigFault, LineWord, NumberKey};
 use crate::limits::MOST_STORE_BYTES;
 use crate::values::TableVersion;
 use crate::values::TableVersion::{Four, One, Three, Two};
-use Kind::{Names, Number, OneOf, OneOfInFour, Seconds, StoreBound};
+use Kind::{Names, Number, OneOf, OneOfInFour, OneOfThree, Seconds, StoreBound};
 
 /// The most seconds that a lifetime has (RFC 9111, section 1.2.2).
 const MOST_SECONDS: u32 = 2_147_483_648;
@@ -33,6 +33,8 @@ pub(crate) enum Kind {
     OneOf(&'static str, &'static str),
     /// The same, or from the fourth version on the third text.
     OneOfInFour(&'static str, &'static str, &'static str),
+    /// One of three texts. Where the key doesn't stand it is as with the first.
+    OneOfThree(&'static str, &'static str, &'static str),
     /// A list of 1 to so many tokens, of which none is `*`.
     Names(u8),
     Name,
@@ -238,7 +240,11 @@ impl LineWord {
                 kind: Kind::PurgeKey,
                 place: Place::PurgingLine,
             },
-            LineWord::Ranges => Row::of_caching("ranges", Four, OneOf("served", "forwarded")),
+            LineWord::Ranges => Row::of_caching(
+                "ranges",
+                Four,
+                OneOfThree("served", "forwarded", "filled"),
+            ),
         }
     }
 }

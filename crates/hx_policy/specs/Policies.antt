@@ -26,6 +26,7 @@ plain caches = record {
   explains_storing = false;
   forwards_conditions = true;
   forwards_ranges = true;
+  fills_ranges = false;
 }
 
 -- the statuses that are heuristically cacheable (RFC 9110, section 15.1)

@@ -24,6 +24,7 @@ pub fn a_plain_policy_has_no_words()
     ensures storing { (caches : Bool) → (plain caches).explains_storing ≡ false }
     ensures conditions { (caches : Bool) → (plain caches).forwards_conditions ≡ true }
     ensures ranges { (caches : Bool) → (plain caches).forwards_ranges ≡ true }
+    ensures filled_ranges { (caches : Bool) → (plain caches).fills_ranges ≡ false }
 {}
 
 /// A lifetime is given to a status that is heuristically cacheable, and to no other (RFC 9111, section 4.2.2): that of

@@ -56,6 +56,10 @@ pub struct Policy {
     /// A request with Range or If-Range goes to the origin. Else a stored response may answer it, from which one range
     /// is cut (RFC 9110, section 14.2).
     pub forwards_ranges: bool,
+    /// A GET with Range that a stored response could answer, and for which nothing may be sent, goes to the origin
+    /// without Range and If-Range. What comes is stored where it may be, and the range is cut from it for this client
+    /// (RFC 9110, section 14.2).
+    pub fills_ranges: bool,
 }
 
 impl Policy {
@@ -81,6 +85,7 @@ impl Policy {
             explains_storing: false,
             forwards_conditions: true,
             forwards_ranges: true,
+            fills_ranges: false,
         }
     }
 
