@@ -32,7 +32,7 @@ use Rattle.hx_hop_laws.proofs.Values.{trim_word, trim_words}
 
 -- ---- what visible bytes are
 
-uri_byte : (b : ℕ) → IsVisible b → is_uri_byte b ≡ true
+pub uri_byte : (b : ℕ) → IsVisible b → is_uri_byte b ≡ true
 uri_byte b h = grind (arith, nat_tests, h.above, h.below)
 
 value_byte : (b : ℕ) → IsVisible b → is_value_byte b ≡ true
@@ -54,7 +54,7 @@ visible_value text all = All-weaker IsVisible (λ b. is_value_byte b ≡ true) v
 pub visible_seen : (text : List ℕ) → All IsVisible text → AllPass (λ b. not (is_ows b)) text
 visible_seen text all = All-weaker IsVisible (λ b. not (is_ows b) ≡ true) seen_byte text all
 
-visible_ascii : (text : List ℕ) → All IsVisible text → IsAscii text
+pub visible_ascii : (text : List ℕ) → All IsVisible text → IsAscii text
 visible_ascii text all i = by_place (cases_lt i (length text))
   where
     by_place : (i < length text) ⊎ (length text ≤ i) → get_or text i 0 < 128
@@ -70,10 +70,10 @@ line_of name value token some is = record {
   trimmed = is.1;
 }
 
-visible_field_value : (text : List ℕ) → All IsVisible text → IsFieldValue text
+pub visible_field_value : (text : List ℕ) → All IsVisible text → IsFieldValue text
 visible_field_value text all = (visible_value text all, trim_word text (visible_seen text all))
 
-host_visible : (key : Key) → All IsVisible key.host → key.port ≤ 65535 → All IsVisible (host_text key)
+pub host_visible : (key : Key) → All IsVisible key.host → key.port ≤ 65535 → All IsVisible (host_text key)
 host_visible key host small = by_test (key.port == 80)
   where
     digits : All IsVisible (decimal key.port)
@@ -85,7 +85,7 @@ host_visible key host small = by_test (key.port == 80)
         All-append IsVisible (key.host ++ codes ":") (decimal key.port)
         (All-append IsVisible key.host (codes ":") host (All-cons IsVisible 58 [] (record { above = omega arith; below = omega arith }) (All-nil IsVisible))) digits
 
-via_value : (minor : ℕ) (name : List ℕ) → IsToken name → IsFieldValue (via_text minor name)
+pub via_value : (minor : ℕ) (name : List ℕ) → IsToken name → IsFieldValue (via_text minor name)
 via_value minor name token = by_test (minor == 0)
   where
     visible : All IsVisible name
@@ -101,11 +101,11 @@ via_value minor name token = by_test (minor == 0)
       trim_words 49 (46 ∷ 49 ∷ 32 ∷ []) name refl token.0 (visible_seen name visible),
     )
 
-host_token : list_all is_token_byte (codes "Host") ≡ true
+pub host_token : list_all is_token_byte (codes "Host") ≡ true
 unfolding is_token_byte
 host_token = refl
 
-via_token : list_all is_token_byte (codes "Via") ≡ true
+pub via_token : list_all is_token_byte (codes "Via") ≡ true
 unfolding is_token_byte
 via_token = refl
 
@@ -121,7 +121,7 @@ opt_line_fits : (name : List ℕ) (value : Option (List ℕ)) → list_all is_to
 opt_line_fits name None token some is = All-nil FieldIsWritable
 opt_line_fits name (Some value) token some is = All-cons FieldIsWritable (line name value) [] (line_of name value token some is) (All-nil FieldIsWritable)
 
-conditions_fit : (conditions : Option Conditions) → IfSome conditions ConditionsAreFieldValues → All FieldIsWritable (condition_lines conditions)
+pub conditions_fit : (conditions : Option Conditions) → IfSome conditions ConditionsAreFieldValues → All FieldIsWritable (condition_lines conditions)
 conditions_fit None are = All-nil FieldIsWritable
 conditions_fit (Some c) are =
     All-append FieldIsWritable (line_if_present (codes "If-None-Match") c.etag) (line_if_present (codes "If-Modified-Since") c.modified)

@@ -14,3 +14,4 @@ pub mod WhileRevalidatingLemmas
 pub mod TableLemmas
 pub mod KeptConditions
 pub mod RangeLemmas
+pub mod FilledRanges

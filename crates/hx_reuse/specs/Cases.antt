@@ -130,6 +130,10 @@ keep_conditions_policy = record (plain true) { forwards_conditions = false }
 abbrev pub serve_ranges_policy : Policy
 serve_ranges_policy = record (plain true) { forwards_ranges = false }
 
+-- one that fills them
+abbrev pub fill_ranges_policy : Policy
+fill_ranges_policy = record serve_ranges_policy { fills_ranges = true }
+
 abbrev pub range_fields : List Field
 range_fields = line (codes "Range") (codes "bytes=0-1") ∷ []
 

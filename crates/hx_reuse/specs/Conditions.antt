@@ -12,13 +12,15 @@ use Rattle.hx_policy.specs.declared.words.Policy.{Policy}
 use Rattle.hx_reuse.specs.Reusable.{RequestIsForTheCache}
 
 -- own: those of a GET that a stored response could answer, over a line that keeps such requests from the origin where
--- it can ("A client's condition doesn't empty the cache")
+-- it can ("A client's condition doesn't empty the cache"); where ranges are filled also of one that asks for a range,
+-- since the whole is asked for in its place ("A range is filled by the whole")
 abbrev pub keeps_conditions : Policy → Asked → Bool
 keeps_conditions policy asked =
     not policy.forwards_conditions
     && (policy.caches
     && (bytes_eq asked.method (codes "GET")
-    && not (request_has_content asked || (asks_for_range asked || has_precondition asked))))
+    && not (request_has_content asked
+    || ((not policy.fills_ranges && asks_for_range asked) || has_precondition asked))))
 
 -- one that the request has goes forward, where the proxy sends none of its own in its place
 abbrev pub forwards_condition : Policy → Asked → Bool
@@ -31,13 +33,13 @@ forwards_condition policy asked =
 abbrev pub ConditionsOfACacheableGetStay : Type 0
 ConditionsOfACacheableGetStay = (policy : Policy) (asked : Asked) →
     policy.forwards_conditions ≡ false → policy.caches ≡ true → asked.method ≡ codes "GET"
-    → RequestIsForTheCache true asked
+    → RequestIsForTheCache (not policy.fills_ranges) asked
     → keeps_conditions policy asked ≡ true
 
 abbrev pub NoOtherConditionsStay : Type 0
 NoOtherConditionsStay = (policy : Policy) (asked : Asked) → keeps_conditions policy asked ≡ true →
     (policy.forwards_conditions ≡ false) × (policy.caches ≡ true) × (asked.method ≡ codes "GET")
-    × RequestIsForTheCache true asked
+    × RequestIsForTheCache (not policy.fills_ranges) asked
 
 -- over a line without words, in a table of a version before the fourth, they go to the origin, as ever
 abbrev pub PlainLineKeepsNoConditions : Type 0

@@ -14,3 +14,4 @@ pub mod RuleTables
 pub mod Cases
 pub mod Conditions
 pub mod Ranges
+pub mod FilledRanges

@@ -13,7 +13,9 @@ pub fn keeps_conditions(policy: Policy, asked: &Asked) -> bool
     !policy.forwards_conditions
         && policy.caches
         && asked.method.as_str() == "GET"
-        && !(asked.has_content() || asked.asks_for_range() || asked.has_precondition())
+        && !(asked.has_content()
+            || (!policy.fills_ranges && asked.asks_for_range())
+            || asked.has_precondition())
 }
 
 /// Whether a request has a condition of its own that goes to the origin, where the proxy sends none in its place

@@ -8,6 +8,9 @@ ghost use Rattle.hx_reuse.specs.ChosenAndNamed.{LeastReuseRuleIsNamed, ForwardsW
 ghost use Rattle.hx_reuse.specs.ChosenAndNamed.{WordsOfReuseRulesDiffer, WordsOfErrorRulesDiffer};
 ghost use Rattle.hx_reuse.specs.Conditions.{ConditionsOfACacheableGetStay, NoOtherConditionsStay};
 ghost use Rattle.hx_reuse.specs.Conditions.{PlainLineKeepsNoConditions};
+ghost use Rattle.hx_reuse.specs.FilledRanges.{RangesOfACacheableGetAreFilled, NoOtherRangeIsFilled};
+ghost use Rattle.hx_reuse.specs.FilledRanges.{PlainLineFillsNoRange, NoFilledRangeIsForwarded, OtherLinesAreForwarded};
+ghost use Rattle.hx_reuse.specs.FilledRanges.{ConditionsStayAsOfTheWhole};
 ghost use Rattle.hx_reuse.specs.Ranges.{RangeDecidesNothing, ForwardedRangesGoPastTheStore};
 ghost use Rattle.hx_reuse.specs.Reusable.{WhatMayBeReusedIsReused, NothingElseIsReused};
 ghost use Rattle.hx_reuse.specs.OnError.{WhatMayBeSentOnErrorIsSent, NothingElseIsSentOnError, NamedErrorRuleIsLeast};
@@ -48,7 +51,7 @@ pub use crate::worked_cases::{
     of_two_alike_the_later_comes_first, reload_is_ignored, request_max_age_and_only_if_cached,
     seconds_of_errors, stale_if_error_of_request, stale_if_error_of_response,
     stale_while_revalidate_of_line, stale_while_revalidate_of_response, vary_values_are_compared,
-    which_ranges_are_answered, whose_condition_stays,
+    which_ranges_are_answered, which_ranges_are_filled, whose_condition_stays,
 };
 use hx_vary::laws::kept_is_enough;
 
@@ -131,7 +134,7 @@ pub fn what_has_to_be_validated_is()
 {}
 
 /// With a line that has no words nothing is asked but what the standards' conditions say, and a
-/// response lasts as long as it states; the conditions of clients are the origin's.
+/// response lasts as long as it states; the conditions of clients and their ranges are the origin's.
 pub fn default_policy_changes_nothing()
     ensures lifetime { PlainLineGivesNoLifetime }
     ensures rules { PlainLineAsksTheSame }
@@ -140,6 +143,7 @@ pub fn default_policy_changes_nothing()
     ensures leave { PlainLinePermitsTheSameOnError }
     ensures while_revalidating { PlainLineSendsNothingWhileRevalidating }
     ensures conditions { PlainLineKeepsNoConditions }
+    ensures ranges { PlainLineFillsNoRange }
 {}
 
 /// The conditions of a client stay with the proxy exactly where its request is a GET that a stored response could
@@ -154,6 +158,18 @@ pub fn the_conditions_of_a_cacheable_get_stay()
 pub fn a_range_is_decided_as_the_whole()
     ensures alike { RangeDecidesNothing }
     ensures forwarded { ForwardedRangesGoPastTheStore }
+{}
+
+/// A range is filled exactly where its request is a GET that a stored response could answer, the operator lets the
+/// store answer it, and the line says that ranges are filled. Then what goes to the origin is the request for the
+/// whole: it has neither Range nor If-Range, each other line of it is as it was, and the conditions of the client stay
+/// where those of the request for the whole would (RFC 9110, section 14.2).
+pub fn a_range_is_filled_by_the_whole()
+    ensures every { RangesOfACacheableGetAreFilled }
+    ensures only { NoOtherRangeIsFilled }
+    ensures forwarded { NoFilledRangeIsForwarded }
+    ensures others { OtherLinesAreForwarded }
+    ensures conditions { ConditionsStayAsOfTheWhole }
 {}
 
 /// The lifetime that a line gives changes nothing of a response that states its own, nor of any other

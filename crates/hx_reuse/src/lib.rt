@@ -6,12 +6,14 @@
 //! words in `specs/RuleNames.antt`. What they come to, in the standards' own lists, is
 //! `specs/Reusable.antt` and `specs/OnError.antt`, what an origin can rely on `specs/Promises.antt`, and what
 //! the words of a line change `specs/LineWordsInReuse.antt`; `laws` proves it. `specs/Conditions.antt` says
-//! whose matter the conditions of a client are. Nothing here reads a clock or changes a store.
+//! whose matter the conditions of a client are, `specs/FilledRanges.antt` whose its ranges are. Nothing here reads a
+//! clock or changes a store.
 #![tactic(auto)]
 
 mod chosen;
 mod conditions;
 mod decision;
+mod filled_ranges;
 pub mod laws;
 mod lifetimes;
 mod on_error;
@@ -22,6 +24,7 @@ mod worked_cases;
 
 pub use crate::conditions::{forwards_condition, keeps_conditions};
 pub use crate::decision::{Decision, decide};
+pub use crate::filled_ranges::{fills_range, forwards_range, without_range};
 pub use crate::lifetimes::lifetime_under;
 pub use crate::on_error::may_serve_on_error;
 pub use crate::rule::{ErrorRule, ReuseRule};

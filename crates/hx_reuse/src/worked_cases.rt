@@ -8,6 +8,7 @@ ghost use Rattle.hx_directives.specs.Answers.{directive_occurs};
 ghost use Rattle.hx_directives.specs.declared.names.Directive.TheVariants.{OnlyIfCached};
 ghost use Rattle.hx_policy.specs.Policies.{plain};
 ghost use Rattle.hx_reuse.specs.Conditions.{keeps_conditions, forwards_condition};
+ghost use Rattle.hx_reuse.specs.FilledRanges.{fills_range, forwards_range, request_forwarded};
 ghost use Rattle.hx_reuse.specs.Rules.{decision_of, reuse_rule_of};
 ghost use Rattle.hx_reuse.specs.ErrorRules.{permission_on_error, error_rule_of};
 ghost use Rattle.hx_reuse.specs.WhileRevalidating.{may_be_sent_while_revalidating};
@@ -19,7 +20,7 @@ ghost use Rattle.hx_reuse.specs.Cases.{error_lifetime_policy, lifetime_most_poli
 ghost use Rattle.hx_reuse.specs.Cases.{stale_if_error_policy, ignore_directives_policy, stored_with_status};
 ghost use Rattle.hx_reuse.specs.Cases.{one_held_of_status, variant_made_at, default_made_at, english_and_default};
 ghost use Rattle.hx_reuse.specs.Cases.{get_a_in, keep_conditions_policy, get_a_if_none_match};
-ghost use Rattle.hx_reuse.specs.Cases.{serve_ranges_policy, range_fields};
+ghost use Rattle.hx_reuse.specs.Cases.{serve_ranges_policy, fill_ranges_policy, range_fields};
 
 use crate::{Decision, ErrorRule, ReuseRule};
 
@@ -433,6 +434,34 @@ pub fn which_ranges_are_answered()
         (get_a_with range_fields) 1 ≡ Decision.Forward ReuseRule.Range None }
     ensures if_range_forwarded { decision_of (plain true) (one_held_with_cache_control (codes "max-age=60"))
         (get_a_with (line (codes "If-Range") (codes "\"e\"") ∷ [])) 1 ≡ Decision.Forward ReuseRule.Range None }
+{}
+
+/// Ranges over a line that fills them: those of a GET that a stored response could answer, and what goes to the origin
+/// in place of its request.
+pub fn which_ranges_are_filled()
+    ensures range { fills_range fill_ranges_policy (get_a_with range_fields) ≡ true }
+    ensures if_range { fills_range fill_ranges_policy (get_a_with (line (codes "If-Range") (codes "\"e\"") ∷ [])) ≡ true }
+    ensures whole { fills_range fill_ranges_policy (get_a_with []) ≡ false }
+    ensures of_a_head { fills_range fill_ranges_policy (record (get_a_with range_fields) { method = codes "HEAD" })
+        ≡ false }
+    ensures with_content { fills_range fill_ranges_policy (get_a_with_content (codes "x") range_fields) ≡ false }
+    ensures beside_if_match { fills_range fill_ranges_policy (get_a_with (line (codes "If-Match") (codes "*")
+        ∷ range_fields)) ≡ false }
+    ensures without_cache { fills_range (record fill_ranges_policy { caches = false }) (get_a_with range_fields)
+        ≡ false }
+    ensures served { fills_range serve_ranges_policy (get_a_with range_fields) ≡ false }
+    ensures stays { forwards_range fill_ranges_policy (get_a_with range_fields) ≡ false }
+    ensures goes { forwards_range serve_ranges_policy (get_a_with range_fields) ≡ true }
+    ensures none_goes { forwards_range serve_ranges_policy (get_a_with []) ≡ false }
+    ensures forwarded { request_forwarded fill_ranges_policy (get_a_with (line (codes "range") (codes "bytes=0-1")
+        ∷ accept_language (codes "de") ∷ line (codes "If-Range") (codes "\"e\"") ∷ []))
+        ≡ get_a_with (accept_language (codes "de") ∷ []) }
+    ensures forwarded_as_it_is { request_forwarded serve_ranges_policy (get_a_with range_fields)
+        ≡ get_a_with range_fields }
+    ensures missing { decision_of fill_ranges_policy [] (get_a_with range_fields) 0
+        ≡ Decision.Forward ReuseRule.UriMiss None }
+    ensures condition { keeps_conditions (record fill_ranges_policy { forwards_conditions = false })
+        (get_a_if_none_match range_fields) ≡ true }
 {}
 
 /// Conditions of clients over a line that keeps those of a GET that a stored response could answer: which stay, and

@@ -46,7 +46,7 @@ below_insert a s (x ∷ xs) le h =
       | false ↦ (h.0, below_insert a s xs le h.1)
     ]
 
-ascending_insert : (s : ℕ) (xs : List ℕ) → IsAscending xs → IsAscending (insert_ascending s xs)
+pub ascending_insert : (s : ℕ) (xs : List ℕ) → IsAscending xs → IsAscending (insert_ascending s xs)
 ascending_insert s [] h = (tt, tt)
 ascending_insert s (x ∷ xs) h =
     let Ascends : Bool → Type 0 = λ b. IsAscending (cond b (s ∷ x ∷ xs) (x ∷ insert_ascending s xs)) in

@@ -1,5 +1,6 @@
 pub mod EntryLists
 pub mod FoundSerials
+pub mod PassingEntries
 pub mod Recency
 pub mod RecencyOrder
 pub mod WeightedRecency

@@ -14,3 +14,8 @@ Distinct (x ∷ xs) = (serial_is_in x xs ≡ false) × Distinct xs
 abbrev pub insert_ascending : ℕ → List ℕ → List ℕ
 insert_ascending s [] = s ∷ []
 insert_ascending s (x ∷ xs) = if nat_le s x then s ∷ x ∷ xs else x ∷ insert_ascending s xs
+
+-- the same serials, ascending
+abbrev pub ascending : List ℕ → List ℕ
+ascending [] = []
+ascending (s ∷ ss) = insert_ascending s (ascending ss)

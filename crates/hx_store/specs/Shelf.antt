@@ -2,6 +2,7 @@
 --
 -- serials, holds_serial, find_entry: the entries by their serials     serials_of: those with a key
 -- entry_matches: an entry has a request's nominated values          matching_serials: those with a key that have them
+-- serials_where: those of the entries that pass a test
 -- without_serials, without_key: the entries that stay                  with_promoted: one comes first
 use Rattle.std.specs.Prelude.{ℕ, Bool, false, not, ◌==◌, Option, None, Some, List, [], ◌∷◌, if◌then◌else◌}
 use Rattle.std.specs.List.{filter}
@@ -37,6 +38,12 @@ abbrev pub serials_of : Key → List Stored → List ℕ
 serials_of key [] = []
 serials_of key (e ∷ es) =
     if same_key e.key key then insert_ascending e.serial (serials_of key es) else serials_of key es
+
+-- the serials of the entries that pass a test, ascending
+abbrev pub serials_where : (Stored → Bool) → List Stored → List ℕ
+serials_where passes [] = []
+serials_where passes (e ∷ es) =
+    if passes e then insert_ascending e.serial (serials_where passes es) else serials_where passes es
 
 -- the entry that was found nominates what the request has (RFC 9111, section 4.1)
 abbrev pub entry_matches : List Field → Option Stored → Bool

@@ -8,10 +8,12 @@ ghost use Rattle.std.specs.List.{filter, list_all};
 ghost use Rattle.std.specs.Map.{keys_of};
 ghost use Rattle.hx_store.specs.Index.{entry_matches_values, EachMarkIsOfItsEntry};
 ghost use Rattle.hx_store.specs.Shelf.{holds_serial, find_entry, entry_matches, without_serials, with_promoted};
+ghost use Rattle.hx_store.specs.Shelf.{serials, serials_where};
 
 use crate::entries::Entry;
 use crate::key_marks::KeyMarks;
 use crate::serial_list::Serials;
+use crate::shelves::EntryTest;
 use hx_fields::Fields;
 use hx_vary::{RequestValues, matches};
 use lru::LruCache;
@@ -188,6 +190,33 @@ impl EntryCache {
             Some(entry) => asked.matches(&entry.nominated),
             None => Ok(false),
         }
+    }
+
+    /// The serials of the entries that pass a test, ascending. It goes over the entries once, and sorts what it found.
+    /// Fails only where memory runs out.
+    pub(crate) fn find_where<T: EntryTest>(
+        &self,
+        alloc: Global,
+        test: &T,
+    ) -> Result<Serials, AllocError>
+        ensures { IfOk result (λ found. found ≡ serials_where (T.takes test.now) self.now) }
+    {
+        let mut found = self.passing(alloc, test)?;
+        found.sort();
+        Ok(found)
+    }
+
+    /// The same in the order of the entries. Fails only where memory runs out.
+    fn passing<T: EntryTest>(&self, alloc: Global, test: &T) -> Result<Serials, AllocError>
+        ensures { IfOk result (λ found. found ≡ serials (filter (T.takes test.now) self.now)) }
+    {
+        let mut found = Serials::new(alloc);
+        for (_, entry) in self.entries.iter() {
+            if test.is_passed_by(entry) {
+                found.push(entry.serial)?;
+            }
+        }
+        Ok(found)
     }
 
     /// Puts an entry first. Where memory runs out nothing has changed, and the entry is handed back.

@@ -8,7 +8,7 @@ ghost use Rattle.std.specs.Option.{ForSome};
 ghost use Rattle.hx_target.specs.Keys.{same_key};
 ghost use Rattle.hx_store.specs.Serials.{Distinct};
 ghost use Rattle.hx_store.specs.Shelf.{holds_serial, find_entry, without_serials, serials, serials_of};
-ghost use Rattle.hx_store.specs.Shelf.{matching_serials, with_promoted};
+ghost use Rattle.hx_store.specs.Shelf.{matching_serials, serials_where, with_promoted};
 ghost use Rattle.hx_store.specs.Shelf.{without_key};
 ghost use Rattle.hx_store.specs.Index.{entries_but_others};
 ghost use Rattle.hx_store.specs.Weights.{after_shedding, shed_entry, total_weight};
@@ -17,6 +17,7 @@ use crate::entries::Entry;
 use crate::entry_cache::EntryCache;
 use crate::key_index::KeyIndex;
 use crate::serial_list::Serials;
+use crate::shelves::EntryTest;
 use hx_fields::Fields;
 use hx_target::Key;
 use std::alloc::{AllocError, Global};
@@ -144,6 +145,18 @@ impl IndexedEntries {
                 .matching_among_marks(alloc, marks, request, self.seed),
             None => Ok(Serials::new(alloc)),
         }
+    }
+
+    /// The serials of the entries that pass a test, ascending. Fails only where memory runs out.
+    pub(crate) fn find_where<T: EntryTest>(
+        &self,
+        alloc: Global,
+        test: &T,
+    ) -> Result<Serials, AllocError>
+        ensures found { IfOk result (λ found. found ≡ serials_where (T.takes test.now) self.now) }
+        ensures distinct { Distinct (serials self.now) }
+    {
+        self.entries.find_where(alloc, test)
     }
 
     /// Puts an entry first. Where memory runs out nothing has changed, and the entry is handed back.

@@ -7,7 +7,7 @@ ghost use Rattle.std.specs.Prelude.{◌≡◌, [], IfOk};
 use crate::entries::Entry;
 use crate::indexed_entries::IndexedEntries;
 use crate::serial_list::Serials;
-use crate::shelves::Shelf;
+use crate::shelves::{EntryTest, Shelf};
 use hx_fields::Fields;
 use hx_target::Key;
 use std::alloc::{AllocError, Global};
@@ -105,6 +105,10 @@ impl Shelf for IndexedShelf {
         request: &Fields,
     ) -> Result<Serials, AllocError> {
         self.held.find_matching(alloc, key, request)
+    }
+
+    fn find_where<T: EntryTest>(&self, alloc: Global, test: &T) -> Result<Serials, AllocError> {
+        self.held.find_where(alloc, test)
     }
 
     fn put(&mut self, entry: Entry, replaced: &[u64]) -> Result<Option<Entry>, Entry> {

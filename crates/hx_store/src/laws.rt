@@ -10,7 +10,8 @@ ghost use Rattle.hx_store.specs.Recency.{recent_of};
 ghost use Rattle.hx_store.specs.Shelf.{find_entry, holds_serial, with_promoted, serials, serials_of, without_serials};
 ghost use Rattle.hx_store.specs.Shelf.{without_key};
 ghost use Rattle.hx_store.specs.Found.{FindsSerialsOfTheKey, FoundSerialsAscend, FindsMatchingSerials};
-ghost use Rattle.hx_store.specs.Found.{MatchingSerialsAscend};
+ghost use Rattle.hx_store.specs.Found.{MatchingSerialsAscend, FindsSerialsOfWhatPasses, SerialsOfWhatPassesAscend};
+ghost use Rattle.hx_store.specs.Found.{WithoutThemTheOthersStay, TestOfTheKeyFindsThoseOfTheKey};
 ghost use Rattle.hx_store.specs.Cases.{key_of_path, first, second, third, fourth};
 
 pub use crate::weight_laws::{
@@ -46,6 +47,15 @@ pub fn what_is_held_is_found()
 pub fn found_serials_are_those_of_the_key()
     ensures those { FindsSerialsOfTheKey }
     ensures ascending { FoundSerialsAscend }
+{}
+
+/// What is found by a test is the serial of each entry that passes and no other, ascending; without those exactly the
+/// others stay. A test of the key finds what is found of the key.
+pub fn found_serials_are_those_of_what_passes()
+    ensures those { FindsSerialsOfWhatPasses }
+    ensures ascending { SerialsOfWhatPassesAscend }
+    ensures others { WithoutThemTheOthersStay }
+    ensures of_the_key { TestOfTheKeyFindsThoseOfTheKey }
 {}
 
 /// What is found of a key for a request is the serial of each entry with that key that nominates what the request has,

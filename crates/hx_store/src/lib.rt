@@ -25,5 +25,5 @@ pub use indexed_shelf::IndexedShelf;
 pub use list_shelf::ListShelf;
 pub use serial_list::Serials;
 pub use shedding::shed_to;
-pub use shelves::Shelf;
+pub use shelves::{EntryTest, Shelf};
 pub use weights::weight_of_parts;

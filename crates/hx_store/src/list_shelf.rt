@@ -9,7 +9,7 @@ ghost use Rattle.hx_store.specs.Shelf.{holds_serial, without_serials, without_ke
 
 use crate::entries::Entry;
 use crate::serial_list::Serials;
-use crate::shelves::Shelf;
+use crate::shelves::{EntryTest, Shelf};
 use crate::weights::total_weight;
 use hx_fields::Fields;
 use hx_target::Key;
@@ -170,6 +170,19 @@ impl Shelf for ListShelf {
             rest -= 1;
             let entry = &self.entries[rest];
             if entry.has_key(key) && matches(alloc, &entry.nominated, request)? {
+                found.insert(entry.serial)?;
+            }
+        }
+        Ok(found)
+    }
+
+    fn find_where<T: EntryTest>(&self, alloc: Global, test: &T) -> Result<Serials, AllocError> {
+        let mut found = Serials::new(alloc);
+        let mut rest = self.entries.len();
+        while rest > 0 {
+            rest -= 1;
+            let entry = &self.entries[rest];
+            if test.is_passed_by(entry) {
                 found.insert(entry.serial)?;
             }
         }

@@ -2,7 +2,7 @@
 
 ghost use Rattle.std.specs.Prelude.{◌≡◌, ◌≤◌, ◌-◌, ◌==◌, ◌++◌, ◌∷◌, [], IfOk, OnOk, OnErr, length, nat_le, slice_get};
 ghost use Rattle.std.specs.List.{position_or_len};
-ghost use Rattle.hx_store.specs.Serials.{insert_ascending};
+ghost use Rattle.hx_store.specs.Serials.{insert_ascending, ascending};
 
 use smallvec::SmallVec;
 use std::alloc::{AllocError, Global};
@@ -58,6 +58,13 @@ impl Serials {
     {
         self.serials.push(serial)?;
         Ok(())
+    }
+
+    /// Puts them into ascending order. No memory is taken.
+    pub(crate) fn sort(&mut self)
+        ensures { self.new ≡ ascending self.old }
+    {
+        self.serials.as_mut_slice().sort_unstable();
     }
 
     /// A copy of these serials. Fails only where memory runs out.

@@ -4,12 +4,12 @@
 //! no more entries stand than its capacity, is promised by `find` and `len`.
 
 ghost use Rattle.std.specs.Prelude.{◌≡◌, ◌<◌, ◌≤◌, ◌-◌, ◌^◌, ◌==◌, ℕ, List, [], ◌∷◌, false, true, not, length, min};
-ghost use Rattle.std.specs.Prelude.{take, slice_get, option_copied, IfOk, IfErr, IsOk, OnErr, OnOk, Some};
+ghost use Rattle.std.specs.Prelude.{Bool, take, slice_get, option_copied, IfOk, IfErr, IsOk, OnErr, OnOk, Some};
 ghost use Rattle.std.specs.Option.{ForSome};
 ghost use Rattle.hx_target.specs.Keys.{same_key};
 ghost use Rattle.hx_store.specs.Serials.{Distinct};
 ghost use Rattle.hx_store.specs.Shelf.{holds_serial, find_entry, without_serials, without_key, serials, serials_of};
-ghost use Rattle.hx_store.specs.Shelf.{matching_serials};
+ghost use Rattle.hx_store.specs.Shelf.{matching_serials, serials_where};
 ghost use Rattle.hx_store.specs.Shelf.{with_promoted};
 ghost use Rattle.hx_store.specs.Weights.{after_shedding, shed_entry, total_weight};
 
@@ -18,6 +18,18 @@ use crate::serial_list::Serials;
 use hx_fields::Fields;
 use hx_target::Key;
 use std::alloc::{AllocError, Global};
+
+/// What is asked of each entry.
+pub trait EntryTest {
+    ghost use Rattle.hx_store.specs.Stored.{Stored};
+
+    /// Whether an entry passes.
+    ghost takes: { Self → Stored → Bool };
+
+    /// Whether this entry passes. No memory is taken.
+    fn is_passed_by(&self, entry: &Entry) -> bool
+        ensures { result ≡ takes self.now entry.now };
+}
 
 /// A bounded store.
 pub trait Shelf {
@@ -71,6 +83,12 @@ pub trait Shelf {
         request: &Fields,
     ) -> Result<Serials, AllocError>
         ensures found { IfOk result (λ found. found ≡ matching_serials key.now request.now (entries self.now)) }
+        ensures distinct { Distinct (serials (entries self.now)) };
+
+    /// The serials of the entries that pass a test, ascending. It looks at each entry once. Fails only where memory
+    /// runs out.
+    fn find_where<T: EntryTest>(&self, alloc: Global, test: &T) -> Result<Serials, AllocError>
+        ensures found { IfOk result (λ found. found ≡ serials_where (T.takes test.now) (entries self.now)) }
         ensures distinct { Distinct (serials (entries self.now)) };
 
     /// Stores an entry, first, in place of those with the serials in `replaced`. Where more than the capacity

@@ -2,11 +2,12 @@
 use Rattle.std.proofs.Common.{◌≡◌, ℕ, ◌≤◌, ◌<◌, ◌+◌, ◌-◌, Bool, true, false, cond, List, length, refl, sym, ◌∙◌, ap, subst, arith}
 use Rattle.std.proofs.lemmas.Bool.Decides.{nat_tests}
 use Rattle.std.specs.Prelude.{◌==◌, ◌&&◌, nat_le, nat_lt, min, not, bytes_eq, codes, take, drop, Option, Some, None, option_map, option_and_then}
+use Rattle.hx_fields.specs.declared.field_line.Field.{Field}
 use Rattle.hx_fields.specs.FieldLines.{only_value}
 use Rattle.hx_fields.specs.Names.{cut_at, is_nonempty, is_same_name}
 use Rattle.hx_hop.specs.declared.request_view.Asked.{Asked}
 use Rattle.hx_store.specs.Stored.{Stored}
-use Rattle.hx_validate.specs.Ranges.{answer_to_range, answer_to_asked, heeds_range, if_range_holds, in_form_of, int_range, range_asked, range_of_value, range_of_cut, range_of_parts, range_answer, position_of, PartIsIn}
+use Rattle.hx_validate.specs.Ranges.{answer_to_range, answer_to_asked, heeds_range, if_range_holds, in_form_of, int_range, range_asked, range_of_value, range_of_cut, range_of_parts, range_answer, range_answer_of, position_of, PartIsIn}
 use Rattle.hx_validate.specs.RangeWords.{FailedIfRangeSendsTheWhole, IsAskedFor, IsReadRange, OnlyA200HasParts, PartIsWhatIsAsked, PartIsWithin, RangeOfAnotherMethodIsIgnored, UnsatisfiableIsBeyond, WithoutARangeTheWholeIsSent}
 use Rattle.hx_validate.specs.declared.ranges.ByteRange.{ByteRange}
 use Rattle.hx_validate.specs.declared.ranges.ByteRange.TheVariants.{FromTo, From, Last}
@@ -110,11 +111,11 @@ value_if_one : (value : Option (List ℕ)) (range : ByteRange) → option_and_th
 value_if_one None range h = cc
 value_if_one (Some value) range h = value_read value range h
 
-pub answer_is_in : (asked : Asked) (e : Stored) → PartIsIn (range_answer asked e) (length e.content)
-answer_is_in asked e = by_test (heeds_range asked e)
+pub answer_is_in : (asked : Asked) (status date : ℕ) (fields : List Field) (total : ℕ) → PartIsIn (range_answer_of asked status date fields total) total
+answer_is_in asked status date fields total = by_test (heeds_range asked status date fields)
   where
-    by_test : (t : Bool) → PartIsIn (cond t (answer_to_asked (length e.content) (range_asked asked.fields)) Whole) (length e.content)
-    by_test true = by_range (length e.content) (range_asked asked.fields) (λ range is. value_if_one (only_value asked.fields (codes "Range")) range is)
+    by_test : (t : Bool) → PartIsIn (cond t (answer_to_asked total (range_asked asked.fields)) Whole) total
+    by_test true = by_range total (range_asked asked.fields) (λ range is. value_if_one (only_value asked.fields (codes "Range")) range is)
     by_test false = tt
 
 -- ---- just what is asked for
@@ -172,7 +173,7 @@ none_is_asked total (Last most) at h there asked = by_test (most == 0) (total ==
 
 -- ---- what is sent whole
 
-unheeded : (asked : Asked) (e : Stored) → heeds_range asked e ≡ false → in_form_of (range_answer asked e) e ≡ e
+unheeded : (asked : Asked) (e : Stored) → heeds_range asked e.status e.times.date e.fields ≡ false → in_form_of (range_answer asked e) e ≡ e
 unheeded asked e off = ap (λ t. in_form_of (cond t (answer_to_asked (length e.content) (range_asked asked.fields)) Whole) e) off
 
 method_is_not : (m : List ℕ) → (m ≡ codes "GET" → ⊥) → bytes_eq m (codes "GET") ≡ false
@@ -184,22 +185,22 @@ method_is_not m other = by_test (bytes_eq m (codes "GET")) refl
 
 pub of_another_method : RangeOfAnotherMethodIsIgnored
 of_another_method asked e other =
-    unheeded asked e (first_absent (bytes_eq asked.method (codes "GET")) ((e.status == 200) && if_range_holds asked.fields e) (method_is_not asked.method other))
+    unheeded asked e (first_absent (bytes_eq asked.method (codes "GET")) ((e.status == 200) && if_range_holds asked.fields e.times.date e.fields) (method_is_not asked.method other))
 
 pub of_another_status : OnlyA200HasParts
 of_another_status asked e other =
     unheeded asked e
-    (last_absent (bytes_eq asked.method (codes "GET")) ((e.status == 200) && if_range_holds asked.fields e)
-    (first_absent (e.status == 200) (if_range_holds asked.fields e) (not_equal e.status 200 other)))
+    (last_absent (bytes_eq asked.method (codes "GET")) ((e.status == 200) && if_range_holds asked.fields e.times.date e.fields)
+    (first_absent (e.status == 200) (if_range_holds asked.fields e.times.date e.fields) (not_equal e.status 200 other)))
 
 pub of_another_response : FailedIfRangeSendsTheWhole
 of_another_response asked e off =
     unheeded asked e
-    (last_absent (bytes_eq asked.method (codes "GET")) ((e.status == 200) && if_range_holds asked.fields e)
-    (last_absent (e.status == 200) (if_range_holds asked.fields e) off))
+    (last_absent (bytes_eq asked.method (codes "GET")) ((e.status == 200) && if_range_holds asked.fields e.times.date e.fields)
+    (last_absent (e.status == 200) (if_range_holds asked.fields e.times.date e.fields) off))
 
 pub of_no_range : WithoutARangeTheWholeIsSent
-of_no_range asked e none = by_test (heeds_range asked e)
+of_no_range asked e none = by_test (heeds_range asked e.status e.times.date e.fields)
   where
     by_asked : (o : Option ByteRange) → o ≡ None → in_form_of (answer_to_asked (length e.content) o) e ≡ e
     by_asked None is = refl

@@ -58,5 +58,5 @@ WithoutARangeTheWholeIsSent = (asked : Asked) (e : Stored) → range_asked asked
 
 -- "if the condition is false, the recipient SHOULD ignore the Range header field"
 abbrev pub FailedIfRangeSendsTheWhole : Type 0
-FailedIfRangeSendsTheWhole = (asked : Asked) (e : Stored) → if_range_holds asked.fields e ≡ false
+FailedIfRangeSendsTheWhole = (asked : Asked) (e : Stored) → if_range_holds asked.fields e.times.date e.fields ≡ false
     → response_in_range asked e ≡ e

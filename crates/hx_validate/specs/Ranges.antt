@@ -1,11 +1,13 @@
--- Which part of a stored response answers a request for a range (RFC 9110, sections 13.1.5, 14.1, 14.2, 14.4 and
--- 15.5.17).
+-- Which part of a response, stored or just come, answers a request for a range (RFC 9110, sections 13.1.5, 14.1, 14.2,
+-- 14.4 and 15.5.17).
 --
 -- range_of_text, range_asked: the range that a text and a request ask for
--- if_range_holds: what If-Range asks for is stored
--- answer_to_range: what of a content of a length answers a range     range_answer: of a stored response a request
+-- if_range_holds: what If-Range asks for is the response
+-- answer_to_range: what of a content of a length answers a range
+-- range_answer_of, range_answer: what of a response, and of a stored one, answers a request
 -- PartIsIn: a part is of what is there
 -- fields_of_part, fields_of_416: the lines of both answers           response_in_range: the response in their form
+-- fields_of_416_to_answer: those of a 416 in place of an answer of the origin
 use Rattle.std.specs.Prelude.{ℕ, ◌+◌, ◌-◌, ◌==◌, ◌≤◌, ◌<◌, nat_le, nat_lt, min, if◌then◌else◌, cond, Bool, true}
 use Rattle.std.specs.Prelude.{false, not}
 use Rattle.std.specs.Prelude.{◌&&◌, ◌||◌, List, [], ◌∷◌, ◌++◌, length, take, drop, filter, slice_range, bytes_eq}
@@ -67,7 +69,7 @@ range_of_value value =
 abbrev pub range_asked : List Field → Option ByteRange
 range_asked fields = option_and_then range_of_value (only_value fields (codes "Range"))
 
--- ---- whether it is wanted of what is stored
+-- ---- whether it is wanted of the response
 
 -- the value is the entity tag, and neither is weak (RFC 9110, section 8.8.3.2)
 abbrev pub equals_tag : List ℕ → Option (List ℕ) → Bool
@@ -85,19 +87,21 @@ abbrev pub is_made_later : ℕ → Option ℕ → Bool
 is_made_later date None = false
 is_made_later date (Some changed) = nat_le 60 (date - changed)
 
-abbrev pub is_strong_date : Stored → Bool
-is_strong_date e = is_made_later e.times.date (single_date (values_of e.fields (codes "Last-Modified")))
+-- of a response of a Date and of lines
+abbrev pub is_strong_date : ℕ → List Field → Bool
+is_strong_date date fields = is_made_later date (single_date (values_of fields (codes "Last-Modified")))
 
 -- If-Range = entity-tag / HTTP-date (RFC 9110, section 13.1.5)
-abbrev pub is_current_validator : Option (List ℕ) → Stored → Bool
-is_current_validator None e = false
-is_current_validator (Some value) e =
-    equals_tag value (tag_value e.fields) || (is_strong_date e && equals_modified value (modified_value e.fields))
+abbrev pub is_current_validator : Option (List ℕ) → ℕ → List Field → Bool
+is_current_validator None date fields = false
+is_current_validator (Some value) date fields =
+    equals_tag value (tag_value fields) || (is_strong_date date fields && equals_modified value (modified_value fields))
 
 -- without If-Range nothing is asked
-abbrev pub if_range_holds : List Field → Stored → Bool
-if_range_holds request e =
-    not (has_field request (codes "If-Range")) || is_current_validator (only_value request (codes "If-Range")) e
+abbrev pub if_range_holds : List Field → ℕ → List Field → Bool
+if_range_holds request date fields =
+    not (has_field request (codes "If-Range"))
+    || is_current_validator (only_value request (codes "If-Range")) date fields
 
 -- ---- what answers it
 
@@ -126,13 +130,17 @@ PartIsIn Unsatisfiable total = Unit {0}
 -- "A server MUST ignore a Range header field received with a request method that is unrecognized or for which range
 -- handling is not defined. For this specification, GET is the only method for which range handling is defined"; and
 -- only a response that would be a 200 has parts (RFC 9110, section 14.2)
-abbrev pub heeds_range : Asked → Stored → Bool
-heeds_range asked e =
-    bytes_eq asked.method (codes "GET") && ((e.status == 200) && if_range_holds asked.fields e)
+abbrev pub heeds_range : Asked → ℕ → ℕ → List Field → Bool
+heeds_range asked status date fields =
+    bytes_eq asked.method (codes "GET") && ((status == 200) && if_range_holds asked.fields date fields)
+
+-- of a response of a status, a Date, lines and a content of so many bytes
+abbrev pub range_answer_of : Asked → ℕ → ℕ → List Field → ℕ → RangeAnswer
+range_answer_of asked status date fields total =
+    if heeds_range asked status date fields then answer_to_asked total (range_asked asked.fields) else Whole
 
 abbrev pub range_answer : Asked → Stored → RangeAnswer
-range_answer asked e =
-    if heeds_range asked e then answer_to_asked (length e.content) (range_asked asked.fields) else Whole
+range_answer asked e = range_answer_of asked e.status e.times.date e.fields (length e.content)
 
 -- ---- its form
 
@@ -155,6 +163,16 @@ is_carried_by_416 field = is_named (codes "Date") field || is_named (codes "ETag
 abbrev pub fields_of_416 : List Field → ℕ → List Field
 fields_of_416 fields total =
     filter is_carried_by_416 fields ++ line (codes "Content-Range") (unsatisfied_text total) ∷ []
+
+-- own: that to the one who asked has the answer's Age and its cookies too, since no other response brings them ("What a
+-- 304 in place of an answer carries")
+abbrev pub is_carried_by_416_to_asker : Field → Bool
+is_carried_by_416_to_asker field =
+    is_carried_by_416 field || (is_named (codes "Age") field || is_named (codes "Set-Cookie") field)
+
+abbrev pub fields_of_416_to_answer : List Field → ℕ → List Field
+fields_of_416_to_answer fields total =
+    filter is_carried_by_416_to_asker fields ++ line (codes "Content-Range") (unsatisfied_text total) ∷ []
 
 abbrev pub part_of : Stored → ℕ → ℕ → Stored
 part_of e first last = record e {

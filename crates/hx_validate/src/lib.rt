@@ -23,8 +23,8 @@ pub use entity_tags::{strong_eq, weak_eq};
 pub use freshening::freshened;
 pub use matching_304::answers;
 pub use ranges::{
-    ByteRange, RangeAnswer, answer_to_range, part_fields, range_answer, range_asked,
-    unsatisfied_fields,
+    ByteRange, RangeAnswer, answer_to_range, answer_unsatisfied_fields, part_fields, range_answer,
+    range_answer_of, range_asked, unsatisfied_fields,
 };
 pub use room::head_leaves_room;
 pub use stored_validators::{conditions, has_validator};

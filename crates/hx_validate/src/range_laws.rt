@@ -6,7 +6,7 @@ ghost use Rattle.hx_validate.specs.Cases.{asked_with, etag_line, last_modified_l
 ghost use Rattle.hx_validate.specs.RangeCases.{answer_to_range_text, range_line, if_range_line, answer_with, ten_bytes};
 ghost use Rattle.hx_validate.specs.RangeCases.{part_of_ten, form_with};
 ghost use Rattle.hx_validate.specs.Ranges.{range_of_value, range_asked, range_answer, response_in_range};
-ghost use Rattle.hx_validate.specs.Ranges.{if_range_holds, fields_of_part, fields_of_416};
+ghost use Rattle.hx_validate.specs.Ranges.{if_range_holds, fields_of_part, fields_of_416, fields_of_416_to_answer};
 ghost use Rattle.hx_validate.specs.RangeWords.{PartIsWithin, PartIsWhatIsAsked, UnsatisfiableIsBeyond};
 ghost use Rattle.hx_validate.specs.RangeWords.{RangeOfAnotherMethodIsIgnored, OnlyA200HasParts};
 ghost use Rattle.hx_validate.specs.RangeWords.{WithoutARangeTheWholeIsSent, FailedIfRangeSendsTheWhole};
@@ -132,6 +132,11 @@ pub fn lines_of_parts()
         ∷ line (codes "Content-Type") (codes "f") ∷ []) 1234
         ≡ line (codes "Date") (codes "a") ∷ etag_line (codes "c") ∷ line (codes "vary") (codes "e")
         ∷ line (codes "Content-Range") (codes "bytes */1234") ∷ [] }
+    ensures unsatisfied_to_asker { fields_of_416_to_answer (line (codes "Date") (codes "a")
+        ∷ line (codes "Cache-Control") (codes "b") ∷ etag_line (codes "c") ∷ line (codes "set-cookie") (codes "d")
+        ∷ line (codes "Age") (codes "5") ∷ line (codes "Content-Type") (codes "f") ∷ []) 1234
+        ≡ line (codes "Date") (codes "a") ∷ etag_line (codes "c") ∷ line (codes "set-cookie") (codes "d")
+        ∷ line (codes "Age") (codes "5") ∷ line (codes "Content-Range") (codes "bytes */1234") ∷ [] }
 {}
 
 /// A response of ten bytes, in the form of its parts.

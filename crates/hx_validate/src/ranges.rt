@@ -1,4 +1,4 @@
-//! Which part of a stored response answers a request for a range (RFC 9110, sections 13.1.5 and 14).
+//! Which part of a response, stored or just come, answers a request for a range (RFC 9110, sections 13.1.5 and 14).
 //!
 //! The definitions are in `specs/Ranges.antt`. Whether the response may be sent at all is decided before.
 ghost use Rattle.std.specs.Prelude.{◌≡◌, ◌++◌, IfOk, OnOk, decimal, length};
@@ -11,7 +11,8 @@ ghost use Rattle.hx_validate.specs.Validators.{modified_value, tag_value};
 ghost use Rattle.hx_validate.specs.Ranges.{int_range, range_asked, is_strong_date};
 ghost use Rattle.hx_validate.specs.Ranges.{if_range_holds, answer_to_range};
 ghost use Rattle.hx_validate.specs.Ranges.{PartIsIn, heeds_range, range_answer, part_text, unsatisfied_text};
-ghost use Rattle.hx_validate.specs.Ranges.{fields_of_part, is_carried_by_416, fields_of_416};
+ghost use Rattle.hx_validate.specs.Ranges.{range_answer_of, fields_of_part, is_carried_by_416, fields_of_416};
+ghost use Rattle.hx_validate.specs.Ranges.{is_carried_by_416_to_asker, fields_of_416_to_answer};
 
 use crate::entity_tags::strong_eq;
 use crate::stored_validators::{modified_value, tag_value};
@@ -127,43 +128,45 @@ pub fn range_asked(request: &Fields) -> Option<ByteRange>
     }
 }
 
-fn is_strong_date(entry: &Entry) -> bool
-    ensures { result ≡ is_strong_date entry.now }
+fn is_strong_date(date: u64, fields: &Fields) -> bool
+    ensures { result ≡ is_strong_date date fields.now }
 {
-    match single_date(&entry.fields, b"Last-Modified") {
-        Some(changed) => SECONDS_LATER <= entry.times.date.saturating_sub(changed),
+    match single_date(fields, b"Last-Modified") {
+        Some(changed) => SECONDS_LATER <= date.saturating_sub(changed),
         None => false,
     }
 }
 
-fn is_current_tag(value: &[u8], entry: &Entry) -> bool
-    ensures { result ≡ equals_tag value.now (tag_value entry.now.fields) }
+fn is_current_tag(value: &[u8], fields: &Fields) -> bool
+    ensures { result ≡ equals_tag value.now (tag_value fields.now) }
 {
-    match tag_value(&entry.fields) {
+    match tag_value(fields) {
         Some(held) => strong_eq(value, held),
         None => false,
     }
 }
 
-fn is_current_date(value: &[u8], entry: &Entry) -> bool
-    ensures { result ≡ equals_modified value.now (modified_value entry.now.fields) }
+fn is_current_date(value: &[u8], fields: &Fields) -> bool
+    ensures { result ≡ equals_modified value.now (modified_value fields.now) }
 {
-    match modified_value(&entry.fields) {
+    match modified_value(fields) {
         Some(held) => value == held,
         None => false,
     }
 }
 
-/// Whether a response is the one that If-Range names, where it stands (RFC 9110, section 13.1.5).
-fn if_range_holds(request: &Fields, entry: &Entry) -> bool
-    ensures { result ≡ if_range_holds request.now entry.now }
+/// Whether a response of a Date and of lines is the one that If-Range names, where it stands (RFC 9110, section
+/// 13.1.5).
+fn if_range_holds(request: &Fields, date: u64, fields: &Fields) -> bool
+    ensures { result ≡ if_range_holds request.now date fields.now }
 {
     if !request.has(b"If-Range") {
         return true;
     }
     match request.only_value(b"If-Range") {
         Some(value) => {
-            is_current_tag(value, entry) || (is_strong_date(entry) && is_current_date(value, entry))
+            is_current_tag(value, fields)
+                || (is_strong_date(date, fields) && is_current_date(value, fields))
         }
         None => false,
     }
@@ -199,25 +202,46 @@ pub fn answer_to_range(total: usize, range: ByteRange) -> RangeAnswer
     }
 }
 
-fn heeds_range(asked: &Asked, entry: &Entry) -> bool
-    ensures { result ≡ heeds_range asked.now entry.now }
+fn heeds_range(asked: &Asked, status: u16, date: u64, fields: &Fields) -> bool
+    ensures { result ≡ heeds_range asked.now status date fields.now }
 {
-    asked.method.as_str() == "GET" && entry.status == OK && if_range_holds(&asked.fields, entry)
+    asked.method.as_str() == "GET" && status == OK && if_range_holds(&asked.fields, date, fields)
 }
 
-/// What of a stored response answers a request, for a range or not: a part of a 200 to a GET that asks for one range of
-/// bytes, and whose If-Range names it. No memory is taken.
+/// What of a response answers a request, for a range or not: a part of a 200 to a GET that asks for one range of bytes,
+/// and whose If-Range names it. The response has this status, these lines, this Date in Unix seconds, and a content of
+/// so many bytes. No memory is taken.
+pub fn range_answer_of(
+    asked: &Asked,
+    status: u16,
+    date: u64,
+    fields: &Fields,
+    total: usize,
+) -> RangeAnswer
+    ensures answer { result ≡ range_answer_of asked.now status date fields.now total }
+    ensures part { PartIsIn result total }
+{
+    if !heeds_range(asked, status, date, fields) {
+        return RangeAnswer::Whole;
+    }
+    match range_asked(&asked.fields) {
+        Some(range) => answer_to_range(total, range),
+        None => RangeAnswer::Whole,
+    }
+}
+
+/// The same of a stored response. No memory is taken.
 pub fn range_answer(asked: &Asked, entry: &Entry) -> RangeAnswer
     ensures answer { result ≡ range_answer asked.now entry.now }
     ensures part { PartIsIn result (length entry.now.content) }
 {
-    if !heeds_range(asked, entry) {
-        return RangeAnswer::Whole;
-    }
-    match range_asked(&asked.fields) {
-        Some(range) => answer_to_range(entry.content.len(), range),
-        None => RangeAnswer::Whole,
-    }
+    range_answer_of(
+        asked,
+        entry.status,
+        entry.times.date,
+        &entry.fields,
+        entry.content.len(),
+    )
 }
 
 fn push_number(out: &mut Vec<u8>, number: usize) -> Result<(), AllocError>
@@ -249,22 +273,22 @@ fn unsatisfied_text(alloc: Global, total: usize) -> Result<Bytes, AllocError>
     Ok(Bytes::from_vec(out))
 }
 
-/// The lines of the 206 that has the bytes of a response from the first to the last (RFC 9110, sections 14.4 and
-/// 15.3.7). Its only error is out of memory.
+/// The lines of the 206 that has the bytes from the first to the last of a response of these lines and of so many bytes
+/// (RFC 9110, sections 14.4 and 15.3.7). Its only error is out of memory.
 pub fn part_fields(
     alloc: Global,
-    entry: &Entry,
+    fields: &Fields,
     first: usize,
     last: usize,
+    total: usize,
 ) -> Result<Fields, AllocError>
-    ensures { IfOk result (λ fields. fields
-        ≡ fields_of_part entry.now.fields first last (length entry.now.content)) }
+    ensures { IfOk result (λ lines. lines ≡ fields_of_part fields.now first last total) }
 {
-    let text = part_text(alloc, first, last, entry.content.len())?;
-    let mut fields = entry.fields.copy(alloc)?;
-    fields.remove_named(b"Content-Range");
-    fields.push(b"Content-Range", text.as_slice())?;
-    Ok(fields)
+    let text = part_text(alloc, first, last, total)?;
+    let mut lines = fields.copy(alloc)?;
+    lines.remove_named(b"Content-Range");
+    lines.push(b"Content-Range", text.as_slice())?;
+    Ok(lines)
 }
 
 fn is_carried_by_416(line: &Field) -> bool
@@ -283,6 +307,32 @@ pub fn unsatisfied_fields(alloc: Global, entry: &Entry) -> Result<Fields, AllocE
     let mut carried = Fields::new(alloc);
     for line in entry.fields.as_slice() {
         if is_carried_by_416(line) {
+            carried.push(line.name.as_slice(), line.value.as_slice())?;
+        }
+    }
+    carried.push(b"Content-Range", text.as_slice())?;
+    Ok(carried)
+}
+
+fn is_carried_by_416_to_asker(line: &Field) -> bool
+    ensures { result ≡ is_carried_by_416_to_asker line.now }
+{
+    let name = line.name.as_slice();
+    is_carried_by_416(line) || is_same_name(name, b"Age") || is_same_name(name, b"Set-Cookie")
+}
+
+/// The lines of the 416 in place of an answer of these lines and of so many bytes. Its only error is out of memory.
+pub fn answer_unsatisfied_fields(
+    alloc: Global,
+    fields: &Fields,
+    total: usize,
+) -> Result<Fields, AllocError>
+    ensures { IfOk result (λ lines. lines ≡ fields_of_416_to_answer fields.now total) }
+{
+    let text = unsatisfied_text(alloc, total)?;
+    let mut carried = Fields::new(alloc);
+    for line in fields.as_slice() {
+        if is_carried_by_416_to_asker(line) {
             carried.push(line.name.as_slice(), line.value.as_slice())?;
         }
     }

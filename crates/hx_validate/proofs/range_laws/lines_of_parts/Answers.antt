@@ -13,3 +13,7 @@ returns-clause-told_before c = refl
 pub returns-clause-unsatisfied : goal.returns-clause-unsatisfied
 unfolding digits
 returns-clause-unsatisfied c = refl
+
+pub returns-clause-unsatisfied_to_asker : goal.returns-clause-unsatisfied_to_asker
+unfolding digits
+returns-clause-unsatisfied_to_asker c = refl

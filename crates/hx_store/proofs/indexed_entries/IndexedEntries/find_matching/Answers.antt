@@ -1,8 +1,8 @@
-use Rattle.std.proofs.Common.{rules, ◌≡◌, ℕ, Bool, List, [], ap, sym, subst, ◌∙◌}
+use Rattle.std.proofs.Common.{rules, ◌≡◌, ℕ, Bool, List, ap, subst, ◌∙◌}
 use Rattle.std.specs.Prelude.{IfOk}
 use Rattle.std.specs.List.{filter}
 use Rattle.std.specs.Map.{keys_of}
-use Rattle.hx_store.specs.Index.{serials_and_marks_at, EachMarkIsOfItsEntry}
+use Rattle.hx_store.specs.Index.{serials_and_marks_at}
 use Rattle.hx_store.specs.Shelf.{find_entry, entry_matches, matching_serials}
 use Rattle.hx_store.proofs.indexed_entries.IndexedEntries.find_matching.Goals as goal
 
