@@ -21,6 +21,7 @@ use Rattle.proxy_core.specs.declared.open.stage.Stage.{Stage}
 use Rattle.proxy_core.specs.declared.open.stage.Stage.TheVariants.{Forwarded, Waiting, Released}
 use Rattle.proxy_core.specs.Leading.{is_get, is_forwarded, waits_for, asks_for, answer_may_serve, leads_waiters, leader}
 use Rattle.proxy_core.specs.declared.open.awaited.Awaited.{Awaited}
+use Rattle.proxy_core.specs.Scopes.{Scope, is_in_scope}
 use Rattle.proxy_core.specs.State.{released_exchange, overtaken_exchange}
 use Rattle.proxy_core.specs.Arrivals.{HaveDistinctArrivalsAndIds, SelectedArrivalsPass, IsExactIndexOfSelected, map_exchanges}
 use Rattle.proxy_core.specs.ByKey.{is_get_at_origin_for_key, is_get_not_at_origin_for_key, is_other_for_key, ArrivalIsMovedToOrigin, is_in_key_index, GetArrivalsPass, ArrivalIsPutWhere, ArrivalIsTakenOutWhere, AreSameKeyIndex, IsNotInKeyIndex, ArrivalIsEntered, ArrivalHasLeft, AreSameArrivals, IsInNeitherIndex, TellsAllByKey}
@@ -138,9 +139,9 @@ release-place q x = (
     not_yet (Waiting leader) h = refl
     not_yet Released h = refl
 
-pub overtake-place : (key : Key) → KeepsItsPlace (overtaken_exchange key)
+pub overtake-place : (key : Scope) → KeepsItsPlace (overtaken_exchange key)
 overtake-place key x = (
-  elim (same_key x.asked.target.key key) as (λ b. (cond b (record x { overtaken = true }) x).asked ≡ x.asked) [ true ↦ refl | false ↦ refl ],
+  elim (is_in_scope key x.asked.target.key) as (λ b. (cond b (record x { overtaken = true }) x).asked ≡ x.asked) [ true ↦ refl | false ↦ refl ],
   ap is_forwarded (overtake-stage key x),
 )
 

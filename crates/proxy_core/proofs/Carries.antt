@@ -3,8 +3,6 @@ use Rattle.std.proofs.Common.{◌≡◌, inl, inr, ◌⊎◌, ℕ, ◌+◌, Bool
 use Rattle.std.specs.Prelude.{option_map}
 use Rattle.std.proofs.lemmas.Bool.{eq-eqb, eqb-true, false≢true}
 use Rattle.std.proofs.lemmas.Option.{same_Some}
-use Rattle.hx_target.specs.declared.keys.Key.{Key}
-use Rattle.hx_target.specs.Keys.{same_key}
 use Rattle.hx_framing.specs.declared.messages.Response.{Response}
 use Rattle.hx_hop.specs.declared.request_view.Asked.{Asked}
 use Rattle.hx_allow.specs.TableLines.{Table}
@@ -34,7 +32,8 @@ use Rattle.proxy_core.specs.declared.open.stage.Stage.TheVariants.{Forwarded, Re
 use Rattle.proxy_core.specs.declared.steps.condition.Condition.{Condition}
 use Rattle.proxy_core.specs.Leading.{waits_for}
 use Rattle.proxy_core.specs.Outcomes.{find_exchange, exchange_id_of_event, outcome_of_arrival, outcome_of_allowed_request, outcome_of_waiting_or_forwarding, outcome_without_stored_response, outcome_of_wake, is_only_if_cached, forward_text, fallback_for, outcome_of_failure, is_error_status, outcome_of_passing_on_or_stale, outcome_of_304, outcome_of_answer, outcome_of}
-use Rattle.proxy_core.specs.State.{State, key_purged, overtaken_exchange, released_exchange, forwarded_exchange, waiting_exchange, line_of_verdict, rule_of_decision, serial_named_by_decision, exchange_gone_forward, exchange_forwarded_again, exchange_sent_forward, exchanges_after_wake, open_exchanges_after}
+use Rattle.proxy_core.specs.Scopes.{Scope, is_in_scope}
+use Rattle.proxy_core.specs.State.{State, scope_purged, overtaken_exchange, released_exchange, forwarded_exchange, waiting_exchange, line_of_verdict, rule_of_decision, serial_named_by_decision, exchange_gone_forward, exchange_forwarded_again, exchange_sent_forward, exchanges_after_wake, open_exchanges_after}
 use Rattle.proxy_core.specs.Starts.{StoreAtStart}
 use Rattle.proxy_core.specs.Traces.{Item, initial_state, state_after_trace, IsGood}
 use Rattle.proxy_core.specs.Histories.{open_exchanges, IsGoodHistory}
@@ -271,14 +270,14 @@ module _ (table : Table) (start : StoreAtStart) where
         condition = w.condition;
       }))
 
-  overtakes : (key : Key) (z : Exchange) (past : List Item) → ExchangeWasJudged table start z past → ExchangeWasJudged table start (overtaken_exchange key z) past
-  overtakes key z past h = elim (same_key z.asked.target.key key) as (λ b. ExchangeWasJudged table start (cond b (record z { overtaken = true }) z) past) [
+  overtakes : (key : Scope) (z : Exchange) (past : List Item) → ExchangeWasJudged table start z past → ExchangeWasJudged table start (overtaken_exchange key z) past
+  overtakes key z past h = elim (is_in_scope key z.asked.target.key) as (λ b. ExchangeWasJudged table start (cond b (record z { overtaken = true }) z) past) [
     | true ↦ marked z past h
     | false ↦ h
   ]
 
-  overtake_id : (key : Key) (z : Exchange) → (overtaken_exchange key z).id ≡ z.id
-  overtake_id key z = elim (same_key z.asked.target.key key) as (λ b. (cond b (record z { overtaken = true }) z).id ≡ z.id) [
+  overtake_id : (key : Scope) (z : Exchange) → (overtaken_exchange key z).id ≡ z.id
+  overtake_id key z = elim (is_in_scope key z.asked.target.key) as (λ b. (cond b (record z { overtaken = true }) z).id ≡ z.id) [
     | true ↦ refl
     | false ↦ refl
   ]
@@ -309,7 +308,7 @@ module _ (table : Table) (start : StoreAtStart) where
       let same : released_exchange i z ≡ x = same_Some (released_exchange i z) x h in
       subst (Carried id past) same (releases i z past c.0, release_id i z ∙ c.1)
 
-  carried_overtaken : (id : ℕ) (past : List Item) (key : Option Key) (o : Option Exchange) (x : Exchange) →
+  carried_overtaken : (id : ℕ) (past : List Item) (key : Option Scope) (o : Option Exchange) (x : Exchange) →
       ((z : Exchange) → o ≡ Some z → Carried id past z) → overtaken_by key o ≡ Some x → Carried id past x
   carried_overtaken id past None o x f h = f x h
   carried_overtaken id past (Some key) None x f h = absurd (cc)
@@ -318,7 +317,7 @@ module _ (table : Table) (start : StoreAtStart) where
       let same : overtaken_exchange key z ≡ x = same_Some (overtaken_exchange key z) x h in
       subst (Carried id past) same (overtakes key z past c.0, overtake_id key z ∙ c.1)
 
-  carried_apart : (id : ℕ) (i : Item) (past : List Item) (key : Option Key) (gone : Option ℕ) (o : Option Exchange) (x : Exchange) → eqb (exchange_id_of_event i.event) id ≡ false →
+  carried_apart : (id : ℕ) (i : Item) (past : List Item) (key : Option Scope) (gone : Option ℕ) (o : Option Exchange) (x : Exchange) → eqb (exchange_id_of_event i.event) id ≡ false →
       ((z : Exchange) → o ≡ Some z → Carried id past z) → changed_by key gone o ≡ Some x → Carried id (i ∷ past) x
   carried_apart id i past key gone o x n f h =
       let c = carried_overtaken id past key (released_by gone o) x (λ z q. carried_released id past gone o z f q) h in
@@ -335,7 +334,7 @@ module _ (table : Table) (start : StoreAtStart) (first : ℕ) where
       Carried table start id (record { event = Arrive now id asked; outcome = o } ∷ past) x
   unfolding Goes
   carried_first past g now id asked (Reply r) x h free found =
-      let key = key_purged asked (Reply r) in
+      let key = scope_purged asked (Reply r) in
       let s = state_after_trace (initial_state table start first) past in
       absurd (none_some _ x (find-purged key id s.exchanges ∙ ap (overtaken_by key) free ∙ none_overtaken key) found)
   carried_first past g now id asked Ended x h free found = absurd (none_some _ x free found)

@@ -9,7 +9,9 @@ use Rattle.hx_hop.specs.Forwarding.{forwarded_of}
 use Rattle.hx_hop.proofs.SentLines.{keeps_conditions_behind}
 use Rattle.hx_allow.specs.Matching.{policy_of}
 use Rattle.hx_allow.specs.TableLines.{Table}
+use Rattle.hx_hop.specs.declared.request_view.Asked.{Asked}
 use Rattle.hx_reuse.specs.Conditions.{keeps_conditions}
+use Rattle.hx_reuse.specs.FilledRanges.{request_forwarded}
 use Rattle.hx_validate.specs.NotModified.{answer_gets_304}
 use Rattle.hx_validate.proofs.ClientConditions.{false_gets_304, no_other_gets_304}
 use Rattle.proxy_core.specs.declared.open.exchange.Exchange.{Exchange}
@@ -17,10 +19,10 @@ use Rattle.proxy_core.specs.declared.outcome.Reply.{Reply}
 use Rattle.proxy_core.specs.declared.event.Event.{Event}
 use Rattle.proxy_core.specs.declared.event.Event.TheVariants.{Answer}
 use Rattle.proxy_core.specs.Histories.{next_serial, open_exchanges}
-use Rattle.proxy_core.specs.KeptConditions.{AnswerOfKeptCondition, EachUnasked304IsAFailure, FalseConditionIsAnswered304, LeadsAsOneWithoutConditions, NoClientsConditionGoesForward, OtherConditionIsAnsweredWhole}
+use Rattle.proxy_core.specs.KeptConditions.{AnswerOfKeptCondition, EachUnasked304IsAFailure, FalseConditionIsAnswered304, LeadsAsOneWithoutConditions, NoClientsConditionGoesForward, OtherConditionIsAnswered}
 use Rattle.proxy_core.specs.Naming.{AnswerNamesByEvent, AnswerNamesFirstRule}
 use Rattle.proxy_core.specs.Outcomes.{exchange_id_of_event, find_exchange}
-use Rattle.proxy_core.specs.Replies.{client_has_answer, not_modified_answer_text, passed_answer_text, whole_answer_text}
+use Rattle.proxy_core.specs.Replies.{answer_in_range_text, client_has_answer, not_modified_answer_text, passed_answer_text, range_of_answer}
 use Rattle.proxy_core.specs.Starts.{StoreAtStart}
 use Rattle.proxy_core.specs.Storing.{storing_rule_to_explain}
 use Rattle.proxy_core.specs.Traces.{Item}
@@ -44,29 +46,30 @@ module _ (table : Table) (start : StoreAtStart) (first now : ℕ) (item : Item) 
 
   shown : (has : Bool) → answer_gets_304 x.asked r.status (answered_of r now).fields ≡ has
       → reply.bytes ≡ cond has (not_modified_answer_text (policy_of table.lines x.line) table.name x r now (is_some reply.stored) (storing_rule_to_explain table x r now (next_serial first past)))
-      (whole_answer_text (policy_of table.lines x.line) table.name x r now (is_some reply.stored) (storing_rule_to_explain table x r now (next_serial first past)))
+      (answer_in_range_text (policy_of table.lines x.line) table.name x r now (is_some reply.stored) (storing_rule_to_explain table x r now (next_serial first past)) (range_of_answer (policy_of table.lines x.line) x r now))
   shown has e =
       let test : client_has_answer (policy_of table.lines x.line) x r now ≡ has = ap (λ b. b && answer_gets_304 x.asked r.status (answered_of r now).fields) is.keeps ∙ e in
       passed
       ∙ ap (λ b. cond b (not_modified_answer_text (policy_of table.lines x.line) table.name x r now (is_some reply.stored) (storing_rule_to_explain table x r now (next_serial first past)))
-      (whole_answer_text (policy_of table.lines x.line) table.name x r now (is_some reply.stored) (storing_rule_to_explain table x r now (next_serial first past)))) test
+      (answer_in_range_text (policy_of table.lines x.line) table.name x r now (is_some reply.stored) (storing_rule_to_explain table x r now (next_serial first past)) (range_of_answer (policy_of table.lines x.line) x r now))) test
 
 pub answers_304 : FalseConditionIsAnswered304
 answers_304 table start first now item past x r reply is false_condition =
     shown table start first now item past x r reply is true (false_gets_304 x.asked r.status (answered_of r now).fields false_condition)
 
-pub answers_whole : OtherConditionIsAnsweredWhole
-answers_whole table start first now item past x r reply is other = by_test (answer_gets_304 x.asked r.status (answered_of r now).fields) refl
+pub answers_in_range : OtherConditionIsAnswered
+answers_in_range table start first now item past x r reply is other = by_test (answer_gets_304 x.asked r.status (answered_of r now).fields) refl
   where
     by_test : (has : Bool) → answer_gets_304 x.asked r.status (answered_of r now).fields ≡ has
-        → reply.bytes ≡ whole_answer_text (policy_of table.lines x.line) table.name x r now (is_some reply.stored) (storing_rule_to_explain table x r now (next_serial first past))
+        → reply.bytes ≡ answer_in_range_text (policy_of table.lines x.line) table.name x r now (is_some reply.stored) (storing_rule_to_explain table x r now (next_serial first past)) (range_of_answer (policy_of table.lines x.line) x r now)
     by_test true e = absurd (other (no_other_gets_304 x.asked r.status (answered_of r now).fields e))
     by_test false e = shown table start first now item past x r reply is false e
 
 pub forwards_no_condition : NoClientsConditionGoesForward
 unfolding forwarded_of
 forwards_no_condition table line asked keeps =
-    (forwarded_of true asked table.name None, ap (λ k. request_text (forwarded_of k asked table.name None)) keeps, (keeps_conditions_behind asked table.name).0, (keeps_conditions_behind asked table.name).1)
+    let sent : Asked = request_forwarded (policy_of table.lines line) asked in
+    (forwarded_of true sent table.name None, ap (λ k. request_text (forwarded_of k sent table.name None)) keeps, (keeps_conditions_behind sent table.name).0, (keeps_conditions_behind sent table.name).1)
 
 pub leads_as_others : LeadsAsOneWithoutConditions
 leads_as_others policy x keeps = by_condition (is_none x.condition)

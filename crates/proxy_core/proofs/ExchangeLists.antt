@@ -2,8 +2,6 @@
 use Rattle.std.proofs.Common.{◌≡◌, ℕ, Bool, true, false, not, cond, eqb, Option, None, Some, List, [], ◌∷◌, ◌++◌, map, refl, sym, ◌∙◌, ap, inl, inr}
 use Rattle.std.specs.Prelude.{option_map}
 use Rattle.std.proofs.lemmas.Bool.{cases_Bool, eqb-true, eq-eqb, false_from_ne_true, false≢true}
-use Rattle.hx_target.specs.declared.keys.Key.{Key}
-use Rattle.hx_target.specs.Keys.{same_key}
 use Rattle.proxy_core.specs.declared.open.exchange.Exchange.{Exchange}
 use Rattle.proxy_core.specs.Outcomes.{find_exchange}
 use Rattle.std.specs.Prelude.{filter}
@@ -11,6 +9,7 @@ use Rattle.hx_reuse.specs.declared.rule.ReuseRule.{ReuseRule}
 use Rattle.proxy_core.specs.declared.steps.condition.Condition.{Condition}
 use Rattle.proxy_core.specs.declared.open.stage.Stage.TheVariants.{Released}
 use Rattle.proxy_core.specs.Leading.{waits_for}
+use Rattle.proxy_core.specs.Scopes.{Scope, is_in_scope}
 use Rattle.proxy_core.specs.State.{exchanges_after_close, released_exchange, overtaken_exchange, exchanges_after_end, exchanges_after_purge, exchange_gone_forward, exchange_forwarded_again, exchange_sent_forward}
 
 pub find-map : (f : Exchange → Exchange) → ((x : Exchange) → (f x).id ≡ x.id) → (id : ℕ) (xs : List Exchange) →
@@ -41,8 +40,8 @@ release-id i x = elim (waits_for i x.stage) as (λ b. (cond b (record x { stage 
   | false ↦ refl
 ]
 
-pub overtake-id : (key : Key) (x : Exchange) → (overtaken_exchange key x).id ≡ x.id
-overtake-id key x = elim (same_key x.asked.target.key key) as (λ b. (cond b (record x { overtaken = true }) x).id ≡ x.id) [
+pub overtake-id : (key : Scope) (x : Exchange) → (overtaken_exchange key x).id ≡ x.id
+overtake-id key x = elim (is_in_scope key x.asked.target.key) as (λ b. (cond b (record x { overtaken = true }) x).id ≡ x.id) [
   | true ↦ refl
   | false ↦ refl
 ]
@@ -52,7 +51,7 @@ pub find-gone_out : (i now : ℕ) (id : ℕ) (xs : List Exchange) →
 find-gone_out i now id xs = find-map (exchange_forwarded_again i now) (gone_out-id i now) id xs
 
 -- what an invalidation does to an exchange
-abbrev pub overtaken_by : Option Key → Option Exchange → Option Exchange
+abbrev pub overtaken_by : Option Scope → Option Exchange → Option Exchange
 overtaken_by None o = o
 overtaken_by (Some key) o = option_map (overtaken_exchange key) o
 
@@ -62,10 +61,10 @@ released_by None o = o
 released_by (Some i) o = option_map (released_exchange i) o
 
 -- and what a step of another does
-abbrev pub changed_by : Option Key → Option ℕ → Option Exchange → Option Exchange
+abbrev pub changed_by : Option Scope → Option ℕ → Option Exchange → Option Exchange
 changed_by key gone o = overtaken_by key (released_by gone o)
 
-find-overtake : (key : Key) (id : ℕ) (xs : List Exchange) → find_exchange id (map (overtaken_exchange key) xs) ≡ option_map (overtaken_exchange key) (find_exchange id xs)
+find-overtake : (key : Scope) (id : ℕ) (xs : List Exchange) → find_exchange id (map (overtaken_exchange key) xs) ≡ option_map (overtaken_exchange key) (find_exchange id xs)
 find-overtake key id xs = find-map (overtaken_exchange key) (overtake-id key) id xs
 
 collapse : (b : Bool) (o p q : Option Exchange) → cond b o (cond b p q) ≡ cond b o q
@@ -119,7 +118,7 @@ find-closed i id xs =
     ]
 
 -- an end, by which others may be overtaken
-pub find-left_open : (key : Option Key) (i id : ℕ) (xs : List Exchange) →
+pub find-left_open : (key : Option Scope) (i id : ℕ) (xs : List Exchange) →
     find_exchange id (exchanges_after_end key i xs) ≡ cond (eqb i id) None (changed_by key (Some i) (find_exchange id xs))
 find-left_open None i id xs = find-closed i id xs
 find-left_open (Some key) i id xs =
@@ -130,11 +129,11 @@ find-left_open (Some key) i id xs =
     ]
 
 -- a purge
-pub find-purged : (key : Option Key) (id : ℕ) (xs : List Exchange) → find_exchange id (exchanges_after_purge key xs) ≡ overtaken_by key (find_exchange id xs)
+pub find-purged : (key : Option Scope) (id : ℕ) (xs : List Exchange) → find_exchange id (exchanges_after_purge key xs) ≡ overtaken_by key (find_exchange id xs)
 find-purged None id xs = refl
 find-purged (Some key) id xs = find-overtake key id xs
 
-pub none_overtaken : (key : Option Key) → overtaken_by key None ≡ None
+pub none_overtaken : (key : Option Scope) → overtaken_by key None ≡ None
 none_overtaken None = refl
 none_overtaken (Some key) = refl
 

@@ -55,7 +55,7 @@ use Rattle.proxy_core.proofs.FirstRules.{held_distinct, names_first_rules}
 use Rattle.proxy_core.proofs.HeldLaw.{good_plain}
 use Rattle.proxy_core.proofs.Moves.{failed_back}
 use Rattle.proxy_core.proofs.OpenLaws.{has_its_request}
-use Rattle.proxy_core.proofs.SendLaws.{forwards_nothing_else, reaches_where_allowed, refuses_where_not_allowed, purges_its_target, reusable_hit, sends_what_may_be_sent, sends_nothing_else}
+use Rattle.proxy_core.proofs.SendLaws.{forwards_nothing_else, reaches_where_allowed, refuses_where_not_allowed, purges_its_scope, reusable_hit, sends_what_may_be_sent, sends_nothing_else}
 use Rattle.proxy_core.proofs.SentResponses.{sends_what_is_held}
 use Rattle.proxy_core.proofs.Purged.{purges_where_said}
 use Rattle.proxy_core.proofs.StoredAnswers.{stores_where_it_may, stores_nowhere_else, stores_the_next, removes_just_that}
@@ -408,7 +408,7 @@ module _ (table : Table) (start : StoreAtStart) (first : ℕ) where
         begins_as_it_may = begins trace g;
         comes_where_it_may = each (EventComesWhereItMay table start) comes trace g;
         reaches_where_allowed = each (RequestReachesExactlyWhereAllowed table start)
-            (λ item past g now id asked e. (λ line v. reaches_where_allowed table start first now id line asked item past g e v, (λ p. purges_its_target table start first now id asked item past g e p, λ n p. refuses_where_not_allowed table start first now id asked item past g e n p))) trace g;
+            (λ item past g now id asked e. (λ line v. reaches_where_allowed table start first now id line asked item past g e v, (λ p. purges_its_scope table start first now id asked item past g e p, λ n p. refuses_where_not_allowed table start first now id asked item past g e n p))) trace g;
         goes_where_allowed = each (RequestGoesForwardWhereAllowed table start) goes trace g;
         goes_on_to_its_answer = each (ExchangeGoesOnToItsAnswer table start) goes_on trace g;
         sends_where_one_may_be = each (StoredResponseIsSentExactlyWhereItMayBe table start)

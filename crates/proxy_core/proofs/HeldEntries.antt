@@ -8,8 +8,9 @@ use Rattle.hx_target.specs.Keys.{same_key}
 use Rattle.hx_store.specs.Stored.{Stored}
 use Rattle.hx_store.specs.Serials.{serial_is_in}
 use Rattle.hx_store.specs.Weights.{StoreBounds, AreWeightsOf, cut_to_bounds, weight_of}
-use Rattle.hx_store.specs.Shelf.{serials, holds_serial, find_entry, without_serials, serials_of}
+use Rattle.hx_store.specs.Shelf.{serials, holds_serial, find_entry, without_serials, serials_of, serials_where}
 use Rattle.hx_store.proofs.FoundSerials.{finds_those}
+use Rattle.hx_store.proofs.PassingEntries.{finds_passing}
 use Rattle.hx_store.proofs.Fronts.{front_of_within}
 use Rattle.proxy_core.specs.State.{entries_without_serials}
 use Rattle.proxy_core.specs.Starts.{weight_if_any}
@@ -131,23 +132,23 @@ none_any key s (e ∷ es) h =
 pub none_of_key : (key : Key) (s : ℕ) (es : List Stored) → holds_serial s es ≡ false → serial_is_in s (serials_of key es) ≡ false
 none_of_key key s es h = finds_those key s es ∙ none_any key s es h
 
-some_any : (key : Key) (s : ℕ) (es : List Stored) (e : Stored) → find_entry s es ≡ Some e → same_key e.key key ≡ true →
-    list_any (λ (e : Stored). same_key e.key key && eqb e.serial s) es ≡ true
-some_any key s [] e f h = absurd (cc)
-some_any key s (x ∷ es) e f h = elim (cases_Bool (eqb x.serial s)) [
+some_any : (passes : Stored → Bool) (s : ℕ) (es : List Stored) (e : Stored) → find_entry s es ≡ Some e → passes e ≡ true →
+    list_any (λ (e : Stored). passes e && eqb e.serial s) es ≡ true
+some_any passes s [] e f h = absurd (cc)
+some_any passes s (x ∷ es) e f h = elim (cases_Bool (eqb x.serial s)) [
   | inl t ↦ (
       let same : x ≡ e = same_Some x e (sym (ap (λ b. cond b (Some x) (find_entry s es)) t) ∙ f) in
-      ap (λ b. (same_key x.key key && b) || list_any (λ (e : Stored). same_key e.key key && eqb e.serial s) es) t
-      ∙ ap (λ b. (b && true) || list_any (λ (e : Stored). same_key e.key key && eqb e.serial s) es) (ap (λ (z : Stored). same_key z.key key) same ∙ h)
+      ap (λ b. (passes x && b) || list_any (λ (e : Stored). passes e && eqb e.serial s) es) t
+      ∙ ap (λ b. (b && true) || list_any (λ (e : Stored). passes e && eqb e.serial s) es) (ap passes same ∙ h)
       )
   | inr n ↦ (
-      let more = some_any key s es e (sym (ap (λ b. cond b (Some x) (find_entry s es)) n) ∙ f) h in
-      ap (λ b. (same_key x.key key && b) || list_any (λ (e : Stored). same_key e.key key && eqb e.serial s) es) n
-      ∙ ap (λ b. b || list_any (λ (e : Stored). same_key e.key key && eqb e.serial s) es) (and_none (same_key x.key key))
+      let more = some_any passes s es e (sym (ap (λ b. cond b (Some x) (find_entry s es)) n) ∙ f) h in
+      ap (λ b. (passes x && b) || list_any (λ (e : Stored). passes e && eqb e.serial s) es) n
+      ∙ ap (λ b. b || list_any (λ (e : Stored). passes e && eqb e.serial s) es) (and_none (passes x))
       ∙ more
       )
 ]
 
--- what is held and has the key is found of it
-pub some_of_key : (key : Key) (s : ℕ) (es : List Stored) (e : Stored) → find_entry s es ≡ Some e → same_key e.key key ≡ true → serial_is_in s (serials_of key es) ≡ true
-some_of_key key s es e f h = finds_those key s es ∙ some_any key s es e f h
+-- what is held and passes a test is found by it
+pub some_passing : (passes : Stored → Bool) (s : ℕ) (es : List Stored) (e : Stored) → find_entry s es ≡ Some e → passes e ≡ true → serial_is_in s (serials_where passes es) ≡ true
+some_passing passes s es e f h = finds_passing passes s es ∙ some_any passes s es e f h

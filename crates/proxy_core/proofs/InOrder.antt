@@ -3,7 +3,6 @@ use Rattle.std.proofs.Common.{◌≡◌, ℕ, Bool, true, false, not, cond, ◌&
 use Rattle.std.specs.Prelude.{filter}
 use Rattle.std.specs.List.{AllByRecursion}
 use Rattle.std.proofs.lemmas.Bool.{eqb-true, eq-eqb, false_from_ne_true, false≢true}
-use Rattle.hx_target.specs.declared.keys.Key.{Key}
 use Rattle.hx_hop.specs.declared.request_view.Asked.{Asked}
 use Rattle.hx_allow.specs.TableLines.{Table}
 use Rattle.hx_store.specs.Stored.{Stored}
@@ -17,7 +16,8 @@ use Rattle.hx_allow.specs.Matching.{policy_of}
 use Rattle.proxy_core.specs.Allowing.{verdict_of_asked}
 use Rattle.hx_reuse.specs.Rules.{decision_of}
 use Rattle.proxy_core.specs.Validating.{condition_about_serial}
-use Rattle.proxy_core.specs.State.{overtaken_exchange, released_exchange, exchanges_after_end, exchanges_after_purge, key_purged, exchanges_after_close, forwarded_exchange, waiting_exchange, line_of_verdict, rule_of_decision, serial_named_by_decision, exchange_forwarded_again, exchanges_after_wake, key_invalidated_by_response, open_exchanges_after}
+use Rattle.proxy_core.specs.Scopes.{Scope}
+use Rattle.proxy_core.specs.State.{overtaken_exchange, released_exchange, exchanges_after_end, exchanges_after_purge, scope_purged, exchanges_after_close, forwarded_exchange, waiting_exchange, line_of_verdict, rule_of_decision, serial_named_by_decision, exchange_forwarded_again, exchanges_after_wake, scope_invalidated_by_response, open_exchanges_after}
 use Rattle.proxy_core.specs.Starts.{StoreAtStart}
 use Rattle.proxy_core.specs.Traces.{Item, initial_state, state_after_trace, IsGood}
 use Rattle.proxy_core.specs.Promises.{is_arrival_event, NoRequestArrives}
@@ -49,11 +49,11 @@ ids-left id (x ∷ xs) = by_id (eqb x.id id) (ids-left id xs)
 ids-closed : (id : ℕ) (xs : List Exchange) → exchange_ids (exchanges_after_close id xs) ≡ but id (exchange_ids xs)
 ids-closed id xs = ids-map (released_exchange id) (release-id id) (left_by id xs) ∙ ids-left id xs
 
-ids-purged : (key : Option Key) (xs : List Exchange) → exchange_ids (exchanges_after_purge key xs) ≡ exchange_ids xs
+ids-purged : (key : Option Scope) (xs : List Exchange) → exchange_ids (exchanges_after_purge key xs) ≡ exchange_ids xs
 ids-purged None xs = refl
 ids-purged (Some key) xs = ids-map (overtaken_exchange key) (overtake-id key) xs
 
-ids-left_open : (key : Option Key) (id : ℕ) (xs : List Exchange) → exchange_ids (exchanges_after_end key id xs) ≡ but id (exchange_ids xs)
+ids-left_open : (key : Option Scope) (id : ℕ) (xs : List Exchange) → exchange_ids (exchanges_after_end key id xs) ≡ but id (exchange_ids xs)
 ids-left_open None id xs = ids-closed id xs
 ids-left_open (Some key) id xs = ids-map (overtaken_exchange key) (overtake-id key) (exchanges_after_close id xs) ∙ ids-closed id xs
 
@@ -234,20 +234,20 @@ in_order_step table es xs past (Arrive now id asked) o free h = by_outcome o (wa
         let i : Item = record { event = Arrive now id asked; outcome = Waits leader } in
         same_ids (ids-push xs (waiting_exchange table es now id asked (line_of_verdict (verdict_of_asked table asked)) leader)) (with_one i past (exchange_ids xs) refl (new_apart now id asked (Waits leader) xs f) h)
     by_outcome (Reply r) f =
-        same_ids (ids-purged (key_purged asked (Reply r)) xs) (further (record { event = Arrive now id asked; outcome = Reply r }) past (exchange_ids xs) (new_apart now id asked (Reply r) xs f) h)
+        same_ids (ids-purged (scope_purged asked (Reply r)) xs) (further (record { event = Arrive now id asked; outcome = Reply r }) past (exchange_ids xs) (new_apart now id asked (Reply r) xs f) h)
     by_outcome Ended f = further (record { event = Arrive now id asked; outcome = Ended }) past (exchange_ids xs) (new_apart now id asked Ended xs f) h
 in_order_step table es xs past (Answer now id r) (Forward line bytes) free h =
     let i : Item = record { event = Answer now id r; outcome = Forward line bytes } in
     same_ids (ids-map (exchange_forwarded_again id now) (gone_out-id id now) xs) (further i past (exchange_ids xs) (late_apart i (exchange_ids xs) refl) h)
 in_order_step table es xs past (Answer now id r) (Reply reply) free h =
     let i : Item = record { event = Answer now id r; outcome = Reply reply } in
-    same_ids (ids-left_open (key_invalidated_by_response (find_exchange id xs) r) id xs) (without_one id (exchange_ids xs) (i ∷ past) (further i past (exchange_ids xs) (late_apart i (exchange_ids xs) refl) h))
+    same_ids (ids-left_open (scope_invalidated_by_response (find_exchange id xs) r) id xs) (without_one id (exchange_ids xs) (i ∷ past) (further i past (exchange_ids xs) (late_apart i (exchange_ids xs) refl) h))
 in_order_step table es xs past (Answer now id r) (Waits leader) free h =
     let i : Item = record { event = Answer now id r; outcome = Waits leader } in
-    same_ids (ids-left_open (key_invalidated_by_response (find_exchange id xs) r) id xs) (without_one id (exchange_ids xs) (i ∷ past) (further i past (exchange_ids xs) (late_apart i (exchange_ids xs) refl) h))
+    same_ids (ids-left_open (scope_invalidated_by_response (find_exchange id xs) r) id xs) (without_one id (exchange_ids xs) (i ∷ past) (further i past (exchange_ids xs) (late_apart i (exchange_ids xs) refl) h))
 in_order_step table es xs past (Answer now id r) Ended free h =
     let i : Item = record { event = Answer now id r; outcome = Ended } in
-    same_ids (ids-left_open (key_invalidated_by_response (find_exchange id xs) r) id xs) (without_one id (exchange_ids xs) (i ∷ past) (further i past (exchange_ids xs) (late_apart i (exchange_ids xs) refl) h))
+    same_ids (ids-left_open (scope_invalidated_by_response (find_exchange id xs) r) id xs) (without_one id (exchange_ids xs) (i ∷ past) (further i past (exchange_ids xs) (late_apart i (exchange_ids xs) refl) h))
 in_order_step table es xs past (Fail now id kind) o free h =
     let i : Item = record { event = Fail now id kind; outcome = o } in
     same_ids (ids-closed id xs) (without_one id (exchange_ids xs) (i ∷ past) (further i past (exchange_ids xs) (late_apart i (exchange_ids xs) refl) h))

@@ -52,3 +52,5 @@ pub mod Restarts
 pub mod ConditionsKept
 pub mod Cookies
 pub mod RangeReplies
+pub mod AnswerParts
+pub mod FilledRanges

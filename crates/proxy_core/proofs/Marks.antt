@@ -1,9 +1,9 @@
 -- The request and the mark of an open exchange, by the items before.
 use Rattle.std.proofs.Common.{◌≡◌, ℕ, ◌+◌, Bool, true, false, cond, ◌&&◌, ◌||◌, eqb, Option, None, Some, List, [], ◌∷◌, ◌++◌, refl, sym, ◌∙◌, ap, arith}
+use Rattle.std.specs.Prelude.{option_map}
 use Rattle.std.proofs.lemmas.Bool.{eq-eqb, false≢true, or_parts}
 use Rattle.std.proofs.lemmas.Option.{same_Some}
 use Rattle.hx_target.specs.declared.keys.Key.{Key}
-use Rattle.hx_target.specs.Keys.{same_key}
 use Rattle.hx_hop.specs.declared.request_view.Asked.{Asked}
 use Rattle.hx_allow.specs.TableLines.{Table}
 use Rattle.proxy_core.specs.declared.open.exchange.Exchange.{Exchange}
@@ -13,9 +13,10 @@ use Rattle.proxy_core.specs.declared.event.Event.TheVariants.{Arrive, Answer, Fa
 use Rattle.hx_store.specs.Stored.{Stored}
 use Rattle.proxy_core.specs.Outcomes.{find_exchange, exchange_id_of_event, fault_at_exchange, outcome_of}
 use Rattle.proxy_core.specs.Carrying.{ExchangeWasJudged}
+use Rattle.proxy_core.specs.Scopes.{Scope, is_in_scope, target_alone}
 use Rattle.proxy_core.specs.State.{overtaken_exchange}
 use Rattle.proxy_core.specs.Traces.{Item, initial_state, state_after_trace, IsGood}
-use Rattle.proxy_core.specs.Promises.{outcome_goes_forward, is_arrival_event, count_of_outcomes, request_after_event, latest_request_of, key_invalidated_by_event, is_invalidated_key, invalidates_key, NoItemInvalidates, some_item_invalidates}
+use Rattle.proxy_core.specs.Promises.{outcome_goes_forward, is_arrival_event, count_of_outcomes, request_after_event, latest_request_of, scope_invalidated_by_event, is_invalidated_key, invalidates_key, NoItemInvalidates, some_item_invalidates}
 use Rattle.proxy_core.specs.declared.open.stage.Stage.TheVariants.{Forwarded, Waiting, Released}
 use Rattle.proxy_core.specs.Leading.{waits_for}
 use Rattle.proxy_core.specs.State.{released_exchange}
@@ -28,13 +29,13 @@ use Rattle.proxy_core.proofs.Tracing.{same_table}
 
 -- ---- the request of an open exchange is that of the latest arrival of its id
 
-overtake_asked : (key : Key) (x : Exchange) → (overtaken_exchange key x).asked ≡ x.asked
-overtake_asked key x = elim (same_key x.asked.target.key key) as (λ b. (cond b (record x { overtaken = true }) x).asked ≡ x.asked) [
+overtake_asked : (key : Scope) (x : Exchange) → (overtaken_exchange key x).asked ≡ x.asked
+overtake_asked key x = elim (is_in_scope key x.asked.target.key) as (λ b. (cond b (record x { overtaken = true }) x).asked ≡ x.asked) [
   | true ↦ refl
   | false ↦ refl
 ]
 
-asked_overtaken : (key : Option Key) (x : Option Exchange) → asked_of (overtaken_by key x) ≡ asked_of x
+asked_overtaken : (key : Option Scope) (x : Option Exchange) → asked_of (overtaken_by key x) ≡ asked_of x
 asked_overtaken None x = refl
 asked_overtaken (Some key) None = refl
 asked_overtaken (Some key) (Some x) = ap (λ (a : Asked). Some a) (overtake_asked key x)
@@ -90,8 +91,8 @@ asked_is table start first (i ∷ past) g id a k =
 
 -- what an item invalidates, by the exchange and by the items before
 key_is : (w : Option Exchange) (event : Event) (o : Outcome) (b : Option Asked) → fault_at_exchange w event ≡ None → ((a : Asked) → asked_of w ≡ Some a → b ≡ Some a) →
-    key_invalidated_by_event b event o ≡ key_invalidated_by_event (asked_of w) event o
-key_is (Some w) event o b f h = ap (λ b. key_invalidated_by_event b event o) (h w.asked refl)
+    scope_invalidated_by_event b event o ≡ scope_invalidated_by_event (asked_of w) event o
+key_is (Some w) event o b f h = ap (λ b. scope_invalidated_by_event b event o) (h w.asked refl)
 key_is None (Arrive now i asked) o b f h = refl
 key_is None (Answer now i r) o b f h = absurd (cc)
 key_is None (Fail now i kind) o b f h = absurd (cc)
@@ -101,21 +102,21 @@ key_is None (Abandon i) o b f h = absurd (cc)
 -- and as its outcome shows it
 shown : (table : Table) (start : StoreAtStart) (past : List Item) (es : List Stored) (xs : List Exchange) (next : Option ℕ) (w : Option Exchange) (event : Event) (o : Outcome) →
     ((z : Exchange) → w ≡ Some z → ExchangeWasJudged table start z past) → o ≡ outcome_of table es xs w next event →
-    key_invalidated_by_event (asked_of w) event o ≡ key_taken_by_step (asked_of w) event o
+    scope_invalidated_by_event (asked_of w) event o ≡ key_taken_by_step (asked_of w) event o
 shown table start past es xs next None (Arrive now i asked) o a is = refl
 shown table start past es xs next None (Answer now i r) o a is = refl
 shown table start past es xs next None (Fail now i kind) o a is = refl
 shown table start past es xs next None (Wake now i) o a is = refl
 shown table start past es xs next None (Abandon i) o a is = refl
 shown table start past es xs next (Some z) (Answer now i r) o a is =
-    status_is_shown table start z past (a z refl) es now r next ∙ ap (key_taken_by_answer z.asked r) (sym is)
+    ap (option_map target_alone) (status_is_shown table start z past (a z refl) es now r next ∙ ap (key_taken_by_answer z.asked r) (sym is))
 shown table start past es xs next (Some z) (Arrive now i asked) o a is = refl
 shown table start past es xs next (Some z) (Fail now i kind) o a is = refl
 shown table start past es xs next (Some z) (Wake now i) o a is = refl
 shown table start past es xs next (Some z) (Abandon i) o a is = refl
 
 pub same_key_of_step : (table : Table) (start : StoreAtStart) (first : ℕ) (i : Item) (past : List Item) → IsGood (initial_state table start first) (i ∷ past) →
-    key_invalidated_by_event (latest_request_of (exchange_id_of_event i.event) past) i.event i.outcome
+    scope_invalidated_by_event (latest_request_of (exchange_id_of_event i.event) past) i.event i.outcome
     ≡ key_taken_by_step (asked_of (find_exchange (exchange_id_of_event i.event) (state_after_trace (initial_state table start first) past).exchanges)) i.event i.outcome
 same_key_of_step table start first i past g =
     let s = state_after_trace (initial_state table start first) past in
@@ -126,7 +127,7 @@ same_key_of_step table start first i past g =
 
 -- ---- from a going forward on
 
-record Unmarked (key : Option Key) (x : Option Exchange) (z : Exchange) : Type 0 where
+record Unmarked (key : Option Scope) (x : Option Exchange) (z : Exchange) : Type 0 where
   was : Exchange
   x_is : x ≡ Some was
   asked : z.asked ≡ was.asked
@@ -141,20 +142,20 @@ or_all : (b : Bool) → true ≡ (b || true)
 or_all true = refl
 or_all false = refl
 
-overtake_marks : (key : Key) (x : Exchange) → (overtaken_exchange key x).overtaken ≡ (x.overtaken || same_key x.asked.target.key key)
+overtake_marks : (key : Scope) (x : Exchange) → (overtaken_exchange key x).overtaken ≡ (x.overtaken || is_in_scope key x.asked.target.key)
 overtake_marks key x =
-    elim (same_key x.asked.target.key key) as (λ b. (cond b (record x { overtaken = true }) x).overtaken ≡ (x.overtaken || b)) [
+    elim (is_in_scope key x.asked.target.key) as (λ b. (cond b (record x { overtaken = true }) x).overtaken ≡ (x.overtaken || b)) [
       | true ↦ or_all x.overtaken
       | false ↦ or_none x.overtaken
     ]
 
-overtake_stage : (key : Key) (x : Exchange) → (overtaken_exchange key x).stage ≡ x.stage
-overtake_stage key x = elim (same_key x.asked.target.key key) as (λ b. (cond b (record x { overtaken = true }) x).stage ≡ x.stage) [
+overtake_stage : (key : Scope) (x : Exchange) → (overtaken_exchange key x).stage ≡ x.stage
+overtake_stage key x = elim (is_in_scope key x.asked.target.key) as (λ b. (cond b (record x { overtaken = true }) x).stage ≡ x.stage) [
   | true ↦ refl
   | false ↦ refl
 ]
 
-unmarked : (key : Option Key) (x : Option Exchange) (z : Exchange) → overtaken_by key x ≡ Some z → Unmarked key x z
+unmarked : (key : Option Scope) (x : Option Exchange) (z : Exchange) → overtaken_by key x ≡ Some z → Unmarked key x z
 unmarked None x z h = record { was = z; x_is = h; asked = refl; overtaken = or_none z.overtaken; stage = refl }
 unmarked (Some key) None z h = absurd (cc)
 unmarked (Some key) (Some u) z h =

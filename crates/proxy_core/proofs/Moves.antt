@@ -34,7 +34,8 @@ use Rattle.proxy_core.specs.declared.event.Event.TheVariants.{Arrive, Answer, Fa
 use Rattle.proxy_core.specs.Validating.{condition_about_serial, is_304_to_own_conditions, stored_response_validated}
 use Rattle.proxy_core.specs.Storing.{is_304_without_condition, key_invalidated}
 use Rattle.proxy_core.specs.Outcomes.{find_exchange, exchange_id_of_event, fallback_for, outcome_of_failure, is_error_status, outcome_of_passing_on_or_stale, outcome_of_304, outcome_of_answer, outcome_of_wake, outcome_of, or_fault, fault_if_not_forwarded, fault_if_not_released, fault_at_exchange}
-use Rattle.proxy_core.specs.State.{State, state_after, open_exchanges_after, forwarded_exchange, waiting_exchange, line_of_verdict, rule_of_decision, serial_named_by_decision, exchange_gone_forward, exchange_forwarded_again, exchange_sent_forward, exchanges_after_wake, key_invalidated_by_response, key_purged}
+use Rattle.proxy_core.specs.Scopes.{Scope, target_alone}
+use Rattle.proxy_core.specs.State.{State, state_after, open_exchanges_after, forwarded_exchange, waiting_exchange, line_of_verdict, rule_of_decision, serial_named_by_decision, exchange_gone_forward, exchange_forwarded_again, exchange_sent_forward, exchanges_after_wake, scope_invalidated_by_response, scope_purged}
 use Rattle.proxy_core.specs.Traces.{Item, ItemIsAccepted}
 use Rattle.proxy_core.specs.Promises.{outcome_goes_forward, outcome_is_reply, outcome_ends_exchange, is_arrival_event, reply_uses_no_stored_response}
 use Rattle.proxy_core.specs.Carrying.{judges_a_request}
@@ -76,10 +77,10 @@ key_taken_by_answer asked r outcome =
     cond (not (is_among safe_methods asked.method) && ((nat_le 200 r.status && nat_le r.status 399) && reply_uses_no_stored_response outcome))
     (Some asked.target.key) None
 
-abbrev pub key_taken_by_step : Option Asked → Event → Outcome → Option Key
-key_taken_by_step (Some asked) (Answer now id r) outcome = key_taken_by_answer asked r outcome
+abbrev pub key_taken_by_step : Option Asked → Event → Outcome → Option Scope
+key_taken_by_step (Some asked) (Answer now id r) outcome = option_map target_alone (key_taken_by_answer asked r outcome)
 key_taken_by_step None (Answer now id r) outcome = None
-key_taken_by_step asked (Arrive now id other) outcome = key_purged other outcome
+key_taken_by_step asked (Arrive now id other) outcome = scope_purged other outcome
 key_taken_by_step asked (Fail now id kind) outcome = None
 key_taken_by_step asked (Wake now id) outcome = None
 key_taken_by_step asked (Abandon id) outcome = None
@@ -303,11 +304,11 @@ module _ (table : Table) (es : List Stored) (xs : List Exchange) (next : Option 
         | inr n ↦ apart n (p ∙ ap (λ b. cond b (Some (waiting_exchange table es now i asked line leader)) (find_exchange id xs)) n)
       ]
   arrives now i asked (Reply r) f =
-      let purged = find-purged (key_purged asked (Reply r)) id xs in
+      let purged = find-purged (scope_purged asked (Reply r)) id xs in
       elim (cases_Bool (eqb i id)) [
         | inl t ↦ (
             let none : find_exchange id xs ≡ None = ap (λ n. find_exchange n xs) (sym (eqb-true i id t)) ∙ f in
-            passes t refl none refl (purged ∙ ap (overtaken_by (key_purged asked (Reply r))) none ∙ none_overtaken (key_purged asked (Reply r)))
+            passes t refl none refl (purged ∙ ap (overtaken_by (scope_purged asked (Reply r))) none ∙ none_overtaken (scope_purged asked (Reply r)))
             )
         | inr n ↦ apart n purged
       ]
@@ -329,12 +330,12 @@ module _ (table : Table) (es : List Stored) (xs : List Exchange) (next : Option 
             (p ∙ ap (option_map (exchange_forwarded_again i now)) x_is ∙ ap (λ b. Some (cond b (out_again now z) z)) (found-id i xs z f)) refl s
             )
         | inr n ↦ apart n (p ∙ other_out i now id (find_exchange id xs) n (λ z g. found-id id xs z g)
-            ∙ sym (ap (λ k. overtaken_by k (find_exchange id xs)) (no_key z.asked r line bytes)))
+            ∙ sym (ap (λ k. overtaken_by (option_map target_alone k) (find_exchange id xs)) (no_key z.asked r line bytes)))
       ]
   answers now i r z (Reply p) f s h = gone z (Answer now i r) (Reply p) f refl refl _ (
-      find-left_open (key_invalidated_by_response (find_exchange i xs) r) i id xs
+      find-left_open (scope_invalidated_by_response (find_exchange i xs) r) i id xs
       ∙ ap (λ k. cond (eqb i id) None (changed_by k (Some i) (find_exchange id xs)))
-      (ap (λ w. key_invalidated_by_response w r) f ∙ same_key_invalidated table es now z r next ∙ ap (key_taken_by_answer z.asked r) (sym h))
+      (ap (λ w. scope_invalidated_by_response w r) f ∙ ap (option_map target_alone) (same_key_invalidated table es now z r next ∙ ap (key_taken_by_answer z.asked r) (sym h)))
       )
   answers now i r z (Waits leader) f s h = absurd (false≢true (ap is_either h ∙ answer_either table es now z r next (decision_of (policy_of table.lines z.line) es z.asked now)))
   answers now i r z Ended f s h = absurd (false≢true (ap is_either h ∙ answer_either table es now z r next (decision_of (policy_of table.lines z.line) es z.asked now)))

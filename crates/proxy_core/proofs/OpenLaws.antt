@@ -1,8 +1,6 @@
 -- When an exchange is open, and with which request, rule and mark.
 use Rattle.std.proofs.Common.{◌≡◌, ℕ, Bool, true, false, not, cond, ◌&&◌, ◌||◌, eqb, Option, None, Some, is_some, List, [], ◌∷◌, ◌++◌, refl, sym, ◌∙◌, ap, subst}
 use Rattle.std.proofs.lemmas.Bool.{eq-eqb, false≢true}
-use Rattle.hx_target.specs.declared.keys.Key.{Key}
-use Rattle.hx_target.specs.Keys.{same_key}
 use Rattle.hx_hop.specs.declared.request_view.Asked.{Asked}
 use Rattle.hx_allow.specs.TableLines.{Table}
 use Rattle.hx_allow.specs.Matching.{policy_of}
@@ -19,7 +17,8 @@ use Rattle.proxy_core.specs.declared.event.Event.TheVariants.{Arrive}
 use Rattle.proxy_core.specs.Outcomes.{find_exchange, exchange_id_of_event, fault_at_exchange}
 use Rattle.proxy_core.specs.declared.open.stage.Stage.TheVariants.{Released}
 use Rattle.proxy_core.specs.Leading.{waits_for}
-use Rattle.proxy_core.specs.State.{State, key_purged, released_exchange, overtaken_exchange, forwarded_exchange, waiting_exchange, line_of_verdict, rule_of_decision, open_exchanges_after}
+use Rattle.proxy_core.specs.Scopes.{Scope, is_in_scope}
+use Rattle.proxy_core.specs.State.{State, scope_purged, released_exchange, overtaken_exchange, forwarded_exchange, waiting_exchange, line_of_verdict, rule_of_decision, open_exchanges_after}
 use Rattle.proxy_core.specs.Starts.{StoreAtStart}
 use Rattle.proxy_core.specs.Traces.{Item, initial_state, state_after_trace, IsGood}
 use Rattle.proxy_core.specs.Histories.{held_entries, open_exchanges}
@@ -33,7 +32,7 @@ use Rattle.proxy_core.proofs.TwiceForward.{not_both, fresh_arrival, part}
 use Rattle.proxy_core.proofs.HeldLaw.{good_plain, entries_are_held, exchanges_are_open}
 use Rattle.proxy_core.proofs.Marks.{asked_is, out_since}
 
-some_overtaken : (key : Option Key) (x : Option Exchange) → is_some (overtaken_by key x) ≡ is_some x
+some_overtaken : (key : Option Scope) (x : Option Exchange) → is_some (overtaken_by key x) ≡ is_some x
 some_overtaken None x = refl
 some_overtaken (Some key) None = refl
 some_overtaken (Some key) (Some x) = refl
@@ -43,7 +42,7 @@ some_released None x = refl
 some_released (Some i) None = refl
 some_released (Some i) (Some x) = refl
 
-some_changed : (key : Option Key) (gone : Option ℕ) (x : Option Exchange) → is_some (changed_by key gone x) ≡ is_some x
+some_changed : (key : Option Scope) (gone : Option ℕ) (x : Option Exchange) → is_some (changed_by key gone x) ≡ is_some x
 some_changed key gone x = some_overtaken key (released_by gone x) ∙ some_released gone x
 
 -- one step more of the exchange of an id, no new arrival
@@ -106,7 +105,7 @@ none_step : (id : ℕ) (w : Option Exchange) (event : Event) (o : Outcome) (x y 
     (eqb (exchange_id_of_event event) id && is_arrival_event event) ≡ false → x ≡ None → y ≡ None
 none_step id w event o x y (apart n h) a i = h ∙ ap (changed_by (key_taken_by_step (asked_of w) event o) (ended_by event o)) i ∙ none_changed (key_taken_by_step (asked_of w) event o) (ended_by event o)
   where
-    none_changed : (key : Option Key) (gone : Option ℕ) → changed_by key gone None ≡ None
+    none_changed : (key : Option Scope) (gone : Option ℕ) → changed_by key gone None ≡ None
     none_changed None None = refl
     none_changed None (Some j) = refl
     none_changed (Some key) None = refl
@@ -142,8 +141,8 @@ overtaken_where_invalidated table start first items before f x g o n h stage =
     (out_since table start first f before (exchange_id_of_event f.event) items p o refl n x
     (ap (find_exchange (exchange_id_of_event f.event)) (exchanges_are_open table start first (items ++ f ∷ before) p) ∙ h) stage).1
 
-overtake_rule : (rule : Route → ReuseRule) (key : Key) (x : Exchange) → x.rule ≡ rule x.line → (overtaken_exchange key x).rule ≡ rule (overtaken_exchange key x).line
-overtake_rule rule key x h = elim (same_key x.asked.target.key key) as (λ b. (cond b (record x { overtaken = true }) x).rule ≡ rule (cond b (record x { overtaken = true }) x).line) [
+overtake_rule : (rule : Route → ReuseRule) (key : Scope) (x : Exchange) → x.rule ≡ rule x.line → (overtaken_exchange key x).rule ≡ rule (overtaken_exchange key x).line
+overtake_rule rule key x h = elim (is_in_scope key x.asked.target.key) as (λ b. (cond b (record x { overtaken = true }) x).rule ≡ rule (cond b (record x { overtaken = true }) x).line) [
   | true ↦ h
   | false ↦ h
 ]
@@ -169,7 +168,7 @@ rule_released rule None x h = h
 rule_released rule (Some i) None h = tt
 rule_released rule (Some i) (Some x) h = release_rule rule i x h
 
-rule_marked : (rule : Route → ReuseRule) (key : Option Key) (x : Option Exchange) → HasRule rule x → HasRule rule (overtaken_by key x)
+rule_marked : (rule : Route → ReuseRule) (key : Option Scope) (x : Option Exchange) → HasRule rule x → HasRule rule (overtaken_by key x)
 unfolding HasRule
 rule_marked rule None x h = h
 rule_marked rule (Some key) None h = tt
@@ -206,7 +205,7 @@ rule_first table es xs now id asked (Waits leader) f =
     let line : Route = line_of_verdict (verdict_of_asked table asked) in
     subst (HasRule (rule_for table es asked now)) (sym (find-push id xs (waiting_exchange table es now id asked line leader) f ∙ ap (λ b. cond b (Some (waiting_exchange table es now id asked line leader)) (find_exchange id xs)) (eq-eqb id id refl))) refl
 rule_first table es xs now id asked (Reply r) f =
-    let key = key_purged asked (Reply r) in
+    let key = scope_purged asked (Reply r) in
     subst (HasRule (rule_for table es asked now)) (sym (find-purged key id xs ∙ ap (overtaken_by key) f ∙ none_overtaken key)) tt
 rule_first table es xs now id asked Ended f = subst (HasRule (rule_for table es asked now)) (sym f) tt
 

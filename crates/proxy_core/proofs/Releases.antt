@@ -15,11 +15,10 @@ use Rattle.std.proofs.lemmas.Bool.Decides.{nat_tests}
 use Rattle.std.proofs.lemmas.Option.{same_Some}
 use Rattle.proxy_core.specs.declared.open.exchange.Exchange.{Exchange}
 use Rattle.hx_reuse.specs.declared.rule.ReuseRule.{ReuseRule}
-use Rattle.hx_target.specs.declared.keys.Key.{Key}
-use Rattle.hx_target.specs.Keys.{same_key}
 use Rattle.proxy_core.specs.declared.steps.condition.Condition.{Condition}
 use Rattle.proxy_core.specs.declared.open.released.Released.{Released}
 use Rattle.proxy_core.specs.declared.open.stage.Stage.TheVariants.{Released as StageReleased}
+use Rattle.proxy_core.specs.Scopes.{Scope, is_in_scope}
 use Rattle.proxy_core.specs.State.{released_exchange, overtaken_exchange, exchange_gone_forward, exchange_forwarded_again, exchange_sent_forward}
 use Rattle.proxy_core.specs.Leading.{is_released, ready_ids, waits_for}
 use Rattle.proxy_core.specs.Arrivals.{HaveDistinctArrivalsAndIds, WaitingArrivalsPass, map_exchanges}
@@ -192,8 +191,8 @@ released-gone id now x h = elim (cases_Bool (eqb x.id id)) [
   | inr f ↦ sym (ap (λ b. is_released (cond b (exchange_gone_forward now x.rule x.named None x) x).stage) f) ∙ h
 ]
 
-pub released-overtaken : (key : Key) (x : Exchange) → is_released (overtaken_exchange key x).stage ≡ true → is_released x.stage ≡ true
-released-overtaken key x h = elim (cases_Bool (same_key x.asked.target.key key)) [
+pub released-overtaken : (key : Scope) (x : Exchange) → is_released (overtaken_exchange key x).stage ≡ true → is_released x.stage ≡ true
+released-overtaken key x h = elim (cases_Bool (is_in_scope key x.asked.target.key)) [
   | inl t ↦ sym (ap (λ b. is_released (cond b (record x { overtaken = true }) x).stage) t) ∙ h
   | inr f ↦ sym (ap (λ b. is_released (cond b (record x { overtaken = true }) x).stage) f) ∙ h
 ]

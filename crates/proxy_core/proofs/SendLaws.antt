@@ -51,7 +51,7 @@ use Rattle.proxy_core.specs.State.{serial_used_by_outcome}
 use Rattle.proxy_core.specs.Starts.{StoreAtStart}
 use Rattle.proxy_core.specs.Traces.{Item}
 use Rattle.proxy_core.specs.Histories.{IsGoodHistory, held_entries, open_exchanges, next_serial}
-use Rattle.proxy_core.specs.Sending.{StoredResponseIsReusable, MayBeSentInsteadOfError, IsStoredFallback, StoredResponseMayBeSentAt, MayBeSentBesideLeader, StoredResponseMayBeSentBeside, StoredResponseMayBeSent, RequestReachesCacheOrOrigin, RequestIsTurnedAway, NoLeaderIsOpen, StoredResponseIsSentWhereItMayBe, StoredResponseIsSentNowhereElse, RequestIsForwardedWhereAllowed, RequestIsForwardedNowhereElse, AllowedRequestReachesCacheOrOrigin, OtherRequestIsRefused, RequestPurges, PurgeTakesItsTargetAway}
+use Rattle.proxy_core.specs.Sending.{StoredResponseIsReusable, MayBeSentInsteadOfError, IsStoredFallback, StoredResponseMayBeSentAt, MayBeSentBesideLeader, StoredResponseMayBeSentBeside, StoredResponseMayBeSent, RequestReachesCacheOrOrigin, RequestIsTurnedAway, NoLeaderIsOpen, StoredResponseIsSentWhereItMayBe, StoredResponseIsSentNowhereElse, RequestIsForwardedWhereAllowed, RequestIsForwardedNowhereElse, AllowedRequestReachesCacheOrOrigin, OtherRequestIsRefused, RequestPurges, PurgeTakesItsScopeAway}
 use Rattle.proxy_core.proofs.SentBeside.{led_over, sent_over, unless_sent, sent_is_no_forward}
 use Rattle.proxy_core.proofs.Beside.{beside_is, beside_for}
 use Rattle.proxy_core.proofs.Leaving.{serial_stays}
@@ -524,8 +524,8 @@ refuses_where_not_allowed table start first now id asked item past g e n p =
     subst (RequestIsTurnedAway table now asked) (sym (arrival_is table start first now id asked item past g e))
     (refuse table es (held_distinct table start first past g.1) xs now asked (verdict_of_asked table asked) refl n p)
 
-pub purges_its_target : PurgeTakesItsTargetAway
-purges_its_target table start first now id asked item past g e p =
+pub purges_its_scope : PurgeTakesItsScopeAway
+purges_its_scope table start first now id asked item past g e p =
     let es = held_entries table start past in
     let xs = open_exchanges table start past in
     subst (RequestPurges es now asked) (sym (arrival_is table start first now id asked item past g e))

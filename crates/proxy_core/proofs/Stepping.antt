@@ -1,5 +1,6 @@
 -- A step, from what its parts say.
 use Rattle.std.proofs.Common.{◌≡◌, inl, inr, ℕ, Bool, true, false, not, ◌||◌, eqb, cond, Option, None, Some, List, [], ◌∷◌, map, refl, sym, ◌∙◌, ap, subst}
+use Rattle.std.specs.Prelude.{option_map}
 use Rattle.std.specs.List.{filter}
 use Rattle.std.proofs.lemmas.Bool.{eqb-true, cases_Bool}
 use Rattle.std.proofs.lemmas.Option.{same_Some}
@@ -29,7 +30,8 @@ use Rattle.hx_reuse.specs.declared.rule.ReuseRule.{ReuseRule}
 use Rattle.hx_reuse.specs.declared.decision.Decision.{Decision}
 use Rattle.hx_reuse.specs.declared.decision.Decision.TheVariants as decision
 use Rattle.proxy_core.specs.Validating.{condition_about_serial}
-use Rattle.proxy_core.specs.State.{State, StepIsAccepted, state_after, entries_without_serials, entries_after, bounds_of, exchanges_after_end, key_invalidated_by_response, next_serial_after, exchange_forwarded_again, exchange_sent_forward, exchanges_after_wake, rule_of_decision, serial_named_by_decision}
+use Rattle.proxy_core.specs.Scopes.{Scope, target_alone}
+use Rattle.proxy_core.specs.State.{State, StepIsAccepted, state_after, entries_without_serials, entries_after, bounds_of, exchanges_after_end, scope_invalidated_by_response, next_serial_after, exchange_forwarded_again, exchange_sent_forward, exchanges_after_wake, rule_of_decision, serial_named_by_decision}
 use Rattle.proxy_core.specs.Pending.{serial_stored_by_change, outcome_of_pending_reply, state_after_reply, ChangeStoresNothing, ReplyLeavesHeldAsStepDoes}
 use Rattle.proxy_core.specs.Waking.{IsPreparedForWake}
 use Rattle.proxy_core.specs.declared.steps.waking.AfterWake.TheVariants.{Ends}
@@ -83,10 +85,10 @@ module _ (s : State) (now id : ℕ) (early : moment_too_late_fault now ≡ None)
         allowed = ap (λ (x : Option Exchange). fault_at_exchange x event) here ∙ (ap (λ (a : Option CoreFault). or_fault a (fault_if_not_forwarded x.stage)) early ∙ stage);
         outcome_is = is ∙ (reply ∙ ap (λ (x : Option Exchange). outcome_of s.table s.entries s.exchanges x s.next event) (sym here));
         leaves = t_is
-            ∙ (ap (λ (es : List Stored). st s.table s.limit es (exchanges_after_end gone id s.exchanges) next)
+            ∙ (ap (λ (es : List Stored). st s.table s.limit es (exchanges_after_end (option_map target_alone gone) id s.exchanges) next)
             (left ∙ ap (λ (y : Option Exchange). entries_after (bounds_of s.table s.limit) s.entries y event (outcome_of_pending_reply pending)) (sym here))
-            ∙ (ap (λ (key : Option Key). st s.table s.limit (entries_after (bounds_of s.table s.limit) s.entries (find_exchange id s.exchanges) event (outcome_of_pending_reply pending)) (exchanges_after_end key id s.exchanges) next)
-            (gone_is ∙ ap (λ (y : Option Exchange). key_invalidated_by_response y r) (sym here))
+            ∙ (ap (λ (key : Option Scope). st s.table s.limit (entries_after (bounds_of s.table s.limit) s.entries (find_exchange id s.exchanges) event (outcome_of_pending_reply pending)) (exchanges_after_end key id s.exchanges) next)
+            (ap (option_map target_alone) gone_is ∙ ap (λ (y : Option Exchange). scope_invalidated_by_response y r) (sym here))
             ∙ ap (λ (q : Outcome). state_after s event q) (sym is)));
       }
 

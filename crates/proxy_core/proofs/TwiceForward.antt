@@ -1,8 +1,6 @@
 -- Each exchange goes forward at most twice and has at most one reply.
 use Rattle.std.proofs.Common.{◌≡◌, ℕ, ◌+◌, ◌≤◌, Bool, true, false, cond, ◌&&◌, eqb, Option, None, Some, is_some, List, [], ◌∷◌, ◌++◌, refl, sym, ◌∙◌, ap, subst, arith}
 use Rattle.std.proofs.lemmas.Bool.{eq-eqb, false≢true}
-use Rattle.hx_target.specs.declared.keys.Key.{Key}
-use Rattle.hx_target.specs.Keys.{same_key}
 use Rattle.hx_hop.specs.declared.request_view.Asked.{Asked}
 use Rattle.proxy_core.specs.declared.open.exchange.Exchange.{Exchange}
 use Rattle.proxy_core.specs.declared.outcome.Outcome.{Outcome}
@@ -13,6 +11,7 @@ use Rattle.proxy_core.specs.Outcomes.{find_exchange, exchange_id_of_event}
 use Rattle.proxy_core.specs.declared.open.stage.Stage.{Stage}
 use Rattle.proxy_core.specs.declared.open.stage.Stage.TheVariants.{Forwarded, Waiting, Released}
 use Rattle.proxy_core.specs.Leading.{is_forwarded, is_released, waits_for}
+use Rattle.proxy_core.specs.Scopes.{Scope, is_in_scope}
 use Rattle.proxy_core.specs.State.{State, released_exchange, overtaken_exchange, forwarded_exchange}
 use Rattle.proxy_core.specs.Traces.{Item, state_after_trace, IsGood}
 use Rattle.proxy_core.specs.Promises.{outcome_goes_forward, outcome_is_reply, is_arrival_event, count_of_outcomes, NoRequestArrives, TwiceForwardOneReply}
@@ -48,8 +47,8 @@ record Budget (id : ℕ) (event : Event) (o : Outcome) (x y : Option Exchange) :
   forwards : one (eqb (exchange_id_of_event event) id && outcome_goes_forward o) + forwards_left y ≤ forwards_left x
   replies : one (eqb (exchange_id_of_event event) id && outcome_is_reply o) + replies_left y ≤ replies_left x
 
-overtake_left : (key : Key) (x : Exchange) → by_stage (overtaken_exchange key x).stage (cond (is_some (overtaken_exchange key x).condition) 1 0) ≡ by_stage x.stage (cond (is_some x.condition) 1 0)
-overtake_left key x = elim (same_key x.asked.target.key key) as (λ b. by_stage (cond b (record x { overtaken = true }) x).stage (cond (is_some (cond b (record x { overtaken = true }) x).condition) 1 0) ≡ by_stage x.stage (cond (is_some x.condition) 1 0)) [
+overtake_left : (key : Scope) (x : Exchange) → by_stage (overtaken_exchange key x).stage (cond (is_some (overtaken_exchange key x).condition) 1 0) ≡ by_stage x.stage (cond (is_some x.condition) 1 0)
+overtake_left key x = elim (is_in_scope key x.asked.target.key) as (λ b. by_stage (cond b (record x { overtaken = true }) x).stage (cond (is_some (cond b (record x { overtaken = true }) x).condition) 1 0) ≡ by_stage x.stage (cond (is_some x.condition) 1 0)) [
   | true ↦ refl
   | false ↦ refl
 ]
@@ -76,7 +75,7 @@ budget_released None x = (refl, refl)
 budget_released (Some i) None = (refl, refl)
 budget_released (Some i) (Some x) = (release_left i x, refl)
 
-budget_overtaken : (key : Option Key) (x : Option Exchange) →
+budget_overtaken : (key : Option Scope) (x : Option Exchange) →
     (forwards_left (overtaken_by key x) ≡ forwards_left x) × (replies_left (overtaken_by key x) ≡ replies_left x)
 unfolding forwards_left replies_left
 budget_overtaken None x = (refl, refl)

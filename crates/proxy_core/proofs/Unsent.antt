@@ -7,7 +7,6 @@ use Rattle.std.proofs.lemmas.Bool.Decides.{nat_tests}
 use Rattle.std.proofs.lemmas.Option.{same_Some}
 use Rattle.http.specs.Method.{safe_methods, is_among}
 use Rattle.hx_target.specs.declared.keys.Key.{Key}
-use Rattle.hx_target.specs.Keys.{same_key}
 use Rattle.hx_framing.specs.declared.messages.Response.{Response}
 use Rattle.hx_hop.specs.Answering.{answered_of}
 use Rattle.hx_hop.specs.declared.request_view.Asked.{Asked}
@@ -18,7 +17,8 @@ use Rattle.hx_allow.specs.declared.verdicts.Verdict.{Verdict}
 use Rattle.hx_allow.specs.declared.verdicts.Verdict.TheVariants as verdict
 use Rattle.hx_store.specs.Stored.{Stored}
 use Rattle.hx_store.specs.Serials.{serial_is_in}
-use Rattle.hx_store.specs.Shelf.{holds_serial, find_entry, serials_of}
+use Rattle.hx_store.specs.Shelf.{holds_serial, find_entry, serials_of, serials_where}
+use Rattle.hx_store.proofs.PassingEntries.{of_the_key}
 use Rattle.hx_store.specs.Recency.{is_that_serial, stores_or_uses}
 use Rattle.hx_store.proofs.Recency.{is_in-after}
 use Rattle.hx_store.proofs.EntryLists.{find-serial, find_holds}
@@ -42,7 +42,8 @@ use Rattle.proxy_core.specs.Validating.{condition_about_serial, is_304_to_own_co
 use Rattle.proxy_core.specs.Storing.{storing_rule_to_explain, storing_facts_of_answer, is_storable, is_304_without_condition, answer_invalidates, key_invalidated}
 use Rattle.proxy_core.specs.Leading.{is_forwarded}
 use Rattle.proxy_core.specs.Outcomes.{find_exchange, exchange_id_of_event, outcome_of_arrival, outcome_of_allowed_request, outcome_of_waiting_or_forwarding, outcome_without_stored_response, outcome_of_wake, fault_at_exchange, is_only_if_cached, fallback_for, outcome_of_failure, is_error_status, outcome_of_passing_on, outcome_of_passing_on_or_stale, serials_removed_by_answer, serial_of_stored_answer, outcome_of_304, outcome_of_answer, outcome_of}
-use Rattle.proxy_core.specs.State.{State, outcome_purges, key_purged, serial_stored_by_outcome, serial_used_by_outcome, serials_removed_by_outcome, next_serial_after, serial_after_this, stored_response_by_answer, stored_response_as_used, bounds_of, NoSerialIsHeldFrom}
+use Rattle.proxy_core.specs.Scopes.{Scope, is_in_scope, target_alone, scope_of_purge, serials_purged, serials_within}
+use Rattle.proxy_core.specs.State.{State, outcome_purges, scope_purged, serial_stored_by_outcome, serial_used_by_outcome, serials_removed_by_outcome, next_serial_after, serial_after_this, stored_response_by_answer, stored_response_as_used, bounds_of, NoSerialIsHeldFrom}
 use Rattle.proxy_core.specs.Starts.{StoreAtStart, StartStands}
 use Rattle.proxy_core.specs.Traces.{Item, initial_state, state_after_trace, IsGood}
 use Rattle.proxy_core.specs.Histories.{held_serials, held_entry, store_change_of, exchanges_and_responses_after}
@@ -50,7 +51,7 @@ use Rattle.proxy_core.specs.Promises.{reply_uses_no_stored_response, is_invalida
 use Rattle.proxy_core.proofs.SentBeside.{led_over, sent_over, unless_sent}
 use Rattle.proxy_core.proofs.Storable.{none_of}
 use Rattle.proxy_core.proofs.Leaving.{key_stays}
-use Rattle.proxy_core.proofs.HeldEntries.{EachIs-find, held_found, some_of_key}
+use Rattle.proxy_core.proofs.HeldEntries.{EachIs-find, held_found, some_passing}
 use Rattle.proxy_core.proofs.StepKinds.{Kind, idle, uses, stores, kind_in}
 use Rattle.proxy_core.proofs.HeldLaw.{look_after, held_before_cut, stands_for}
 use Rattle.proxy_core.specs.declared.open.stage.Stage.{Stage}
@@ -250,36 +251,43 @@ answer_removes table es now x r next k h =
     turned true h = sym h
     turned false h = refl
 
-purged_parts : (asked : Asked) (o : Outcome) (k : Key) → key_purged asked o ≡ Some k → (outcome_purges o ≡ true) × (asked.target.key ≡ k)
+purged_parts : (asked : Asked) (o : Outcome) (k : Scope) → scope_purged asked o ≡ Some k → (outcome_purges o ≡ true) × (scope_of_purge asked ≡ k)
 purged_parts asked o k h = by_test (outcome_purges o) h
   where
-    by_test : (b : Bool) → cond b (Some asked.target.key) None ≡ Some k → (b ≡ true) × (asked.target.key ≡ k)
-    by_test true h = (refl, same_Some asked.target.key k h)
+    by_test : (b : Bool) → cond b (Some (scope_of_purge asked)) None ≡ Some k → (b ≡ true) × (scope_of_purge asked ≡ k)
+    by_test true h = (refl, same_Some (scope_of_purge asked) k h)
     by_test false h = absurd (cc)
 
 purge_removes : (table : Table) (es : List Stored) (xs : List Exchange) (now : ℕ) (asked : Asked) (v : Verdict) → outcome_purges (outcome_of_arrival table es xs now asked v) ≡ true →
-    serials_removed_by_outcome (outcome_of_arrival table es xs now asked v) ≡ serials_of asked.target.key es
+    serials_removed_by_outcome (outcome_of_arrival table es xs now asked v) ≡ serials_purged asked es
 purge_removes table es xs now asked (verdict.Allowed line) h = absurd (false≢true (sym (allowed_purges_none table es xs now asked line) ∙ h))
 purge_removes table es xs now asked (verdict.DeniedBy line) h = absurd (false≢true h)
 purge_removes table es xs now asked verdict.NoLine h = absurd (false≢true h)
 purge_removes table es xs now asked (verdict.Looped line) h = absurd (false≢true h)
 purge_removes table es xs now asked (verdict.Purged line) h = refl
 
-removes_key : (table : Table) (es : List Stored) (xs : List Exchange) (w : Option Exchange) (next : Option ℕ) (event : Event) (o : Outcome) (k : Key) →
-    o ≡ outcome_of table es xs w next event → key_taken_by_step (asked_of w) event o ≡ Some k → serials_removed_by_outcome o ≡ serials_of k es
-removes_key table es xs w next (Arrive now i asked) o k e h =
+scope_of_some : (o : Option Key) (k : Scope) → option_map target_alone o ≡ Some k → (key : Key) × (o ≡ Some key) × (target_alone key ≡ k)
+scope_of_some None k h = absurd (cc)
+scope_of_some (Some key) k h = (key, refl, same_Some (target_alone key) k h)
+
+removes_scope : (table : Table) (es : List Stored) (xs : List Exchange) (w : Option Exchange) (next : Option ℕ) (event : Event) (o : Outcome) (k : Scope) →
+    o ≡ outcome_of table es xs w next event → key_taken_by_step (asked_of w) event o ≡ Some k → serials_removed_by_outcome o ≡ serials_within k es
+removes_scope table es xs w next (Arrive now i asked) o k e h =
     let there = purged_parts asked o k h in
-    ap serials_removed_by_outcome e ∙ purge_removes table es xs now asked (verdict_of_asked table asked) (sym (ap outcome_purges e) ∙ there.0) ∙ ap (λ key. serials_of key es) there.1
-removes_key table es xs None next (Answer now i r) o k e h = absurd (cc)
-removes_key table es xs None next (Fail now i kind) o k e h = absurd (cc)
-removes_key table es xs None next (Wake now i) o k e h = absurd (cc)
-removes_key table es xs None next (Abandon i) o k e h = absurd (cc)
-removes_key table es xs (Some z) next (Answer now i r) o k e h =
+    ap serials_removed_by_outcome e ∙ purge_removes table es xs now asked (verdict_of_asked table asked) (sym (ap outcome_purges e) ∙ there.0) ∙ ap (λ (scope : Scope). serials_within scope es) there.1
+removes_scope table es xs None next (Answer now i r) o k e h = absurd (cc)
+removes_scope table es xs None next (Fail now i kind) o k e h = absurd (cc)
+removes_scope table es xs None next (Wake now i) o k e h = absurd (cc)
+removes_scope table es xs None next (Abandon i) o k e h = absurd (cc)
+removes_scope table es xs (Some z) next (Answer now i r) o k e h =
+    let named = scope_of_some (key_taken_by_answer z.asked r o) k h in
     ap serials_removed_by_outcome e
-    ∙ answer_removes table es now z r next k (same_key_invalidated table es now z r next ∙ ap (key_taken_by_answer z.asked r) (sym e) ∙ h)
-removes_key table es xs (Some z) next (Fail now i kind) o k e h = absurd (cc)
-removes_key table es xs (Some z) next (Wake now i) o k e h = absurd (cc)
-removes_key table es xs (Some z) next (Abandon i) o k e h = absurd (cc)
+    ∙ answer_removes table es now z r next named.0 (same_key_invalidated table es now z r next ∙ ap (key_taken_by_answer z.asked r) (sym e) ∙ named.1)
+    ∙ sym (of_the_key named.0 es)
+    ∙ ap (λ (scope : Scope). serials_within scope es) named.2
+removes_scope table es xs (Some z) next (Fail now i kind) o k e h = absurd (cc)
+removes_scope table es xs (Some z) next (Wake now i) o k e h = absurd (cc)
+removes_scope table es xs (Some z) next (Abandon i) o k e h = absurd (cc)
 
 -- ---- serials from below
 
@@ -394,12 +402,12 @@ module _ (table : Table) (start : StoreAtStart) (first : ℕ) where
         clean = ap (λ o. is_invalidated_key o k) (same_key_of_step table start first i past g)
             ∙ false_from_ne_true _ (λ t.
             let named = gone_key (key_taken_by_step (asked_of w) i.event i.outcome) t in
-            let r : serials_removed_by_outcome i.outcome ≡ serials_of named.0 es = removes_key table es st.exchanges w st.next i.event i.outcome named.0 g.0.outcome_is named.1 in
-            let there = some_of_key named.0 s es f.0 f.1 (ap (λ key. same_key key named.0) its_key ∙ named.2) in
+            let r : serials_removed_by_outcome i.outcome ≡ serials_within named.0 es = removes_scope table es st.exchanges w st.next i.event i.outcome named.0 g.0.outcome_is named.1 in
+            let there = some_passing (λ (e : Stored). is_in_scope named.0 e.key) s es f.0 f.1 (ap (is_in_scope named.0) its_key ∙ named.2) in
             false≢true (sym (ap not (ap (serial_is_in s) r ∙ there)) ∙ stays));
       }
     where
-      gone_key : (o : Option Key) → is_invalidated_key o k ≡ true → (gone : Key) × (o ≡ Some gone) × (same_key k gone ≡ true)
+      gone_key : (o : Option Scope) → is_invalidated_key o k ≡ true → (gone : Scope) × (o ≡ Some gone) × (is_in_scope gone k ≡ true)
       gone_key None t = absurd (false≢true t)
       gone_key (Some gone) t = (gone, refl, t)
 
@@ -498,7 +506,7 @@ module _ (table : Table) (start : StoreAtStart) (first : ℕ) where
         clean = λ k. ap (λ o. is_invalidated_key o k) (same_key_of_step table start first storing past g
             ∙ ap (λ x. key_taken_by_step (asked_of x) storing.event storing.outcome) d.w_is
             ∙ ap (λ v. key_taken_by_step (Some z.asked) v storing.outcome) d.event_is
-            ∙ no_key z.asked.target.key (not (is_among safe_methods z.asked.method)) ((nat_le 200 d.r.status && nat_le d.r.status 399) && reply_uses_no_stored_response storing.outcome) safe);
+            ∙ ap (option_map target_alone) (no_key z.asked.target.key (not (is_among safe_methods z.asked.method)) ((nat_le 200 d.r.status && nat_le d.r.status 399) && reply_uses_no_stored_response storing.outcome) safe));
       }
     where
       no_key : (key : Key) (u rest : Bool) → u ≡ false → cond (u && rest) (Some key) None ≡ None

@@ -20,8 +20,7 @@ use Rattle.proxy_core.specs.declared.open.stage.Stage.{Stage}
 use Rattle.proxy_core.specs.declared.open.stage.Stage.TheVariants.{Forwarded, Waiting, Released}
 use Rattle.proxy_core.specs.declared.open.wait_index.WaitIndex.{WaitIndex}
 use Rattle.proxy_core.specs.Leading.{is_forwarded, waits_for}
-use Rattle.hx_target.specs.declared.keys.Key.{Key}
-use Rattle.hx_target.specs.Keys.{same_key}
+use Rattle.proxy_core.specs.Scopes.{Scope, is_in_scope}
 use Rattle.proxy_core.specs.State.{released_exchange, overtaken_exchange}
 use Rattle.proxy_core.specs.Waiters.{is_in_wait_index, WaiterIsEntered, WaiterHasLeft, WaitersAreTakenOut, IsSameWaitIndex, IsNotInWaitIndex, SetHasMembers, HasNoEmptyWaiterSets, HasNoOtherEmptyWaiterSets}
 use Rattle.proxy_core.specs.Arrivals.{map_exchanges, HaveDistinctArrivalsAndIds, SelectedArrivalsPass, IsExactIndexOfSelected, WaitingArrivalsPass}
@@ -235,8 +234,8 @@ waiters-released q es old new k h id =
       | inr f ↦ ap (λ b. waits_for id (cond b (record x { stage = Released }) x).stage) f ∙ as_before x.stage f (eqb q id) refl
     ]
 
-pub overtake-stage : (key : Key) (x : Exchange) → (overtaken_exchange key x).stage ≡ x.stage
-overtake-stage key x = elim (same_key x.asked.target.key key) as (λ b. (cond b (record x { overtaken = true }) x).stage ≡ x.stage) [ true ↦ refl | false ↦ refl ]
+pub overtake-stage : (key : Scope) (x : Exchange) → (overtaken_exchange key x).stage ≡ x.stage
+overtake-stage key x = elim (is_in_scope key x.asked.target.key) as (λ b. (cond b (record x { overtaken = true }) x).stage ≡ x.stage) [ true ↦ refl | false ↦ refl ]
 
 -- ---- no id stands there for nothing
 

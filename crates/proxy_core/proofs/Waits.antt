@@ -5,7 +5,6 @@ use Rattle.std.specs.List.{AllByRecursion}
 use Rattle.std.proofs.lemmas.Bool.{eqb-true, eq-eqb, false≢true, false_from_ne_true}
 use Rattle.std.proofs.lemmas.Option.{same_Some}
 use Rattle.hx_policy.specs.declared.words.Policy.{Policy}
-use Rattle.hx_target.specs.declared.keys.Key.{Key}
 use Rattle.hx_target.specs.Keys.{same_key}
 use Rattle.hx_hop.specs.declared.request_view.Asked.{Asked}
 use Rattle.hx_allow.specs.TableLines.{Table}
@@ -23,6 +22,7 @@ use Rattle.proxy_core.proofs.FirstRules.{held_distinct}
 use Rattle.hx_store.specs.Serials.{serial_is_in}
 use Rattle.hx_reuse.specs.Rules.{decision_of}
 use Rattle.hx_reuse.specs.ChosenAndNamed.{IsLeastReuseRule, RuleNamesTheResponse}
+use Rattle.hx_reuse.specs.FilledRanges.{forwards_range}
 use Rattle.hx_reuse.specs.declared.rule.ReuseRule.{ReuseRule}
 use Rattle.hx_reuse.specs.declared.rule.ReuseRule.TheVariants.{UriMiss, Range}
 use Rattle.hx_hop.specs.Bypass.{asks_for_range}
@@ -48,6 +48,7 @@ use Rattle.proxy_core.specs.declared.open.awaited.Awaited.{Awaited}
 use Rattle.proxy_core.specs.declared.open.awaited.Awaited.TheVariants.{Missing, Expired}
 use Rattle.proxy_core.specs.Validating.{condition_about_serial}
 use Rattle.proxy_core.specs.Outcomes.{find_exchange, exchange_id_of_event, outcome_of_arrival, outcome_of_allowed_request, outcome_of_waiting_or_forwarding, revalidating_status_info, outcome_unless_sent_beside, outcome_without_stored_response, is_only_if_cached, fallback_for, outcome_of_failure, outcome_of_wake, outcome_of, outcome_of_event, or_fault, fault_if_not_released, fault_at_exchange, step_fault, forward_text}
+use Rattle.proxy_core.specs.Scopes.{Scope, is_in_scope}
 use Rattle.proxy_core.specs.State.{State, overtaken_exchange, released_exchange, forwarded_exchange, waiting_exchange, rule_of_decision, serial_named_by_decision, open_exchanges_after, serial_used_by_outcome}
 use Rattle.proxy_core.specs.Starts.{StoreAtStart}
 use Rattle.proxy_core.specs.Traces.{Item, initial_state, state_after_trace, IsGood}
@@ -213,8 +214,8 @@ abbrev stage_by : Option ℕ → Stage → Stage
 stage_by None s = s
 stage_by (Some i) s = cond (waits_for i s) Released s
 
-overtaken_stage : (key : Key) (x : Exchange) → (overtaken_exchange key x).stage ≡ x.stage
-overtaken_stage key x = elim (same_key x.asked.target.key key) as (λ b. (cond b (record x { overtaken = true }) x).stage ≡ x.stage) [
+overtaken_stage : (key : Scope) (x : Exchange) → (overtaken_exchange key x).stage ≡ x.stage
+overtaken_stage key x = elim (is_in_scope key x.asked.target.key) as (λ b. (cond b (record x { overtaken = true }) x).stage ≡ x.stage) [
   | true ↦ refl
   | false ↦ refl
 ]
@@ -225,7 +226,7 @@ released_stage i x = elim (waits_for i x.stage) as (λ b. (cond b (record x { st
   | false ↦ refl
 ]
 
-stage_changed : (key : Option Key) (gone : Option ℕ) (x : Exchange) (o : Option Exchange) → o ≡ Some x → (z : Exchange) × (changed_by key gone o ≡ Some z) × (z.stage ≡ stage_by gone x.stage)
+stage_changed : (key : Option Scope) (gone : Option ℕ) (x : Exchange) (o : Option Exchange) → o ≡ Some x → (z : Exchange) × (changed_by key gone o ≡ Some z) × (z.stage ≡ stage_by gone x.stage)
 stage_changed None None x o h = (x, h, refl)
 stage_changed None (Some i) x o h = (released_exchange i x, ap (option_map (released_exchange i)) h, released_stage i x)
 stage_changed (Some key) None x o h = (overtaken_exchange key x, ap (option_map (overtaken_exchange key)) h, overtaken_stage key x)
@@ -272,7 +273,7 @@ record StandsBy (id l : ℕ) (items : List Item) (y : Option Exchange) : Type 0 
   stage : x.stage ≡ waiting_stage l (exchange_has_closed l items)
   unwoken : was_woken id items ≡ false
 
-stands_apart : (id l : ℕ) (i : Item) (items : List Item) (key : Option Key) (x y : Option Exchange) → eqb (exchange_id_of_event i.event) id ≡ false → y ≡ changed_by key (ended_by i.event i.outcome) x →
+stands_apart : (id l : ℕ) (i : Item) (items : List Item) (key : Option Scope) (x y : Option Exchange) → eqb (exchange_id_of_event i.event) id ≡ false → y ≡ changed_by key (ended_by i.event i.outcome) x →
     StandsBy id l items x → StandsBy id l (i ∷ items) y
 stands_apart id l i items key x y n h s =
     let c = stage_changed key (ended_by i.event i.outcome) s.x x s.y_is in
@@ -337,7 +338,7 @@ module _ (table : Table) (start : StoreAtStart) (first l : ℕ) (before : List I
   fate_more i items x y w a (apart n h) (over x_is) =
       over (h ∙ (ap (changed_by (key_taken_by_step (asked_of w) i.event i.outcome) (ended_by i.event i.outcome)) x_is ∙ none_changed (key_taken_by_step (asked_of w) i.event i.outcome) (ended_by i.event i.outcome)))
     where
-      none_changed : (key : Option Key) (gone : Option ℕ) → changed_by key gone None ≡ None
+      none_changed : (key : Option Scope) (gone : Option ℕ) → changed_by key gone None ≡ None
       none_changed None None = refl
       none_changed None (Some j) = refl
       none_changed (Some key) None = refl
@@ -538,8 +539,8 @@ module _ (table : Table) (start : StoreAtStart) (first now id : ℕ) (rule : Reu
   abbrev its : List Item → Option Exchange
   its items = find_exchange id (state_after_trace began (items ++ first_item ∷ before)).exchanges
 
-  overtaken_at : (key : Key) (x : Exchange) → AtTheOrigin rule named asked (Some x) → AtTheOrigin rule named asked (Some (overtaken_exchange key x))
-  overtaken_at key x a = by_test (same_key x.asked.target.key key)
+  overtaken_at : (key : Scope) (x : Exchange) → AtTheOrigin rule named asked (Some x) → AtTheOrigin rule named asked (Some (overtaken_exchange key x))
+  overtaken_at key x a = by_test (is_in_scope key x.asked.target.key)
     where
       same : a.x ≡ x
       same = same_Some a.x x (sym a.y_is)
@@ -560,7 +561,7 @@ module _ (table : Table) (start : StoreAtStart) (first now id : ℕ) (rule : Reu
       let stage : x.stage ≡ Forwarded = ap (λ (z : Exchange). z.stage) (same_Some x a.x a.y_is) ∙ a.stage in
       subst (λ b. AtTheOrigin rule named asked (Some (cond b (record x { stage = Released }) x))) (sym (ap (waits_for i) stage)) a
 
-  changed_at : (key : Option Key) (gone : Option ℕ) (y : Option Exchange) → AtTheOrigin rule named asked y → AtTheOrigin rule named asked (changed_by key gone y)
+  changed_at : (key : Option Scope) (gone : Option ℕ) (y : Option Exchange) → AtTheOrigin rule named asked y → AtTheOrigin rule named asked (changed_by key gone y)
   changed_at key gone None a =
       let none : None ≡ Some a.x = a.y_is in
       absurd (cc)
@@ -662,7 +663,7 @@ one_goes_forward table start first line awaited rule named bytes now id asked la
     its_leads x a r n t may =
         all_five (same_key x.asked.target.key asked.target.key) (is_get x.asked) (is_forwarded x.stage) (asks_for awaited x) (answer_may_serve policy asked x)
         (ap (λ (q : Asked). same_key q.target.key asked.target.key) a ∙ same) (ap is_get a ∙ gets) (ap is_forwarded t) (asks_for_it awaited rule named x r n went)
-        (ap (λ (q : Asked). not (asks_for_range q) && (not policy.waits_for_stale || may_serve policy asked x)) a ∙ (ap (λ b. not b && (not policy.waits_for_stale || may_serve policy asked x)) whole ∙ where_the_word_stands policy.waits_for_stale (may_serve policy asked x) may))
+        (ap (λ (q : Asked). not (forwards_range policy q) && (not policy.waits_for_stale || may_serve policy asked x)) a ∙ (ap (λ b. not b && (not policy.waits_for_stale || may_serve policy asked x)) whole ∙ where_the_word_stands policy.waits_for_stale (may_serve policy asked x) may))
 
     by_fate : (exchange_has_closed e.id between ≡ true) ⊎ AtTheOrigin rule named e.asked (its table start first e.now e.id rule named e.asked before earlier.outcome between) → exchange_has_closed e.id between ≡ true
     by_fate (inl c) = c
@@ -700,7 +701,7 @@ plain_lines_wait_for_misses policy held asked now awaited x plain = (awaits_a_mi
     is_whole : policy.forwards_ranges ≡ true → IsLeastReuseRule policy held asked now UriMiss → asks_for_range asked ≡ false
     is_whole forwards least = second_false policy.forwards_ranges (asks_for_range asked) forwards (least.none_before Range (omega arith))
 
-    it_leads : leads_waiters policy Missing asked x ≡ (same_key x.asked.target.key asked.target.key && (is_get x.asked && (is_forwarded x.stage && (is_uri_miss x.rule && not (asks_for_range x.asked)))))
+    it_leads : leads_waiters policy Missing asked x ≡ (same_key x.asked.target.key asked.target.key && (is_get x.asked && (is_forwarded x.stage && (is_uri_miss x.rule && not (forwards_range policy x.asked)))))
     it_leads =
-        ap (λ w. same_key x.asked.target.key asked.target.key && (is_get x.asked && (is_forwarded x.stage && (is_uri_miss x.rule && (not (asks_for_range x.asked) && (not w || may_serve policy asked x)))))) plain
-        ∙ ap (λ b. same_key x.asked.target.key asked.target.key && (is_get x.asked && (is_forwarded x.stage && (is_uri_miss x.rule && b)))) (and_always (not (asks_for_range x.asked)))
+        ap (λ w. same_key x.asked.target.key asked.target.key && (is_get x.asked && (is_forwarded x.stage && (is_uri_miss x.rule && (not (forwards_range policy x.asked) && (not w || may_serve policy asked x)))))) plain
+        ∙ ap (λ b. same_key x.asked.target.key asked.target.key && (is_get x.asked && (is_forwarded x.stage && (is_uri_miss x.rule && b)))) (and_always (not (forwards_range policy x.asked)))

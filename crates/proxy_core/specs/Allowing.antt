@@ -19,7 +19,7 @@ is_purge verdict.NoLine = false
 is_purge (verdict.Looped line) = false
 is_purge (verdict.Purged line) = true
 
--- the request purges what is held for its target, by the first line that matches
+-- the request purges what is held within its scope, by the first line that matches
 abbrev pub request_purges : Table → Asked → Bool
 request_purges table asked = is_purge (verdict_of_asked table asked)
 

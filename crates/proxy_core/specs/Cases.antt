@@ -72,6 +72,12 @@ varying_table = record table { lines = record line_with_no_cache { vary = codes 
 abbrev pub table_with_policy : Policy → Table
 table_with_policy policy = record table { lines = record line_with_no_cache { policy = policy } ∷ [] }
 
+abbrev pub serves_ranges_policy : Policy
+serves_ranges_policy = record (plain true) { forwards_ranges = false }
+
+abbrev pub fills_ranges_policy : Policy
+fills_ranges_policy = record serves_ranges_policy { fills_ranges = true }
+
 abbrev pub keeps_conditions_policy : Policy
 keeps_conditions_policy = record (plain true) { forwards_conditions = false }
 
@@ -139,6 +145,10 @@ wait_for_stale_policy = record (plain true) { waits_for_stale = true }
 
 abbrev pub get_a_with_authorization : Asked
 get_a_with_authorization = get_a_with (line (codes "Authorization") (codes "Basic eA==") ∷ [])
+
+-- a GET of /a for a range, beside other lines
+abbrev pub get_a_for_range : List ℕ → List Field → Asked
+get_a_for_range value beside = get_a_with (line (codes "Range") value ∷ beside)
 
 -- and one with a cookie
 abbrev pub get_a_with_cookie : Asked

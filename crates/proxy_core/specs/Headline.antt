@@ -51,7 +51,7 @@ EventComesWhereItMay table start item past =
     EventMayCome (find_exchange (exchange_id_of_event item.event) (open_exchanges table start past)) item.event
 
 -- A request reaches the cache or the origin of its line exactly where the table's first line that
--- matches allows it, and the cache alone, of which it purges its target, where that line purges and
+-- matches allows it, and the cache alone, of which it purges its scope, where that line purges and
 -- it shows the key; any other is turned away by the line, which denies it or refuses its loop, or
 -- because none matches.
 abbrev pub RequestReachesExactlyWhereAllowed : Table → StoreAtStart → Item → List Item → Type 0

@@ -23,7 +23,7 @@ use Rattle.proxy_core.specs.declared.event.Event.TheVariants.{Answer}
 use Rattle.proxy_core.specs.Histories.{IsGoodHistory, next_serial, open_exchanges}
 use Rattle.proxy_core.specs.Leading.{sends_clients_condition}
 use Rattle.proxy_core.specs.Outcomes.{find_exchange, forward_text}
-use Rattle.proxy_core.specs.Replies.{not_modified_answer_text, whole_answer_text}
+use Rattle.proxy_core.specs.Replies.{answer_in_range_text, not_modified_answer_text, range_of_answer}
 use Rattle.proxy_core.specs.Starts.{StoreAtStart}
 use Rattle.proxy_core.specs.Storing.{is_304_without_condition, storing_rule_to_explain}
 use Rattle.proxy_core.specs.Traces.{Item}
@@ -51,13 +51,15 @@ FalseConditionIsAnswered304 = (table : Table) (start : StoreAtStart) (first now 
     → reply.bytes ≡ not_modified_answer_text (policy_of table.lines x.line) table.name x r now (is_some reply.stored)
     (storing_rule_to_explain table x r now (next_serial first past))
 
--- it isn't, or the request has none: the client is sent the answer
-abbrev pub OtherConditionIsAnsweredWhole : Type 0
-OtherConditionIsAnsweredWhole = (table : Table) (start : StoreAtStart) (first now : ℕ) (item : Item) (past : List Item)
+-- it isn't, or the request has none: the client is sent the answer, or what it asked for of it where its range stayed
+-- with the proxy, too
+abbrev pub OtherConditionIsAnswered : Type 0
+OtherConditionIsAnswered = (table : Table) (start : StoreAtStart) (first now : ℕ) (item : Item) (past : List Item)
     (x : Exchange) (r : Response) (reply : Reply) → AnswerOfKeptCondition table start first item past now x r reply
     → (ConditionIsFalse x.asked r.status (answered_of r now).fields → ⊥)
-    → reply.bytes ≡ whole_answer_text (policy_of table.lines x.line) table.name x r now (is_some reply.stored)
+    → reply.bytes ≡ answer_in_range_text (policy_of table.lines x.line) table.name x r now (is_some reply.stored)
     (storing_rule_to_explain table x r now (next_serial first past))
+    (range_of_answer (policy_of table.lines x.line) x r now)
 
 -- what goes forward has none of the two conditions, where the proxy has none of its own to send
 abbrev pub NoClientsConditionGoesForward : Type 0

@@ -17,8 +17,8 @@ use Rattle.hx_directives.specs.Answers.{directive_occurs as has_directive}
 use Rattle.hx_directives.specs.declared.names.Directive.TheVariants.{NoStore}
 use Rattle.hx_target.specs.Keys.{same_key}
 use Rattle.hx_hop.specs.declared.request_view.Asked.{Asked}
-use Rattle.hx_hop.specs.Bypass.{asks_for_range}
 use Rattle.hx_reuse.specs.Conditions.{forwards_condition}
+use Rattle.hx_reuse.specs.FilledRanges.{forwards_range}
 use Rattle.hx_reuse.specs.declared.rule.ReuseRule.{ReuseRule}
 use Rattle.hx_reuse.specs.declared.rule.ReuseRule.TheVariants.{UriMiss}
 use Rattle.proxy_core.specs.declared.open.stage.Stage.{Stage}
@@ -90,11 +90,12 @@ may_serve policy asked x = not x.no_store
     && (not x.overtaken
     && (not (sends_clients_condition policy x) && is_same_truth (has_authorization x.asked) (has_authorization asked)))
 
--- The answer to a range is for who asked for it alone, whatever the line says (RFC 9110, section 14.2); what else may
--- keep it back is looked at over a line with the word.
+-- The answer to a range that went to the origin is for who asked for it alone (RFC 9110, section 14.2), but a range
+-- that is filled is asked for as the whole is; what else may keep the answer back is looked at over a line with the
+-- word.
 abbrev pub answer_may_serve : Policy → Asked → Exchange → Bool
 answer_may_serve policy asked x =
-    not (asks_for_range x.asked) && (not policy.waits_for_stale || may_serve policy asked x)
+    not (forwards_range policy x.asked) && (not policy.waits_for_stale || may_serve policy asked x)
 
 -- A GET for the key of this request went forward for what it could be sent, and isn't answered yet. A
 -- response "that is stored or storable" may "satisfy multiple requests", so a cache may "collapse

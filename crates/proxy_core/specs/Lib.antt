@@ -5,6 +5,7 @@ pub mod Leading
 pub mod Allowing
 pub mod Awaiting
 pub mod Revalidating
+pub mod Scopes
 pub mod Outcomes
 pub mod State
 pub mod Arrivals
@@ -36,3 +37,4 @@ pub mod ReadAnswers
 pub mod Bounds
 pub mod KeptConditions
 pub mod RangeReplies
+pub mod FilledRanges

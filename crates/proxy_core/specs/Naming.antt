@@ -20,7 +20,6 @@ use Rattle.hx_allow.specs.declared.verdicts.Verdict.TheVariants.{Allowed, Denied
 use Rattle.hx_allow.specs.declared.verdicts.Verdict.TheVariants as verdict
 use Rattle.hx_allow.specs.declared.verdicts.Route.{Route}
 use Rattle.hx_store.specs.Stored.{Stored}
-use Rattle.hx_store.specs.Shelf.{serials_of}
 use Rattle.hx_reuse.specs.Chosen.{chosen_of}
 use Rattle.hx_reuse.specs.Rules.{names_chosen}
 use Rattle.hx_reuse.specs.ChosenAndNamed.{IsLeastReuseRule}
@@ -35,6 +34,7 @@ use Rattle.proxy_core.specs.declared.outcome.Outcome.{Outcome}
 use Rattle.proxy_core.specs.declared.outcome.Outcome.TheVariants.{Reply, Forward, Waits, Ended}
 use Rattle.proxy_core.specs.declared.event.Event.{Event}
 use Rattle.proxy_core.specs.declared.event.Event.TheVariants.{Arrive, Answer, Fail, Wake, Abandon}
+use Rattle.proxy_core.specs.Scopes.{serials_purged}
 use Rattle.proxy_core.specs.Replies.{passed_answer_text, refusal_reply_text, purge_reply_text, is_head}
 use Rattle.proxy_core.specs.Storing.{is_304_without_condition, storing_rule_to_explain}
 use Rattle.proxy_core.specs.Outcomes.{find_exchange, exchange_id_of_event, is_only_if_cached}
@@ -60,7 +60,7 @@ AnswerAtArrivalNames table held now asked bytes =
     ⊎ (((line : ℕ) × (verdict_of_asked table asked ≡ verdict.Looped line)
     × (bytes ≡ refusal_reply_text (date_text_of now) (Looped line) asked.close (is_head asked)))
     ⊎ ((line : ℕ) × (verdict_of_asked table asked ≡ verdict.Purged line)
-    × (bytes ≡ purge_reply_text (date_text_of now) (length (serials_of asked.target.key held)) asked.close)))))
+    × (bytes ≡ purge_reply_text (date_text_of now) (length (serials_purged asked held)) asked.close)))))
 
 -- beside a reuse rule against the chosen response: the least rule against sending it in place of an error
 abbrev pub AnswerNamesErrorRule : Policy → List Stored → ℕ → Asked → ReuseRule → Option ErrorRule → Type 0

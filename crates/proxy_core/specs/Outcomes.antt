@@ -25,6 +25,7 @@ use Rattle.hx_allow.specs.declared.verdicts.Verdict.TheVariants as verdict
 use Rattle.hx_store.specs.Stored.{Stored}
 use Rattle.hx_store.specs.Shelf.{find_entry, serials_of}
 use Rattle.hx_reuse.specs.Conditions.{keeps_conditions}
+use Rattle.hx_reuse.specs.FilledRanges.{request_forwarded}
 use Rattle.hx_reuse.specs.Rules.{decision_of}
 use Rattle.hx_reuse.specs.ErrorRules.{error_rule_on}
 use Rattle.hx_reuse.specs.declared.rule.ReuseRule.{ReuseRule}
@@ -56,6 +57,7 @@ use Rattle.proxy_core.specs.Moments.{moment_too_late_fault}
 use Rattle.proxy_core.specs.Leading.{is_forwarded, is_released}
 use Rattle.proxy_core.specs.Awaiting.{awaited_of, leader_of_request}
 use Rattle.proxy_core.specs.Revalidating.{sent_beside}
+use Rattle.proxy_core.specs.Scopes.{serials_purged}
 use Rattle.proxy_core.specs.Replies.{stored_text, passed_answer_text, refusal_reply_text, purge_reply_text, is_head}
 use Rattle.proxy_core.specs.Validating.{conditions_to_send, condition_about_serial, is_304_to_own_conditions}
 use Rattle.proxy_core.specs.Validating.{stored_response_validated, freshened_by_304, freshened_may_be_kept}
@@ -95,22 +97,22 @@ outcome_of_refusal now cause asked = Reply (record {
   purged = false;
 })
 
--- a purge: what is held for the target of its request goes
+-- a purge: what is held within the scope of its request goes
 abbrev pub outcome_of_purge : List Stored → ℕ → Asked → Outcome
 outcome_of_purge es now asked = Reply (record {
-  bytes = purge_reply_text (date_text_of now) (length (serials_of asked.target.key es)) asked.close;
+  bytes = purge_reply_text (date_text_of now) (length (serials_purged asked es)) asked.close;
   close = asked.close;
   stored = None;
   used = None;
-  removed = serials_of asked.target.key es;
+  removed = serials_purged asked es;
   purged = true;
 })
 
--- the bytes of a request that goes forward over a line; its own conditions may stay with the proxy
+-- the bytes of a request that goes forward over a line; its own conditions and its range may stay with the proxy
 abbrev pub forward_text : Table → Route → Asked → Option Condition → List ℕ
 forward_text table line asked condition =
-    request_text (forwarded_of (keeps_conditions (policy_of table.lines line) asked) asked table.name
-    (conditions_to_send condition))
+    request_text (forwarded_of (keeps_conditions (policy_of table.lines line) asked)
+    (request_forwarded (policy_of table.lines line) asked) table.name (conditions_to_send condition))
 
 -- the request takes no response but a stored one (RFC 9111, section 5.2.1.7)
 abbrev pub is_only_if_cached : Asked → Bool

@@ -2,7 +2,7 @@
 --
 -- outcome_of_pending_reply: the outcome that it is      entries_after_change: the held responses that it leaves
 -- state_after_reply: the core that it leaves     ReplyLeavesHeldAsStepDoes: it leaves what the step leaves
-use Rattle.std.specs.Prelude.{◌≡◌, ℕ, Bool, true, false, List, [], ◌∷◌, Option, Some, None}
+use Rattle.std.specs.Prelude.{◌≡◌, ℕ, Bool, true, false, List, [], ◌∷◌, Option, Some, None, option_map}
 use Rattle.std.specs.Option.{ForSome}
 use Rattle.hx_framing.specs.declared.messages.Response.{Response}
 use Rattle.hx_target.specs.declared.keys.Key.{Key}
@@ -19,6 +19,7 @@ use Rattle.proxy_core.specs.declared.replies.pending.AfterAnswer.TheVariants.{En
 use Rattle.proxy_core.specs.declared.replies.pending.Change.{Change}
 use Rattle.proxy_core.specs.declared.replies.pending.Change.TheVariants.{Keep, Use, Freshen, Remove, Store}
 use Rattle.proxy_core.specs.declared.replies.pending.PendingReply.{PendingReply}
+use Rattle.proxy_core.specs.Scopes.{target_alone}
 use Rattle.proxy_core.specs.State.{State, entries_without_serials, exchanges_after_end, next_serial_after}
 use Rattle.proxy_core.specs.State.{entries_after, bounds_of, cut_where_touched}
 use Rattle.proxy_core.specs.Storing.{stored_response_made}
@@ -68,7 +69,7 @@ state_after_reply s id p invalidated = record {
   table = s.table;
   limit = s.limit;
   entries = entries_after_change (bounds_of s.table s.limit) p.removed p.change s.entries;
-  exchanges = exchanges_after_end invalidated id s.exchanges;
+  exchanges = exchanges_after_end (option_map target_alone invalidated) id s.exchanges;
   next = next_serial_after s.next (serial_stored_by_change p.change);
 }
 

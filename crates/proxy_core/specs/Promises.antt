@@ -5,12 +5,11 @@
 -- invalidates_key: an item that invalidates what is held for a key
 -- TwiceForwardOneReply, NothingInvalidatedIsSent, NothingInvalidatedSinceTheStartIsSent: the promises
 use Rattle.std.specs.Prelude.{◌≡◌, ℕ, ◌+◌, ◌≤◌, ◌==◌, ◌&&◌, ◌||◌, Bool, true, false, List, [], ◌∷◌, ◌++◌}
-use Rattle.std.specs.Prelude.{Option, Some, None, is_none, cond}
+use Rattle.std.specs.Prelude.{Option, Some, None, is_none, cond, option_map}
 use Rattle.hx_store.specs.Stored.{Stored}
 use Rattle.hx_store.specs.Shelf.{find_entry}
 use Rattle.hx_framing.specs.declared.messages.Response.{Response}
 use Rattle.hx_target.specs.declared.keys.Key.{Key}
-use Rattle.hx_target.specs.Keys.{same_key}
 use Rattle.hx_hop.specs.declared.request_view.Asked.{Asked}
 use Rattle.proxy_core.specs.declared.outcome.Outcome.{Outcome}
 use Rattle.proxy_core.specs.declared.outcome.Outcome.TheVariants.{Reply, Forward, Waits, Ended}
@@ -18,7 +17,8 @@ use Rattle.proxy_core.specs.declared.event.Event.{Event}
 use Rattle.proxy_core.specs.declared.event.Event.TheVariants.{Arrive, Answer, Fail, Wake, Abandon}
 use Rattle.proxy_core.specs.Storing.{status_invalidates}
 use Rattle.proxy_core.specs.Outcomes.{exchange_id_of_event}
-use Rattle.proxy_core.specs.State.{serial_stored_by_outcome, serial_used_by_outcome, key_purged}
+use Rattle.proxy_core.specs.Scopes.{Scope, is_in_scope, target_alone}
+use Rattle.proxy_core.specs.State.{serial_stored_by_outcome, serial_used_by_outcome, scope_purged}
 use Rattle.proxy_core.specs.Traces.{Item}
 
 abbrev pub outcome_goes_forward : Outcome → Bool
@@ -96,24 +96,25 @@ reply_uses_no_stored_response Ended = false
 abbrev pub key_invalidated_by_answer : Asked → Response → Option Key
 key_invalidated_by_answer asked r = cond (status_invalidates asked r.status) (Some asked.target.key) None
 
--- The key that an event with its outcome invalidates: where it is an answer, of an exchange with this request.
--- own: so does a request that purges ("A purge has a key")
-abbrev pub key_invalidated_by_event : Option Asked → Event → Outcome → Option Key
-key_invalidated_by_event (Some asked) (Answer now id r) outcome = key_invalidated_by_answer asked r
-key_invalidated_by_event None (Answer now id r) outcome = None
-key_invalidated_by_event asked (Arrive now id other) outcome = key_purged other outcome
-key_invalidated_by_event asked (Fail now id kind) outcome = None
-key_invalidated_by_event asked (Wake now id) outcome = None
-key_invalidated_by_event asked (Abandon id) outcome = None
+-- What an event with its outcome invalidates: where it is an answer, the target of an exchange with this request.
+-- own: a request that purges invalidates what is within its scope ("A purge has a key")
+abbrev pub scope_invalidated_by_event : Option Asked → Event → Outcome → Option Scope
+scope_invalidated_by_event (Some asked) (Answer now id r) outcome =
+    option_map target_alone (key_invalidated_by_answer asked r)
+scope_invalidated_by_event None (Answer now id r) outcome = None
+scope_invalidated_by_event asked (Arrive now id other) outcome = scope_purged other outcome
+scope_invalidated_by_event asked (Fail now id kind) outcome = None
+scope_invalidated_by_event asked (Wake now id) outcome = None
+scope_invalidated_by_event asked (Abandon id) outcome = None
 
-abbrev pub is_invalidated_key : Option Key → Key → Bool
+abbrev pub is_invalidated_key : Option Scope → Key → Bool
 is_invalidated_key None key = false
-is_invalidated_key (Some gone) key = same_key key gone
+is_invalidated_key (Some scope) key = is_in_scope scope key
 
 -- this item, after this past, invalidates the key
 abbrev pub invalidates_key : Key → Item → List Item → Bool
 invalidates_key key i past = is_invalidated_key
-    (key_invalidated_by_event (latest_request_of (exchange_id_of_event i.event) past) i.event i.outcome) key
+    (scope_invalidated_by_event (latest_request_of (exchange_id_of_event i.event) past) i.event i.outcome) key
 
 -- none of these items, after this past, invalidates the key
 abbrev pub NoItemInvalidates : Key → List Item → List Item → Type 0

@@ -1,9 +1,10 @@
 -- The bytes of each answer (RFC 9110, section 6; RFC 9111, section 5.1; RFC 9211).
 --
 -- stored_text: a stored response, whole, in part or as a 304
--- passed_answer_text: an answer of the origin, whole or as a 304
+-- passed_answer_text: an answer of the origin, whole, in part or as a 304
 -- refusal_reply_text: the proxy's own
-use Rattle.std.specs.Prelude.{ℕ, ℤ, ◌==◌, ◌&&◌, ◌||◌, List, [], ◌∷◌, ◌++◌, length, codes, bytes_eq, decimal, Bool, true}
+use Rattle.std.specs.Prelude.{ℕ, ℤ, ◌+◌, ◌==◌, ◌&&◌, ◌||◌, List, [], ◌∷◌, ◌++◌, length, slice_range, codes, bytes_eq}
+use Rattle.std.specs.Prelude.{decimal, Bool, true}
 use Rattle.std.specs.Prelude.{false, Option}
 use Rattle.std.specs.Prelude.{Some, None, cond}
 use Rattle.std.specs.Fmt.{decimal}
@@ -18,7 +19,11 @@ use Rattle.hx_allow.specs.declared.verdicts.Route.{Route}
 use Rattle.hx_store.specs.Stored.{Stored}
 use Rattle.hx_reuse.specs.Conditions.{keeps_conditions}
 use Rattle.hx_reuse.specs.Lifetimes.{lifetime_under}
-use Rattle.hx_validate.specs.Ranges.{response_in_range}
+use Rattle.hx_reuse.specs.FilledRanges.{fills_range}
+use Rattle.hx_validate.specs.Ranges.{fields_of_416_to_answer, fields_of_part, range_answer_of, response_in_range}
+use Rattle.hx_validate.specs.Room.{head_leaves_room}
+use Rattle.hx_validate.specs.declared.ranges.RangeAnswer.{RangeAnswer}
+use Rattle.hx_validate.specs.declared.ranges.RangeAnswer.TheVariants.{Whole, Part, Unsatisfiable}
 use Rattle.hx_validate.specs.NotModified.{gets_304, fields_of_304, answer_gets_304, fields_of_304_to_answer}
 use Rattle.hx_storable.specs.declared.rule.StoreRule.{StoreRule}
 use Rattle.hx_status.specs.Member.{member_text}
@@ -152,26 +157,71 @@ abbrev pub client_has_answer : Policy → Exchange → Response → ℕ → Bool
 client_has_answer policy x r now =
     keeps_conditions policy x.asked && answer_gets_304 x.asked r.status (answered_of r now).fields
 
--- so a 304 is sent in its place (RFC 9110, section 15.4.5), which tells the status that came (RFC 9211, section 2.3)
-abbrev pub cache_status_of_304_to_answer : Policy → Exchange → ℕ → List Field → ℕ → Bool → Option StoreRule → Status
-cache_status_of_304_to_answer policy x status fields now stored rule =
+-- what is sent in its place tells the status that came (RFC 9211, section 2.3)
+abbrev pub cache_status_in_place_of_answer : Policy → Exchange → ℕ → List Field → ℕ → Bool → Option StoreRule → Status
+cache_status_in_place_of_answer policy x status fields now stored rule =
     record (cache_status_of_passed_answer policy x status fields now stored rule) { fwd_status = Some status }
 
+-- behind these lines of its own
+abbrev pub fields_in_place_of_answer : Policy → List ℕ → Exchange → ℕ → List Field → ℕ → Bool → Option StoreRule
+    → List Field → List Field
+fields_in_place_of_answer policy name x status fields now stored rule own =
+    own ++ line (codes "Cache-Status")
+    (member_text name (cache_status_in_place_of_answer policy x status fields now stored rule)) ∷ []
+
+-- so a 304 is sent (RFC 9110, section 15.4.5)
 abbrev pub fields_of_304_sent : Policy → List ℕ → Exchange → ℕ → List Field → ℕ → Bool → Option StoreRule → List Field
 fields_of_304_sent policy name x status fields now stored rule =
-    fields_of_304_to_answer fields ++ line (codes "Cache-Status")
-    (member_text name (cache_status_of_304_to_answer policy x status fields now stored rule)) ∷ []
+    fields_in_place_of_answer policy name x status fields now stored rule (fields_of_304_to_answer fields)
 
 abbrev pub not_modified_answer_text : Policy → List ℕ → Exchange → Response → ℕ → Bool → Option StoreRule → List ℕ
 not_modified_answer_text policy name x r now stored rule =
     response_text 304 (fields_of_304_sent policy name x r.status (answered_of r now).fields now stored rule) None
     x.asked.close []
 
--- an answer of the origin is passed on, whole or as a 304; the policy is that of its exchange's line
+-- What of an answer is sent to a request whose range stayed with the proxy: the part that it asks for of this answer,
+-- which If-Range has to name, or that none of its bytes is there (RFC 9110, sections 13.1.5 and 14.2). Each other
+-- request is sent the whole.
+abbrev pub range_of_answer : Policy → Exchange → Response → ℕ → RangeAnswer
+range_of_answer policy x r now =
+    cond (fills_range policy x.asked)
+    (range_answer_of x.asked r.status (times_of (answered_of r now).fields x.request_time now).date
+    (answered_of r now).fields (length r.content)) Whole
+
+-- the lines of that part, and of the 416 where there is none (RFC 9110, sections 15.3.7 and 15.5.17)
+abbrev pub fields_of_answer_part : Response → ℕ → ℕ → ℕ → List Field
+fields_of_answer_part r now first last = fields_of_part (answered_of r now).fields first last (length r.content)
+
+abbrev pub fields_of_answer_416 : Response → ℕ → List Field
+fields_of_answer_416 r now = fields_of_416_to_answer (answered_of r now).fields (length r.content)
+
+-- a response of a status, of lines of its own and of a content is sent in place of the answer
+abbrev pub text_in_place_of_answer : Policy → List ℕ → Exchange → Response → ℕ → Bool → Option StoreRule → ℕ
+    → List Field → List ℕ → List ℕ
+text_in_place_of_answer policy name x r now stored rule status own content =
+    response_text status
+    (fields_in_place_of_answer policy name x r.status (answered_of r now).fields now stored rule own)
+    (Some (length content)) x.asked.close (content_unless_head (is_head x.asked) content)
+
+-- own: where the head leaves no room for the line that tells the part the whole is sent, as out of the store
+abbrev pub answer_in_range_text : Policy → List ℕ → Exchange → Response → ℕ → Bool → Option StoreRule → RangeAnswer
+    → List ℕ
+answer_in_range_text policy name x r now stored rule Whole = whole_answer_text policy name x r now stored rule
+answer_in_range_text policy name x r now stored rule (Part first last) =
+    cond (head_leaves_room (fields_of_answer_part r now first last))
+    (text_in_place_of_answer policy name x r now stored rule 206 (fields_of_answer_part r now first last)
+    (slice_range r.content first (last + 1))) (whole_answer_text policy name x r now stored rule)
+answer_in_range_text policy name x r now stored rule Unsatisfiable =
+    cond (head_leaves_room (fields_of_answer_416 r now))
+    (text_in_place_of_answer policy name x r now stored rule 416 (fields_of_answer_416 r now) [])
+    (whole_answer_text policy name x r now stored rule)
+
+-- An answer of the origin is passed on: the client's own condition comes first, where it stayed with the proxy, then
+-- its range (RFC 9110, section 13.2.2). The policy is that of its exchange's line.
 abbrev pub passed_answer_text : Policy → List ℕ → Exchange → Response → ℕ → Bool → Option StoreRule → List ℕ
 passed_answer_text policy name x r now stored rule =
     cond (client_has_answer policy x r now) (not_modified_answer_text policy name x r now stored rule)
-    (whole_answer_text policy name x r now stored rule)
+    (answer_in_range_text policy name x r now stored rule (range_of_answer policy x r now))
 
 abbrev pub fields_of_refusal : List ℕ → List ℕ → List Field
 fields_of_refusal date text = line (codes "Date") date ∷ line (codes "Content-Type") (codes "text/plain") ∷ line

@@ -185,7 +185,7 @@ RequestIsTurnedAway table now asked outcome =
     ⊎ ((line : ℕ) × (verdict_of_asked table asked ≡ verdict.Looped line)
     × (outcome ≡ outcome_of_refusal now (Looped line) asked)))
 
--- one that purges: what is held for its target goes, and it is told how many
+-- one that purges: what is held within its scope goes, and it is told how many
 abbrev pub RequestPurges : List Stored → ℕ → Asked → Outcome → Type 0
 RequestPurges held now asked outcome = outcome ≡ outcome_of_purge held now asked
 
@@ -326,9 +326,9 @@ OtherRequestIsRefused = (table : Table) (start : StoreAtStart) (first now id : �
     ((line : Route) → verdict_of_asked table asked ≢ Allowed line) → request_purges table asked ≡ false
     → RequestIsTurnedAway table now asked item.outcome
 
--- One that purges takes away what is held for its target.
-abbrev pub PurgeTakesItsTargetAway : Type 0
-PurgeTakesItsTargetAway = (table : Table) (start : StoreAtStart) (first now id : ℕ) (asked : Asked) (item : Item)
+-- One that purges takes away what is held within its scope.
+abbrev pub PurgeTakesItsScopeAway : Type 0
+PurgeTakesItsScopeAway = (table : Table) (start : StoreAtStart) (first now id : ℕ) (asked : Asked) (item : Item)
     (past : List Item) →
     IsGoodHistory table start first (item ∷ past) → item.event ≡ Arrive now id asked →
     request_purges table asked ≡ true → RequestPurges (held_entries table start past) now asked item.outcome

@@ -7,8 +7,6 @@
 -- StepIsAccepted: a step that was done             StepIsRefusedWith: one that wasn't
 use Rattle.std.specs.Prelude.{◌≡◌, ◌⊎◌, ℕ, ◌+◌, ◌^◌, ◌≤◌, ◌==◌, nat_lt, not, Bool, true, false, List, [], ◌∷◌, ◌++◌}
 use Rattle.std.specs.Prelude.{filter, map, Option, Some, None, option_map, cond}
-use Rattle.hx_target.specs.declared.keys.Key.{Key}
-use Rattle.hx_target.specs.Keys.{same_key}
 use Rattle.hx_framing.specs.declared.messages.Response.{Response}
 use Rattle.hx_hop.specs.declared.request_view.Asked.{Asked}
 use Rattle.hx_allow.specs.TableLines.{Table}
@@ -37,6 +35,7 @@ use Rattle.proxy_core.specs.declared.core_fault.CoreFault.TheVariants.{OutOfMemo
 use Rattle.proxy_core.specs.Leading.{waits_for, has_no_store}
 use Rattle.proxy_core.specs.Outcomes.{find_exchange, exchange_id_of_event, outcome_of_event, step_fault}
 use Rattle.proxy_core.specs.Storing.{stored_response_made, key_invalidated}
+use Rattle.proxy_core.specs.Scopes.{Scope, is_in_scope, target_alone, scope_of_purge}
 use Rattle.proxy_core.specs.Validating.{condition_about_serial, stored_response_is_answered, freshened_by_304}
 
 -- the operator's table, the most responses that are held, those held, the latest stored or used first, the open
@@ -133,31 +132,31 @@ released_exchange id x = cond (waits_for id x.stage) (record x { stage = Release
 abbrev pub exchanges_after_close : ℕ → List Exchange → List Exchange
 exchanges_after_close id xs = map (released_exchange id) (filter (λ x. not (x.id == id)) xs)
 
--- what an exchange of this key will be answered may be what an invalidation was to drop
+-- what an exchange within this scope will be answered may be what an invalidation was to drop
 -- own: so it isn't stored. RFC 9111, section 4.4 drops what is held, and says nothing of answers that
 -- are still on their way ("An overtaken answer is not stored")
-abbrev pub overtaken_exchange : Key → Exchange → Exchange
-overtaken_exchange key x = cond (same_key x.asked.target.key key) (record x { overtaken = true }) x
+abbrev pub overtaken_exchange : Scope → Exchange → Exchange
+overtaken_exchange scope x = cond (is_in_scope scope x.asked.target.key) (record x { overtaken = true }) x
 
 -- an exchange ends, by an answer that invalidates what is held for a key, or by one that doesn't
-abbrev pub exchanges_after_end : Option Key → ℕ → List Exchange → List Exchange
+abbrev pub exchanges_after_end : Option Scope → ℕ → List Exchange → List Exchange
 exchanges_after_end None id xs = exchanges_after_close id xs
-exchanges_after_end (Some key) id xs = map (overtaken_exchange key) (exchanges_after_close id xs)
+exchanges_after_end (Some scope) id xs = map (overtaken_exchange scope) (exchanges_after_close id xs)
 
--- the key of which a request that arrives purges what is held
-abbrev pub key_purged : Asked → Outcome → Option Key
-key_purged asked outcome = cond (outcome_purges outcome) (Some asked.target.key) None
+-- the scope within which a request that arrives purges what is held
+abbrev pub scope_purged : Asked → Outcome → Option Scope
+scope_purged asked outcome = cond (outcome_purges outcome) (Some (scope_of_purge asked)) None
 
 -- own: what was asked for before a purge may be what it was to drop, so it isn't stored, as behind an invalidation ("An
 -- overtaken answer is not stored")
-abbrev pub exchanges_after_purge : Option Key → List Exchange → List Exchange
+abbrev pub exchanges_after_purge : Option Scope → List Exchange → List Exchange
 exchanges_after_purge None xs = xs
-exchanges_after_purge (Some key) xs = map (overtaken_exchange key) xs
+exchanges_after_purge (Some scope) xs = map (overtaken_exchange scope) xs
 
--- the key that an answer to an exchange invalidates
-abbrev pub key_invalidated_by_response : Option Exchange → Response → Option Key
-key_invalidated_by_response None r = None
-key_invalidated_by_response (Some x) r = key_invalidated x r
+-- the target that an answer to an exchange invalidates
+abbrev pub scope_invalidated_by_response : Option Exchange → Response → Option Scope
+scope_invalidated_by_response None r = None
+scope_invalidated_by_response (Some x) r = option_map target_alone (key_invalidated x r)
 
 -- the rule that is kept of a decision
 abbrev pub rule_of_decision : Decision → ReuseRule
@@ -242,15 +241,16 @@ open_exchanges_after table es xs (Arrive now id asked)
 open_exchanges_after table es xs (Arrive now id asked) (Waits leader) =
     xs ++ waiting_exchange table es now id asked
     (line_of_verdict (verdict_of_asked table asked)) leader ∷ []
-open_exchanges_after table es xs (Arrive now id asked) (Reply r) = exchanges_after_purge (key_purged asked (Reply r)) xs
+open_exchanges_after table es xs (Arrive now id asked) (Reply r) =
+    exchanges_after_purge (scope_purged asked (Reply r)) xs
 open_exchanges_after table es xs (Arrive now id asked) Ended = xs
 open_exchanges_after table es xs (Answer now id r) (Forward line bytes) = map (exchange_forwarded_again id now) xs
 open_exchanges_after table es xs (Answer now id r) (Reply reply) = exchanges_after_end
-    (key_invalidated_by_response (find_exchange id xs) r) id xs
+    (scope_invalidated_by_response (find_exchange id xs) r) id xs
 open_exchanges_after table es xs (Answer now id r) (Waits leader) = exchanges_after_end
-    (key_invalidated_by_response (find_exchange id xs) r) id xs
+    (scope_invalidated_by_response (find_exchange id xs) r) id xs
 open_exchanges_after table es xs (Answer now id r) Ended = exchanges_after_end
-    (key_invalidated_by_response (find_exchange id xs) r) id xs
+    (scope_invalidated_by_response (find_exchange id xs) r) id xs
 open_exchanges_after table es xs (Fail now id kind) outcome = exchanges_after_close id xs
 open_exchanges_after table es xs (Wake now id) (Forward line bytes) = exchanges_after_wake table es id now
     (find_exchange id xs) xs

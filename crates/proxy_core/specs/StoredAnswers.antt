@@ -44,6 +44,7 @@ use Rattle.proxy_core.specs.Validating.{stored_response_validated, freshened_by_
 use Rattle.proxy_core.specs.Validating.{head_of_stored}
 use Rattle.proxy_core.specs.Outcomes.{find_exchange, exchange_id_of_event}
 use Rattle.proxy_core.specs.State.{serial_stored_by_outcome, serial_used_by_outcome, serials_removed_by_outcome}
+use Rattle.proxy_core.specs.Scopes.{serials_purged}
 use Rattle.proxy_core.specs.State.{outcome_purges}
 use Rattle.proxy_core.specs.Allowing.{request_purges}
 use Rattle.proxy_core.specs.Starts.{StoreAtStart}
@@ -170,13 +171,13 @@ RemovedByAnswer table held x now r (Some stored) gone = gone ≡ replaced_by hel
 RemovedByAnswer table held x now r None gone = RemovedByStatus table held x now r
     (key_invalidated_by_answer x.asked r) gone
 
--- a request that purges takes away all that is held for its target; no other event takes anything away
+-- a request that purges takes away all that is held within its scope; no other event takes anything away
 abbrev pub ThoseAreRemoved : Table → List Stored → Option Exchange → Event → Outcome → Type 0
 ThoseAreRemoved table held (Some x) (Answer now id r) outcome = RemovedByAnswer table held x now r
     (serial_stored_by_outcome outcome) (serials_removed_by_outcome outcome)
 ThoseAreRemoved table held None (Answer now id r) outcome = serials_removed_by_outcome outcome ≡ []
 ThoseAreRemoved table held x (Arrive now id asked) outcome = serials_removed_by_outcome outcome
-    ≡ cond (request_purges table asked) (serials_of asked.target.key held) []
+    ≡ cond (request_purges table asked) (serials_purged asked held) []
 ThoseAreRemoved table held x (Fail now id kind) outcome = serials_removed_by_outcome outcome ≡ []
 ThoseAreRemoved table held x (Wake now id) outcome = serials_removed_by_outcome outcome ≡ []
 ThoseAreRemoved table held x (Abandon id) outcome = serials_removed_by_outcome outcome ≡ []

@@ -21,6 +21,7 @@ use Rattle.hx_allow.specs.declared.verdicts.Route.{Route}
 use Rattle.hx_store.specs.Serials.{serial_is_in}
 use Rattle.hx_store.specs.Stored.{Stored}
 use Rattle.hx_reuse.specs.ChosenAndNamed.{IsLeastReuseRule, RuleNamesTheResponse}
+use Rattle.hx_reuse.specs.FilledRanges.{forwards_range}
 use Rattle.hx_reuse.specs.declared.rule.ReuseRule.{ReuseRule}
 use Rattle.hx_reuse.specs.declared.rule.ReuseRule.TheVariants.{UriMiss}
 use Rattle.proxy_core.specs.declared.open.stage.Stage.{Stage}
@@ -132,7 +133,7 @@ OnlyOneGoesForwardForKey = (table : Table) (start : StoreAtStart) (first : ℕ) 
     → RequestAwaits (policy_of table.lines line) (held_entries table start (between ++ earlier ∷ before)) asked now
     awaited
     → (went : RequestGoesOutBy table start rule named earlier before)
-    → is_get went.asked ≡ true → asks_for_range went.asked ≡ false
+    → is_get went.asked ≡ true → forwards_range (policy_of table.lines line) went.asked ≡ false
     → same_key went.asked.target.key asked.target.key ≡ true
     → went_for awaited rule named ≡ true
     → AnswerMayServe (policy_of table.lines line) asked
@@ -140,7 +141,8 @@ OnlyOneGoesForwardForKey = (table : Table) (start : StoreAtStart) (first : ℕ) 
     exchange_has_closed (exchange_id_of_event earlier.event) between ≡ true
 
 -- A line without the word lets a GET wait where nothing is held for its key, and nowhere else; and
--- for any that went for that, but for a range. Where the line forwards ranges none went for that with one.
+-- for any that went for that, but for a range that goes to the origin. Where the line forwards ranges none went for
+-- that with one.
 abbrev pub PlainLinesWaitForMisses : Type 0
 PlainLinesWaitForMisses = (policy : Policy) (held : List Stored) (asked : Asked) (now : ℕ) (awaited : Awaited)
     (x : Exchange) → policy.waits_for_stale ≡ false →
@@ -150,7 +152,7 @@ PlainLinesWaitForMisses = (policy : Policy) (held : List Stored) (asked : Asked)
     → RequestAwaits policy held asked now Missing)
     × (leads_waiters policy Missing asked x
     ≡ (same_key x.asked.target.key asked.target.key
-    && (is_get x.asked && (is_forwarded x.stage && (is_uri_miss x.rule && not (asks_for_range x.asked))))))
+    && (is_get x.asked && (is_forwarded x.stage && (is_uri_miss x.rule && not (forwards_range policy x.asked))))))
     × (policy.forwards_ranges ≡ true → IsLeastReuseRule policy held asked now UriMiss → asks_for_range asked ≡ false)
 
 -- ---- until when

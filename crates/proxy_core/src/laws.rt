@@ -12,7 +12,11 @@ ghost use Rattle.proxy_core.specs.Bounds.{StoredIsHeld, StoredWeighsNoMoreThanTh
 ghost use Rattle.proxy_core.specs.Carrying.{OpenExchangeCarriesItsArrival, ExchangesAreOpenInOrderOfArrival};
 ghost use Rattle.proxy_core.specs.Driving.{PromisesOfADrivenCore};
 ghost use Rattle.proxy_core.specs.Headline.{EveryGoodTraceHasTheHeadline, NoOtherTraceHasTheHeadline};
-ghost use Rattle.proxy_core.specs.KeptConditions.{FalseConditionIsAnswered304, OtherConditionIsAnsweredWhole};
+ghost use Rattle.proxy_core.specs.FilledRanges.{RangeGoesForwardAsTheWhole, NoRangeGoesForward};
+ghost use Rattle.proxy_core.specs.FilledRanges.{FilledRangeLeadsAsTheWhole, AnswerIsCutAsWhatIsHeld, PartOfAnswerIsCut};
+ghost use Rattle.proxy_core.specs.FilledRanges.{UnsatisfiableAnswerIsTold, OnlyA200IsCut, AnotherIfRangeGetsTheWhole};
+ghost use Rattle.proxy_core.specs.FilledRanges.{AnswerIsSentWholeUnlessFilled, TheWholeIsStored};
+ghost use Rattle.proxy_core.specs.KeptConditions.{FalseConditionIsAnswered304, OtherConditionIsAnswered};
 ghost use Rattle.proxy_core.specs.KeptConditions.{NoClientsConditionGoesForward, LeadsAsOneWithoutConditions};
 ghost use Rattle.proxy_core.specs.KeptConditions.{EachUnasked304IsAFailure};
 ghost use Rattle.proxy_core.specs.Naming.{EachOtherAnswerNamesTheFirstRule};
@@ -23,7 +27,7 @@ ghost use Rattle.proxy_core.specs.Sending.{StoredResponseIsSentWhereItMayBe, Sto
 ghost use Rattle.proxy_core.specs.Sending.{SendsWhatIsHeld};
 ghost use Rattle.proxy_core.specs.Sending.{RequestIsForwardedWhereAllowed, RequestIsForwardedNowhereElse};
 ghost use Rattle.proxy_core.specs.Sending.{AllowedRequestReachesCacheOrOrigin};
-ghost use Rattle.proxy_core.specs.Sending.{OtherRequestIsRefused, PurgeTakesItsTargetAway};
+ghost use Rattle.proxy_core.specs.Sending.{OtherRequestIsRefused, PurgeTakesItsScopeAway};
 ghost use Rattle.proxy_core.specs.Waiting.{RequestWaitsWhereOneLeads, RequestWaitsNowhereElse};
 ghost use Rattle.proxy_core.specs.Waiting.{OnlyOneGoesForwardForKey};
 ghost use Rattle.proxy_core.specs.Waiting.{RequestWaitsUntilItsLeaderEnds, RequestIsWokenOnceBehindItsLeader};
@@ -43,6 +47,8 @@ mod cookie_cases;
 mod event_cases;
 mod headline_cases;
 mod promise_cases;
+mod purge_cases;
+mod range_cases;
 mod worked_cases;
 
 pub use bound_cases::{
@@ -62,6 +68,8 @@ pub use promise_cases::{
     no_run_stops_without_a_fault, sending_what_is_invalidated_is_refused,
     what_goes_forward_is_the_request,
 };
+pub use purge_cases::{a_purge_takes_what_is_within_its_scope, what_a_purge_takes};
+pub use range_cases::{worked_parts_of_answers, worked_ranges_that_lead};
 pub use worked_cases::{
     faults_and_serials_in_order, statuses_of_errors, what_a_304_leaves, what_a_step_leaves_open,
     what_a_step_leaves_stored, what_an_answer_gives, what_an_arrival_gives, what_invalidates,
@@ -131,11 +139,11 @@ pub fn a_request_goes_forward_where_it_is_allowed()
 {}
 
 /// In a good trace a request reaches cache or origin exactly where the table allows it, and the cache alone where it
-/// purges: then what is held for its target goes. Any other is refused.
+/// purges: then what is held within its scope goes. Any other is refused.
 pub fn a_request_reaches_cache_or_origin_where_it_is_allowed()
     ensures allowed { AllowedRequestReachesCacheOrOrigin }
     ensures refused { OtherRequestIsRefused }
-    ensures purged { PurgeTakesItsTargetAway }
+    ensures purged { PurgeTakesItsScopeAway }
 {}
 
 /// In a good trace a stored response is sent exactly where one is held that RFC 9111, section 4
@@ -253,10 +261,31 @@ pub fn a_restart_is_no_event()
 /// conditions, and a 304 that comes to it unasked is a failure of its origin.
 pub fn a_kept_condition_is_judged_on_the_answer()
     ensures is_false { FalseConditionIsAnswered304 }
-    ensures other { OtherConditionIsAnsweredWhole }
+    ensures other { OtherConditionIsAnswered }
     ensures forward { NoClientsConditionGoesForward }
     ensures leads { LeadsAsOneWithoutConditions }
     ensures unasked { EachUnasked304IsAFailure }
+{}
+
+/// Over a line that fills ranges what goes to the origin for a range is, to the byte, what would go there for the
+/// whole, without Range and If-Range, and its answer may serve others as that to the whole.
+pub fn a_filled_range_goes_forward_as_the_whole()
+    ensures whole { RangeGoesForwardAsTheWhole }
+    ensures no_range { NoRangeGoesForward }
+    ensures leads { FilledRangeLeadsAsTheWhole }
+{}
+
+/// Of an answer to such a request its client is sent what it would be sent of a held response that is like the answer:
+/// the part that it asks for, or a 416; the whole where the answer isn't a 200, or where If-Range names another one.
+/// What is stored is the whole. To any other request an answer is passed on as it came.
+pub fn a_filled_range_is_cut_from_the_answer()
+    ensures as_held { AnswerIsCutAsWhatIsHeld }
+    ensures part { PartOfAnswerIsCut }
+    ensures unsatisfiable { UnsatisfiableAnswerIsTold }
+    ensures status { OnlyA200IsCut }
+    ensures if_range { AnotherIfRangeGetsTheWhole }
+    ensures others { AnswerIsSentWholeUnlessFilled }
+    ensures stored { TheWholeIsStored }
 {}
 
 /// Whoever drives a core by its public calls has gone through a good trace, with all that each good trace keeps.

@@ -18,7 +18,7 @@ pub struct Reply {
     pub used: Option<u64>,
     /// The serials that were taken out, ascending. An evicted one isn't among them.
     pub removed: Serials,
-    /// Whether the request purged what was held for its target.
+    /// Whether the request purged what was held within its scope.
     pub purged: bool,
 }
 

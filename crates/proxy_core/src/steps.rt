@@ -7,6 +7,7 @@ pub(crate) mod failing;
 pub(crate) mod fallback;
 pub(crate) mod finishing;
 pub(crate) mod judging;
+pub(crate) mod purging;
 pub(crate) mod sending;
 pub(crate) mod storing;
 pub(crate) mod validating;

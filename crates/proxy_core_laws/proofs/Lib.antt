@@ -9,6 +9,7 @@ pub mod HeldReplies
 pub mod ReadTables
 pub mod HeldValues
 pub mod OpenRequests
+pub mod FilledRequests
 pub mod SentMessages
 pub mod ReadHeads
 pub mod HeldHeads

@@ -1,6 +1,7 @@
 -- What is passed on and what the proxy answers by itself is one response.
-use Rattle.std.proofs.Common.{◌≡◌, ℕ, ◌<◌, ◌≤◌, ◌^◌, ◌||◌, ◌==◌, Bool, true, false, not, cond, List, [], ◌∷◌, ◌++◌, length, refl, arith}
-use Rattle.std.specs.Prelude.{IfSome, None, Option, Some, codes, decimal, filter}
+use Rattle.std.proofs.Common.{◌≡◌, ℕ, ◌+◌, ◌<◌, ◌≤◌, ◌^◌, ◌||◌, ◌==◌, Bool, true, false, not, cond, List, [], ◌∷◌, ◌++◌, length, refl, sym, ap, ◌∙◌, subst, arith, All}
+use Rattle.std.specs.Prelude.{IfSome, None, Option, Some, codes, decimal, filter, slice_range}
+use Rattle.std.proofs.lemmas.Bool.{false≢true}
 use Rattle.std.specs.List.{list_all}
 use Rattle.std.proofs.lemmas.List.Elements.{All-nil, All-cons, All-append, All-filter}
 use Rattle.std.proofs.lemmas.List.Folds.{list_any-append}
@@ -9,12 +10,12 @@ use Rattle.hx_framing.specs.declared.frame_fault.FrameFault.{FrameFault}
 use Rattle.hx_framing.specs.declared.frame_fault.FrameFault.TheVariants as frame
 use Rattle.hx_fields.specs.declared.limits.TheConstants.{END_OF_TIME}
 use Rattle.hx_fields.specs.declared.field_line.Field.{Field}
-use Rattle.hx_fields.specs.FieldLines.{has_field, is_named}
+use Rattle.hx_fields.specs.FieldLines.{has_field, is_named, without_named}
 use Rattle.hx_framing.specs.declared.messages.Response.{Response}
 use Rattle.hx_framing.specs.Lengths.{is_interim, response_has_no_content}
 use Rattle.hx_framing.specs.Reading.{Spelled}
 use Rattle.hx_framing.specs.ResponseReading.{Reads}
-use Rattle.hx_framing.specs.WrittenResponse.{response_as_read_back, sent_response_text}
+use Rattle.hx_framing.specs.WrittenResponse.{SentResponse, response_as_read_back, sent_response_text}
 use Rattle.hx_framing.specs.Written.{FieldIsWritable}
 use Rattle.hx_framing.proofs.WrittenResponses.{response_is_read_back}
 use Rattle.hx_target.specs.declared.target_fault.TargetFault.{TargetFault}
@@ -38,10 +39,16 @@ use Rattle.hx_policy.specs.declared.words.Policy.{Policy}
 use Rattle.hx_storable.specs.declared.rule.StoreRule.{StoreRule}
 use Rattle.hx_validate.specs.NotModified.{is_carried_to_asker}
 use Rattle.proxy_core.specs.declared.open.exchange.Exchange.{Exchange}
-use Rattle.proxy_core.specs.Replies.{content_unless_head, is_head, line, cache_status_of_passed_answer, cache_status_of_304_to_answer, client_has_answer, not_modified_answer_text, whole_answer_text}
-use Rattle.proxy_core_laws.specs.OneResponse.{PassedAnswerIsOneResponse, ProxysAnswerIsOneResponse, PurgeAnswerIsOneResponse, not_modified_answer_sent, proxys_answer_sent, purge_answer_sent, whole_answer_sent}
+use Rattle.proxy_core.specs.Replies.{content_unless_head, is_head, line, cache_status_of_passed_answer, cache_status_in_place_of_answer, client_has_answer, not_modified_answer_text, whole_answer_text, answer_in_range_text, fields_of_answer_416, fields_of_answer_part, range_of_answer, text_in_place_of_answer}
+use Rattle.hx_validate.specs.Ranges.{is_carried_by_416_to_asker, part_text, unsatisfied_text}
+use Rattle.hx_validate.specs.Room.{head_leaves_room}
+use Rattle.hx_validate.specs.declared.ranges.RangeAnswer.{RangeAnswer}
+use Rattle.hx_validate.specs.declared.ranges.RangeAnswer.TheVariants.{Whole, Part, Unsatisfiable}
+use Rattle.proxy_core.proofs.FilledRanges.{to_get}
+use Rattle.proxy_core_laws.proofs.RangeForms.{line_fits, without as none_beside}
+use Rattle.proxy_core_laws.specs.OneResponse.{answer_in_range_sent, in_place_of_answer_sent, PassedAnswerIsOneResponse, ProxysAnswerIsOneResponse, PurgeAnswerIsOneResponse, not_modified_answer_sent, proxys_answer_sent, purge_answer_sent, whole_answer_sent}
 use Rattle.proxy_core_laws.proofs.StoredReplies.{widened}
-use Rattle.proxy_core_laws.proofs.ReplyValues.{decimal_value, member_value, plain_value, text_value}
+use Rattle.proxy_core_laws.proofs.ReplyValues.{decimal_value, member_value, part_value, plain_value, text_value, unsatisfied_value}
 
 shown_name : list_all is_token_byte (codes "Cache-Status") ≡ true
 unfolding is_token_byte
@@ -126,8 +133,8 @@ module _ (max_body most now : ℕ) (to_head ended stored : Bool) (bytes rest nam
       (Spelled (response_as_read_back (is_head x.asked) (not_modified_answer_sent policy name x r now stored rule)) behind)
   not_modified_response reads early token limits over behind =
       let is = clean max_body to_head ended bytes r rest reads in
-      let shown : List ℕ = member_text name (cache_status_of_304_to_answer policy x r.status (answered_of r now).fields now stored rule) in
-      let value : IsFieldValue shown = member_value name (cache_status_of_304_to_answer policy x r.status (answered_of r now).fields now stored rule) token in
+      let shown : List ℕ = member_text name (cache_status_in_place_of_answer policy x r.status (answered_of r now).fields now stored rule) in
+      let value : IsFieldValue shown = member_value name (cache_status_in_place_of_answer policy x r.status (answered_of r now).fields now stored rule) token in
       let stripped_fit = All-filter (λ f. not (is_hop_line r.fields f)) FieldIsWritable r.fields is.fields in
       response_is_read_back (is_head x.asked) (not_modified_answer_sent policy name x r now stored rule) most over behind (record {
         status = (omega arith, omega arith);
@@ -159,15 +166,100 @@ module _ (max_body most now : ℕ) (to_head ended stored : Bool) (bytes rest nam
       never true some = cc
       never false some = cc
 
+-- a part of it, or that there is none
+module _ (max_body most now : ℕ) (to_head ended stored : Bool) (bytes rest name : List ℕ) (policy : Policy) (rule : Option StoreRule) (x : Exchange) (r : Response) (reads : Reads max_body to_head ended bytes (Spelled r rest)) (early : now < END_OF_TIME) (token : IsToken name) (small : most < 2 ^ 64) (over : Bool) (behind : List ℕ) where
+  abbrev is_read_back : SentResponse → List ℕ → Type 0
+  is_read_back sent text = ResponseFitsAReader most sent → Reads most (is_head x.asked) over (text ++ behind) (Spelled (response_as_read_back (is_head x.asked) sent) behind)
+
+  abbrev all_lines : List Field
+  all_lines = dated_of (stripped r.fields) now
+
+  all_fit : All FieldIsWritable all_lines
+  all_fit = let is = clean max_body to_head ended bytes r rest reads in dated_fit (stripped r.fields) now early (All-filter (λ f. not (is_hop_line r.fields f)) FieldIsWritable r.fields is.fields)
+
+  none_of_all : (field : List ℕ) → has_field r.fields field ≡ false → is_named field (line (codes "Date") (date_text_of now)) ≡ false → has_field all_lines field ≡ false
+  none_of_all field none date = dated_without (stripped r.fields) now field (stripped_without r.fields field none) date
+
+  -- in place of the answer to a request that is no HEAD
+  in_place : (status : ℕ) (own : List Field) (content : List ℕ) → is_head x.asked ≡ false → 200 ≤ status → status ≤ 599 → response_has_no_content false status ≡ false → All FieldIsWritable own
+      → has_field own (codes "content-length") ≡ false → has_field own (codes "transfer-encoding") ≡ false
+      → is_read_back (in_place_of_answer_sent policy name x r now stored rule status own content) (text_in_place_of_answer policy name x r now stored rule status own content)
+  in_place status own content get low high some fit no_length no_coding limits =
+      let shown : List ℕ = member_text name (cache_status_in_place_of_answer policy x r.status (answered_of r now).fields now stored rule) in
+      let value : IsFieldValue shown = member_value name (cache_status_in_place_of_answer policy x r.status (answered_of r now).fields now stored rule) token in
+      let within : length content ≤ most = subst (λ h. length (content_unless_head h content) ≤ most) get limits.content in
+      response_is_read_back (is_head x.asked) (in_place_of_answer_sent policy name x r now stored rule status own content) most over behind (record {
+        status = (low, high);
+        fields = All-append FieldIsWritable own (line (codes "Cache-Status") shown ∷ []) fit
+            (All-cons FieldIsWritable (line (codes "Cache-Status") shown) [] (line_of (codes "Cache-Status") shown shown_name (omega arith) value) (All-nil FieldIsWritable));
+        lengths = beside (codes "content-length") shown no_length refl;
+        codings = beside (codes "transfer-encoding") shown no_coding refl;
+        small = omega (arith, small, within);
+        without = λ none. absurd (false≢true (sym some ∙ subst (λ h. response_has_no_content h status ≡ true) get none));
+        behind = λ shows. ap (λ h. Some (length (content_unless_head h content))) (sym get);
+        few = limits.few;
+        short = limits.short;
+      }) limits.content
+    where
+      beside : (field shown : List ℕ) → has_field own field ≡ false → is_named field (line (codes "Cache-Status") shown) ≡ false → has_field (own ++ line (codes "Cache-Status") shown ∷ []) field ≡ false
+      beside field shown none status = rw (list_any-append (is_named field) own (line (codes "Cache-Status") shown ∷ []), none, status) refl
+
+  whole_one : is_read_back (whole_answer_sent policy name x r now stored rule) (whole_answer_text policy name x r now stored rule)
+  whole_one limits = whole_response max_body most now to_head ended stored bytes rest name policy rule x r reads early token small limits over behind
+
+  part_one : (first last : ℕ) → is_head x.asked ≡ false
+      → is_read_back (in_place_of_answer_sent policy name x r now stored rule 206 (fields_of_answer_part r now first last) (slice_range r.content first (last + 1)))
+      (text_in_place_of_answer policy name x r now stored rule 206 (fields_of_answer_part r now first last) (slice_range r.content first (last + 1)))
+  part_one first last get =
+      let is = clean max_body to_head ended bytes r rest reads in
+      let others : List Field = without_named all_lines (codes "Content-Range") in
+      let value : List ℕ = part_text first last (length r.content) in
+      in_place 206 (fields_of_answer_part r now first last) (slice_range r.content first (last + 1)) get (omega arith) (omega arith) refl
+      (line_fits others value (All-filter (λ f. not (is_named (codes "Content-Range") f)) FieldIsWritable all_lines all_fit) (part_value first last (length r.content)))
+      (none_beside others value (codes "content-length") (list_any_fewer (λ f. not (is_named (codes "Content-Range") f)) (is_named (codes "content-length")) all_lines (none_of_all (codes "content-length") is.lengths refl)) refl)
+      (none_beside others value (codes "transfer-encoding") (list_any_fewer (λ f. not (is_named (codes "Content-Range") f)) (is_named (codes "transfer-encoding")) all_lines (none_of_all (codes "transfer-encoding") is.codings refl)) refl)
+
+  none_one : is_head x.asked ≡ false
+      → is_read_back (in_place_of_answer_sent policy name x r now stored rule 416 (fields_of_answer_416 r now) []) (text_in_place_of_answer policy name x r now stored rule 416 (fields_of_answer_416 r now) [])
+  none_one get =
+      let is = clean max_body to_head ended bytes r rest reads in
+      let carried : List Field = filter is_carried_by_416_to_asker all_lines in
+      let value : List ℕ = unsatisfied_text (length r.content) in
+      in_place 416 (fields_of_answer_416 r now) [] get (omega arith) (omega arith) refl
+      (line_fits carried value (All-filter is_carried_by_416_to_asker FieldIsWritable all_lines all_fit) (unsatisfied_value (length r.content)))
+      (none_beside carried value (codes "content-length") (list_any_fewer is_carried_by_416_to_asker (is_named (codes "content-length")) all_lines (none_of_all (codes "content-length") is.lengths refl)) refl)
+      (none_beside carried value (codes "transfer-encoding") (list_any_fewer is_carried_by_416_to_asker (is_named (codes "transfer-encoding")) all_lines (none_of_all (codes "transfer-encoding") is.codings refl)) refl)
+
+  in_range_one : (answer : RangeAnswer) → range_of_answer policy x r now ≡ answer → is_read_back (answer_in_range_sent policy name x r now stored rule answer) (answer_in_range_text policy name x r now stored rule answer)
+  in_range_one Whole e = whole_one
+  in_range_one (Part first last) e = by_room (head_leaves_room (fields_of_answer_part r now first last))
+    where
+      no_whole : Whole ≡ Part first last → ⊥
+      no_whole h = cc
+
+      by_room : (t : Bool) → is_read_back (cond t (in_place_of_answer_sent policy name x r now stored rule 206 (fields_of_answer_part r now first last) (slice_range r.content first (last + 1))) (whole_answer_sent policy name x r now stored rule))
+          (cond t (text_in_place_of_answer policy name x r now stored rule 206 (fields_of_answer_part r now first last) (slice_range r.content first (last + 1))) (whole_answer_text policy name x r now stored rule))
+      by_room true = part_one first last (to_get policy x r now (Part first last) e no_whole)
+      by_room false = whole_one
+  in_range_one Unsatisfiable e = by_room (head_leaves_room (fields_of_answer_416 r now))
+    where
+      no_whole : Whole ≡ Unsatisfiable → ⊥
+      no_whole h = cc
+
+      by_room : (t : Bool) → is_read_back (cond t (in_place_of_answer_sent policy name x r now stored rule 416 (fields_of_answer_416 r now) []) (whole_answer_sent policy name x r now stored rule))
+          (cond t (text_in_place_of_answer policy name x r now stored rule 416 (fields_of_answer_416 r now) []) (whole_answer_text policy name x r now stored rule))
+      by_room true = none_one (to_get policy x r now Unsatisfiable e no_whole)
+      by_room false = whole_one
+
 pub passes_one_response : PassedAnswerIsOneResponse
 passes_one_response max_body most now to_head ended stored bytes rest name policy rule x r reads early token small limits over behind =
     by_test (client_has_answer policy x r now) limits
   where
-    by_test : (has : Bool) → ResponseFitsAReader most (cond has (not_modified_answer_sent policy name x r now stored rule) (whole_answer_sent policy name x r now stored rule))
-        → Reads most (is_head x.asked) over (cond has (not_modified_answer_text policy name x r now stored rule) (whole_answer_text policy name x r now stored rule) ++ behind)
-        (Spelled (response_as_read_back (is_head x.asked) (cond has (not_modified_answer_sent policy name x r now stored rule) (whole_answer_sent policy name x r now stored rule))) behind)
+    by_test : (has : Bool) → ResponseFitsAReader most (cond has (not_modified_answer_sent policy name x r now stored rule) (answer_in_range_sent policy name x r now stored rule (range_of_answer policy x r now)))
+        → Reads most (is_head x.asked) over (cond has (not_modified_answer_text policy name x r now stored rule) (answer_in_range_text policy name x r now stored rule (range_of_answer policy x r now)) ++ behind)
+        (Spelled (response_as_read_back (is_head x.asked) (cond has (not_modified_answer_sent policy name x r now stored rule) (answer_in_range_sent policy name x r now stored rule (range_of_answer policy x r now)))) behind)
     by_test true limits = not_modified_response max_body most now to_head ended stored bytes rest name policy rule x r reads early token limits over behind
-    by_test false limits = whole_response max_body most now to_head ended stored bytes rest name policy rule x r reads early token small limits over behind
+    by_test false limits = in_range_one max_body most now to_head ended stored bytes rest name policy rule x r reads early token small over behind (range_of_answer policy x r now) refl limits
 
 -- ---- the proxy's own
 

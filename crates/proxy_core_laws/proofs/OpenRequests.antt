@@ -4,8 +4,6 @@ use Rattle.std.specs.Prelude.{All, Option, None, Some, filter, map}
 use Rattle.std.proofs.lemmas.List.Elements.{All-nil, All-cons, All-append, All-filter, All-head, All-map, All-tail, All-weaker}
 use Rattle.hx_allow.specs.TableLines.{Table}
 use Rattle.hx_reuse.specs.declared.rule.ReuseRule.{ReuseRule}
-use Rattle.hx_target.specs.declared.keys.Key.{Key}
-use Rattle.hx_target.specs.Keys.{same_key}
 use Rattle.hx_store.specs.Stored.{Stored}
 use Rattle.proxy_core.specs.declared.open.exchange.Exchange.{Exchange}
 use Rattle.proxy_core.specs.declared.open.stage.Stage.TheVariants.{Released}
@@ -17,7 +15,8 @@ use Rattle.proxy_core.specs.declared.outcome.Outcome.{Outcome}
 use Rattle.proxy_core.specs.declared.outcome.Outcome.TheVariants.{Reply, Forward, Waits, Ended}
 use Rattle.proxy_core.specs.Histories.{held_entries, open_exchanges}
 use Rattle.proxy_core.specs.Outcomes.{find_exchange}
-use Rattle.proxy_core.specs.State.{exchanges_after_close, exchanges_after_end, exchanges_after_purge, key_purged, exchange_forwarded_again, open_exchanges_after, forwarded_exchange, overtaken_exchange, waiting_exchange, released_exchange, exchange_gone_forward, exchange_sent_forward, exchanges_after_wake, key_invalidated_by_response}
+use Rattle.proxy_core.specs.Scopes.{Scope, is_in_scope}
+use Rattle.proxy_core.specs.State.{exchanges_after_close, exchanges_after_end, exchanges_after_purge, scope_purged, exchange_forwarded_again, open_exchanges_after, forwarded_exchange, overtaken_exchange, waiting_exchange, released_exchange, exchange_gone_forward, exchange_sent_forward, exchanges_after_wake, scope_invalidated_by_response}
 use Rattle.proxy_core.specs.Starts.{StoreAtStart}
 use Rattle.proxy_core.specs.Traces.{Item}
 use Rattle.proxy_core_laws.specs.SentMessages.{EventsWereRead, EventWasRead, RequestWasRead, OpenRequestsWereRead}
@@ -32,8 +31,8 @@ gone_out-asked id now x = elim (eqb x.id id) as (λ b. (cond b (exchange_gone_fo
 release-asked : (q : ℕ) (x : Exchange) → (released_exchange q x).asked ≡ x.asked
 release-asked q x = elim (waits_for q x.stage) as (λ b. (cond b (record x { stage = Released }) x).asked ≡ x.asked) [ true ↦ refl | false ↦ refl ]
 
-overtake-asked : (key : Key) (x : Exchange) → (overtaken_exchange key x).asked ≡ x.asked
-overtake-asked key x = elim (same_key x.asked.target.key key) as (λ b. (cond b (record x { overtaken = true }) x).asked ≡ x.asked) [ true ↦ refl | false ↦ refl ]
+overtake-asked : (key : Scope) (x : Exchange) → (overtaken_exchange key x).asked ≡ x.asked
+overtake-asked key x = elim (is_in_scope key x.asked.target.key) as (λ b. (cond b (record x { overtaken = true }) x).asked ≡ x.asked) [ true ↦ refl | false ↦ refl ]
 
 -- (a record, so that what it is of can be read off it)
 record HasReadRequest (x : Exchange) : Type 0 where
@@ -46,11 +45,11 @@ mapped f same xs all =
 closed_so : (id : ℕ) (xs : List Exchange) → All HasReadRequest xs → All HasReadRequest (exchanges_after_close id xs)
 closed_so id xs all = mapped (released_exchange id) (release-asked id) (filter (λ (x : Exchange). not (x.id == id)) xs) (All-filter (λ (x : Exchange). not (x.id == id)) HasReadRequest xs all)
 
-left_so : (key : Option Key) (id : ℕ) (xs : List Exchange) → All HasReadRequest xs → All HasReadRequest (exchanges_after_end key id xs)
+left_so : (key : Option Scope) (id : ℕ) (xs : List Exchange) → All HasReadRequest xs → All HasReadRequest (exchanges_after_end key id xs)
 left_so None id xs all = closed_so id xs all
 left_so (Some key) id xs all = mapped (overtaken_exchange key) (overtake-asked key) (exchanges_after_close id xs) (closed_so id xs all)
 
-purged_so : (key : Option Key) (xs : List Exchange) → All HasReadRequest xs → All HasReadRequest (exchanges_after_purge key xs)
+purged_so : (key : Option Scope) (xs : List Exchange) → All HasReadRequest xs → All HasReadRequest (exchanges_after_purge key xs)
 purged_so None xs all = all
 purged_so (Some key) xs all = mapped (overtaken_exchange key) (overtake-asked key) xs all
 
@@ -64,12 +63,12 @@ added xs x all is = All-append HasReadRequest xs (x ∷ []) all (All-cons HasRea
 after_so : (table : Table) (es : List Stored) (xs : List Exchange) (event : Event) (outcome : Outcome) → EventWasRead event → All HasReadRequest xs → All HasReadRequest (open_exchanges_after table es xs event outcome)
 after_so table es xs (Arrive now id asked) (Forward line bytes) is all = added xs (forwarded_exchange table es now id asked line) all is
 after_so table es xs (Arrive now id asked) (Waits leader) is all = added xs (waiting_exchange table es now id asked _ leader) all is
-after_so table es xs (Arrive now id asked) (Reply r) is all = purged_so (key_purged asked (Reply r)) xs all
+after_so table es xs (Arrive now id asked) (Reply r) is all = purged_so (scope_purged asked (Reply r)) xs all
 after_so table es xs (Arrive now id asked) Ended is all = all
 after_so table es xs (Answer now id r) (Forward line bytes) is all = mapped (exchange_forwarded_again id now) (gone_out-asked id now) xs all
-after_so table es xs (Answer now id r) (Reply reply) is all = left_so (key_invalidated_by_response (find_exchange id xs) r) id xs all
-after_so table es xs (Answer now id r) (Waits leader) is all = left_so (key_invalidated_by_response (find_exchange id xs) r) id xs all
-after_so table es xs (Answer now id r) Ended is all = left_so (key_invalidated_by_response (find_exchange id xs) r) id xs all
+after_so table es xs (Answer now id r) (Reply reply) is all = left_so (scope_invalidated_by_response (find_exchange id xs) r) id xs all
+after_so table es xs (Answer now id r) (Waits leader) is all = left_so (scope_invalidated_by_response (find_exchange id xs) r) id xs all
+after_so table es xs (Answer now id r) Ended is all = left_so (scope_invalidated_by_response (find_exchange id xs) r) id xs all
 after_so table es xs (Fail now id kind) outcome is all = closed_so id xs all
 after_so table es xs (Wake now id) (Forward line bytes) is all = woken_so table es id now (find_exchange id xs) xs all
 after_so table es xs (Wake now id) (Reply r) is all = closed_so id xs all

@@ -35,12 +35,12 @@ unfolding is_token_byte
 range_name = refl
 
 module _ (fields : List Field) (value : List ℕ) where
-  line_fits : All FieldIsWritable fields → IsFieldValue value → All FieldIsWritable (fields ++ line (codes "Content-Range") value ∷ [])
+  pub line_fits : All FieldIsWritable fields → IsFieldValue value → All FieldIsWritable (fields ++ line (codes "Content-Range") value ∷ [])
   line_fits all is =
       All-append FieldIsWritable fields (line (codes "Content-Range") value ∷ []) all
       (All-cons FieldIsWritable (line (codes "Content-Range") value) [] (line_of (codes "Content-Range") value range_name (omega arith) is) (All-nil FieldIsWritable))
 
-  without : (other : List ℕ) → has_field fields other ≡ false → is_named other (line (codes "Content-Range") value) ≡ false → has_field (fields ++ line (codes "Content-Range") value ∷ []) other ≡ false
+  pub without : (other : List ℕ) → has_field fields other ≡ false → is_named other (line (codes "Content-Range") value) ≡ false → has_field (fields ++ line (codes "Content-Range") value ∷ []) other ≡ false
   without other none differs = list_any-append (is_named other) fields (line (codes "Content-Range") value ∷ []) ∙ or_from _ _ none (or_from _ _ differs refl)
 
 part_sendable : (e : Stored) (first last : ℕ) → StoredIsSendable e → StoredIsSendable (part_of e first last)
@@ -77,7 +77,7 @@ drop_shorter zero xs = omega arith
 drop_shorter (suc n) [] = omega arith
 drop_shorter (suc n) (x ∷ xs) = let less = drop_shorter n xs in omega (arith, less)
 
-slice_shorter : (xs : List ℕ) (i j : ℕ) → length (slice_range xs i j) ≤ length xs
+pub slice_shorter : (xs : List ℕ) (i j : ℕ) → length (slice_range xs i j) ≤ length xs
 slice_shorter xs i j = let taken = take_shorter (j - i) (drop i xs) in let dropped = drop_shorter i xs in omega (arith, taken, dropped)
 
 -- ---- what holds of a response, of its part and of an empty one holds of its form

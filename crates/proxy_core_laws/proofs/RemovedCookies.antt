@@ -1,6 +1,6 @@
 -- Over a line that removes cookies none is sent out of the store nor left there, and who asked gets his own.
-use Rattle.std.proofs.Common.{◌≡◌, ℕ, Bool, true, false, not, ◌&&◌, ◌||◌, cond, List, [], ◌∷◌, ◌++◌, append-nil, refl, sym, ap, ◌∙◌, subst}
-use Rattle.std.specs.Prelude.{Option, None, Some, filter, map, option_map, codes}
+use Rattle.std.proofs.Common.{◌≡◌, ℕ, ◌+◌, length, Bool, true, false, not, ◌&&◌, ◌||◌, cond, List, [], ◌∷◌, ◌++◌, append-nil, refl, sym, ap, ◌∙◌, subst}
+use Rattle.std.specs.Prelude.{Option, None, Some, filter, map, option_map, codes, slice_range}
 use Rattle.std.proofs.lemmas.Bool.{false≢true}
 use Rattle.std.proofs.lemmas.List.Elements.{filter-append}
 use Rattle.hx_fields.specs.declared.field_line.Field.{Field}
@@ -19,6 +19,10 @@ use Rattle.hx_store.specs.Recency.{is_that_serial}
 use Rattle.hx_status.specs.declared.status.Status.{Status}
 use Rattle.hx_age.specs.Age.{times_of}
 use Rattle.hx_validate.specs.Answering.{freshened_of}
+use Rattle.hx_validate.specs.Ranges.{fields_of_416_to_answer, fields_of_part, is_carried_by_416, is_carried_by_416_to_asker}
+use Rattle.hx_validate.specs.Room.{head_leaves_room}
+use Rattle.hx_validate.specs.declared.ranges.RangeAnswer.{RangeAnswer}
+use Rattle.hx_validate.specs.declared.ranges.RangeAnswer.TheVariants.{Whole, Part, Unsatisfiable}
 use Rattle.hx_validate.specs.NotModified.{fields_of_304, gets_304, is_carried_by_304, is_carried_to_asker}
 use Rattle.proxy_core.specs.declared.open.exchange.Exchange.{Exchange}
 use Rattle.proxy_core.specs.declared.event.Event.{Event}
@@ -28,7 +32,7 @@ use Rattle.proxy_core.specs.declared.outcome.Outcome.TheVariants.{Reply as Repli
 use Rattle.proxy_core.specs.declared.outcome.Reply.{Reply}
 use Rattle.proxy_core.specs.Histories.{held_entries, held_entry, open_exchanges}
 use Rattle.proxy_core.specs.Outcomes.{find_exchange, exchange_id_of_event}
-use Rattle.proxy_core.specs.Replies.{cache_status_of_sent, client_has_answer, form_sent, not_modified_text, stored_text, text_in_form}
+use Rattle.proxy_core.specs.Replies.{fields_of_answer_416, fields_of_answer_part, range_of_answer, cache_status_of_sent, client_has_answer, form_sent, not_modified_text, stored_text, text_in_form}
 use Rattle.proxy_core.specs.Sending.{ReplyIsThatStoredResponse}
 use Rattle.proxy_core.specs.Starts.{StoreAtStart}
 use Rattle.proxy_core.specs.State.{serial_stored_by_outcome, serial_used_by_outcome, stored_response_as_used, stored_response_by_answer}
@@ -38,7 +42,7 @@ use Rattle.proxy_core.specs.Uncached.{EventGoesOverLine}
 use Rattle.proxy_core.specs.Validating.{freshened_by_304, stored_response_is_answered, without_cookies}
 use Rattle.proxy_core.proofs.SentResponses.{sends_what_is_held}
 use Rattle.hx_hop.proofs.Lines.{list_any_fewer}
-use Rattle.proxy_core_laws.specs.OneResponse.{not_modified_answer_sent, passed_answer_sent, whole_answer_sent}
+use Rattle.proxy_core_laws.specs.OneResponse.{answer_in_range_sent, in_place_of_answer_sent, not_modified_answer_sent, passed_answer_sent, whole_answer_sent}
 use Rattle.proxy_core_laws.specs.RemovedCookies.{IsResponseWithoutCookies, NoCookieIsLeftInTheStore, NoCookieIsSentOutOfTheStore, WhoAskedGetsTheCookies}
 use Rattle.proxy_core_laws.specs.StoredReplies.{stored_sent_as_304, stored_sent_whole}
 use Rattle.proxy_core_laws.specs.Varied.{exchange_left_by, exchange_that_left, is_answered_by}
@@ -222,12 +226,41 @@ kept_for_asker fields = ap (map (λ (f : Field). f.value)) (filter_keeps (is_car
     carried : (f : Field) → is_named cookie f ≡ true → is_carried_to_asker tagged f ≡ true
     carried f is = ap (λ t. is_carried_by_304 tagged f || (is_named (codes "Age") f || t)) is ∙ last (is_carried_by_304 tagged f) (is_named (codes "Age") f)
 
+-- the line that tells the part is no cookie, nor is the one that it takes the place of
+kept_in_a_part : (fields : List Field) (first last total : ℕ) → values_of (fields_of_part fields first last total) cookie ≡ values_of fields cookie
+kept_in_a_part fields first last total =
+    named_after (without_named fields (codes "Content-Range")) _ refl
+    ∙ ap (map (λ (f : Field). f.value)) (filter_keeps (λ f. not (is_named (codes "Content-Range") f)) (is_named cookie) (λ f is. ap not (other_name (codes "Content-Range") f refl is)) fields)
+
+kept_in_a_416 : (fields : List Field) (total : ℕ) → values_of (fields_of_416_to_answer fields total) cookie ≡ values_of fields cookie
+kept_in_a_416 fields total =
+    named_after (filter is_carried_by_416_to_asker fields) _ refl
+    ∙ ap (map (λ (f : Field). f.value)) (filter_keeps is_carried_by_416_to_asker (is_named cookie) carried fields)
+  where
+    last : (a b : Bool) → (a || (b || true)) ≡ true
+    last true b = refl
+    last false true = refl
+    last false false = refl
+
+    carried : (f : Field) → is_named cookie f ≡ true → is_carried_by_416_to_asker f ≡ true
+    carried f is = ap (λ t. is_carried_by_416 f || (is_named (codes "Age") f || t)) is ∙ last (is_carried_by_416 f) (is_named (codes "Age") f)
+
 pub asker_gets_them : WhoAskedGetsTheCookies
 asker_gets_them policy name x r now stored rule = by_test (client_has_answer policy x r now)
   where
     fields : List Field
     fields = (answered_of r now).fields
 
-    by_test : (has : Bool) → values_of (cond has (not_modified_answer_sent policy name x r now stored rule) (whole_answer_sent policy name x r now stored rule)).fields cookie ≡ values_of fields cookie
+    by_room : (t : Bool) (status : ℕ) (own : List Field) (content : List ℕ) → values_of own cookie ≡ values_of fields cookie
+        → values_of (cond t (in_place_of_answer_sent policy name x r now stored rule status own content) (whole_answer_sent policy name x r now stored rule)).fields cookie ≡ values_of fields cookie
+    by_room true status own content kept = named_after own _ refl ∙ kept
+    by_room false status own content kept = named_after fields _ refl
+
+    by_answer : (answer : RangeAnswer) → values_of (answer_in_range_sent policy name x r now stored rule answer).fields cookie ≡ values_of fields cookie
+    by_answer Whole = named_after fields _ refl
+    by_answer (Part first last) = by_room (head_leaves_room (fields_of_answer_part r now first last)) 206 (fields_of_answer_part r now first last) (slice_range r.content first (last + 1)) (kept_in_a_part fields first last (length r.content))
+    by_answer Unsatisfiable = by_room (head_leaves_room (fields_of_answer_416 r now)) 416 (fields_of_answer_416 r now) [] (kept_in_a_416 fields (length r.content))
+
+    by_test : (has : Bool) → values_of (cond has (not_modified_answer_sent policy name x r now stored rule) (answer_in_range_sent policy name x r now stored rule (range_of_answer policy x r now))).fields cookie ≡ values_of fields cookie
     by_test true = named_after (filter (is_carried_to_asker (has_field fields (codes "ETag"))) fields) _ refl ∙ kept_for_asker fields
-    by_test false = named_after fields _ refl
+    by_test false = by_answer (range_of_answer policy x r now)

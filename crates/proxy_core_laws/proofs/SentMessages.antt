@@ -1,11 +1,12 @@
 -- Each step of a good history sends one message or none, where what it was handed was read.
-use Rattle.std.proofs.Common.{◌≡◌, ℕ, ◌<◌, ◌≤◌, ◌^◌, Bool, true, false, cond, List, [], ◌∷◌, ◌++◌, length, length-append, refl, sym, ap, ◌∙◌, subst, arith}
-use Rattle.std.specs.Prelude.{IfSome, Option, None, Some, is_some}
+use Rattle.std.proofs.Common.{◌≡◌, ℕ, ◌+◌, ◌<◌, ◌≤◌, ◌^◌, Bool, true, false, cond, List, [], ◌∷◌, ◌++◌, length, length-append, refl, sym, ap, ◌∙◌, subst, arith}
+use Rattle.std.specs.Prelude.{IfSome, Option, None, Some, is_some, slice_range}
 use Rattle.std.specs.List.{AllByRecursion}
 use Rattle.std.specs.Option.{option_and_then}
 use Rattle.httparse.specs.Grammar.{IsToken}
 use Rattle.hx_policy.specs.declared.words.Policy.{Policy}
 use Rattle.hx_fields.specs.declared.limits.TheConstants.{END_OF_TIME}
+use Rattle.hx_fields.specs.declared.field_line.Field.{Field}
 use Rattle.hx_framing.specs.declared.messages.Response.{Response}
 use Rattle.hx_framing.specs.Reading.{Spelled}
 use Rattle.hx_framing.specs.declared.messages.Request.{Request}
@@ -18,6 +19,7 @@ use Rattle.hx_framing.proofs.RequestOnce.{read_once_lem as request_read_once}
 use Rattle.hx_framing.proofs.ResponseOnce.{read_once_lem as response_read_once}
 use Rattle.hx_allow.specs.TableLines.{Table}
 use Rattle.hx_allow.specs.Matching.{policy_of}
+use Rattle.proxy_core.specs.Scopes.{serials_purged}
 use Rattle.proxy_core.specs.Allowing.{verdict_of_asked}
 use Rattle.hx_allow.specs.declared.verdicts.Verdict.{Verdict}
 use Rattle.hx_allow.specs.declared.verdicts.Verdict.TheVariants as verdict
@@ -28,8 +30,9 @@ use Rattle.hx_hop.specs.Asking.{asked_with_target}
 use Rattle.hx_hop.specs.Forwarding.{forwarded_of}
 use Rattle.hx_hop.specs.Moments.{date_text_of}
 use Rattle.hx_store.specs.Stored.{Stored}
-use Rattle.hx_store.specs.Shelf.{find_entry, serials_of}
+use Rattle.hx_store.specs.Shelf.{find_entry}
 use Rattle.hx_reuse.specs.Conditions.{keeps_conditions}
+use Rattle.hx_reuse.specs.FilledRanges.{fills_range, without_range}
 use Rattle.hx_reuse.specs.Rules.{decision_of}
 use Rattle.hx_reuse.specs.declared.rule.ReuseRule.{ReuseRule}
 use Rattle.hx_reuse.specs.declared.decision.Decision.{Decision}
@@ -40,7 +43,10 @@ use Rattle.hx_status.specs.declared.cause.FailKind.{FailKind}
 use Rattle.hx_status.specs.declared.cause.FailKind.TheVariants.{BadAnswer}
 use Rattle.hx_status.specs.Refusals.{refusal_text}
 use Rattle.hx_validate.specs.NotModified.{gets_304}
+use Rattle.hx_validate.specs.Room.{head_leaves_room}
 use Rattle.hx_validate.specs.Validators.{conditions_of, has_validator}
+use Rattle.hx_validate.specs.declared.ranges.RangeAnswer.{RangeAnswer}
+use Rattle.hx_validate.specs.declared.ranges.RangeAnswer.TheVariants.{Whole, Part, Unsatisfiable}
 use Rattle.hx_hop_laws.specs.OneMessage.{ConditionsAreFieldValues, RequestIsWithinLimits}
 use Rattle.hx_hop_laws.proofs.SentRequests.{forwards_one_request}
 use Rattle.hx_storable.specs.declared.rule.StoreRule.{StoreRule}
@@ -57,7 +63,7 @@ use Rattle.proxy_core.specs.Histories.{held_entries, held_entry, held_serials, n
 use Rattle.proxy_core.specs.Outcomes.{outcome_of_allowed_request, outcome_of_answer, outcome_of_arrival, outcome_of_failure, fallback_for, fault_at_exchange, find_exchange, forward_text, exchange_id_of_event, is_error_status, is_only_if_cached, fault_if_not_forwarded, fault_if_not_released, outcome_of, outcome_of_passing_on, outcome_of_passing_on_or_stale, outcome_of_refusal, outcome_of_304, outcome_of_waiting_or_forwarding, serial_of_stored_answer, outcome_without_stored_response, outcome_of_wake}
 use Rattle.proxy_core.specs.Moments.{moment_too_late_fault}
 use Rattle.proxy_core.specs.ReadAnswers.{WasReadFromAStream, EventIsReadFromAStream}
-use Rattle.proxy_core.specs.Replies.{client_has_answer, form_sent, is_head, not_modified_answer_text, not_modified_text, passed_answer_text, whole_answer_text, purge_reply_text, refusal_reply_text, cache_status_of_sent, stored_text, text_in_form}
+use Rattle.proxy_core.specs.Replies.{answer_in_range_text, fields_of_answer_416, fields_of_answer_part, range_of_answer, text_in_place_of_answer, client_has_answer, form_sent, is_head, not_modified_answer_text, not_modified_text, passed_answer_text, whole_answer_text, purge_reply_text, refusal_reply_text, cache_status_of_sent, stored_text, text_in_form}
 use Rattle.proxy_core.specs.Sending.{IsAbout, ReplyIsThatStoredResponse}
 use Rattle.proxy_core.specs.State.{stored_response_as_used, serial_used_by_outcome}
 use Rattle.proxy_core.specs.Storing.{is_304_without_condition}
@@ -65,9 +71,10 @@ use Rattle.proxy_core.specs.Traces.{Item}
 use Rattle.proxy_core.specs.Validating.{condition_about_serial, condition_about_stored, is_304_to_own_conditions, freshened_by_304, conditions_to_send, stored_response_validated}
 use Rattle.proxy_core.proofs.SentBeside.{led_over, sent_over, unless_sent}
 use Rattle.proxy_core.proofs.SentResponses.{sends_what_is_held}
-use Rattle.proxy_core_laws.specs.OneResponse.{not_modified_answer_sent, passed_answer_sent, proxys_answer_sent, purge_answer_sent, whole_answer_sent}
+use Rattle.proxy_core_laws.specs.OneResponse.{answer_in_range_sent, in_place_of_answer_sent, not_modified_answer_sent, passed_answer_sent, proxys_answer_sent, purge_answer_sent, whole_answer_sent}
 use Rattle.proxy_core_laws.specs.StoredReplies.{StoredIsSendable, stored_sent_as_304, stored_sent_whole}
 use Rattle.proxy_core_laws.specs.SentMessages.{EventsWereRead, EventWasRead, OutcomeIsOneMessage, BytesAreOneRequest, BytesAreOneResponse, RequestWasRead, OneRequestIsNoMore, OneResponseIsNoMore, EachStepSendsOneMessage, event_is_to_head}
+use Rattle.proxy_core_laws.proofs.FilledRequests.{forwards_one_whole}
 use Rattle.proxy_core_laws.proofs.OneResponse.{passes_one_response, purges_as_one_response, refuses_as_one_response}
 use Rattle.proxy_core_laws.proofs.StoredReplies.{sends_a_304_as_one, sends_whole_as_one}
 use Rattle.proxy_core_laws.proofs.RangeForms.{form_sendable, form_small, text_of_form}
@@ -83,19 +90,37 @@ forwarded_anyway : (keeps closes : Bool) (asked : Asked) (name : List ℕ) (cond
 unfolding forwarded_of
 forwarded_anyway keeps closes asked name conditions = refl
 
-pub one_request : (name : List ℕ) (asked : Asked) (keeps : Bool) (conditions : Option Conditions) → IsToken name → RequestWasRead asked → IfSome conditions ConditionsAreFieldValues
-    → BytesAreOneRequest name (request_text (forwarded_of keeps asked name conditions))
-one_request name asked keeps conditions token is are = record {
+pub one_request : (name : List ℕ) (asked : Asked) (is_filled keeps : Bool) (conditions : Option Conditions) → IsToken name → RequestWasRead asked → IfSome conditions ConditionsAreFieldValues
+    → BytesAreOneRequest name (request_text (forwarded_of keeps (cond is_filled (without_range asked) asked) name conditions))
+one_request name asked false keeps conditions token is are = record {
+  as_read = asked;
+  is_filled = false;
   asked = asked;
   keeps = keeps;
   conditions = conditions;
   was_read = is;
+  asked_is = refl;
   text_is = refl;
   alone = subst (λ (sent : Request). (most : ℕ) → most < 2 ^ 64 → RequestIsWithinLimits most sent → (over continued : Bool) (behind : List ℕ)
       → ReadsRequest most over continued (request_text sent ++ behind) (Spelled (request_as_read_back sent) behind))
       (sym (ap (λ (a : Asked). forwarded_of keeps a name conditions) is.asked_is ∙ forwarded_anyway keeps is.closes (asked_with_target is.request is.target) name conditions))
       (λ most small limits over continued behind.
       forwards_one_request is.max_body most is.ended is.continue_sent is.bytes is.rest is.request is.target name keeps conditions is.reads is.judged token are small limits over continued behind);
+}
+one_request name asked true keeps conditions token is are = record {
+  as_read = asked;
+  is_filled = true;
+  asked = without_range asked;
+  keeps = keeps;
+  conditions = conditions;
+  was_read = is;
+  asked_is = refl;
+  text_is = refl;
+  alone = subst (λ (sent : Request). (most : ℕ) → most < 2 ^ 64 → RequestIsWithinLimits most sent → (over continued : Bool) (behind : List ℕ)
+      → ReadsRequest most over continued (request_text sent ++ behind) (Spelled (request_as_read_back sent) behind))
+      (sym (ap (λ (a : Asked). forwarded_of keeps (without_range a) name conditions) is.asked_is ∙ forwarded_anyway keeps is.closes (without_range (asked_with_target is.request is.target)) name conditions))
+      (λ most small limits over continued behind.
+      forwards_one_whole is.max_body most is.ended is.continue_sent is.bytes is.rest is.request is.target name keeps conditions is.reads is.judged token are small limits over continued behind);
 }
 
 -- ---- one response
@@ -125,10 +150,21 @@ one_passed policy rule name x r now stored early token is = record {
   alone = λ most small limits over behind. passes_one_response is.max_body most now is.to_head is.ended stored is.bytes is.rest name policy rule x r is.reads early token small limits over behind;
 }
   where
-    by_test : (has : Bool) → cond has (not_modified_answer_text policy name x r now stored rule) (whole_answer_text policy name x r now stored rule)
-        ≡ sent_response_text (cond has (not_modified_answer_sent policy name x r now stored rule) (whole_answer_sent policy name x r now stored rule))
+    by_room : (t : Bool) (status : ℕ) (own : List Field) (content : List ℕ)
+        → cond t (text_in_place_of_answer policy name x r now stored rule status own content) (whole_answer_text policy name x r now stored rule)
+        ≡ sent_response_text (cond t (in_place_of_answer_sent policy name x r now stored rule status own content) (whole_answer_sent policy name x r now stored rule))
+    by_room true status own content = refl
+    by_room false status own content = refl
+
+    by_answer : (answer : RangeAnswer) → answer_in_range_text policy name x r now stored rule answer ≡ sent_response_text (answer_in_range_sent policy name x r now stored rule answer)
+    by_answer Whole = refl
+    by_answer (Part first last) = by_room (head_leaves_room (fields_of_answer_part r now first last)) 206 (fields_of_answer_part r now first last) (slice_range r.content first (last + 1))
+    by_answer Unsatisfiable = by_room (head_leaves_room (fields_of_answer_416 r now)) 416 (fields_of_answer_416 r now) []
+
+    by_test : (has : Bool) → cond has (not_modified_answer_text policy name x r now stored rule) (answer_in_range_text policy name x r now stored rule (range_of_answer policy x r now))
+        ≡ sent_response_text (cond has (not_modified_answer_sent policy name x r now stored rule) (answer_in_range_sent policy name x r now stored rule (range_of_answer policy x r now)))
     by_test true = refl
-    by_test false = refl
+    by_test false = by_answer (range_of_answer policy x r now)
 
 -- ---- what isn't a stored response, by the cases of a step
 
@@ -138,7 +174,7 @@ never s h = cc
 module _ (table : Table) (es : List Stored) (token : IsToken table.name) (fit : (against : Option ℕ) → IfSome (conditions_to_send (condition_about_serial es against)) ConditionsAreFieldValues) where
   module _ (now : ℕ) (early : now < END_OF_TIME) (asked : Asked) (is : RequestWasRead asked) where
     forward_one : (line : Route) (condition : Option Condition) → IfSome (conditions_to_send condition) ConditionsAreFieldValues → OutcomeIsOneMessage table.name (is_head asked) (Forward line (forward_text table line asked condition))
-    forward_one line condition are = one_request table.name asked (keeps_conditions (policy_of table.lines line) asked) (conditions_to_send condition) token is are
+    forward_one line condition are = one_request table.name asked (fills_range (policy_of table.lines line) asked) (keeps_conditions (policy_of table.lines line) asked) (conditions_to_send condition) token is are
 
     refused_one : (cause : Cause) → OutcomeIsOneMessage table.name (is_head asked) (outcome_of_refusal now cause asked)
     refused_one cause = one_refusal now cause asked.close (is_head asked) early
@@ -164,7 +200,7 @@ module _ (table : Table) (es : List Stored) (token : IsToken table.name) (fit : 
     arrived_one xs (verdict.DeniedBy line) unused = refused_one (Denied line)
     arrived_one xs verdict.NoLine unused = refused_one NoLine
     arrived_one xs (verdict.Looped line) unused = refused_one (Looped line)
-    arrived_one xs (verdict.Purged line) unused = one_purge now (length (serials_of asked.target.key es)) asked.close (is_head asked) early
+    arrived_one xs (verdict.Purged line) unused = one_purge now (length (serials_purged asked es)) asked.close (is_head asked) early
 
   module _ (now : ℕ) (early : now < END_OF_TIME) (x : Exchange) (is : RequestWasRead x.asked) where
     woken_one : (d : Decision) → serial_used_by_outcome (outcome_of_wake table es now x d) ≡ None → OutcomeIsOneMessage table.name (is_head x.asked) (outcome_of_wake table es now x d)

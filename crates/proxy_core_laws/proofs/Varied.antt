@@ -12,8 +12,6 @@ use Rattle.hx_allow.specs.Matching.{policy_of, vary_of}
 use Rattle.hx_allow.specs.TableLines.{Table}
 use Rattle.hx_allow.specs.declared.verdicts.Route.{Route}
 use Rattle.hx_policy.specs.declared.words.Policy.{Policy}
-use Rattle.hx_target.specs.declared.keys.Key.{Key}
-use Rattle.hx_target.specs.Keys.{same_key}
 use Rattle.hx_store.specs.Stored.{Stored}
 use Rattle.hx_store.specs.Recency.{is_that_serial}
 use Rattle.hx_store.specs.Serials.{Distinct, serial_is_in}
@@ -39,7 +37,8 @@ use Rattle.proxy_core.specs.Leading.{waits_for}
 use Rattle.proxy_core.specs.Outcomes.{find_exchange, exchange_id_of_event, outcome_of}
 use Rattle.proxy_core.specs.Sending.{IsStoredFallback, ReplyIsThatStoredResponse, StoredResponseIsReusable, StoredResponseMayBeSent, StoredResponseMayBeSentAt, StoredResponseMayBeSentBeside}
 use Rattle.proxy_core.specs.Starts.{StoreAtStart}
-use Rattle.proxy_core.specs.State.{exchanges_after_close, exchanges_after_end, exchanges_after_purge, key_purged, exchange_forwarded_again, open_exchanges_after, forwarded_exchange, overtaken_exchange, waiting_exchange, released_exchange, exchange_gone_forward, exchange_sent_forward, exchanges_after_wake, key_invalidated_by_response, serial_stored_by_outcome, serial_used_by_outcome, serials_removed_by_outcome, stored_response_as_used, stored_response_by_answer}
+use Rattle.proxy_core.specs.Scopes.{Scope, is_in_scope}
+use Rattle.proxy_core.specs.State.{exchanges_after_close, exchanges_after_end, exchanges_after_purge, scope_purged, exchange_forwarded_again, open_exchanges_after, forwarded_exchange, overtaken_exchange, waiting_exchange, released_exchange, exchange_gone_forward, exchange_sent_forward, exchanges_after_wake, scope_invalidated_by_response, serial_stored_by_outcome, serial_used_by_outcome, serials_removed_by_outcome, stored_response_as_used, stored_response_by_answer}
 use Rattle.proxy_core.specs.Storing.{stored_response_made}
 use Rattle.proxy_core.specs.Traces.{Item}
 use Rattle.proxy_core.specs.Validating.{freshened_by_304, freshened_may_be_kept, stored_response_is_answered}
@@ -82,8 +81,8 @@ gone_out-names id now x = elim (eqb x.id id) as (λ b. names_and_line (cond b (e
 release-names : (q : ℕ) (x : Exchange) → names_and_line (released_exchange q x) ≡ names_and_line x
 release-names q x = elim (waits_for q x.stage) as (λ b. names_and_line (cond b (record x { stage = Released }) x) ≡ names_and_line x) [ true ↦ refl | false ↦ refl ]
 
-overtake-names : (key : Key) (x : Exchange) → names_and_line (overtaken_exchange key x) ≡ names_and_line x
-overtake-names key x = elim (same_key x.asked.target.key key) as (λ b. names_and_line (cond b (record x { overtaken = true }) x) ≡ names_and_line x) [ true ↦ refl | false ↦ refl ]
+overtake-names : (key : Scope) (x : Exchange) → names_and_line (overtaken_exchange key x) ≡ names_and_line x
+overtake-names key x = elim (is_in_scope key x.asked.target.key) as (λ b. names_and_line (cond b (record x { overtaken = true }) x) ≡ names_and_line x) [ true ↦ refl | false ↦ refl ]
 
 module _ (table : Table) where
   mapped : (f : Exchange → Exchange) → ((x : Exchange) → names_and_line (f x) ≡ names_and_line x) → (xs : List Exchange) → All (HasNames table) xs → All (HasNames table) (map f xs)
@@ -93,11 +92,11 @@ module _ (table : Table) where
   closed_so : (id : ℕ) (xs : List Exchange) → All (HasNames table) xs → All (HasNames table) (exchanges_after_close id xs)
   closed_so id xs all = mapped (released_exchange id) (release-names id) (filter (λ (x : Exchange). not (x.id == id)) xs) (All-filter (λ (x : Exchange). not (x.id == id)) (HasNames table) xs all)
 
-  left_so : (key : Option Key) (id : ℕ) (xs : List Exchange) → All (HasNames table) xs → All (HasNames table) (exchanges_after_end key id xs)
+  left_so : (key : Option Scope) (id : ℕ) (xs : List Exchange) → All (HasNames table) xs → All (HasNames table) (exchanges_after_end key id xs)
   left_so None id xs all = closed_so id xs all
   left_so (Some key) id xs all = mapped (overtaken_exchange key) (overtake-names key) (exchanges_after_close id xs) (closed_so id xs all)
 
-  purged_so : (key : Option Key) (xs : List Exchange) → All (HasNames table) xs → All (HasNames table) (exchanges_after_purge key xs)
+  purged_so : (key : Option Scope) (xs : List Exchange) → All (HasNames table) xs → All (HasNames table) (exchanges_after_purge key xs)
   purged_so None xs all = all
   purged_so (Some key) xs all = mapped (overtaken_exchange key) (overtake-names key) xs all
 
@@ -111,12 +110,12 @@ module _ (table : Table) where
   after_so : (es : List Stored) (xs : List Exchange) (event : Event) (outcome : Outcome) → All (HasNames table) xs → All (HasNames table) (open_exchanges_after table es xs event outcome)
   after_so es xs (Arrive now id asked) (Forward line bytes) all = added xs (forwarded_exchange table es now id asked line) all refl refl
   after_so es xs (Arrive now id asked) (Waits leader) all = added xs (waiting_exchange table es now id asked _ leader) all refl refl
-  after_so es xs (Arrive now id asked) (Reply r) all = purged_so (key_purged asked (Reply r)) xs all
+  after_so es xs (Arrive now id asked) (Reply r) all = purged_so (scope_purged asked (Reply r)) xs all
   after_so es xs (Arrive now id asked) Ended all = all
   after_so es xs (Answer now id r) (Forward line bytes) all = mapped (exchange_forwarded_again id now) (gone_out-names id now) xs all
-  after_so es xs (Answer now id r) (Reply reply) all = left_so (key_invalidated_by_response (find_exchange id xs) r) id xs all
-  after_so es xs (Answer now id r) (Waits leader) all = left_so (key_invalidated_by_response (find_exchange id xs) r) id xs all
-  after_so es xs (Answer now id r) Ended all = left_so (key_invalidated_by_response (find_exchange id xs) r) id xs all
+  after_so es xs (Answer now id r) (Reply reply) all = left_so (scope_invalidated_by_response (find_exchange id xs) r) id xs all
+  after_so es xs (Answer now id r) (Waits leader) all = left_so (scope_invalidated_by_response (find_exchange id xs) r) id xs all
+  after_so es xs (Answer now id r) Ended all = left_so (scope_invalidated_by_response (find_exchange id xs) r) id xs all
   after_so es xs (Fail now id kind) outcome all = closed_so id xs all
   after_so es xs (Wake now id) (Forward line bytes) all = woken_so es id now (find_exchange id xs) xs all
   after_so es xs (Wake now id) (Reply r) all = closed_so id xs all

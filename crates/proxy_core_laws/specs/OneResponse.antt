@@ -1,8 +1,10 @@
 -- What a client gets is one response (RFC 9112, sections 6.3 and 11.1): an answer of the origin that is passed on, and
 -- an answer of the proxy's own.
-use Rattle.std.specs.Prelude.{ℕ, ◌<◌, ◌^◌, ◌++◌, Bool, List, [], ◌∷◌, length, codes, Option, None, Some, cond}
+use Rattle.std.specs.Prelude.{ℕ, ◌+◌, ◌<◌, ◌^◌, ◌++◌, Bool, List, [], ◌∷◌, length, codes, Option, None, Some, cond}
+use Rattle.std.specs.Prelude.{slice_range}
 use Rattle.httparse.specs.Grammar.{IsToken}
 use Rattle.hx_fields.specs.declared.limits.TheConstants.{END_OF_TIME}
+use Rattle.hx_fields.specs.declared.field_line.Field.{Field}
 use Rattle.hx_framing.specs.declared.messages.Response.{Response}
 use Rattle.hx_framing.specs.Reading.{Spelled}
 use Rattle.hx_framing.specs.ResponseReading.{Reads}
@@ -14,11 +16,16 @@ use Rattle.hx_storable.specs.declared.rule.StoreRule.{StoreRule}
 use Rattle.hx_status.specs.declared.cause.Cause.{Cause}
 use Rattle.hx_status.specs.Member.{member_text}
 use Rattle.hx_status.specs.Refusals.{refusal_status, refusal_text}
+use Rattle.hx_validate.specs.Room.{head_leaves_room}
+use Rattle.hx_validate.specs.declared.ranges.RangeAnswer.{RangeAnswer}
+use Rattle.hx_validate.specs.declared.ranges.RangeAnswer.TheVariants.{Whole, Part, Unsatisfiable}
 use Rattle.hx_hop_laws.specs.OneResponse.{ResponseFitsAReader, response_passed_on}
 use Rattle.proxy_core.specs.declared.open.exchange.Exchange.{Exchange}
 use Rattle.proxy_core.specs.Replies.{content_unless_head, is_head, line, fields_of_refusal, passed_answer_text}
 use Rattle.proxy_core.specs.Replies.{refusal_reply_text, fields_of_purge, purge_reply_text}
 use Rattle.proxy_core.specs.Replies.{cache_status_of_passed_answer, client_has_answer, fields_of_304_sent}
+use Rattle.proxy_core.specs.Replies.{fields_in_place_of_answer, fields_of_answer_416, fields_of_answer_part}
+use Rattle.proxy_core.specs.Replies.{range_of_answer}
 
 -- an answer whole, with the line of Cache-Status behind its own
 abbrev pub whole_answer_sent : Policy → List ℕ → Exchange → Response → ℕ → Bool → Option StoreRule → SentResponse
@@ -37,10 +44,34 @@ not_modified_answer_sent policy name x r now stored rule = record {
   content = [];
 }
 
+-- another response in its place, of a status, lines of its own and a content
+abbrev pub in_place_of_answer_sent : Policy → List ℕ → Exchange → Response → ℕ → Bool → Option StoreRule → ℕ
+    → List Field → List ℕ → SentResponse
+in_place_of_answer_sent policy name x r now stored rule status own content = record {
+  status = status;
+  fields = fields_in_place_of_answer policy name x r.status (answered_of r now).fields now stored rule own;
+  shown = Some (length content);
+  close = x.asked.close;
+  content = content_unless_head (is_head x.asked) content;
+}
+
+-- what of it a request asks for whose range stayed with the proxy
+abbrev pub answer_in_range_sent : Policy → List ℕ → Exchange → Response → ℕ → Bool → Option StoreRule → RangeAnswer
+    → SentResponse
+answer_in_range_sent policy name x r now stored rule Whole = whole_answer_sent policy name x r now stored rule
+answer_in_range_sent policy name x r now stored rule (Part first last) =
+    cond (head_leaves_room (fields_of_answer_part r now first last))
+    (in_place_of_answer_sent policy name x r now stored rule 206 (fields_of_answer_part r now first last)
+    (slice_range r.content first (last + 1))) (whole_answer_sent policy name x r now stored rule)
+answer_in_range_sent policy name x r now stored rule Unsatisfiable =
+    cond (head_leaves_room (fields_of_answer_416 r now))
+    (in_place_of_answer_sent policy name x r now stored rule 416 (fields_of_answer_416 r now) [])
+    (whole_answer_sent policy name x r now stored rule)
+
 abbrev pub passed_answer_sent : Policy → List ℕ → Exchange → Response → ℕ → Bool → Option StoreRule → SentResponse
 passed_answer_sent policy name x r now stored rule =
     cond (client_has_answer policy x r now) (not_modified_answer_sent policy name x r now stored rule)
-    (whole_answer_sent policy name x r now stored rule)
+    (answer_in_range_sent policy name x r now stored rule (range_of_answer policy x r now))
 
 -- the proxy's own answer
 abbrev pub proxys_answer_sent : ℕ → Cause → Bool → Bool → SentResponse

@@ -55,8 +55,8 @@ NoCookieIsLeftInTheStore = (table : Table) (start : StoreAtStart) (trace : List 
     → held_entry table start trace s ≡ Some e
     → has_field e.fields (codes "Set-Cookie") ≡ false
 
--- An answer that is passed on, whole or as a 304 in its place, has the cookies that came, whatever the line says of
--- them and whether or not it is stored.
+-- An answer that is passed on, whole, in part, or as a 304 or a 416 in its place, has the cookies that came, whatever
+-- the line says of them and whether or not it is stored.
 abbrev pub WhoAskedGetsTheCookies : Type 0
 WhoAskedGetsTheCookies = (policy : Policy) (name : List ℕ) (x : Exchange) (r : Response) (now : ℕ) (stored : Bool)
     (rule : Option StoreRule)

@@ -6,7 +6,7 @@
 -- OutcomeIsOneMessage: those of an outcome
 -- The statements: the premises first (a name, conditions, a content), then what is sent
 use Rattle.std.specs.Prelude.{◌≡◌, ℕ, ◌<◌, ◌≤◌, ◌^◌, ◌++◌, Bool, false, List, ◌∷◌, codes, length, Option, None, Some}
-use Rattle.std.specs.Prelude.{Ok}
+use Rattle.std.specs.Prelude.{Ok, cond}
 use Rattle.std.specs.List.{AllByRecursion}
 use Rattle.httparse.specs.Grammar.{IsToken}
 use Rattle.hx_fields.specs.FieldLines.{values_of}
@@ -28,6 +28,7 @@ use Rattle.hx_allow.specs.TableLines.{Table}
 use Rattle.hx_allow.specs.Tables.{TableWasRead}
 use Rattle.hx_store.specs.Stored.{Stored}
 use Rattle.hx_validate.specs.Validators.{conditions_of}
+use Rattle.hx_reuse.specs.FilledRanges.{without_range}
 use Rattle.hx_hop_laws.specs.OneMessage.{ConditionsAreFieldValues, RequestIsWithinLimits}
 use Rattle.hx_hop_laws.specs.OneResponse.{ResponseFitsAReader}
 use Rattle.proxy_core.specs.declared.open.exchange.Exchange.{Exchange}
@@ -74,14 +75,17 @@ EventsWereRead trace = AllByRecursion (λ item. EventWasRead item.event) trace
 
 -- ---- one message
 
--- The bytes are the text of what goes forward of a request that was read, by a proxy of this name. Where that is within
--- the limits of a reader it is read back as it was sent, whatever the reader knows of the stream, and what stands
--- behind it is left.
+-- The bytes are the text of what goes forward of a request that was read, by a proxy of this name; where its range is
+-- filled, of that request without its range. Where that is within the limits of a reader it is read back as it was
+-- sent, whatever the reader knows of the stream, and what stands behind it is left.
 pub record BytesAreOneRequest (name bytes : List ℕ) : Type 0 where
+  pub as_read : Asked
+  pub is_filled : Bool
   pub asked : Asked
   pub keeps : Bool
   pub conditions : Option Conditions
-  pub was_read : RequestWasRead asked
+  pub was_read : RequestWasRead as_read
+  pub asked_is : asked ≡ cond is_filled (without_range as_read) as_read
   pub text_is : bytes ≡ request_text (forwarded_of keeps asked name conditions)
   pub alone : (most : ℕ) → most < 2 ^ 64 → RequestIsWithinLimits most (forwarded_of keeps asked name conditions)
       → (over continued : Bool) (behind : List ℕ)

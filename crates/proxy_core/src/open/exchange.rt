@@ -1,11 +1,12 @@
 //! A request that went forward, or waits for the answer to another, and isn't answered yet.
 ghost use Rattle.std.specs.Prelude.{◌≡◌};
+ghost use Rattle.proxy_core.specs.Scopes.{target_alone};
 ghost use Rattle.proxy_core.specs.State.{exchange_gone_forward, overtaken_exchange, released_exchange};
 
 use crate::open::leading::waits_for;
 use crate::open::stage::Stage;
 use crate::steps::condition::Condition;
-use hx_allow::Route;
+use hx_allow::{PurgeScope, Route};
 use hx_hop::Asked;
 use hx_reuse::ReuseRule;
 use hx_target::Key;
@@ -66,9 +67,18 @@ impl Exchange {
 
     /// Marks it, if it is of a key that was invalidated (RFC 9111, section 4.4).
     pub(crate) fn overtake(&mut self, key: &Key)
-        ensures { self.new ≡ overtaken_exchange key.now self.old }
+        ensures { self.new ≡ overtaken_exchange (target_alone key.now) self.old }
     {
         if self.asked.target.key.is_same(key) {
+            self.overtaken = true;
+        }
+    }
+
+    /// Marks it, if its target is within the scope of a purge that was asked for a key.
+    pub(crate) fn overtake_within(&mut self, reach: PurgeScope, asked: &Key)
+        ensures { self.new ≡ overtaken_exchange (record { reach = reach; asked = asked.now }) self.old }
+    {
+        if reach.has(asked, &self.asked.target.key) {
             self.overtaken = true;
         }
     }

@@ -5,9 +5,9 @@
 //! that too. The first that may be woken is known: `first_ready` costs that logarithm where there
 //! is one, and nothing where there is none (see `released`). `leader` looks through the GETs of its
 //! key that are at the origin, up to the one that leads, and an invalidation goes through all
-//! exchanges of its key. `ready` goes through all of them.
+//! exchanges of its key. `ready` goes through all of them, as does a purge of more than its target.
 ghost use Rattle.std.specs.Prelude.{◌≡◌, ◌<◌, ◌++◌, ◌∷◌, [], map, filter, not, ◌==◌, None, IfOk, OnOk, OnErr, length};
-ghost use Rattle.std.specs.Prelude.{option_copied, slice_get, IfSome};
+ghost use Rattle.std.specs.Prelude.{option_copied, option_map, slice_get, IfSome};
 ghost use Rattle.proxy_core.specs.Waiting.{ExchangeMayBeWoken};
 ghost use Rattle.std.specs.List.{All};
 ghost use Rattle.std.specs.Ordering.{nat_cmp};
@@ -23,6 +23,7 @@ ghost use Rattle.proxy_core.specs.Waiters.{WaiterIsEntered, WaiterHasLeft, IsSam
 ghost use Rattle.proxy_core.specs.Waiters.{HasNoEmptyWaiterSets};
 ghost use Rattle.proxy_core.specs.Outcomes.{find_exchange};
 ghost use Rattle.proxy_core.specs.Leading.{leader, ready_ids};
+ghost use Rattle.proxy_core.specs.Scopes.{target_alone};
 ghost use Rattle.proxy_core.specs.State.{exchanges_after_close, released_exchange, overtaken_exchange};
 ghost use Rattle.proxy_core.specs.State.{exchanges_after_end, exchange_forwarded_again, exchange_sent_forward};
 
@@ -35,6 +36,7 @@ use crate::open::leading::{is_released, leads_waiters};
 use crate::open::released::Released;
 use crate::open::wait_index::WaitIndex;
 use crate::steps::condition::Condition;
+use hx_allow::PurgeScope;
 use hx_hop::Asked;
 use hx_policy::Policy;
 use hx_reuse::ReuseRule;
@@ -251,7 +253,8 @@ impl Exchanges {
 
     /// The exchange of an id ends, and the others of an invalidated key are overtaken. No memory is taken.
     pub(crate) fn leave(&mut self, id: u64, invalidated: Option<&Key>)
-        ensures { self.new ≡ exchanges_after_end (option_copied invalidated.entry) id self.old }
+        ensures { self.new
+            ≡ exchanges_after_end (option_map target_alone (option_copied invalidated.entry)) id self.old }
     {
         self.close(id);
         match invalidated {
@@ -262,10 +265,30 @@ impl Exchanges {
 
     /// Marks each exchange of a key that was invalidated or purged. It goes through those alone.
     pub(crate) fn overtake(&mut self, key: &Key)
-        ensures { self.new ≡ map (overtaken_exchange key.now) self.old }
+        ensures { self.new ≡ map (overtaken_exchange (target_alone key.now)) self.old }
     {
         overtake_indexed(&mut self.by_arrival, &self.by_key.gets, key);
         overtake_indexed(&mut self.by_arrival, &self.by_key.others, key);
+        self.released.settle(&self.by_arrival);
+    }
+
+    /// Marks each exchange within the scope of a purge that was asked for a key. For one target it goes through the
+    /// exchanges of that key alone, else through all that are open.
+    pub(crate) fn overtake_within(&mut self, reach: PurgeScope, asked: &Key)
+        ensures { self.new ≡ map (overtaken_exchange (record { reach = reach; asked = asked.now })) self.old }
+    {
+        match reach {
+            PurgeScope::Target => self.overtake(asked),
+            PurgeScope::Prefix | PurgeScope::Host | PurgeScope::All => {
+                self.overtake_all(reach, asked)
+            }
+        }
+    }
+
+    fn overtake_all(&mut self, reach: PurgeScope, asked: &Key)
+        ensures { self.new ≡ map (overtaken_exchange (record { reach = reach; asked = asked.now })) self.old }
+    {
+        overtake_each_within(&mut self.by_arrival, reach, asked);
         self.released.settle(&self.by_arrival);
     }
 }
@@ -419,7 +442,8 @@ fn release_each(by_arrival: &mut BTreeMap<u64, Exchange>, waiting: &BTreeSet<u64
 
 /// Marks those of a key that an index tells.
 fn overtake_indexed(by_arrival: &mut BTreeMap<u64, Exchange>, index: &KeyIndex, key: &Key)
-    ensures { by_arrival.new.entries ≡ map_passing (is_in_key_index index.now key.now) (overtaken_exchange key.now)
+    ensures { by_arrival.new.entries ≡ map_passing (is_in_key_index index.now key.now)
+        (overtaken_exchange (target_alone key.now))
         by_arrival.old.entries }
 {
     if let Some(arrivals) = index.find(key) {
@@ -429,7 +453,8 @@ fn overtake_indexed(by_arrival: &mut BTreeMap<u64, Exchange>, index: &KeyIndex, 
 
 /// Marks those of these arrivals that are of a key.
 fn overtake_each(by_arrival: &mut BTreeMap<u64, Exchange>, arrivals: &BTreeSet<u64>, key: &Key)
-    ensures { by_arrival.new.entries ≡ map_passing (contains nat_cmp arrivals.now) (overtaken_exchange key.now)
+    ensures { by_arrival.new.entries ≡ map_passing (contains nat_cmp arrivals.now)
+        (overtaken_exchange (target_alone key.now))
         by_arrival.old.entries }
 {
     for arrival in arrivals {
@@ -437,4 +462,16 @@ fn overtake_each(by_arrival: &mut BTreeMap<u64, Exchange>, arrivals: &BTreeSet<u
             x.overtake(key);
         }
     }
+}
+
+/// Marks those within the scope of a purge that was asked for a key.
+fn overtake_each_within(by_arrival: &mut BTreeMap<u64, Exchange>, reach: PurgeScope, asked: &Key)
+    ensures { by_arrival.new.entries
+        ≡ map_exchanges (overtaken_exchange (record { reach = reach; asked = asked.now })) by_arrival.old.entries }
+{
+    // All are retained: the contract of `retain` says what is written to each.
+    by_arrival.retain(|_, x| {
+        x.overtake_within(reach, asked);
+        true
+    });
 }

@@ -13,7 +13,7 @@ use http::Method;
 use hx_directives::{Directive, Directives};
 use hx_hop::Asked;
 use hx_policy::Policy;
-use hx_reuse::{ReuseRule, forwards_condition, lifetime_under};
+use hx_reuse::{ReuseRule, forwards_condition, forwards_range, lifetime_under};
 use hx_store::Entry;
 use std::alloc::{AllocError, Global};
 
@@ -109,11 +109,12 @@ fn may_serve(exchange: &Exchange, policy: Policy, asked: &Asked) -> bool
         && has_authorization(&exchange.asked) == has_authorization(asked)
 }
 
-/// Whether the answer to an exchange isn't for a range, and nothing that is looked at over this line keeps it back.
+/// Whether no range went to the origin for an exchange, and nothing that is looked at over this line keeps its answer
+/// back.
 fn answer_may_serve(exchange: &Exchange, policy: Policy, asked: &Asked) -> bool
     ensures { result ≡ answer_may_serve policy asked.now exchange.now }
 {
-    !exchange.asked.asks_for_range()
+    !forwards_range(policy, &exchange.asked)
         && (!policy.waits_for_stale || may_serve(exchange, policy, asked))
 }
 

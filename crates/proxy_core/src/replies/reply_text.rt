@@ -5,12 +5,13 @@ ghost use Rattle.hx_hop.specs.Answering.{answered_of};
 ghost use Rattle.hx_hop.specs.Moments.{date_text_of};
 ghost use Rattle.hx_status.specs.Member.{member_text};
 ghost use Rattle.proxy_core.specs.Replies.{passed_answer_text, fields_of_passed_answer, length_of_passed_answer};
-ghost use Rattle.proxy_core.specs.Replies.{whole_answer_text, client_has_answer, fields_of_304_sent};
+ghost use Rattle.proxy_core.specs.Replies.{whole_answer_text, client_has_answer, fields_in_place_of_answer};
 ghost use Rattle.proxy_core.specs.Replies.{not_modified_answer_text};
 ghost use Rattle.proxy_core.specs.Replies.{cache_status_of_passed_answer, detail_past_store};
 ghost use Rattle.proxy_core.specs.Replies.{ttl_of_passed_answer, refusal_reply_text, fields_of_purge, purge_reply_text};
 ghost use Rattle.proxy_core.specs.Replies.{fields_of_refusal, content_unless_head, is_head, length_unless_forbidden};
 
+use crate::replies::answer_parts::answer_in_range_text;
 use crate::replies::origin_answer::OriginAnswer;
 use http::Method;
 use hx_age::{Times, current_age, ttl};
@@ -138,21 +139,22 @@ fn fields_of_passed_answer(
     Ok(lines)
 }
 
-/// The lines of the 304 that is sent in its place.
-fn fields_of_304_sent(
+/// The lines of another response that is sent in its place, behind these of its own.
+pub(crate) fn fields_in_place_of_answer(
     alloc: Global,
     name: &str,
     answer: &OriginAnswer<'_>,
     head: &Answered,
     shown: PassedAnswerInfo,
+    own: Fields,
 ) -> Result<Fields, AllocError>
-    ensures { IfOk result (λ lines. lines ≡ fields_of_304_sent shown.policy name.now answer.now.exchange.now
+    ensures { IfOk result (λ lines. lines ≡ fields_in_place_of_answer shown.policy name.now answer.now.exchange.now
         head.now.status
-        head.now.fields answer.now.response_time shown.stored shown.rule) }
+        head.now.fields answer.now.response_time shown.stored shown.rule own) }
 {
     let came = Some(head.status);
     let member = member_of_passed_answer(alloc, name, answer, head, shown, came)?;
-    let mut lines = answer_not_modified(alloc, &head.fields)?;
+    let mut lines = own;
     lines.push(b"Cache-Status", member.as_slice())?;
     Ok(lines)
 }
@@ -169,7 +171,7 @@ fn length_of_passed_answer(head: bool, response: &Response) -> Option<u64>
 }
 
 /// An answer of the origin, whole: its head is handed in as rules see it.
-fn whole_answer_text(
+pub(crate) fn whole_answer_text(
     alloc: Global,
     name: &str,
     answer: &OriginAnswer<'_>,
@@ -201,7 +203,8 @@ fn not_modified_answer_text(
     ensures { IfOk result (λ text. text ≡ not_modified_answer_text shown.policy name.now answer.now.exchange.now
         answer.now.response.now answer.now.response_time shown.stored shown.rule) }
 {
-    let lines = fields_of_304_sent(alloc, name, answer, head, shown)?;
+    let own = answer_not_modified(alloc, &head.fields)?;
+    let lines = fields_in_place_of_answer(alloc, name, answer, head, shown, own)?;
     write_response(alloc, 304, &lines, None, answer.exchange.asked.close, &[])
 }
 
@@ -215,7 +218,7 @@ fn client_has_it(answer: &OriginAnswer<'_>, head: &Answered, policy: Policy) -> 
     keeps_conditions(policy, asked) && client_has_answer(asked, head.status, &head.fields)
 }
 
-/// An answer of the origin, as it is passed on, whole or as a 304: its head is handed in as rules see it.
+/// An answer of the origin, as it is passed on, whole, in part or as a 304: its head is handed in as rules see it.
 pub(crate) fn passed_answer_text(
     alloc: Global,
     name: &str,
@@ -230,7 +233,7 @@ pub(crate) fn passed_answer_text(
     if client_has_it(answer, head, shown.policy) {
         not_modified_answer_text(alloc, name, answer, head, shown)
     } else {
-        whole_answer_text(alloc, name, answer, head, shown)
+        answer_in_range_text(alloc, name, answer, head, shown)
     }
 }
 

@@ -1,6 +1,6 @@
 //! The bytes of a stored response that is sent.
 ghost use Rattle.std.specs.Prelude.{◌≡◌, ◌≤◌, ◌<◌, ◌+◌, [], IfOk, Some, length, slice_range};
-ghost use Rattle.hx_validate.specs.Ranges.{in_form_of, response_in_range};
+ghost use Rattle.hx_validate.specs.Ranges.{fields_of_part, in_form_of, response_in_range};
 ghost use Rattle.hx_validate.specs.declared.ranges.RangeAnswer.TheVariants.{Part, Unsatisfiable};
 ghost use Rattle.hx_age.specs.Age.{age_of};
 ghost use Rattle.hx_framing.specs.Text.{response_text};
@@ -29,10 +29,10 @@ use itoa::Buffer;
 use std::alloc::{AllocError, Global};
 
 /// The status of a part of a response (RFC 9110, section 15.3.7).
-const PARTIAL_CONTENT: u16 = 206;
+pub(crate) const PARTIAL_CONTENT: u16 = 206;
 
 /// The status where no byte of a range is there (RFC 9110, section 15.5.17).
-const RANGE_NOT_SATISFIABLE: u16 = 416;
+pub(crate) const RANGE_NOT_SATISFIABLE: u16 = 416;
 
 /// What Cache-Status tells of a stored response that is sent, beside the response itself (RFC 9211, section 2).
 #[derive(Clone, Copy)]
@@ -92,6 +92,19 @@ pub(crate) struct StoredReply<'a> {
     pub(crate) sent_at: u64,
 }
 
+/// The lines of a stored response, with the one that tells which part is sent.
+fn fields_of_part(
+    alloc: Global,
+    entry: &Entry,
+    first: usize,
+    last: usize,
+) -> Result<Fields, AllocError>
+    ensures { IfOk result (λ lines. lines ≡ fields_of_part entry.now.fields first last (length entry.now.content)) }
+{
+    let total = entry.content.len();
+    part_fields(alloc, &entry.fields, first, last, total)
+}
+
 impl StoredReply<'_> {
     /// Its bytes: the whole response, the part of it that is asked for, or a 304 to a client that has it already.
     pub(crate) fn text(&self, alloc: Global) -> Result<Bytes, AllocError>
@@ -128,7 +141,7 @@ impl StoredReply<'_> {
             (in_form_of (Part first last) self.now.entry.now) self.now.entry.now self.now.sent_at self.now.info
             self.now.asked.now) }
     {
-        let fields = part_fields(alloc, self.entry, first, last)?;
+        let fields = fields_of_part(alloc, self.entry, first, last)?;
         if head_leaves_room(&fields) {
             self.text_of_part(alloc, fields, first, last)
         } else {

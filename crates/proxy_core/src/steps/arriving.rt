@@ -4,7 +4,7 @@ ghost use Rattle.hx_directives.specs.Occurrences.{occurrences_of};
 ghost use Rattle.hx_allow.specs.Matching.{policy_of};
 ghost use Rattle.proxy_core.specs.Allowing.{verdict_of_asked, exchanges_to_wait_for};
 ghost use Rattle.hx_allow.specs.declared.verdicts.Verdict.TheVariants.{Allowed};
-ghost use Rattle.hx_store.specs.Shelf.{with_promoted, serials_of};
+ghost use Rattle.hx_store.specs.Shelf.{with_promoted};
 ghost use Rattle.hx_store.specs.Weights.{cut_to_bounds};
 ghost use Rattle.hx_reuse.specs.Rules.{decision_of};
 ghost use Rattle.hx_reuse.specs.declared.decision.Decision.TheVariants as decision;
@@ -12,13 +12,13 @@ ghost use Rattle.proxy_core.specs.Leading.{leader_if_awaited};
 ghost use Rattle.proxy_core.specs.Awaiting.{awaited_of};
 ghost use Rattle.proxy_core.specs.Revalidating.{may_be_sent_at_serial, sent_while_awaited, sent_beside};
 ghost use Rattle.proxy_core.specs.Outcomes.{hit_status_info, revalidating_status_info, find_exchange};
-ghost use Rattle.proxy_core.specs.Outcomes.{outcome_of_refusal, outcome_of_sending_stored, outcome_of_purge};
+ghost use Rattle.proxy_core.specs.Outcomes.{outcome_of_refusal, outcome_of_sending_stored};
 ghost use Rattle.proxy_core.specs.Outcomes.{outcome_of_allowed_request, outcome_of_waiting_or_forwarding, forward_text};
 ghost use Rattle.proxy_core.specs.Outcomes.{is_only_if_cached};
 ghost use Rattle.proxy_core.specs.declared.event.Event.TheVariants.{Arrive};
 ghost use Rattle.proxy_core.specs.declared.open.stage.Stage.TheVariants.{Forwarded};
 ghost use Rattle.proxy_core.specs.State.{StepIsAccepted, StepIsRefusedWith, state_after, exchange_with_leader};
-ghost use Rattle.proxy_core.specs.State.{bounds_of, entries_without_serials, overtaken_exchange};
+ghost use Rattle.proxy_core.specs.State.{bounds_of};
 
 use crate::core_fault::CoreFault;
 use crate::core_state::Core;
@@ -28,10 +28,9 @@ use crate::open::exchange::Exchange;
 use crate::open::leading::{awaited_of, has_no_store};
 use crate::open::stage::Stage;
 use crate::outcome::{Outcome, Reply};
-use crate::replies::reply_text::purged;
 use crate::replies::stored_reply::CacheStatusInfo;
 use crate::steps::condition::condition_about_serial;
-use crate::steps::finishing::{cut, remove_each};
+use crate::steps::finishing::cut;
 use crate::steps::sending::{forward_text, refuse};
 use hx_allow::{Route, Verdict};
 use hx_directives::{Directive, Directives};
@@ -125,31 +124,6 @@ impl<S: Shelf> Core<S> {
             Verdict::Looped(line) => deny_request(alloc, now, Cause::Looped(line), asked),
             Verdict::Purged(_) => Ok(self.purge(alloc, now, asked)?),
         }
-    }
-
-    /// A request that purges: what is held for its target goes, and what was asked for that before isn't stored.
-    fn purge(&mut self, alloc: Global, now: u64, asked: &Asked) -> Result<Outcome, AllocError>
-        requires { now < 253_402_300_800 }
-        ensures outcome { IfOk result (λ outcome. outcome ≡ outcome_of_purge self.old.entries now asked.now) }
-        ensures after { OnOk result (self.new ≡ record self.old {
-          entries = entries_without_serials (serials_of asked.now.target.key self.old.entries) self.old.entries;
-          exchanges = map (overtaken_exchange asked.now.target.key) self.old.exchanges;
-        }) }
-        ensures unchanged { OnErr result (self.new ≡ self.old) }
-    {
-        let key = &asked.target.key;
-        let removed = self.shelf.find(alloc, key)?;
-        let bytes = purged(alloc, now, removed.as_slice().len(), asked.close)?;
-        remove_each(&mut self.shelf, removed.as_slice());
-        self.exchanges.overtake(key);
-        Ok(Outcome::Reply(Reply {
-            bytes,
-            close: asked.close,
-            stored: None,
-            used: None,
-            removed,
-            purged: true,
-        }))
     }
 
     /// A request that the table allows.

@@ -1,6 +1,8 @@
 //! What is sent without an answer to pass on: a stored response, the proxy's own reply, a request.
 ghost use Rattle.std.specs.Prelude.{◌≡◌, ◌<◌, IfOk, option_copied};
 ghost use Rattle.proxy_core.specs.Outcomes.{outcome_of_sending_stored, outcome_of_refusal, forward_text};
+ghost use Rattle.hx_framing.specs.Text.{request_text};
+ghost use Rattle.hx_hop.specs.Forwarding.{forwarded_of};
 ghost use Rattle.proxy_core.specs.Validating.{conditions_to_send};
 ghost use Rattle.proxy_core.specs.Pending.{outcome_of_pending_reply};
 
@@ -13,7 +15,7 @@ use hx_allow::{Config, Route};
 use hx_fields::Bytes;
 use hx_framing::write_request;
 use hx_hop::{Asked, Conditions, forward_request};
-use hx_reuse::keeps_conditions;
+use hx_reuse::{fills_range, keeps_conditions, without_range};
 use hx_status::Cause;
 use hx_store::{Serials, Shelf};
 use std::alloc::{AllocError, Global};
@@ -84,7 +86,7 @@ fn conditions_to_send(condition: Option<&Condition>) -> Option<&Conditions>
 }
 
 /// The bytes of a request that goes forward over a line, with the proxy's conditions or without. The client's own may
-/// stay here.
+/// stay here, and so may its range.
 pub(crate) fn forward_text(
     alloc: Global,
     config: &Config,
@@ -94,8 +96,26 @@ pub(crate) fn forward_text(
 ) -> Result<Bytes, AllocError>
     ensures { IfOk result (λ text. text ≡ forward_text config.now line asked.now (option_copied condition.entry)) }
 {
+    let policy = config.policy(line);
     let name = config.name().as_bytes();
-    let keeps = keeps_conditions(config.policy(line), asked);
+    let keeps = keeps_conditions(policy, asked);
+    if fills_range(policy, asked) {
+        let whole = without_range(alloc, asked)?;
+        return request_bytes(alloc, &whole, name, condition, keeps);
+    }
+    request_bytes(alloc, asked, name, condition, keeps)
+}
+
+fn request_bytes(
+    alloc: Global,
+    asked: &Asked,
+    name: &[u8],
+    condition: Option<&Condition>,
+    keeps: bool,
+) -> Result<Bytes, AllocError>
+    ensures { IfOk result (λ text. text
+        ≡ request_text (forwarded_of keeps asked.now name.now (conditions_to_send (option_copied condition.entry)))) }
+{
     let request = forward_request(alloc, asked, name, conditions_to_send(condition), keeps)?;
     write_request(alloc, &request)
 }

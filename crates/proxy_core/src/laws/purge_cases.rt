@@ -1,0 +1,52 @@
+//! What a purge takes: each function's contract is a law or worked cases, and its body is empty.
+
+ghost use Rattle.std.specs.Prelude.{◌≡◌, ◌==◌, ◌&&◌, ◌∷◌, [], ℕ, List, true, false, not, codes};
+ghost use Rattle.std.specs.List.{filter, list_any};
+ghost use Rattle.hx_fields.specs.Examples.{line};
+ghost use Rattle.hx_fields.specs.FieldLines.{values_of};
+ghost use Rattle.hx_hop.specs.declared.request_view.Asked.{Asked};
+ghost use Rattle.hx_store.specs.Found.{IsAscending};
+ghost use Rattle.hx_store.specs.Serials.{serial_is_in, Distinct};
+ghost use Rattle.hx_store.specs.Shelf.{serials, serials_of, without_serials};
+ghost use Rattle.hx_store.specs.Stored.{Stored};
+ghost use Rattle.proxy_core.specs.Cases.{first_stored, get_a_with, key_of_path, post_exchange, table};
+ghost use Rattle.proxy_core.specs.Outcomes.{outcome_of_purge};
+ghost use Rattle.proxy_core.specs.Scopes.{is_purged, serials_purged};
+ghost use Rattle.proxy_core.specs.State.{open_exchanges_after};
+ghost use Rattle.proxy_core.specs.declared.event.Event.TheVariants.{Arrive};
+
+/// A request that purges takes the serial of each held response within its scope and no other, ascending; without those
+/// exactly what is outside stays. Without a scope it takes what is held for its target.
+pub fn a_purge_takes_what_is_within_its_scope()
+    ensures those { (asked : Asked) (s : ℕ) (es : List Stored) → serial_is_in s (serials_purged asked es)
+        ≡ list_any (λ e. is_purged asked e && (e.serial == s)) es }
+    ensures ascending { (asked : Asked) (es : List Stored) → IsAscending (serials_purged asked es) }
+    ensures others { (asked : Asked) (es : List Stored) → Distinct (serials es)
+        → without_serials (serials_purged asked es) es ≡ filter (λ e. not (is_purged asked e)) es }
+    ensures its_target { (asked : Asked) (es : List Stored) → values_of asked.fields (codes "Purge-Scope") ≡ []
+        → serials_purged asked es ≡ serials_of asked.target.key es }
+{}
+
+/// What goes where `/a` is purged, of what is held for `/ab`, `/a/b` and `/a`, and for `/c` on another port and host;
+/// and whose answers aren't stored then.
+pub fn what_a_purge_takes()
+    ensures target { serials_purged (get_a_with [])
+        (record first_stored { serial = 3; key = key_of_path (codes "/ab") }
+        ∷ record first_stored { serial = 2; key = key_of_path (codes "/a/b") } ∷ first_stored ∷ []) ≡ 1 ∷ [] }
+    ensures prefix { serials_purged (get_a_with (line (codes "Purge-Scope") (codes "prefix") ∷ []))
+        (record first_stored { serial = 3; key = key_of_path (codes "/ab") }
+        ∷ record first_stored { serial = 2; key = key_of_path (codes "/a/b") } ∷ first_stored ∷ []) ≡ 1 ∷ 2 ∷ [] }
+    ensures host { serials_purged (get_a_with (line (codes "Purge-Scope") (codes "host") ∷ []))
+        (record first_stored { serial = 4; key = record (key_of_path (codes "/c")) { host = codes "g" } }
+        ∷ record first_stored { serial = 3; key = record (key_of_path (codes "/c")) { port = 81 } } ∷ first_stored ∷ [])
+        ≡ 1 ∷ 3 ∷ [] }
+    ensures all { serials_purged (get_a_with (line (codes "Purge-Scope") (codes "all") ∷ []))
+        (record first_stored { serial = 4; key = record (key_of_path (codes "/c")) { host = codes "g" } }
+        ∷ record first_stored { serial = 3; key = record (key_of_path (codes "/c")) { port = 81 } } ∷ first_stored ∷ [])
+        ≡ 1 ∷ 3 ∷ 4 ∷ [] }
+    ensures overtaken { open_exchanges_after table [] (record (post_exchange 1 (codes "/a/b")) { overtaken = false }
+        ∷ post_exchange 2 (codes "/ab") ∷ [])
+        (Arrive 130 3 (get_a_with (line (codes "Purge-Scope") (codes "prefix") ∷ [])))
+        (outcome_of_purge [] 130 (get_a_with (line (codes "Purge-Scope") (codes "prefix") ∷ [])))
+        ≡ record (post_exchange 1 (codes "/a/b")) { overtaken = true } ∷ post_exchange 2 (codes "/ab") ∷ [] }
+{}
