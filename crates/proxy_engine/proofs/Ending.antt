@@ -7,7 +7,6 @@ use Rattle.hx_allow.specs.Matching.{policy_of}
 use Rattle.hx_reuse.specs.Rules.{decision_of}
 use Rattle.hx_status.specs.declared.cause.FailKind.{FailKind}
 use Rattle.hx_store.specs.Stored.{Stored}
-use Rattle.hx_target.specs.declared.keys.Key.{Key}
 use Rattle.proxy_core.specs.declared.open.exchange.Exchange.{Exchange}
 use Rattle.proxy_core.specs.declared.event.Event.TheVariants as events
 use Rattle.proxy_core.specs.declared.outcome.Outcome.{Outcome}
@@ -17,7 +16,8 @@ use Rattle.proxy_core.specs.declared.steps.fallback.Fallback.TheVariants.{Sends,
 use Rattle.proxy_core.specs.Outcomes.{find_exchange, outcome_of, outcome_of_failure, fallback_for}
 use Rattle.proxy_core.specs.Leading.{is_forwarded}
 use Rattle.proxy_core.specs.Validating.{condition_about_serial}
-use Rattle.proxy_core.specs.State.{State as CoreState, StepIsAccepted, open_exchanges_after, exchanges_after_close, exchanges_after_end, exchange_gone_forward, exchanges_after_wake, rule_of_decision, serial_named_by_decision, key_invalidated_by_response}
+use Rattle.proxy_core.specs.Scopes.{Scope}
+use Rattle.proxy_core.specs.State.{State as CoreState, StepIsAccepted, open_exchanges_after, exchanges_after_close, exchanges_after_end, exchange_gone_forward, exchanges_after_wake, rule_of_decision, serial_named_by_decision, scope_invalidated_by_response}
 use Rattle.proxy_core.proofs.Waits.{is_wait, late_no_wait}
 use Rattle.proxy_engine.specs.declared.endpoints.lookahead.Lookahead.TheVariants.{Due}
 use Rattle.proxy_engine.specs.Due.{LinkResult, Gives, Breaks}
@@ -70,16 +70,16 @@ pub record Renews (g : Exchange → Exchange) : Type 0 where
 
 -- a reply closes the exchange of an id and may overtake others; one that goes forward stays open; none waits
 abbrev pub Remains : Outcome → ℕ → List Exchange → List Exchange → Type 0
-Remains (outcomes.Reply r) id xs ys = (key : Option Key) × (ys ≡ exchanges_after_end key id xs)
+Remains (outcomes.Reply r) id xs ys = (key : Option Scope) × (ys ≡ exchanges_after_end key id xs)
 Remains (outcomes.Forward line bytes) id xs ys = (g : Exchange → Exchange) × Renews g × (ys ≡ map (renewed id g) xs)
 Remains (outcomes.Waits leader) id xs ys = ⊥
-Remains outcomes.Ended id xs ys = (key : Option Key) × (ys ≡ exchanges_after_end key id xs)
+Remains outcomes.Ended id xs ys = (key : Option Scope) × (ys ≡ exchanges_after_end key id xs)
 
 answer_remains : (table : Table) (es : List Stored) (xs : List Exchange) (now id : ℕ) (r : Response) (o : Outcome) → is_wait o ≡ false → Remains o id xs (open_exchanges_after table es xs (events.Answer now id r) o)
-answer_remains table es xs now id r (outcomes.Reply reply) n = (key_invalidated_by_response (find_exchange id xs) r, refl)
+answer_remains table es xs now id r (outcomes.Reply reply) n = (scope_invalidated_by_response (find_exchange id xs) r, refl)
 answer_remains table es xs now id r (outcomes.Forward line bytes) n = ((λ (x : Exchange). exchange_gone_forward now x.rule x.named None x), record { id = λ x. refl; stage = λ x. refl }, refl)
 answer_remains table es xs now id r (outcomes.Waits leader) n = absurd (cc)
-answer_remains table es xs now id r outcomes.Ended n = (key_invalidated_by_response (find_exchange id xs) r, refl)
+answer_remains table es xs now id r outcomes.Ended n = (scope_invalidated_by_response (find_exchange id xs) r, refl)
 
 wake_remains : (table : Table) (es : List Stored) (xs : List Exchange) (now id : ℕ) (o : Outcome) (w : Option Exchange) → is_some w ≡ true → is_wait o ≡ false → find_exchange id xs ≡ w → Remains o id xs (open_exchanges_after table es xs (events.Wake now id) o)
 wake_remains table es xs now id (outcomes.Reply reply) w there n f = (None, refl)

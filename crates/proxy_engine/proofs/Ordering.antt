@@ -11,14 +11,14 @@ use Rattle.hx_framing.specs.Progress.{stream_with_piece, stream_finished}
 use Rattle.hx_hop.specs.declared.request_view.Asked.{Asked}
 use Rattle.proxy_engine.specs.Admitted.{Refusal, asked_on_connection}
 use Rattle.hx_status.specs.declared.cause.Cause.{Cause}
-use Rattle.hx_target.specs.declared.keys.Key.{Key}
 use Rattle.proxy_core.specs.declared.open.exchange.Exchange.{Exchange}
 use Rattle.proxy_core.specs.declared.event.Event.TheVariants as events
 use Rattle.proxy_core.specs.declared.outcome.Outcome.{Outcome}
 use Rattle.proxy_core.specs.declared.outcome.Outcome.TheVariants as outcomes
 use Rattle.proxy_core.specs.Outcomes.{find_exchange}
 use Rattle.proxy_core.specs.Replies.{is_head}
-use Rattle.proxy_core.specs.State.{State as CoreState, StepIsAccepted, exchanges_after_close, exchanges_after_end, forwarded_exchange as opened_exchange, waiting_exchange as queued_exchange, line_of_verdict, exchanges_after_purge, key_purged}
+use Rattle.proxy_core.specs.Scopes.{Scope}
+use Rattle.proxy_core.specs.State.{State as CoreState, StepIsAccepted, exchanges_after_close, exchanges_after_end, forwarded_exchange as opened_exchange, waiting_exchange as queued_exchange, line_of_verdict, exchanges_after_purge, scope_purged}
 use Rattle.proxy_core.specs.Allowing.{verdict_of_asked}
 use Rattle.proxy_core.specs.Leading.{is_forwarded}
 use Rattle.proxy_core.specs.Waiting.{ExchangeMayBeWoken}
@@ -156,7 +156,7 @@ freed_order cs ks xs i j c k here h = (
 )
 
 -- the exchanges that an invalidation marks stay open
-left_order : (cs : List ConnectionModel) (ks : List LinkModel) (xs : List Exchange) (key : Option Key) (id : ℕ) → Order cs ks (exchanges_after_close id xs) → Order cs ks (exchanges_after_end key id xs)
+left_order : (cs : List ConnectionModel) (ks : List LinkModel) (xs : List Exchange) (key : Option Scope) (id : ℕ) → Order cs ks (exchanges_after_close id xs) → Order cs ks (exchanges_after_end key id xs)
 left_order cs ks xs key id h = (paired_left (map activity_of_model cs) (map owner_of_model ks) xs key id h.0, h.1)
 
 closing_order : (cs : List ConnectionModel) (ks : List LinkModel) (xs : List Exchange) (i : ℕ) (close : Bool) → (get_or cs i no_connection).activity ≡ Free → Order cs ks xs → Order (set cs i (with_closed close (get_or cs i no_connection))) ks xs
@@ -300,7 +300,7 @@ finished_order s i j o core to_head emitted after h within_links here link_open 
     base : EngineModel
     base = with_core (model_after_link_freed s j i) core
 
-    free : (key : Option Key) → core.exchanges ≡ exchanges_after_end key (i + 1) s.core.exchanges → Order cs ks core.exchanges
+    free : (key : Option Scope) → core.exchanges ≡ exchanges_after_end key (i + 1) s.core.exchanges → Order cs ks core.exchanges
     free key xs = subst (λ (xs : List Exchange). Order cs ks xs) (sym xs) (left_order cs ks s.core.exchanges key (i + 1) (freed_order s.connections s.links s.core.exchanges i j (connection_at s i) (link_at s j) here (order_of s h)))
 
     drops : (t : EngineModel) (more : List LinkModel) → t.links ≡ ks ++ more → LinkIsDropped s t (s.first + j)
@@ -475,7 +475,7 @@ wakes_order s now i emitted after h due d = by_outcome d.1.outcome (woken_remain
     to_head : Bool
     to_head = exchange_asks_head (find_exchange (i + 1) xs)
 
-    free : (key : Option Key) → d.1.core.exchanges ≡ exchanges_after_end key (i + 1) xs → Order cs s.links d.1.core.exchanges
+    free : (key : Option Scope) → d.1.core.exchanges ≡ exchanges_after_end key (i + 1) xs → Order cs s.links d.1.core.exchanges
     free key es = subst (λ (es : List Exchange). Order cs s.links es) (sym es) (left_order cs s.links xs key (i + 1) (unqueued_order s.connections s.links xs i (connection_at s i) here (order_of s h)))
 
     by_outcome : (o : Outcome) → Remains o (i + 1) xs d.1.core.exchanges → emitted ≡ effects_of_outcome i (next_link_number s) (outcome_by_table s.core.table o) → after ≡ model_after_outcome i to_head (outcome_by_table s.core.table o) base → ModelIsOrderly after × EffectsNameOpenEnds s after emitted
@@ -521,7 +521,7 @@ arrived_order s now i m asked o core to_head emitted after h inside unshut unclo
 
     by_outcome : (o : Outcome) → StepIsAccepted s.core (events.Arrive now (i + 1) asked) o core → emitted ≡ effects_of_outcome i (next_link_number s) (outcome_by_table s.core.table o) → after ≡ model_after_outcome i to_head (outcome_by_table s.core.table o) base → ModelIsOrderly after × EffectsNameOpenEnds s after emitted
     by_outcome (outcomes.Reply r) steps emitted_is after_is =
-        let key = key_purged asked (outcomes.Reply r) in
+        let key = scope_purged asked (outcomes.Reply r) in
         let same : core.exchanges ≡ exchanges_after_purge key s.core.exchanges = ap (λ (k : CoreState). k.exchanges) steps.leaves in
         let purged : Order cs s.links (exchanges_after_purge key s.core.exchanges) = (paired_purged (map activity_of_model cs) (map owner_of_model s.links) s.core.exchanges key passed.0, passed.1) in
         both_moved s (with_connection base i (with_closed r.close)) after emitted (effects_of_outcome i (next_link_number s) (Replies r.bytes r.close)) after_is emitted_is

@@ -21,10 +21,9 @@ use Rattle.proxy_core.specs.declared.core_fault.CoreFault.TheVariants.{MomentToo
 use Rattle.hx_hop.specs.declared.request_view.Asked.{Asked}
 use Rattle.hx_allow.specs.TableLines.{Table}
 use Rattle.hx_store.specs.Stored.{Stored}
-use Rattle.hx_target.specs.declared.keys.Key.{Key}
-use Rattle.hx_target.specs.Keys.{same_key}
 use Rattle.proxy_engine.proofs.Ending.{Remains, Renews, renewed}
-use Rattle.proxy_core.specs.State.{exchanges_after_close, released_exchange, forwarded_exchange, waiting_exchange, line_of_verdict, open_exchanges_after, overtaken_exchange, exchanges_after_end, exchanges_after_purge, key_purged}
+use Rattle.proxy_core.specs.Scopes.{Scope, is_in_scope}
+use Rattle.proxy_core.specs.State.{exchanges_after_close, released_exchange, forwarded_exchange, waiting_exchange, line_of_verdict, open_exchanges_after, overtaken_exchange, exchanges_after_end, exchanges_after_purge, scope_purged}
 use Rattle.proxy_core.specs.declared.outcome.Outcome.{Outcome}
 use Rattle.proxy_core.specs.declared.event.Event.{Event}
 use Rattle.proxy_core.specs.declared.event.Event.TheVariants.{Arrive, Answer, Fail, Wake}
@@ -287,16 +286,16 @@ overtaken_by true x id o p h = open_by (x.id == id)
     open_by false = h
 overtaken_by false x id o p h = out_by (x.id == id) x o p h
 
-find_overtaken : (key : Key) (id : ℕ) (xs : List Exchange) → forwarded_or_waiting_at id (map (overtaken_exchange key) xs) ≡ forwarded_or_waiting_at id xs
+find_overtaken : (key : Scope) (id : ℕ) (xs : List Exchange) → forwarded_or_waiting_at id (map (overtaken_exchange key) xs) ≡ forwarded_or_waiting_at id xs
 find_overtaken key id [] = refl
-find_overtaken key id (x ∷ xs) = overtaken_by (same_key x.asked.target.key key) x id (find_exchange id (map (overtaken_exchange key) xs)) (find_exchange id xs) (find_overtaken key id xs)
+find_overtaken key id (x ∷ xs) = overtaken_by (is_in_scope key x.asked.target.key) x id (find_exchange id (map (overtaken_exchange key) xs)) (find_exchange id xs) (find_overtaken key id xs)
 
 -- what is marked stays open
-find_left : (key : Option Key) (id other : ℕ) (xs : List Exchange) → forwarded_or_waiting_at other (exchanges_after_end key id xs) ≡ forwarded_or_waiting_at other (exchanges_after_close id xs)
+find_left : (key : Option Scope) (id other : ℕ) (xs : List Exchange) → forwarded_or_waiting_at other (exchanges_after_end key id xs) ≡ forwarded_or_waiting_at other (exchanges_after_close id xs)
 find_left None id other xs = refl
 find_left (Some key) id other xs = find_overtaken key other (exchanges_after_close id xs)
 
-pub paired_left : (activities : List Activity) (owners : List (Option ℕ)) (xs : List Exchange) (key : Option Key) (id : ℕ) → ConnectionsAndLinksArePaired activities owners (exchanges_after_close id xs) → ConnectionsAndLinksArePaired activities owners (exchanges_after_end key id xs)
+pub paired_left : (activities : List Activity) (owners : List (Option ℕ)) (xs : List Exchange) (key : Option Scope) (id : ℕ) → ConnectionsAndLinksArePaired activities owners (exchanges_after_close id xs) → ConnectionsAndLinksArePaired activities owners (exchanges_after_end key id xs)
 paired_left activities owners xs key id h = record {
   owned = h.owned;
   linked = h.linked;
@@ -436,11 +435,11 @@ paired_awake activities owners xs i g r here there h =
     (get_or-set_same activities i Free Free (waits_inside activities i here)) there (paired_unqueued activities owners xs i here h)
 
 -- a purge overtakes exchanges
-find_purged : (key : Option Key) (id : ℕ) (xs : List Exchange) → forwarded_or_waiting_at id (exchanges_after_purge key xs) ≡ forwarded_or_waiting_at id xs
+find_purged : (key : Option Scope) (id : ℕ) (xs : List Exchange) → forwarded_or_waiting_at id (exchanges_after_purge key xs) ≡ forwarded_or_waiting_at id xs
 find_purged None id xs = refl
 find_purged (Some key) id xs = find_overtaken key id xs
 
-pub paired_purged : (activities : List Activity) (owners : List (Option ℕ)) (xs : List Exchange) (key : Option Key) → ConnectionsAndLinksArePaired activities owners xs → ConnectionsAndLinksArePaired activities owners (exchanges_after_purge key xs)
+pub paired_purged : (activities : List Activity) (owners : List (Option ℕ)) (xs : List Exchange) (key : Option Scope) → ConnectionsAndLinksArePaired activities owners xs → ConnectionsAndLinksArePaired activities owners (exchanges_after_purge key xs)
 paired_purged activities owners xs key h = record {
   owned = h.owned;
   linked = h.linked;
@@ -452,7 +451,7 @@ paired_purged activities owners xs key h = record {
 pub paired_arrived : (table : Table) (cs cs1 cs2 : List (Option Connection)) (ks ks2 : List (Option Link)) (held : List Stored) (xs : List Exchange) (now i : ℕ) (asked : Asked) (o : Outcome) → i < length cs → activities_of cs1 ≡ activities_of cs → activity_at (activities_of cs) i ≡ Free
     → activities_of cs2 ≡ activities_after i (length ks) o (activities_of cs1) → owners_of ks2 ≡ owners_after i o (owners_of ks) → ConnectionsAndLinksArePaired (activities_of cs) (owners_of ks) xs → ConnectionsAndLinksArePaired (activities_of cs2) (owners_of ks2) (open_exchanges_after table held xs (Arrive now (i + 1) asked) o)
 paired_arrived table cs cs1 cs2 ks ks2 held xs now i asked (Reply r) inside same free links owners h =
-    let key = key_purged asked (Reply r) in
+    let key = scope_purged asked (Reply r) in
     paired_same _ _ _ _ (exchanges_after_purge key xs) (links ∙ same) owners (paired_purged (activities_of cs) (owners_of ks) xs key h)
 paired_arrived table cs cs1 cs2 ks ks2 held xs now i asked (Forward line bytes) inside same free links owners h =
     let size : length (owners_of ks) ≡ length ks = length-map ks owner_of in
@@ -565,7 +564,7 @@ waits_here cs i none e =
     ap is_gone_at c.1 ∙ ap (λ (b : Bool). Some b) (here_with c.0.gone (has_exchange c.0.activity) c.2 (none i c.0 c.1))
 
 -- an exchange has ended, on all sides
-pub paired_ended : (cs cs1 : List (Option Connection)) (ks ks1 : List (Option Link)) (xs xs1 : List Exchange) (i j : ℕ) → link_place_of_activity (activity_at (activities_of cs) i) ≡ Some j → activities_of cs1 ≡ set (activities_of cs) i Free → owners_of ks1 ≡ set (owners_of ks) j None → (key : Option Key) → xs1 ≡ exchanges_after_end key (i + 1) xs
+pub paired_ended : (cs cs1 : List (Option Connection)) (ks ks1 : List (Option Link)) (xs xs1 : List Exchange) (i j : ℕ) → link_place_of_activity (activity_at (activities_of cs) i) ≡ Some j → activities_of cs1 ≡ set (activities_of cs) i Free → owners_of ks1 ≡ set (owners_of ks) j None → (key : Option Scope) → xs1 ≡ exchanges_after_end key (i + 1) xs
     → ConnectionsAndLinksArePaired (activities_of cs) (owners_of ks) xs → ConnectionsAndLinksArePaired (activities_of cs1) (owners_of ks1) xs1
 paired_ended cs cs1 ks ks1 xs xs1 i j h links owners key exchanges w =
     subst (λ (ds : List Activity). ConnectionsAndLinksArePaired ds (owners_of ks1) xs1) (sym links)
@@ -587,7 +586,7 @@ paired_finished cs cs1 cs2 ks ks1 ks2 xs ys i j (Waits leader) here links owners
 paired_finished cs cs1 cs2 ks ks1 ks2 xs ys i j Ended here links owners links2 owners2 there left h = paired_ended cs cs2 ks ks2 xs ys i j here (links2 ∙ links) (owners2 ∙ owners) left.0 left.1 h
 
 -- the exchange of a request that waited has ended, on all sides
-pub paired_waited : (cs cs1 : List (Option Connection)) (os : List (Option ℕ)) (xs xs1 : List Exchange) (i : ℕ) → activity_at (activities_of cs) i ≡ Waiting → activities_of cs1 ≡ set (activities_of cs) i Free → (key : Option Key) → xs1 ≡ exchanges_after_end key (i + 1) xs
+pub paired_waited : (cs cs1 : List (Option Connection)) (os : List (Option ℕ)) (xs xs1 : List Exchange) (i : ℕ) → activity_at (activities_of cs) i ≡ Waiting → activities_of cs1 ≡ set (activities_of cs) i Free → (key : Option Scope) → xs1 ≡ exchanges_after_end key (i + 1) xs
     → ConnectionsAndLinksArePaired (activities_of cs) os xs → ConnectionsAndLinksArePaired (activities_of cs1) os xs1
 paired_waited cs cs1 os xs xs1 i h links key exchanges w =
     subst (λ (ds : List Activity). ConnectionsAndLinksArePaired ds os xs1) (sym links)

@@ -37,8 +37,8 @@ EachReasonIsCounted = (rule : ReuseRule)
 abbrev pub EachDetailIsCounted : Type 0
 EachDetailIsCounted = (rule : ReuseRule) → word_is_counted (reuse_rule_detail rule) ≡ true
 
-abbrev pub EachStepIsCounted : Type 0
-EachStepIsCounted = (step : StepDetail) → is_other (detail_of_word (detail_word step)) ≡ false
+abbrev pub EachStepDetailIsCounted : Type 0
+EachStepDetailIsCounted = (step : StepDetail) → is_other (detail_of_word (detail_word step)) ≡ false
 
 -- the word of a storing rule is counted as that rule
 abbrev pub EachStoringRuleIsCounted : Type 0

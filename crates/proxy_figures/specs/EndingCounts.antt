@@ -23,11 +23,11 @@ endings_with_lateness e late.Request = record e { request_timeouts = count_plus_
 endings_with_lateness e late.Abandon = record e { abandon_timeouts = count_plus_one e.abandon_timeouts }
 
 -- bytes that have come from clients, and that the system has taken for them
-abbrev pub endings_with_received : Endings → ℕ → Endings
-endings_with_received e count = record e { received = count_plus e.received count }
+abbrev pub endings_with_received_bytes : Endings → ℕ → Endings
+endings_with_received_bytes e count = record e { received = count_plus e.received count }
 
-abbrev pub endings_with_written : Endings → ℕ → Endings
-endings_with_written e count = record e { written = count_plus e.written count }
+abbrev pub endings_with_written_bytes : Endings → ℕ → Endings
+endings_with_written_bytes e count = record e { written = count_plus e.written count }
 
 -- one more link whose time was over
 abbrev pub link_timeouts_with : LinkTimeouts → Overtime → LinkTimeouts

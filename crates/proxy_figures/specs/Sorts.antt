@@ -63,13 +63,13 @@ details_of_rules =
 
 -- what tells that a stored response was sent after all, or while it is validated, or that a cookie kept the request
 -- from the store
-abbrev pub details_of_steps : List Detail
-details_of_steps =
+abbrev pub step_details : List Detail
+step_details =
     detail.StaleIfError ∷ (detail.ReuseAfterError ∷ (detail.ReuseAfter304 ∷ (detail.StaleWhileRevalidate
     ∷ (detail.SessionCookie ∷ []))))
 
 abbrev pub detail_of_step : List ℕ → Detail
-detail_of_step word = unwrap_or (find (λ detail. bytes_eq word (detail_name detail)) details_of_steps) detail.Other
+detail_of_step word = unwrap_or (find (λ detail. bytes_eq word (detail_name detail)) step_details) detail.Other
 
 -- by what a word is counted: the detail of that name, or else `other`
 abbrev pub detail_of_word : List ℕ → Detail

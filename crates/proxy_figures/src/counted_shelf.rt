@@ -4,7 +4,7 @@
 ghost use Rattle.std.specs.Prelude.{◌≡◌};
 
 use hx_fields::Fields;
-use hx_store::{Entry, Serials, Shelf};
+use hx_store::{Entry, EntryTest, Serials, Shelf};
 use hx_target::Key;
 use std::alloc::{AllocError, Global};
 use std::cell::Cell;
@@ -165,6 +165,10 @@ impl<'a, S: Shelf + Drop> Shelf for CountedShelf<'a, S> {
         request: &Fields,
     ) -> Result<Serials, AllocError> {
         self.shelf.find_matching(alloc, key, request)
+    }
+
+    fn find_where<T: EntryTest>(&self, alloc: Global, test: &T) -> Result<Serials, AllocError> {
+        self.shelf.find_where(alloc, test)
     }
 
     fn put(&mut self, entry: Entry, replaced: &[u64]) -> Result<Option<Entry>, Entry> {

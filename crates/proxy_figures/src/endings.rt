@@ -1,7 +1,7 @@
 //! Why connections of clients were cut, and how many bytes they received and were sent.
 ghost use Rattle.std.specs.Prelude.{◌≡◌};
 ghost use Rattle.proxy_figures.specs.EndingCounts.{endings_with_cut, endings_with_lateness};
-ghost use Rattle.proxy_figures.specs.EndingCounts.{endings_with_received, endings_with_written};
+ghost use Rattle.proxy_figures.specs.EndingCounts.{endings_with_received_bytes, endings_with_written_bytes};
 
 use crate::counts::{count_plus, count_plus_one};
 
@@ -87,14 +87,14 @@ impl Endings {
 
     /// So many bytes came from a client.
     pub fn add_received(&mut self, count: u64)
-        ensures { self.new ≡ endings_with_received self.old count }
+        ensures { self.new ≡ endings_with_received_bytes self.old count }
     {
         self.received = count_plus(self.received, count);
     }
 
     /// The system has taken so many bytes for a client.
     pub fn add_written(&mut self, count: u64)
-        ensures { self.new ≡ endings_with_written self.old count }
+        ensures { self.new ≡ endings_with_written_bytes self.old count }
     {
         self.written = count_plus(self.written, count);
     }

@@ -21,7 +21,7 @@ use std::alloc::{AllocError, Global};
 
 /// What a server can't know of itself.
 #[derive(Clone, Copy)]
-pub struct ServerFacts<'a> {
+pub struct ProgramFacts<'a> {
     pub version: &'a str,
     /// The commit that the program was built from; empty where that isn't known.
     pub commit: &'a str,
@@ -90,7 +90,7 @@ impl RecordState {
 /// What a server counts and holds.
 #[derive(Clone, Copy)]
 pub struct Figures<'a> {
-    pub about: &'a ServerFacts<'a>,
+    pub about: &'a ProgramFacts<'a>,
     /// The address that it listens on.
     pub listen: &'a str,
     /// When the page is written, in milliseconds since 1970.
@@ -111,7 +111,7 @@ pub struct Figures<'a> {
 
 fn push_server_facts(
     page: &mut Page<'_>,
-    about: &ServerFacts<'_>,
+    about: &ProgramFacts<'_>,
     now: u64,
 ) -> Result<(), AllocError> {
     page.family("revcache_build_info", Kind::Gauge, "The program that runs.")?;
@@ -137,7 +137,7 @@ fn push_server_facts(
     push_store(page, about)
 }
 
-fn push_store(page: &mut Page<'_>, about: &ServerFacts<'_>) -> Result<(), AllocError> {
+fn push_store_bounds(page: &mut Page<'_>, about: &ProgramFacts<'_>) -> Result<(), AllocError> {
     page.single_sample_family(
         "revcache_store_capacity_responses",
         Kind::Gauge,
@@ -152,6 +152,11 @@ fn push_store(page: &mut Page<'_>, about: &ServerFacts<'_>) -> Result<(), AllocE
             bytes,
         )?;
     }
+    Ok(())
+}
+
+fn push_store(page: &mut Page<'_>, about: &ProgramFacts<'_>) -> Result<(), AllocError> {
+    push_store_bounds(page, about)?;
     page.single_sample_family(
         "revcache_store_responses",
         Kind::Gauge,

@@ -1,5 +1,5 @@
 //! What the core tells of an answer has its own figure: each function's contract is the law, and its body is empty.
-ghost use Rattle.proxy_figures.specs.Counted.{EachReasonIsCounted, EachDetailIsCounted, EachStepIsCounted};
+ghost use Rattle.proxy_figures.specs.Counted.{EachReasonIsCounted, EachDetailIsCounted, EachStepDetailIsCounted};
 ghost use Rattle.proxy_figures.specs.Counted.{EachStoringRuleIsCounted, ReplyPlacesAreWithin, CausePlacesAreWithin};
 ghost use Rattle.proxy_figures.specs.Counted.{StoringRulePlacesAreWithin, UnansweredPlacesAreWithin};
 
@@ -8,7 +8,7 @@ ghost use Rattle.proxy_figures.specs.Counted.{StoringRulePlacesAreWithin, Unansw
 pub fn each_answer_is_counted_by_its_words()
     ensures reason { EachReasonIsCounted }
     ensures detail { EachDetailIsCounted }
-    ensures step { EachStepIsCounted }
+    ensures step { EachStepDetailIsCounted }
 {}
 
 /// Each storing rule that an answer may name has its own figure.

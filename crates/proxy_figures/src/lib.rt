@@ -26,7 +26,7 @@ pub use crate::accept_counts::{AcceptCounts, Troubles, is_out_of_descriptors, is
 pub use crate::asked::Asked;
 pub use crate::counted_shelf::{CountedShelf, StoreCounts};
 pub use crate::endings::{CutReason, Endings, Lateness};
-pub use crate::figures::{ClientFigures, Figures, LinkFigures, RecordState, ServerFacts};
+pub use crate::figures::{ClientFigures, Figures, LinkFigures, ProgramFacts, RecordState};
 pub use crate::link_timeouts::{LinkTimeouts, Overtime};
 pub use crate::origins::{Admission, Origin, Origins};
 pub use crate::process::ProcessFigures;

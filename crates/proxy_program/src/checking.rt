@@ -78,7 +78,11 @@ fn print_policy<R: Print>(rt: &R, policy: Policy) -> io::Result<()> {
         default_or_word(!policy.waits_for_stale, "wait = \"missing-or-stale\""),
         default_or_word(!policy.explains_storing, "explain = \"storing\""),
         default_or_word(policy.forwards_conditions, "conditions = \"answered\""),
-        default_or_word(policy.forwards_ranges, "ranges = \"served\""),
+        default_or_word(!policy.fills_ranges, "ranges = \"filled\""),
+        default_or_word(
+            policy.forwards_ranges || policy.fills_ranges,
+            "ranges = \"served\"",
+        ),
     ] {
         if !word.is_empty() {
             println!(rt; "    {word}")?;

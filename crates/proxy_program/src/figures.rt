@@ -5,7 +5,7 @@ use crate::process::process_figures;
 use crate::stats_file::StatsFile;
 use crate::warnings::RareWarning;
 use hx_store::Shelf;
-use proxy_server::{Server, ServerFacts, StoreCounts};
+use proxy_server::{ProgramFacts, Server, StoreCounts};
 use std::io;
 use std::io::{ErrorKind, Write};
 use std::net::Net;
@@ -61,7 +61,7 @@ impl<'a> Figures<'a> {
         lost_lines: u64,
     ) -> io::Result<()> {
         let facts = self.facts;
-        let about = ServerFacts {
+        let about = ProgramFacts {
             version: VERSION,
             commit: self.commit.as_str(),
             began: facts.began,

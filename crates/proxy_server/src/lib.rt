@@ -22,6 +22,6 @@ mod stats;
 pub use crate::limits::Limits;
 pub use crate::server::{ServeFault, Server, Turned};
 pub use crate::sockets::live_sockets::LiveSockets;
-pub use proxy_figures::{CountedShelf, ProcessFigures, ServerFacts, StoreCounts, Troubles};
+pub use proxy_figures::{CountedShelf, ProcessFigures, ProgramFacts, StoreCounts, Troubles};
 pub use proxy_listener::ListenAt;
 pub use proxy_record::{RecordFault, Recorder, Recording};

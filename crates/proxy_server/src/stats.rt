@@ -2,7 +2,7 @@
 
 use crate::server::Server;
 use hx_store::Shelf;
-use proxy_figures::{ClientFigures, Figures, LinkFigures, RecordState, ServerFacts};
+use proxy_figures::{ClientFigures, Figures, LinkFigures, ProgramFacts, RecordState};
 use proxy_log::Lines;
 use std::alloc::{AllocError, Global};
 use std::io::Write;
@@ -10,7 +10,7 @@ use std::net::Net;
 
 impl<'a, S: Shelf + Drop, R: Net, W: Write + Drop> Server<'a, S, R, W> {
     /// The page of figures. Its only error is out of memory. Replies are counted where the sockets keep counts.
-    pub fn stats(&self, alloc: Global, about: &ServerFacts<'_>) -> Result<Vec<u8>, AllocError> {
+    pub fn stats(&self, alloc: Global, about: &ProgramFacts<'_>) -> Result<Vec<u8>, AllocError> {
         let sockets = &self.ends.sockets;
         let (clients, links) = (&sockets.clients, &sockets.links);
         let listen = sockets.address().to_string(alloc)?;

@@ -23,8 +23,6 @@ use Rattle.hx_status.specs.declared.cause.Cause.{Cause}
 use Rattle.hx_status.specs.declared.cause.Cause.TheVariants as cause
 use Rattle.hx_status.specs.declared.cause.FailKind.{FailKind}
 use Rattle.hx_store.specs.Stored.{Stored}
-use Rattle.hx_target.specs.declared.keys.Key.{Key}
-use Rattle.hx_target.specs.Keys.{same_key}
 use Rattle.proxy_core.specs.declared.event.Event.{Event}
 use Rattle.proxy_core.specs.declared.event.Event.TheVariants as events
 use Rattle.proxy_core.specs.declared.open.exchange.Exchange.{Exchange}
@@ -40,6 +38,7 @@ use Rattle.proxy_core.specs.Awaiting.{leader_of_request}
 use Rattle.proxy_core.specs.Outcomes.{find_exchange, exchange_id_of_event, fault_at_exchange, fallback_for, outcome_of, outcome_of_arrival, outcome_of_allowed_request, outcome_without_stored_response, outcome_of_waiting_or_forwarding, outcome_of_failure, outcome_of_wake, is_only_if_cached}
 use Rattle.proxy_core.specs.Promises.{is_arrival_event, outcome_ends_exchange, outcome_goes_forward}
 use Rattle.proxy_core.specs.Replies.{is_head}
+use Rattle.proxy_core.specs.Scopes.{Scope, is_in_scope}
 use Rattle.proxy_core.specs.State.{State as CoreState, state_after, released_exchange, overtaken_exchange, forwarded_exchange, waiting_exchange}
 use Rattle.proxy_core.specs.Starts.{StoreAtStart}
 use Rattle.proxy_core.specs.Traces.{initial_state as core_begun}
@@ -261,26 +260,26 @@ released_asked i x = by_test (waits_for i x.stage)
     by_test true = refl
     by_test false = refl
 
-overtaken_asked : (key : Key) (x : Exchange) → (overtaken_exchange key x).asked ≡ x.asked
-overtaken_asked key x = by_test (same_key x.asked.target.key key)
+overtaken_asked : (key : Scope) (x : Exchange) → (overtaken_exchange key x).asked ≡ x.asked
+overtaken_asked key x = by_test (is_in_scope key x.asked.target.key)
   where
     by_test : (b : Bool) → (cond b (record x { overtaken = true }) x).asked ≡ x.asked
     by_test true = refl
     by_test false = refl
 
-changed_none : (key : Option Key) (i : Option ℕ) → changed_by key i None ≡ None
+changed_none : (key : Option Scope) (i : Option ℕ) → changed_by key i None ≡ None
 changed_none None None = refl
 changed_none None (Some i) = refl
 changed_none (Some key) None = refl
 changed_none (Some key) (Some i) = refl
 
-changed_some : (key : Option Key) (i : Option ℕ) (x : Exchange) → (z : Exchange) × (changed_by key i (Some x) ≡ Some z) × (z.asked ≡ x.asked)
+changed_some : (key : Option Scope) (i : Option ℕ) (x : Exchange) → (z : Exchange) × (changed_by key i (Some x) ≡ Some z) × (z.asked ≡ x.asked)
 changed_some None None x = (x, refl, refl)
 changed_some None (Some i) x = (released_exchange i x, refl, released_asked i x)
 changed_some (Some key) None x = (overtaken_exchange key x, refl, overtaken_asked key x)
 changed_some (Some key) (Some i) x = (overtaken_exchange key (released_exchange i x), refl, overtaken_asked key (released_exchange i x) ∙ released_asked i x)
 
-changed_here : (G : Type 0) (key : Option Key) (i : Option ℕ) (x : Option Exchange) (said : List Said) → Here G said x → Here G said (changed_by key i x)
+changed_here : (G : Type 0) (key : Option Scope) (i : Option ℕ) (x : Option Exchange) (said : List Said) → Here G said x → Here G said (changed_by key i x)
 changed_here G key i x said here = record { standing = here.standing; stands = here.stands; last = by_standing here.standing here.last; gone = here.gone }
   where
     none : x ≡ None → changed_by key i x ≡ None
