@@ -1,8 +1,8 @@
 //! What a line says of caching, in a case: `words` and each word as `lifetime=60`, with the values of the operator's
 //! table of version 4. A line of version 3 with that lifetime has `error-lifetime=60` too. One of version 4 has
-//! `conditions=answered` and `ranges=served` without these words, and where it gives a lifetime `cookies=private` and,
-//! without a word on Set-Cookie, `set-cookie-lifetime=none`; where it has `wait=missing-or-stale` also
-//! `while-revalidating=sent`. The last two are no words of a table.
+//! `conditions=answered` without that word, `ranges=served` without a word on ranges, and where it gives a lifetime
+//! `cookies=private` and, without a word on Set-Cookie, `set-cookie-lifetime=none`; where it has
+//! `wait=missing-or-stale` also `while-revalidating=sent`. The last two are no words of a table.
 
 use hx_policy::Policy;
 use std::alloc::AllocError;
@@ -29,6 +29,10 @@ fn with_word(policy: Policy, word: &str) -> Option<Policy> {
         ("explain", "storing") => policy.explains_storing = true,
         ("conditions", "answered") => policy.forwards_conditions = false,
         ("ranges", "served") => policy.forwards_ranges = false,
+        ("ranges", "filled") => {
+            policy.forwards_ranges = false;
+            policy.fills_ranges = true;
+        }
         _ => return None,
     }
     Some(policy)
@@ -106,5 +110,10 @@ pub fn write_words(text: &mut String, policy: Policy) -> Result<(), AllocError> 
     )?;
     write_unless(text, !policy.explains_storing, " explain=storing")?;
     write_unless(text, policy.forwards_conditions, " conditions=answered")?;
-    write_unless(text, policy.forwards_ranges, " ranges=served")
+    write_unless(text, !policy.fills_ranges, " ranges=filled")?;
+    write_unless(
+        text,
+        policy.forwards_ranges || policy.fills_ranges,
+        " ranges=served",
+    )
 }
