@@ -28,6 +28,26 @@ errors = "not-stored"
 request-directives = "ignored"
 """
 EXPLAINED = WORDS + b'explain = "storing"\n'
+# Of version 4, with a bound of bytes within which some hundred are held; and with all words of a line as well.
+BOUNDED = TABLE.replace(b"version = 1", b"version = 4").replace(b"max_stored = 1000000", b"max_stored = 100000\nmax_store = 262144")
+ALL_WORDS = BOUNDED + b"""lifetime = 60
+error-lifetime = 5
+lifetime-most = 86400
+stale-if-error = 3600
+stale-while-revalidate = 60
+set-cookie = "removed"
+cookies = "private"
+session-cookies = ["sid", "login"]
+errors = "not-stored"
+request-directives = "ignored"
+wait = "missing-or-stale"
+explain = "storing"
+conditions = "answered"
+loops = "refused"
+vary = ["X-Forwarded-Proto"]
+origin-timeout = 5
+ranges = "served"
+"""
 # 4,096 lines of version 4: of hosts and the hosts below them, and two for every host, of which the last has what is asked for.
 TOP, LINE = TABLE.replace(b"version = 1", b"version = 4").partition(b"[[line]]")[::2]
 OF_HOSTS = [LINE.replace(b'"*"', b'["h%d.example.com", "*.h%d.example.com"]' % (i, i), 1) for i in range(4094)]
@@ -121,6 +141,7 @@ hit("hit_browser", "with twelve lines, as a browser sends them", *BROWSER)
 hit("head", "HEAD", HOST, method=b"HEAD", content=b"")
 hit("not_modified", "a 304 to the client: If-None-Match has the stored tag", HOST, b'If-None-Match: "v1"', status=304, content=b"")
 hit("hit_words", "a hit over a line with six words", HOST, table=EXPLAINED)
+hit("hit_all_words", "a hit over a line with all words, within a bound of bytes", HOST, table=ALL_WORDS)
 hit("hit_lines", "a hit under 4,096 lines: of hosts, of the hosts below them and of every host", HOST, table=MANY_LINES)
 hit(
     "hit_lifetime",
@@ -131,6 +152,7 @@ hit(
 )
 miss("stored", "a miss that is stored", kept, STORED)
 miss("stored_full", "a miss that is stored in the place of another", kept, STORED, table=FULL)
+miss("stored_bounded", "the same within a bound of bytes", kept, STORED, table=BOUNDED)
 miss("passed", "a miss that isn't stored", passed, PASSED)
 miss("passed_words", "the same over a line with five words", passed, PASSED, table=WORDS)
 miss(

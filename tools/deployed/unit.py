@@ -7,7 +7,7 @@ import socket
 import stat
 import subprocess
 
-from deployed.stand import deployed, free_port, need, part, wait_until
+from deployed.stand import DEPLOY, deployed, free_port, need, part, wait_until
 from live.expect import Unexpected, expect, expect_within
 
 
@@ -31,10 +31,12 @@ def analyze(*words):
 
 
 def systemd_reads_it(stand):
-    """`systemd-analyze verify` has nothing to say, of the unit, of its socket, and of the template that OPERATIONS makes of it."""
+    """`systemd-analyze verify` has nothing to say, of the unit, of its socket, of the template that OPERATIONS makes of it, and of the unit
+    that keeps records."""
     stand.file("revcache.socket", deployed("revcache.socket", {}))
     unit_file(stand, "revcache@.service", [("127.0.0.1:8080", "127.0.0.1:%i")])
-    for it in (unit_file(stand), f"{stand.folder}/revcache@8101.service", f"{stand.folder}/revcache.socket"):
+    stand.file("revcache-records.service", deployed("revcache-records.service", {"/usr/local/bin/revcache-records": f"{DEPLOY}/revcache-records"}))
+    for it in (unit_file(stand), *(f"{stand.folder}/{name}" for name in ("revcache@8101.service", "revcache.socket", "revcache-records.service"))):
         status, out, err = analyze("verify", it)
         said = [line for line in (out + err).splitlines() if "revcache" in line]
         expect(f"from systemd-analyze verify {it} status and lines", (0, []), (status, said))
@@ -101,9 +103,9 @@ def line_where_it_listens(served):
 
 
 def its_socket_is_handed_on(stand):
-    """The commands of socket.conf as they stand but for their folders: ExecStart is that of the unit but for the socket and the store, serves
-    what systemd-socket-activate hands on, and ends where ExecReload says so; that does nothing where the table has a mistake. At its end the
-    store is there for nobody else to read, and the next start takes it away."""
+    """The commands of socket.conf as they stand but for their folders: ExecStart is that of the unit but for the socket and the store, and that of
+    with-record.conf but for the record and a drain's time. It serves what systemd-socket-activate hands on, and ends where ExecReload says so; that
+    does nothing where the table has a mistake. At its end the store is there for nobody else to read, and the next start takes it away."""
     need("systemd-socket-activate")
     port, run, state = free_port(), f"{stand.folder}/socket-run", f"{stand.folder}/state"
     for it in (f"{stand.folder}/log", run, state):
@@ -111,14 +113,15 @@ def its_socket_is_handed_on(stand):
     path = stand.file("socket-table.toml", deployed("table.toml", {}))
     words = {"/usr/local/bin/revcache": stand.program, "/etc/revcache/table.toml": path, "%t/%N": run, "%L/%N": f"{stand.folder}/log", "%S/%N": state}
     starts, reload = [], ""
-    for name in ("revcache.service", "socket.conf"):
+    for name in ("revcache.service", "socket.conf", "with-record.conf"):
         for line in deployed(name, words).splitlines():
             if line.startswith("ExecStart="):
                 starts.append(line.partition("=")[2])
             if line.startswith("ExecReload="):
                 reload = shlex.split(line.partition("=")[2])
     kept = starts[0].replace("127.0.0.1:8080", "fd:3") + f" --store {state}/store"
-    expect("ExecStart of both", [starts[0], "", kept], starts)
+    recorded = f"{kept} --record {state}/record.%%s --drain-timeout 5"
+    expect("ExecStart of the three", [starts[0], "", kept, "", recorded], starts)
     with handed_on(port, starts[2]) as served:
         try:
             stand.file("socket-table.toml", deployed("table.toml", {'path = "/admin"': 'path = "/admin/"'}))

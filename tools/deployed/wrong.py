@@ -41,6 +41,7 @@ WRONG = [
     ("revcache.service", "UMask=0022", "UMask=0077", "unit"),
     ("socket.conf", "--listen fd:3", "--listen 127.0.0.1:8080", "unit"),
     ("socket.conf", " --store %S/%N/store", "\n# --store %S/%N/store", "unit"),
+    ("with-record.conf", " --store %S/%N/store", "", "unit"),
     ("socket.conf", "check /etc/revcache/table.toml && touch", "check /etc/revcache/table.toml; touch", "unit"),
     ("revcache.service", " --stats %t/%N/revcache.prom", "", "unit"),
 ]

@@ -8,6 +8,8 @@ PLAIN, CHANGE = "In plain words", "What can be changed"
 CHANGERS = {"Origin", "Client", "Operator", "to do"}
 # How the row of a response is named that was stored when its lifetime was over.
 BORN_OLD = "ttl=-N;stored"
+# How the row of a purge is named.
+PURGED = "Purged: N"
 WHO = re.compile(r"(?:^|(?<=[.;] ))(Origin|Client|Operator|Nothing)(?=[:,.])")
 
 
@@ -142,6 +144,11 @@ class Words:
         return self.of_table(
             f"detail-{word}", f"detail={word}", "Detail", word, defined, [("in a log", self.log_words(word))]
         )
+
+    def purged(self):
+        """What is said of a purge."""
+        defined = self.sources.place("fields_of_purge")
+        return self.of_table("purged", PURGED, "Detail", PURGED, defined)
 
     def born_old(self):
         """What is said where a response was stored whose lifetime was over by then."""

@@ -141,6 +141,7 @@ def of_words(words, root):
         for name in words.sources.table(function, type):
             yield f"{type} {name}", lacking(make(words, name), root)
     yield "born old", lacking(words.born_old(), root)
+    yield "purged", lacking(words.purged(), root)
     for it in sorted(words.sources.parameters() - {"fwd", "detail", "stale-if-error"}):
         yield f"parameter {it}", lacking(words.parameter(it), root, ("the proxy", "where", "standard", "defined in"))
 

@@ -111,6 +111,8 @@ class Texts:
         more = {it.partition("=")[0]: it.partition("=")[2] for it in rest}
         if re.fullmatch(r"denied by line [0-9N]+", text):
             return [self.words.cause("Denied")]
+        if re.fullmatch(r"Purged: [0-9N]+", text):
+            return [self.words.purged()]
         if re.fullmatch(r"loop refused by line [0-9N]+", text):
             return [self.words.cause("Looped")]
         if text == NAMES_OF_CAUSES["NoLine"]:

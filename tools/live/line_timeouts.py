@@ -94,6 +94,7 @@ def a_check_shows_the_time_out_of_a_line(stage):
         ({"origin-timeout": 5}, ['cache = "on"', 'conditions = "answered"', 'ranges = "served"', 'loops = "refused"', "origin-timeout = 5"]),
         ({"origin-timeout": 86400, "cache": "off"}, ['cache = "off"', 'loops = "refused"', "origin-timeout = 86400"]),
         ({}, ['cache = "on"', 'conditions = "answered"', 'ranges = "served"', 'loops = "refused"']),
+        ({"ranges": "filled"}, ['cache = "on"', 'conditions = "answered"', 'ranges = "filled"', 'loops = "refused"']),
     ):
         with open(file, "w", encoding="utf-8") as it:
             it.write(table_of([("/", ["*"], "127.0.0.1:1", words)], version=4))

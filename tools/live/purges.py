@@ -38,7 +38,7 @@ def what_is_held_for_a_target_is_purged_by_its_key(stage):
     client = proxy.client()
     for path, lines in (("/a", ("X-A: 1",)), ("/a", ("X-A: 2",)), ("/a/b", ()), ("/a?b", ())):
         expect("status", 200, client.ask(path, *lines).status)
-    others = ("Purge-Scope: prefix", "purge-tag: news", "Purge-Mode: stale", "Purge-Anything: x")
+    others = ("Purge-Scope: site", "Purge-Scope: ALL", "purge-tag: news", "Purge-Mode: stale", "Purge-Anything: x")
     for lines in ((), (f"Purge-Key: {KEY[:-1]}z",), (f"Purge-Key: {KEY[:-1]}",), (f"Purge-Key: {KEY}x",), (f"Key: {KEY}",), *((SHOWN, it) for it in others)):
         expect_refusal(client.ask("/a", *lines, method="PURGE"), 403, DENIED)
     expect_answer(client.ask("/a", "X-A: 1"), 200, "edge;hit;ttl=60", b"page")
@@ -49,8 +49,55 @@ def what_is_held_for_a_target_is_purged_by_its_key(stage):
     expect("another hit", b"page", client.ask("/a?b").content)
     expect_asked(origin, 5)
     samples = figures_with(file, of("responses_total", code=204), 2)
-    counts = {"hit": 3, "uri-miss": 4, "vary-miss": 1, "denied": 9, "purged": 2}
+    counts = {"hit": 3, "uri-miss": 4, "vary-miss": 1, "denied": 10, "purged": 2}
     expect_samples(samples, {of("requests_total", reason=reason, detail=""): n for reason, n in counts.items()})
+
+
+@scenario
+def a_purge_takes_what_is_within_its_scope(stage):
+    """By Purge-Scope a prefix, a host or all goes: `/a` with its query and what is below it, not `/ab`; and no other host."""
+    targets = ("/a", "/a?b", "/a/", "/a/b?c", "/ab", "/b")
+    proxy, origin = purging(stage, {path.partition("?")[0]: whole(200, MINUTE, content=b"page") for path in targets}, capacity=100)
+    client = proxy.client()
+
+    def purge(target, scope, count):
+        expect_purged(client.ask(target, SHOWN, f"Purge-Scope: {scope}", method="PURGE"), count)
+
+    def expect_held(host, held):
+        for path in targets:
+            answer = client.ask(f"http://{host}{path}", "Cache-Control: only-if-cached")
+            expect(f"status of {host}{path}", 200 if path in held else 504, answer.status)
+
+    for host in ("h", "g"):
+        for path in targets:
+            expect("status", 200, client.ask(f"http://{host}{path}").status)
+    purge("/a", "prefix", 4)
+    expect_held("h", ("/ab", "/b"))
+    expect_held("g", targets)
+    purge("http://g/a/", "prefix", 2)
+    expect_held("g", ("/a", "/a?b", "/ab", "/b"))
+    purge("/x", "host", 2)
+    expect_held("h", ())
+    purge("/x", "all", 4)
+    expect_held("g", ())
+    expect_asked(origin, 12)
+
+
+@scenario
+def what_was_asked_for_before_a_purge_of_its_prefix_is_not_stored(stage):
+    """An answer on its way for a target below a purged path isn't stored; one beside it is."""
+    go = threading.Event()
+    answers = {path: held_back(go, whole(200, MINUTE, content=b"old")) for path in ("/a/b", "/ab")}
+    proxy, origin = purging(stage, answers)
+    below, beside = sent(proxy, "/a/b"), sent(proxy, "/ab")
+    time.sleep(READ)
+    expect_purged(proxy.client().ask("/a", SHOWN, "Purge-Scope: prefix", method="PURGE"), 0)
+    go.set()
+    for it in (below, beside):
+        expect("content", b"old", it.response().content)
+    for path in ("/a/b", "/ab"):
+        expect("content", b"old", proxy.client().ask(path).content)
+    expect_asked(origin, 3)
 
 
 @scenario

@@ -5,6 +5,7 @@ import subprocess
 import threading
 import time
 
+from live.client import request
 from live.expect import expect, expect_answer
 from live.line_words import MINUTE, MISS, PAST_A_SECOND, SECOND, by_words, expect_asked
 from live.origin import held_back, whole
@@ -14,6 +15,7 @@ from live.waiting import asking
 
 PAGE = bytes(range(256)) * 40
 STORED, HIT = "edge;fwd=uri-miss;ttl=60;stored", "edge;hit;ttl=60"
+FILLED = "edge;fwd=uri-miss;fwd-status=200;ttl=60;stored"
 
 
 def filled(stage, *lines, words=None, content=PAGE, version=4):
@@ -145,6 +147,53 @@ def ranges_go_forward_where_a_line_says_so(stage):
             expect_answer(client.ask("/a", "Range: bytes=0-1"), 206, "edge;fwd=bypass;detail=range", PAGE[:2])
         expect_asked(origin, 3)
         expect_answer(client.ask("/a"), 200, HIT, PAGE)
+
+
+@scenario
+def a_range_fills_the_store_with_the_whole(stage):
+    """`ranges = "filled"`: a range first. The origin is asked without Range and If-Range; the client gets its part, and the whole, and other
+    ranges, are hits behind it."""
+    client, origin = by_words(stage, {"ranges": "filled"}, {"/a": whole(200, MINUTE, TAG, content=PAGE)}, 4)
+    expect_part(client.ask("/a", "Range: bytes=256-511", 'If-Range: "v1"'), 256, 511, FILLED)
+    sent = origin.fetches[0].value("Range"), origin.fetches[0].value("If-Range")
+    expect("Range and If-Range at the origin", (None, None), sent)
+    expect_answer(client.ask("/a"), 200, HIT, PAGE)
+    expect_part(client.ask("/a", "Range: bytes=-10"), len(PAGE) - 10, len(PAGE) - 1)
+    expect_asked(origin, 1)
+
+
+@scenario
+def each_of_a_crowd_of_ranges_gets_its_own_part(stage):
+    """`ranges = "filled"`: 20 GETs of different ranges at once. The origin is asked once, and each gets its own part of the answer."""
+    go = threading.Event()
+    client, origin = by_words(stage, {"ranges": "filled"}, {"/a": held_back(go, whole(200, MINUTE, TAG, content=PAGE))}, 4)
+    proxy = stage.proxies[-1]
+    ranged = [asking(proxy, 1, "/a", "Range: bytes=0-9")[0]]
+    origin.wait_for(1)
+    for at in range(1, 20):
+        ranged.append(proxy.client())
+        ranged[-1].send(request("/a", f"Range: bytes={at * 100}-{at * 100 + 9}"))
+    expect_waiting(ranged)
+    expect_asked(origin, 1, " so far")
+    go.set()
+    for at, it in enumerate(ranged):
+        expect_part(it.response(), at * 100, at * 100 + 9, "edge;fwd=uri-miss;ttl=60;collapsed" if at else FILLED)
+    expect_answer(client.ask("/a"), 200, HIT, PAGE)
+    expect_asked(origin, 1)
+
+
+@scenario
+def a_range_of_what_may_not_be_stored_gets_its_part(stage):
+    """`ranges = "filled"`: a part of an answer with no-store, each time from the origin; a 416 behind its end, and the whole where If-Range
+    names another page. An error is passed on as it came."""
+    answers = {"/a": whole(200, "Cache-Control: no-store", TAG, content=PAGE), "/missing": whole(404, content=PAGE)}
+    client, origin = by_words(stage, {"ranges": "filled"}, answers, 4)
+    part = "edge;fwd=uri-miss;fwd-status=200"
+    expect_part(client.ask("/a", "Range: bytes=5-9"), 5, 9, part)
+    expect_answer(client.ask("/a", f"Range: bytes={len(PAGE)}-"), 416, part, b"")
+    expect_answer(client.ask("/a", "Range: bytes=5-9", 'If-Range: "v0"'), 200, MISS, PAGE)
+    expect_answer(client.ask("/missing", "Range: bytes=5-9"), 404, MISS, PAGE)
+    expect("Range at the origin", [None] * 4, [it.value("Range") for it in origin.fetches])
 
 
 @scenario
