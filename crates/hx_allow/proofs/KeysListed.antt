@@ -12,7 +12,7 @@ use Rattle.hx_allow.specs.LineWords.{key_has_text, word_of_error_lifetime, line_
 use Rattle.hx_allow.specs.Keys.{word_key}
 use Rattle.hx_allow.specs.Rows.{line_keys, word_row, has_keys_of}
 use Rattle.hx_allow.specs.Versions.{LineHasNoCachingWord}
-use Rattle.hx_allow.specs.declared.config_faults.LineWord.TheVariants.{Lifetime, ErrorLifetime, LifetimeMost, StaleIfError, SetCookie, Cookies, SessionCookies, Errors, RequestDirectives, Wait, Explain, Conditions, Loops, StaleWhileRevalidate, Vary, OriginTimeout, PurgeKey, Ranges}
+use Rattle.hx_allow.specs.declared.config_faults.LineWord.TheVariants.{Lifetime, ErrorLifetime, LifetimeMost, StaleIfError, SetCookie, Cookies, SessionCookies, Errors, RequestDirectives, Wait, Explain, Conditions, Loops, StaleWhileRevalidate, Vary, OriginTimeout, PurgeKey, Ranges, WaitTimeout}
 use Rattle.hx_allow.specs.declared.rows.LineKey.{LineKey}
 use Rattle.hx_allow.specs.declared.rows.LineKey.TheVariants.{Host, Methods, Path, Origin, Cache, Word}
 use Rattle.hx_allow.specs.declared.values.TableVersion.{TableVersion}
@@ -45,6 +45,7 @@ listed P all (Word Vary) = all 19 Host (omega arith)
 listed P all (Word OriginTimeout) = all 20 Host (omega arith)
 listed P all (Word PurgeKey) = all 21 Host (omega arith)
 listed P all (Word Ranges) = all 22 Host (omega arith)
+listed P all (Word WaitTimeout) = all 23 Host (omega arith)
 
 -- where no word on caching stands, the policy is that of the versions before the third, in a version before the fourth,
 -- or where the line takes none

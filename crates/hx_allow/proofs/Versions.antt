@@ -23,7 +23,7 @@ use Rattle.hx_allow.specs.Versions.{LineHasNoWord, LineHasNoWordOfFour, LineIsSp
 use Rattle.hx_allow.specs.declared.config_faults.ConfigFault.{ConfigFault}
 use Rattle.hx_allow.specs.declared.config_faults.ConfigFault.TheVariants.{UnknownKey, BadNumber, BadCache, BadWord, MethodInLowerCase, StarInPath}
 use Rattle.hx_allow.specs.declared.config_faults.LineWord.{LineWord}
-use Rattle.hx_allow.specs.declared.config_faults.LineWord.TheVariants.{Lifetime, ErrorLifetime, LifetimeMost, StaleIfError, SetCookie, Cookies, SessionCookies, Errors, RequestDirectives, Wait, Explain, Conditions, Loops, StaleWhileRevalidate, Vary, OriginTimeout, PurgeKey, Ranges}
+use Rattle.hx_allow.specs.declared.config_faults.LineWord.TheVariants.{Lifetime, ErrorLifetime, LifetimeMost, StaleIfError, SetCookie, Cookies, SessionCookies, Errors, RequestDirectives, Wait, Explain, Conditions, Loops, StaleWhileRevalidate, Vary, OriginTimeout, PurgeKey, Ranges, WaitTimeout}
 use Rattle.hx_allow.specs.declared.config_faults.NumberKey.TheVariants.{Version, Capacity, MaxBody, MaxStored, MaxStore}
 use Rattle.hx_allow.specs.declared.rows.LineKey.{LineKey}
 use Rattle.hx_allow.specs.declared.rows.LineKey.TheVariants.{Host, Methods, Path, Origin, Cache, Word}
@@ -169,6 +169,7 @@ known_in_four key other = any_alike (λ known. is_key_of Four key (line_row know
     alike (Word OriginTimeout) = other OriginTimeout refl
     alike (Word PurgeKey) = other PurgeKey refl
     alike (Word Ranges) = other Ranges refl
+    alike (Word WaitTimeout) = other WaitTimeout refl
 
 same_unknown_of_four : (ms : Members) → LineHasNoWordOfFour ms → first_unknown (Line Four) ms ≡ first_unknown (Line Three) ms
 same_unknown_of_four no_members none = refl
@@ -396,6 +397,7 @@ unknown_word_of_four Three Vary since before = refl
 unknown_word_of_four Three OriginTimeout since before = refl
 unknown_word_of_four Three PurgeKey since before = refl
 unknown_word_of_four Three Ranges since before = refl
+unknown_word_of_four Three WaitTimeout since before = refl
 unknown_word_of_four Four word since before = cc
 
 never_of_new_words : (version : TableVersion) (line : ℕ) (word : LineWord) (n : ℕ) (ms : Members) (key : LineKey) → (word_row word).since ≡ Four → has_keys_of version Four ≡ false → first_unknown (Line version) ms ≡ None → is_good version ms key ≡ false → ¬ (fault_of_line_key n key ≡ BadWord line word)
@@ -617,7 +619,7 @@ is_line_of_three version n ms before none =
     let vary : get_member (codes "vary") ms ≡ None = not_among_known (Line version) (codes "vary") ms (unknown_word_of_four version Vary refl before) known in
     let timeout : get_member (codes "origin-timeout") ms ≡ None = not_among_known (Line version) (codes "origin-timeout") ms (unknown_word_of_four version OriginTimeout refl before) known in
     let key : get_member (codes "key") ms ≡ None = not_among_known (Line version) (codes "key") ms (unknown_word_of_four version PurgeKey refl before) known in
-    (rw before refl, rw most refl, rw before refl, rw before refl, rw before refl, rw before refl, rw before refl, rw before refl, rw stale refl, and_none (key_has_text (codes "wait") (codes "missing-or-stale") ms) before, rw before refl, rw cookies refl, rw vary refl, rw timeout refl, rw key refl)
+    (rw before refl, rw most refl, rw before refl, rw before refl, rw before refl, rw before refl, rw before refl, rw before refl, rw stale refl, and_none (key_has_text (codes "wait") (codes "missing-or-stale") ms) before, rw before refl, rw cookies refl, rw vary refl, rw timeout refl, rw key refl, rw before refl)
   where
     and_none : {b : Bool} (a : Bool) → b ≡ false → (a && b) ≡ false
     and_none true e = e

@@ -111,6 +111,7 @@ line_with_method host name path origin = record {
   vary = [];
   origin_timeout = None;
   purge_key = None;
+  wait_timeout = None;
 }
 
 -- one for each method, with these hosts and paths
@@ -126,6 +127,7 @@ line_with_lists hosts paths origin = record {
   vary = [];
   origin_timeout = None;
   purge_key = None;
+  wait_timeout = None;
 }
 
 -- what a line without words says in a table of version 4: requests with a cookie and responses with Set-Cookie are
@@ -148,6 +150,7 @@ abbrev pub line_of_four : Line
 line_of_four = record (line_with_method None (codes "GET") (codes "/") origin_8081) {
   policy = plain_of_four;
   refuses_loops = true;
+  wait_timeout = Some 5;
 }
 
 -- the first line denies a path, the second allows to get any
@@ -195,6 +198,12 @@ abbrev pub lines_with_timeouts : List Line
 lines_with_timeouts =
     record line_of_four { origin_timeout = Some 5 } ∷ line_of_four
     ∷ record line_of_four { origin_timeout = Some 7 } ∷ []
+
+-- a line over which requests wait for 5 seconds, one that says nothing of it, and one over which they wait for 7
+abbrev pub lines_with_waits : List Line
+lines_with_waits =
+    record line_of_four { wait_timeout = Some 5 } ∷ record line_of_four { wait_timeout = None }
+    ∷ record line_of_four { wait_timeout = Some 7 } ∷ []
 
 -- a key of 16 letters and digits
 abbrev pub purge_key : List ℕ

@@ -15,7 +15,7 @@ use Rattle.hx_allow.specs.LineHosts.{begins_with_star_dot, line_host_of}
 use Rattle.hx_allow.specs.TableLines.{Line as PlainLine}
 use Rattle.hx_allow.specs.LineWords.{key_has_one_of_two, key_has_text, line_has_no_origin, line_takes_words}
 use Rattle.hx_allow.specs.LineWords.{line_purges}
-use Rattle.hx_allow.specs.LineWords.{policy_of_line_table, refuses_loops, seconds_for_origin}
+use Rattle.hx_allow.specs.LineWords.{policy_of_line_table, refuses_loops, seconds_for_origin, seconds_to_wait}
 use Rattle.hx_allow.specs.Matching.{is_never_allowed}
 use Rattle.hx_allow.specs.Purges.{is_purge_key}
 use Rattle.hx_allow.specs.Rows.{Kind, a_number, some_seconds, one_of, a_host, some_methods, a_path, an_origin, Row}
@@ -197,6 +197,7 @@ line_read version ms = record {
   vary = texts_of (unwrap_or (items_at (codes "vary") ms) no_items);
   origin_timeout = seconds_for_origin ms;
   purge_key = text_at (word_row PurgeKey).key ms;
+  wait_timeout = seconds_to_wait version ms;
 }
 
 abbrev pub fault_of_line_item : TableVersion → ℕ → Option Members → Option ConfigFault

@@ -14,7 +14,7 @@
 -- sends_while_revalidating: what is stale is sent while it is validated
 -- policy_of_line_table: what a line without fault says
 use Rattle.std.specs.Prelude.{ℕ, Bool, false, not, ◌&&◌, ◌||◌, if◌then◌else◌, List, codes, bytes_eq, Option}
-use Rattle.std.specs.Prelude.{is_some}
+use Rattle.std.specs.Prelude.{is_some, unwrap_or, Some, None}
 use Rattle.toml.specs.Data.{Members, get_member}
 use Rattle.hx_policy.specs.declared.words.Policy.{Policy}
 use Rattle.hx_allow.specs.Rows.{Kind, one_of, one_of_in_four, one_of_three, Row, word_row, line_row, has_keys_of}
@@ -22,8 +22,8 @@ use Rattle.hx_allow.specs.Values.{text_at, is_some_and, number_in}
 use Rattle.hx_allow.specs.declared.config_faults.LineWord.{LineWord}
 use Rattle.hx_allow.specs.declared.config_faults.LineWord.TheVariants.{Lifetime, ErrorLifetime, StaleIfError, SetCookie}
 use Rattle.hx_allow.specs.declared.config_faults.LineWord.TheVariants.{Errors, RequestDirectives, Wait, Explain}
-use Rattle.hx_allow.specs.declared.config_faults.LineWord.TheVariants.{LifetimeMost, Cookies, Conditions, Loops}
-use Rattle.hx_allow.specs.declared.config_faults.LineWord.TheVariants.{StaleWhileRevalidate, OriginTimeout, Ranges}
+use Rattle.hx_allow.specs.declared.config_faults.LineWord.TheVariants.{LifetimeMost, Cookies, Conditions, Loops, Ranges}
+use Rattle.hx_allow.specs.declared.config_faults.LineWord.TheVariants.{StaleWhileRevalidate, OriginTimeout, WaitTimeout}
 use Rattle.hx_allow.specs.declared.rows.LineKey.TheVariants.{Cache}
 use Rattle.hx_allow.specs.declared.values.TableVersion.{TableVersion}
 use Rattle.hx_allow.specs.declared.values.TableVersion.TheVariants.{Four}
@@ -124,6 +124,13 @@ refuses_loops version ms = has_keys_of version (word_row Loops).since && not (sa
 -- own: for how long the origin may send no byte, where the line says so ("A line has a time-out of its own")
 abbrev pub seconds_for_origin : Members → Option ℕ
 seconds_for_origin ms = number_in (word_row OriginTimeout) ms
+
+-- own: from the fourth version on who waits for the answer to another does so for 5 seconds, unless the line says for
+-- how many; where a line takes no words nobody waits ("Who has waited long goes by itself")
+abbrev pub seconds_to_wait : TableVersion → Members → Option ℕ
+seconds_to_wait version ms =
+    if has_keys_of version (word_row WaitTimeout).since && line_takes_words ms
+    then Some (unwrap_or (number_in (word_row WaitTimeout) ms) 5) else None
 
 -- own: from the fourth version on what is stale is sent while it is validated, over a line that lets others wait for it
 -- ("Stale at once, while one asks")

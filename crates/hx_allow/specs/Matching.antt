@@ -146,6 +146,11 @@ vary_of lines n = unwrap_or (option_map (λ (line : Line). line.vary) (line_of_n
 abbrev pub origin_timeout_of : List Line → ℕ → Option ℕ
 origin_timeout_of lines n = option_and_then (λ (line : Line). line.origin_timeout) (line_of_number lines n)
 
+-- after how many seconds a request waits no longer for the answer to another, over the line of this number, where there
+-- is such a time
+abbrev pub wait_timeout_of : List Line → ℕ → Option ℕ
+wait_timeout_of lines n = option_and_then (λ (line : Line). line.wait_timeout) (line_of_number lines n)
+
 -- over this line a request goes past the store, since it has such a cookie
 abbrev pub goes_past_store : List Line → ℕ → List Field → Bool
 goes_past_store lines n fields = has_cookie_of (session_cookies_of lines n) fields

@@ -14,7 +14,7 @@ use Rattle.hx_allow.specs.declared.config_faults.LineWord.TheVariants.{Lifetime,
 use Rattle.hx_allow.specs.declared.config_faults.LineWord.TheVariants.{Errors, RequestDirectives, Wait, Explain}
 use Rattle.hx_allow.specs.declared.config_faults.LineWord.TheVariants.{LifetimeMost, Cookies, Conditions, Loops}
 use Rattle.hx_allow.specs.declared.config_faults.LineWord.TheVariants.{SessionCookies, StaleWhileRevalidate, Vary}
-use Rattle.hx_allow.specs.declared.config_faults.LineWord.TheVariants.{OriginTimeout, PurgeKey, Ranges}
+use Rattle.hx_allow.specs.declared.config_faults.LineWord.TheVariants.{OriginTimeout, PurgeKey, Ranges, WaitTimeout}
 use Rattle.hx_allow.specs.declared.config_faults.NumberKey.{NumberKey}
 use Rattle.hx_allow.specs.declared.config_faults.NumberKey.TheVariants.{Version, Capacity, MaxBody, MaxStored}
 use Rattle.hx_allow.specs.declared.config_faults.NumberKey.TheVariants.{MaxStore}
@@ -127,17 +127,18 @@ word_row Vary = row_for_caching_lines (codes "vary") Four (some_names 8)
 word_row OriginTimeout = row_for_allowing_lines (codes "origin-timeout") Four (some_seconds 1 most_timeout_seconds)
 word_row PurgeKey = record { key = codes "key"; since = Four; kind = a_purge_key; place = PurgingLine }
 word_row Ranges = row_for_caching_lines (codes "ranges") Four (one_of_three (codes "served") (codes "forwarded") (codes "filled"))
+word_row WaitTimeout = row_for_caching_lines (codes "wait-timeout") Four (some_seconds 1 most_timeout_seconds)
 
 -- the words of a line, in the order in which they are looked at
 abbrev pub line_words : List LineWord
 line_words =
     Lifetime ∷ ErrorLifetime ∷ LifetimeMost ∷ StaleIfError ∷ SetCookie ∷ Cookies ∷ SessionCookies ∷ Errors
     ∷ RequestDirectives ∷ Wait ∷ Explain ∷ Conditions ∷ Loops ∷ StaleWhileRevalidate ∷ Vary
-    ∷ OriginTimeout ∷ PurgeKey ∷ Ranges ∷ []
+    ∷ OriginTimeout ∷ PurgeKey ∷ Ranges ∷ WaitTimeout ∷ []
 
 -- what is told of a key that isn't known, with the keys that a version adds
 abbrev pub words_of_unknown_key : List ℕ
-words_of_unknown_key = codes "a key isn't known where it stands; correct its spelling or delete it: behind [[line]] keys belong to that line; cache needs version = 2, 3 or 4, lifetime, stale-if-error, set-cookie, errors, request-directives, wait and explain need version = 3 or 4, and max_store, error-lifetime, lifetime-most, cookies, session-cookies, conditions, loops, stale-while-revalidate, vary, origin-timeout, key and ranges need version = 4"
+words_of_unknown_key = codes "a key isn't known where it stands; correct its spelling or delete it: behind [[line]] keys belong to that line; cache needs version = 2, 3 or 4, lifetime, stale-if-error, set-cookie, errors, request-directives, wait and explain need version = 3 or 4, and max_store, error-lifetime, lifetime-most, cookies, session-cookies, conditions, loops, stale-while-revalidate, vary, origin-timeout, key, ranges and wait-timeout need version = 4"
 
 abbrev pub line_row : LineKey → Row
 line_row Host = required_row (codes "host") a_host

@@ -48,7 +48,7 @@ LineHasNoCachingWord ms = (word : LineWord) → (word_row word).place ≡ Cachin
 -- cookies aren't removed, responses and requests with a cookie are given the lifetimes of all others, the conditions of
 -- clients are the origin's to judge and their ranges the origin's to answer, nothing stale is sent while it is
 -- validated, requests that loop go on, no request goes past the store for its cookies, Vary alone nominates, no origin
--- has a time-out of its own, and no line purges
+-- has a time-out of its own, no line purges, and who waits does so until he may be sent an answer
 abbrev pub LineIsOfThree : Line → Type 0
 LineIsOfThree line =
     (line.policy.error_lifetime ≡ line.policy.lifetime) × (line.policy.lifetime_most ≡ None)
@@ -57,7 +57,7 @@ LineIsOfThree line =
     × (line.policy.forwards_ranges ≡ true) × (line.policy.fills_ranges ≡ false)
     × (line.policy.stale_while_revalidate ≡ None) × (line.policy.sends_while_revalidating ≡ false)
     × (line.refuses_loops ≡ false) × (line.session_cookies ≡ []) × (line.vary ≡ [])
-    × (line.origin_timeout ≡ None) × (line.purge_key ≡ None)
+    × (line.origin_timeout ≡ None) × (line.purge_key ≡ None) × (line.wait_timeout ≡ None)
 
 -- a line says nothing of caching but whether it caches, or it allows and has its cache on
 abbrev pub LineTakesItsWords : Line → Type 0

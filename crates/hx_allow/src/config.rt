@@ -6,6 +6,7 @@ ghost use Rattle.hx_allow.specs.Matching.{verdict_of, verdict_of_request, origin
 ghost use Rattle.hx_allow.specs.Matching.{line_refuses_loops, request_came_back, VerdictNamesAnOrigin};
 ghost use Rattle.hx_allow.specs.Matching.{policy_of, session_cookies_of, goes_past_store, vary_of};
 ghost use Rattle.hx_allow.specs.Matching.{origin_timeout_of, purge_key_of, line_purges_for};
+ghost use Rattle.hx_allow.specs.Matching.{wait_timeout_of};
 ghost use Rattle.hx_allow.specs.NeverReached.{first_line_taking};
 ghost use Rattle.hx_allow.specs.Tables.{BytesReadAs, TableWasRead};
 
@@ -255,6 +256,14 @@ impl Config {
         ensures { result ≡ origin_timeout_of self.now.lines line }
     {
         line_at(&self.lines, line)?.origin_timeout
+    }
+
+    /// The seconds after which a request waits no longer for the answer to another, 1 to 86,400, over a line counted
+    /// from 1, where there is such a time.
+    pub fn wait_timeout(&self, line: u16) -> Option<u32>
+        ensures { result ≡ wait_timeout_of self.now.lines line }
+    {
+        line_at(&self.lines, line)?.wait_timeout
     }
 
     /// Whether a line, counted from 1, refuses requests that loop.

@@ -78,6 +78,8 @@ pub enum LineWord {
     /// Whether a range is cut from a stored response, goes to the origin, or is also cut from a response that is asked
     /// for whole (RFC 9110, section 14.2). It needs version 4.
     Ranges,
+    /// For how long a request waits for the answer to another, 1 to 86,400 seconds. It needs version 4.
+    WaitTimeout,
 }
 
 impl LineWord {

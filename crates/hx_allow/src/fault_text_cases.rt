@@ -12,7 +12,7 @@ ghost use Rattle.hx_allow.specs.declared.config_faults.LineWord.TheVariants.{Set
 ghost use Rattle.hx_allow.specs.declared.config_faults.LineWord.TheVariants.{Wait, Explain, Conditions};
 ghost use Rattle.hx_allow.specs.declared.config_faults.LineWord.TheVariants.{LifetimeMost, Cookies, Loops};
 ghost use Rattle.hx_allow.specs.declared.config_faults.LineWord.TheVariants.{SessionCookies, StaleWhileRevalidate};
-ghost use Rattle.hx_allow.specs.declared.config_faults.LineWord.TheVariants.{Vary};
+ghost use Rattle.hx_allow.specs.declared.config_faults.LineWord.TheVariants.{Vary, WaitTimeout};
 ghost use Rattle.hx_allow.specs.declared.config_faults.LineWord.TheVariants.{OriginTimeout, PurgeKey, Ranges};
 ghost use Rattle.hx_allow.specs.declared.config_faults.NumberKey.TheVariants.{Version, Capacity, MaxBody, MaxStored};
 ghost use Rattle.hx_allow.specs.declared.config_faults.NumberKey.TheVariants.{MaxStore};
@@ -20,7 +20,7 @@ ghost use Rattle.hx_allow.specs.declared.config_faults.NumberKey.TheVariants.{Ma
 /// What has to stand at the top of a table.
 pub fn worked_words_of_the_top()
     ensures not_toml { expected_words NotToml ≡ codes "the table is no TOML, has a key twice, or has more than 1048576 bytes; look for a quote or bracket that is missing" }
-    ensures unknown_key { (key : List ℕ) → expected_words (UnknownKey key) ≡ codes "a key isn't known where it stands; correct its spelling or delete it: behind [[line]] keys belong to that line; cache needs version = 2, 3 or 4, lifetime, stale-if-error, set-cookie, errors, request-directives, wait and explain need version = 3 or 4, and max_store, error-lifetime, lifetime-most, cookies, session-cookies, conditions, loops, stale-while-revalidate, vary, origin-timeout, key and ranges need version = 4" }
+    ensures unknown_key { (key : List ℕ) → expected_words (UnknownKey key) ≡ codes "a key isn't known where it stands; correct its spelling or delete it: behind [[line]] keys belong to that line; cache needs version = 2, 3 or 4, lifetime, stale-if-error, set-cookie, errors, request-directives, wait and explain need version = 3 or 4, and max_store, error-lifetime, lifetime-most, cookies, session-cookies, conditions, loops, stale-while-revalidate, vary, origin-timeout, key, ranges and wait-timeout need version = 4" }
     ensures bad_name { expected_words BadName ≡ codes "name has to be a lower-case letter and at most 31 of a-z, 0-9 and -, in quotes" }
     ensures no_lines { expected_words NoLines ≡ codes "a table has 1 to 256 lines, or 1 to 4096 in version 4, each of which begins with [[line]]" }
     ensures out_of_memory { expected_words OutOfMemory ≡ codes "no memory is left for the table" }
@@ -61,6 +61,7 @@ pub fn worked_words_of_words()
     ensures origin_timeout { (line : ℕ) → expected_words (BadWord line OriginTimeout) ≡ codes "origin-timeout has to be a whole number of seconds from 1 to 86400, without quotes, and not to stand in a line that denies or purges" }
     ensures key { (line : ℕ) → expected_words (BadWord line PurgeKey) ≡ codes "key has to be 16 to 64 letters and digits, in quotes, in a line with origin = \"purge\" and in no other" }
     ensures ranges { (line : ℕ) → expected_words (BadWord line Ranges) ≡ codes "ranges has to be \"served\", \"forwarded\" or \"filled\", in a line that has an origin and its cache on" }
+    ensures wait_timeout { (line : ℕ) → expected_words (BadWord line WaitTimeout) ≡ codes "wait-timeout has to be a whole number of seconds from 1 to 86400, without quotes, in a line that has an origin and its cache on" }
     ensures loops { (line : ℕ) → expected_words (BadWord line Loops) ≡ codes "loops has to be \"refused\" or \"forwarded\", and not to stand in a line that denies or purges" }
 {}
 

@@ -77,6 +77,7 @@ pub use crate::table_laws::{
 };
 pub use crate::timeout_cases::{worked_timeouts_of_line_numbers, worked_timeouts_of_lines};
 pub use crate::vary_cases::{worked_names_of_vary, worked_vary_of_lines};
+pub use crate::wait_cases::{worked_waits_of_line_numbers, worked_waits_of_lines};
 pub use crate::worked_cases::{
     a_line_has_1_to_32_methods, bounds_of_the_numbers, faults_have_these_numbers,
     lines_of_a_host_decide, numbers_are_whole_and_within_bounds, several_lines_decide,
@@ -260,6 +261,7 @@ pub fn a_whole_table_is_read()
         vary = [];
         origin_timeout = None;
         purge_key = None;
+        wait_timeout = None;
       } ∷ [];
     })) }
 {}
@@ -284,6 +286,7 @@ pub fn a_table_of_two_lines_is_read()
         vary = [];
         origin_timeout = None;
         purge_key = None;
+        wait_timeout = None;
       } ∷ record {
         hosts = OneHost (codes "x") ∷ [];
         methods = codes "GET" ∷ [];
@@ -295,6 +298,7 @@ pub fn a_table_of_two_lines_is_read()
         vary = [];
         origin_timeout = None;
         purge_key = None;
+        wait_timeout = None;
       } ∷ [];
     })) }
 {}
@@ -325,6 +329,7 @@ pub fn lines_without_cache_are_read()
         vary = [];
         origin_timeout = None;
         purge_key = None;
+        wait_timeout = None;
       } ∷ record {
         hosts = Every ∷ [];
         methods = codes "GET" ∷ [];
@@ -336,6 +341,7 @@ pub fn lines_without_cache_are_read()
         vary = [];
         origin_timeout = None;
         purge_key = None;
+        wait_timeout = None;
       } ∷ record {
         hosts = Every ∷ [];
         methods = codes "GET" ∷ [];
@@ -347,6 +353,7 @@ pub fn lines_without_cache_are_read()
         vary = [];
         origin_timeout = None;
         purge_key = None;
+        wait_timeout = None;
       } ∷ [];
     })) }
 {}

@@ -43,6 +43,7 @@ mod values;
 mod vary_cases;
 mod verdicts;
 mod via;
+mod wait_cases;
 mod worked_cases;
 
 pub use config::Config;

@@ -28,7 +28,7 @@ use crate::line_hosts::LineHost;
 use crate::line_paths::LinePath;
 use crate::line_words::{
     key_has_one_of_two, key_has_text, line_has_no_origin, line_purges, line_takes_words,
-    policy_of_line_table, refuses_loops, seconds_for_origin,
+    policy_of_line_table, refuses_loops, seconds_for_origin, seconds_to_wait,
 };
 use crate::lines::{Line, is_never_allowed};
 use crate::origins::Origin;
@@ -466,6 +466,7 @@ fn line_read(alloc: Global, version: TableVersion, table: &Table) -> Result<Line
         vary: texts_in_list(alloc, table, "vary")?,
         origin_timeout: seconds_for_origin(table),
         purge_key: copy_of_text(alloc, text_at(table, LineWord::PurgeKey.row().key))?,
+        wait_timeout: seconds_to_wait(version, table),
     })
 }
 

@@ -7,7 +7,7 @@ ghost use Rattle.hx_allow.specs.LineWords.{removes_cookies, gives_lifetimes_to_s
 ghost use Rattle.hx_allow.specs.LineWords.{gives_lifetimes_to_cookies, leaves_conditions_to_origin};
 ghost use Rattle.hx_allow.specs.LineWords.{leaves_ranges_to_origin, fills_ranges, says_last};
 ghost use Rattle.hx_allow.specs.LineWords.{refuses_loops, sends_while_revalidating, policy_of_line_table};
-ghost use Rattle.hx_allow.specs.LineWords.{seconds_for_origin, line_purges};
+ghost use Rattle.hx_allow.specs.LineWords.{seconds_for_origin, seconds_to_wait, line_purges};
 ghost use Rattle.hx_allow.specs.Rows.{plain_row, word_row};
 ghost use Rattle.hx_allow.specs.Values.{number_in};
 ghost use Rattle.hx_allow.specs.declared.config_faults.LineWord.TheVariants.{Lifetime, LifetimeMost, StaleIfError};
@@ -166,6 +166,18 @@ pub fn seconds_for_origin(table: &Table) -> Option<u32>
     ensures { result ≡ seconds_for_origin (table_view table.now) }
 {
     seconds_in(LineWord::OriginTimeout.row(), table)
+}
+
+/// After how many seconds a request waits no longer for the answer to another, over a line without fault.
+pub fn seconds_to_wait(version: TableVersion, table: &Table) -> Option<u32>
+    ensures { result ≡ seconds_to_wait version (table_view table.now) }
+{
+    let row = LineWord::WaitTimeout.row();
+    if row.is_known_in(version) && line_takes_words(table) {
+        Some(seconds_in(row, table).unwrap_or(5))
+    } else {
+        None
+    }
 }
 
 /// Whether what is stale is sent while it is validated.

@@ -34,6 +34,8 @@ pub struct Line {
     pub origin_timeout: Option<u32>,
     /// What a request has to show, where the line purges.
     pub purge_key: Option<Bytes>,
+    /// The seconds after which a request waits no longer for the answer to another, where there is such a time.
+    pub wait_timeout: Option<u32>,
 }
 
 impl Model for Line {
@@ -52,6 +54,7 @@ impl Model for Line {
       vary = l.vary.items;
       origin_timeout = l.origin_timeout;
       purge_key = l.purge_key;
+      wait_timeout = l.wait_timeout;
     } };
 }
 

@@ -119,6 +119,7 @@ pub fn worked_lines_with_lists()
           vary = [];
           origin_timeout = None;
           purge_key = None;
+          wait_timeout = None;
         } }
     ensures alone { line_read Four (line_table_of (string (codes "a")) (string (codes "/")))
         ≡ record (line_with_method (Some (codes "a")) (codes "GET") (codes "/") None) { refuses_loops = true } }

@@ -15,7 +15,7 @@ use Kind::{Names, Number, OneOf, OneOfInFour, OneOfThree, Seconds, StoreBound};
 /// The most seconds that a lifetime has (RFC 9111, section 1.2.2).
 const MOST_SECONDS: u32 = 2_147_483_648;
 
-/// The most seconds that an origin may be given to send a byte.
+/// The most seconds that an origin may be given to send a byte, and that a request waits for the answer to another.
 const MOST_TIMEOUT_SECONDS: u32 = 86_400;
 
 /// What the value of a key has to be.
@@ -102,7 +102,7 @@ pub(crate) const TOP_KEYS: [TopKey; 7] = [
 ];
 
 /// The keys of a line, in the order in which they are looked at.
-pub(crate) const LINE_KEYS: [LineKey; 23] = [
+pub(crate) const LINE_KEYS: [LineKey; 24] = [
     LineKey::Host,
     LineKey::Methods,
     LineKey::Path,
@@ -126,11 +126,12 @@ pub(crate) const LINE_KEYS: [LineKey; 23] = [
     LineKey::Word(LineWord::OriginTimeout),
     LineKey::Word(LineWord::PurgeKey),
     LineKey::Word(LineWord::Ranges),
+    LineKey::Word(LineWord::WaitTimeout),
 ];
 
 /// What is told of a key that isn't known, with the keys that a version adds.
 pub(crate) const WORDS_OF_UNKNOWN_KEY: &str =
-    "a key isn't known where it stands; correct its spelling or delete it: behind [[line]] keys belong to that line; cache needs version = 2, 3 or 4, lifetime, stale-if-error, set-cookie, errors, request-directives, wait and explain need version = 3 or 4, and max_store, error-lifetime, lifetime-most, cookies, session-cookies, conditions, loops, stale-while-revalidate, vary, origin-timeout, key and ranges need version = 4";
+    "a key isn't known where it stands; correct its spelling or delete it: behind [[line]] keys belong to that line; cache needs version = 2, 3 or 4, lifetime, stale-if-error, set-cookie, errors, request-directives, wait and explain need version = 3 or 4, and max_store, error-lifetime, lifetime-most, cookies, session-cookies, conditions, loops, stale-while-revalidate, vary, origin-timeout, key, ranges and wait-timeout need version = 4";
 
 impl NumberKey {
     pub(crate) fn row(self) -> Row
@@ -244,6 +245,11 @@ impl LineWord {
                 "ranges",
                 Four,
                 OneOfThree("served", "forwarded", "filled"),
+            ),
+            LineWord::WaitTimeout => Row::of_caching(
+                "wait-timeout",
+                Four,
+                Seconds(1, MOST_TIMEOUT_SECONDS),
             ),
         }
     }

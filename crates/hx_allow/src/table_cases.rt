@@ -119,6 +119,7 @@ pub fn worked_lines()
           vary = [];
           origin_timeout = None;
           purge_key = None;
+          wait_timeout = None;
         } }
 {}
 

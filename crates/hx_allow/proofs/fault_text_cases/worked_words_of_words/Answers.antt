@@ -37,3 +37,7 @@ returns-clause-session_cookies c line = refl
 pub returns-clause-key : goal.returns-clause-key
 unfolding digits
 returns-clause-key c line = refl
+
+pub returns-clause-wait_timeout : goal.returns-clause-wait_timeout
+unfolding digits
+returns-clause-wait_timeout c line = refl
