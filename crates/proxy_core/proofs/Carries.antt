@@ -23,17 +23,18 @@ use Rattle.proxy_core.specs.declared.open.exchange.Exchange.{Exchange}
 use Rattle.proxy_core.specs.declared.steps.fallback.Fallback.{Fallback}
 use Rattle.proxy_core.specs.declared.steps.fallback.Fallback.TheVariants.{Sends, Refuses}
 use Rattle.proxy_core.specs.declared.outcome.Outcome.{Outcome}
-use Rattle.proxy_core.specs.declared.outcome.Outcome.TheVariants.{Reply, Forward, Waits, Ended}
+use Rattle.proxy_core.specs.declared.outcome.Outcome.TheVariants.{Reply, Forward, Waits, Ended, WaitsNoMore}
 use Rattle.proxy_core.specs.declared.event.Event.{Event}
-use Rattle.proxy_core.specs.declared.event.Event.TheVariants.{Arrive, Answer, Fail, Wake, Abandon}
+use Rattle.proxy_core.specs.declared.event.Event.TheVariants.{Arrive, Answer, Fail, Wake, Abandon, Overdue}
 use Rattle.proxy_core.specs.Validating.{condition_about_serial, is_304_to_own_conditions, stored_response_validated}
 use Rattle.proxy_core.specs.Storing.{is_304_without_condition}
-use Rattle.proxy_core.specs.declared.open.stage.Stage.TheVariants.{Forwarded, Released}
+use Rattle.proxy_core.specs.declared.open.stage.Stage.{Stage}
+use Rattle.proxy_core.specs.declared.open.stage.Stage.TheVariants.{Forwarded, Waiting, Released}
 use Rattle.proxy_core.specs.declared.steps.condition.Condition.{Condition}
-use Rattle.proxy_core.specs.Leading.{waits_for}
+use Rattle.proxy_core.specs.Leading.{is_forwarded, is_waiting, waits_for}
 use Rattle.proxy_core.specs.Outcomes.{find_exchange, exchange_id_of_event, outcome_of_arrival, outcome_of_allowed_request, outcome_of_waiting_or_forwarding, outcome_without_stored_response, outcome_of_wake, is_only_if_cached, forward_text, fallback_for, outcome_of_failure, is_error_status, outcome_of_passing_on_or_stale, outcome_of_304, outcome_of_answer, outcome_of}
 use Rattle.proxy_core.specs.Scopes.{Scope, is_in_scope}
-use Rattle.proxy_core.specs.State.{State, scope_purged, overtaken_exchange, released_exchange, forwarded_exchange, waiting_exchange, line_of_verdict, rule_of_decision, serial_named_by_decision, exchange_gone_forward, exchange_forwarded_again, exchange_sent_forward, exchanges_after_wake, open_exchanges_after}
+use Rattle.proxy_core.specs.State.{State, scope_purged, overtaken_exchange, released_exchange, forwarded_exchange, waiting_exchange, line_of_verdict, rule_of_decision, serial_named_by_decision, exchange_gone_forward, exchange_forwarded_again, exchange_sent_forward, exchanges_after_wake, open_exchanges_after, exchange_past_its_wait}
 use Rattle.proxy_core.specs.Starts.{StoreAtStart}
 use Rattle.proxy_core.specs.Traces.{Item, initial_state, state_after_trace, IsGood}
 use Rattle.proxy_core.specs.Histories.{open_exchanges, IsGoodHistory}
@@ -41,7 +42,7 @@ use Rattle.proxy_core.specs.Promises.{outcome_goes_forward, count_of_outcomes}
 use Rattle.proxy_core.specs.Carrying.{judges_a_request, second_forward_item, WentForwardOnce, WentForwardASecondTime, HasWaitedSinceItsArrival, ExchangeWasJudged, RuleWasLeastWhenJudged, OpenExchangeCarriesItsArrival}
 use Rattle.proxy_core.proofs.SentBeside.{led_over, sent_over, unless_sent}
 use Rattle.proxy_core.proofs.ExchangeLists.{overtaken_by, released_by, changed_by, find-map, find-push, find-gone_out, sent_out-id, found-id, find-purged, none_overtaken}
-use Rattle.proxy_core.proofs.Moves.{Move, apart, opens, queues, passes, again, wakes, closes, out_again, woken_form, asked_of, ended_by, move_of, and_none, failed_back, key_taken_by_step}
+use Rattle.proxy_core.proofs.Moves.{Move, apart, opens, queues, passes, again, wakes, closes, lapses, out_again, woken_form, asked_of, ended_by, move_of, and_none, failed_back, key_taken_by_step}
 use Rattle.proxy_core.proofs.Tracing.{same_table}
 use Rattle.proxy_core.proofs.HeldLaw.{good_plain, entries_are_held, exchanges_are_open}
 
@@ -69,6 +70,7 @@ module _ (table : Table) (es : List Stored) (xs : List Exchange) (now : ℕ) (as
   Goes (Waits leader) = IsSentOn (line_of_verdict (verdict_of_asked table asked))
   Goes (Reply r) = Unit {0}
   Goes Ended = Unit {0}
+  Goes WaitsNoMore = Unit {0}
 
   goes_by : (v : Verdict) → verdict_of_asked table asked ≡ v → Goes (outcome_of_arrival table es xs now asked v)
   unfolding Goes
@@ -105,6 +107,7 @@ IsAgain table x (Forward line bytes) = (line ≡ x.line) × (bytes ≡ forward_t
 IsAgain table x (Waits leader) = Unit {0}
 IsAgain table x (Reply r) = Unit {0}
 IsAgain table x Ended = Unit {0}
+IsAgain table x WaitsNoMore = Unit {0}
 
 pub again_by : (table : Table) (es : List Stored) (now : ℕ) (x : Exchange) (r : Response) (next : Option ℕ) (d : Decision) → IsAgain table x (outcome_of_answer table es now x r next d)
 again_by table es now x r next d = by_304 (is_304_to_own_conditions x r)
@@ -144,23 +147,24 @@ module _ (table : Table) (start : StoreAtStart) where
   abbrev Went : Exchange → List Item → List Item → ℕ → Outcome → Type 0
   Went x since before now o = WentForwardOnce table start x since before now o ⊎ (WentForwardASecondTime table x since ⊎ HasWaitedSinceItsArrival table start x since before o)
 
-  -- of another id
-  further : (i : Item) (x : Exchange) (past : List Item) → eqb (exchange_id_of_event i.event) x.id ≡ false → ExchangeWasJudged table start x past → ExchangeWasJudged table start x (i ∷ past)
-  further i x past n h = record {
+  -- of another id, or of its own without judging it or sending it forward
+  further : (i : Item) (x : Exchange) (past : List Item) → (eqb (exchange_id_of_event i.event) x.id && judges_a_request i.event) ≡ false → (eqb (exchange_id_of_event i.event) x.id && outcome_goes_forward i.outcome) ≡ false →
+      ExchangeWasJudged table start x past → ExchangeWasJudged table start x (i ∷ past)
+  further i x past j n h = record {
     since = i ∷ h.since;
     before = h.before;
     item = h.item;
     now = h.now;
     past_is = ap (λ zs. i ∷ zs) h.past_is;
     judged = h.judged;
-    none_since = (not_of x.id i.event (judges_a_request i.event) n, h.none_since);
+    none_since = (j, h.none_since);
     line_allows = h.line_allows;
     rule_is_least = h.rule_is_least;
     went = by_going h.went;
   }
     where
       uncounted : (items : List Item) → count_of_outcomes outcome_goes_forward x.id items ≡ 0 → count_of_outcomes outcome_goes_forward x.id (i ∷ items) ≡ 0
-      uncounted items z = ap (λ b. cond b (count_of_outcomes outcome_goes_forward x.id items + 1) (count_of_outcomes outcome_goes_forward x.id items)) (not_of x.id i.event (outcome_goes_forward i.outcome) n) ∙ z
+      uncounted items z = ap (λ b. cond b (count_of_outcomes outcome_goes_forward x.id items + 1) (count_of_outcomes outcome_goes_forward x.id items)) n ∙ z
 
       by_going : Went x h.since h.before h.now h.item.outcome → Went x (i ∷ h.since) h.before h.now h.item.outcome
       by_going (inl w) = inl (record {
@@ -240,8 +244,8 @@ module _ (table : Table) (start : StoreAtStart) where
       }))
 
   -- one that waits is released
-  freed : (i : ℕ) (z : Exchange) (past : List Item) → waits_for i z.stage ≡ true → ExchangeWasJudged table start z past → ExchangeWasJudged table start (record z { stage = Released }) past
-  freed i z past waits h = record {
+  freed : (z : Exchange) (past : List Item) → is_forwarded z.stage ≡ false → ExchangeWasJudged table start z past → ExchangeWasJudged table start (record z { stage = Released }) past
+  freed z past waits h = record {
     since = h.since;
     before = h.before;
     item = h.item;
@@ -255,7 +259,7 @@ module _ (table : Table) (start : StoreAtStart) where
   }
     where
       not_out : z.stage ≡ Forwarded → ⊥
-      not_out s = false≢true (sym (ap (waits_for i) s) ∙ waits)
+      not_out s = false≢true (sym waits ∙ ap is_forwarded s)
 
       by_going : Went z h.since h.before h.now h.item.outcome → Went (record z { stage = Released }) h.since h.before h.now h.item.outcome
       by_going (inl w) = absurd (not_out w.stage)
@@ -285,8 +289,13 @@ module _ (table : Table) (start : StoreAtStart) where
   releases : (i : ℕ) (z : Exchange) (past : List Item) → ExchangeWasJudged table start z past → ExchangeWasJudged table start (released_exchange i z) past
   releases i z past h = by_test (waits_for i z.stage) refl
     where
+      not_out : (s : Stage) → waits_for i s ≡ true → is_forwarded s ≡ false
+      not_out Forwarded w = absurd (false≢true w)
+      not_out (Waiting l) w = refl
+      not_out Released w = absurd (false≢true w)
+
       by_test : (b : Bool) → waits_for i z.stage ≡ b → ExchangeWasJudged table start (cond b (record z { stage = Released }) z) past
-      by_test true waits = freed i z past waits h
+      by_test true waits = freed z past (not_out z.stage waits) h
       by_test false waits = h
 
   release_id : (i : ℕ) (z : Exchange) → (released_exchange i z).id ≡ z.id
@@ -321,7 +330,20 @@ module _ (table : Table) (start : StoreAtStart) where
       ((z : Exchange) → o ≡ Some z → Carried id past z) → changed_by key gone o ≡ Some x → Carried id (i ∷ past) x
   carried_apart id i past key gone o x n f h =
       let c = carried_overtaken id past key (released_by gone o) x (λ z q. carried_released id past gone o z f q) h in
-      (further i x past (ap (eqb (exchange_id_of_event i.event)) c.1 ∙ n) c.0, c.1)
+      let other = ap (eqb (exchange_id_of_event i.event)) c.1 ∙ n in
+      (further i x past (not_of x.id i.event (judges_a_request i.event) other) (not_of x.id i.event (outcome_goes_forward i.outcome) other) c.0, c.1)
+
+  -- its time to wait is over
+  carried_past : (id : ℕ) (i : Item) (past : List Item) (z : Exchange) → i.event ≡ Overdue id → i.outcome ≡ WaitsNoMore → is_waiting z.stage ≡ true → Carried id past z → Carried id (i ∷ past) (exchange_past_its_wait z)
+  carried_past id i past z e o s c =
+      let judges_not : (eqb (exchange_id_of_event i.event) z.id && judges_a_request i.event) ≡ false = ap (λ (v : Event). eqb (exchange_id_of_event v) z.id && judges_a_request v) e ∙ and_none (eqb id z.id) in
+      let stays : (eqb (exchange_id_of_event i.event) z.id && outcome_goes_forward i.outcome) ≡ false = ap (λ (o : Outcome). eqb (exchange_id_of_event i.event) z.id && outcome_goes_forward o) o ∙ and_none (eqb (exchange_id_of_event i.event) z.id) in
+      (further i (exchange_past_its_wait z) past judges_not stays (freed z past (not_out z.stage s) c.0), c.1)
+    where
+      not_out : (s : Stage) → is_waiting s ≡ true → is_forwarded s ≡ false
+      not_out Forwarded w = absurd (false≢true w)
+      not_out (Waiting l) w = refl
+      not_out Released w = absurd (false≢true w)
 
 module _ (table : Table) (start : StoreAtStart) (first : ℕ) where
   abbrev exchange : ℕ → List Item → Option Exchange
@@ -338,6 +360,7 @@ module _ (table : Table) (start : StoreAtStart) (first : ℕ) where
       let s = state_after_trace (initial_state table start first) past in
       absurd (none_some _ x (find-purged key id s.exchanges ∙ ap (overtaken_by key) free ∙ none_overtaken key) found)
   carried_first past g now id asked Ended x h free found = absurd (none_some _ x free found)
+  carried_first past g now id asked WaitsNoMore x h free found = absurd (none_some _ x free found)
   carried_first past g now id asked (Waits leader) x on free found =
       let s = state_after_trace (initial_state table start first) past in
       let line = line_of_verdict (verdict_of_asked table asked) in
@@ -515,6 +538,7 @@ module _ (table : Table) (start : StoreAtStart) (first : ℕ) where
       by_answer now n r (Reply reply) e out is found = absurd (false≢true out)
       by_answer now n r (Waits leader) e out is found = absurd (false≢true out)
       by_answer now n r Ended e out is found = absurd (false≢true out)
+      by_answer now n r WaitsNoMore e out is found = absurd (false≢true out)
       by_answer now n r (Forward line bytes) e out is found =
           subst (λ m. Carried table start id (record { event = Answer now m r; outcome = Forward line bytes } ∷ past) x) (sym e)
           (carried_again past now id r z line bytes x c z_is (subst (IsAgain table z) (sym is) (again_by table es now z r next (decision_of (policy_of table.lines z.line) es z.asked now)))
@@ -535,6 +559,7 @@ module _ (table : Table) (start : StoreAtStart) (first : ℕ) where
           absurd (false≢true (sym back ∙ out))
       by_event (Wake now n) o same late out is found = absurd (false≢true (sym late))
       by_event (Abandon n) o same late out is found = absurd (false≢true (sym (ap outcome_goes_forward is) ∙ out))
+      by_event (Overdue n) o same late out is found = absurd (false≢true (sym (ap outcome_goes_forward is) ∙ out))
 
   pub carries : (past : List Item) → IsGood (initial_state table start first) past → (id : ℕ) (x : Exchange) → exchange id past ≡ Some x → Carried table start id past x
   carries [] g id x h = absurd (cc)
@@ -575,6 +600,9 @@ module _ (table : Table) (start : StoreAtStart) (first : ℕ) where
           (g.0.outcome_is ∙ (ap (λ (v : Event). outcome_of table s.entries s.exchanges (find_exchange (exchange_id_of_event v) s.exchanges) s.next v) e ∙ ap (λ (w : Option Exchange). outcome_of table s.entries s.exchanges w s.next (Wake now id)) z_is)) f
           (ap (λ (v : Event). find_exchange id (open_exchanges_after table s.entries s.exchanges v i.outcome)) (sym e) ∙ at_table ∙ k ∙ h))
       by_move was y (closes z t e x_is f q) h k = absurd (none_some y x q h)
+      by_move was y (lapses z e z_is s f q) h k =
+          let same : exchange_past_its_wait z ≡ x = same_Some (exchange_past_its_wait z) x (sym q ∙ h) in
+          subst (Carried table start id (i ∷ past)) same (carried_past table start id i past z e f s (was z z_is))
 
 pub carries_its_arrival : OpenExchangeCarriesItsArrival
 carries_its_arrival table start first id trace x g h =

@@ -1,5 +1,5 @@
 -- Finding an exchange by its id in a list that was changed.
-use Rattle.std.proofs.Common.{◌≡◌, ℕ, Bool, true, false, not, cond, eqb, Option, None, Some, List, [], ◌∷◌, ◌++◌, map, refl, sym, ◌∙◌, ap, inl, inr}
+use Rattle.std.proofs.Common.{◌≡◌, ℕ, Bool, true, false, not, cond, ◌&&◌, eqb, Option, None, Some, List, [], ◌∷◌, ◌++◌, map, refl, sym, ◌∙◌, ap, inl, inr}
 use Rattle.std.specs.Prelude.{option_map}
 use Rattle.std.proofs.lemmas.Bool.{cases_Bool, eqb-true, eq-eqb, false_from_ne_true, false≢true}
 use Rattle.proxy_core.specs.declared.open.exchange.Exchange.{Exchange}
@@ -8,9 +8,9 @@ use Rattle.std.specs.Prelude.{filter}
 use Rattle.hx_reuse.specs.declared.rule.ReuseRule.{ReuseRule}
 use Rattle.proxy_core.specs.declared.steps.condition.Condition.{Condition}
 use Rattle.proxy_core.specs.declared.open.stage.Stage.TheVariants.{Released}
-use Rattle.proxy_core.specs.Leading.{waits_for}
+use Rattle.proxy_core.specs.Leading.{waits_for, is_waiting}
 use Rattle.proxy_core.specs.Scopes.{Scope, is_in_scope}
-use Rattle.proxy_core.specs.State.{exchanges_after_close, released_exchange, overtaken_exchange, exchanges_after_end, exchanges_after_purge, exchange_gone_forward, exchange_forwarded_again, exchange_sent_forward}
+use Rattle.proxy_core.specs.State.{exchanges_after_close, released_exchange, overtaken_exchange, exchanges_after_end, exchanges_after_purge, exchange_gone_forward, exchange_forwarded_again, exchange_sent_forward, exchange_past_its_wait, overdue_exchange}
 
 pub find-map : (f : Exchange → Exchange) → ((x : Exchange) → (f x).id ≡ x.id) → (id : ℕ) (xs : List Exchange) →
     find_exchange id (map f xs) ≡ option_map f (find_exchange id xs)
@@ -36,6 +36,12 @@ sent_out-id i now rule named condition x = elim (eqb x.id i) as (λ b. (cond b (
 
 pub release-id : (i : ℕ) (x : Exchange) → (released_exchange i x).id ≡ x.id
 release-id i x = elim (waits_for i x.stage) as (λ b. (cond b (record x { stage = Released }) x).id ≡ x.id) [
+  | true ↦ refl
+  | false ↦ refl
+]
+
+pub overdue-id : (i : ℕ) (x : Exchange) → (overdue_exchange i x).id ≡ x.id
+overdue-id i x = elim (eqb x.id i && is_waiting x.stage) as (λ b. (cond b (exchange_past_its_wait x) x).id ≡ x.id) [
   | true ↦ refl
   | false ↦ refl
 ]

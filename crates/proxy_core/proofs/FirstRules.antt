@@ -35,7 +35,7 @@ use Rattle.proxy_core.specs.declared.open.exchange.Exchange.{Exchange}
 use Rattle.proxy_core.specs.declared.steps.fallback.Fallback.{Fallback}
 use Rattle.proxy_core.specs.declared.steps.fallback.Fallback.TheVariants.{Sends, Refuses}
 use Rattle.proxy_core.specs.declared.event.Event.{Event}
-use Rattle.proxy_core.specs.declared.event.Event.TheVariants.{Arrive, Answer, Fail, Wake, Abandon}
+use Rattle.proxy_core.specs.declared.event.Event.TheVariants.{Arrive, Answer, Fail, Wake, Abandon, Overdue}
 use Rattle.proxy_core.specs.Validating.{condition_about_serial, is_304_to_own_conditions, stored_response_validated}
 use Rattle.proxy_core.specs.Storing.{is_304_without_condition}
 use Rattle.proxy_core.specs.Outcomes.{find_exchange, exchange_id_of_event, outcome_of_arrival, outcome_of_allowed_request, outcome_of_waiting_or_forwarding, outcome_without_stored_response, outcome_of_wake, is_only_if_cached, error_rule_at, fallback_with_error_rule, fallback_for, outcome_of_failure, is_error_status, outcome_of_passing_on_or_stale, outcome_of_304, outcome_of_answer, outcome_of}
@@ -185,6 +185,7 @@ module _ (table : Table) (start : StoreAtStart) (past : List Item) (distinct : D
   names_by_event xs (Some x) (Wake now id) kept = woken_names x now id (decision_of (policy_of table.lines x.line) es x.asked now)
   names_by_event xs None (Wake now id) kept = tt
   names_by_event xs x (Abandon id) kept = tt
+  names_by_event xs x (Overdue id) kept = tt
 
 -- no serial is held twice
 pub held_distinct : (table : Table) (start : StoreAtStart) (first : ℕ) (past : List Item) → IsGoodHistory table start first past → Distinct (serials (held_entries table start past))

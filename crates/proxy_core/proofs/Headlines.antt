@@ -33,9 +33,9 @@ use Rattle.proxy_core.specs.declared.steps.fallback.Fallback.TheVariants.{Sends,
 use Rattle.proxy_core.specs.declared.core_fault.CoreFault.{CoreFault}
 use Rattle.proxy_core.specs.declared.core_fault.CoreFault.TheVariants.{MomentTooLate}
 use Rattle.proxy_core.specs.declared.outcome.Outcome.{Outcome}
-use Rattle.proxy_core.specs.declared.outcome.Outcome.TheVariants.{Reply as Replied, Forward, Waits, Ended}
+use Rattle.proxy_core.specs.declared.outcome.Outcome.TheVariants.{Reply as Replied, Forward, Waits, Ended, WaitsNoMore}
 use Rattle.proxy_core.specs.declared.event.Event.{Event}
-use Rattle.proxy_core.specs.declared.event.Event.TheVariants.{Arrive, Answer, Fail, Wake, Abandon}
+use Rattle.proxy_core.specs.declared.event.Event.TheVariants.{Arrive, Answer, Fail, Wake, Abandon, Overdue}
 use Rattle.proxy_core.specs.Moments.{moment_too_late_fault}
 use Rattle.proxy_core.specs.Leading.{is_forwarded, is_released}
 use Rattle.proxy_core.specs.Storing.{is_304_without_condition}
@@ -53,7 +53,7 @@ use Rattle.proxy_core.proofs.SentBeside.{led_over, sent_over, unless_sent}
 use Rattle.proxy_core.proofs.Carries.{IsAgain, again_by, carries_its_arrival}
 use Rattle.proxy_core.proofs.FirstRules.{held_distinct, names_first_rules}
 use Rattle.proxy_core.proofs.HeldLaw.{good_plain}
-use Rattle.proxy_core.proofs.Moves.{failed_back}
+use Rattle.proxy_core.proofs.Moves.{failed_back, waiting_from}
 use Rattle.proxy_core.proofs.OpenLaws.{has_its_request}
 use Rattle.proxy_core.proofs.SendLaws.{forwards_nothing_else, reaches_where_allowed, refuses_where_not_allowed, purges_its_scope, reusable_hit, sends_what_may_be_sent, sends_nothing_else}
 use Rattle.proxy_core.proofs.SentResponses.{sends_what_is_held}
@@ -79,6 +79,7 @@ bytes_in (Forward line bytes) = bytes
 bytes_in (Waits leader) = []
 bytes_in (Replied r) = []
 bytes_in Ended = []
+bytes_in WaitsNoMore = []
 
 -- the reply closes its connection where the request says so; another outcome is none
 abbrev close_in : Bool → Outcome → Bool
@@ -86,6 +87,7 @@ close_in c (Replied r) = r.close
 close_in c (Forward line bytes) = c
 close_in c (Waits leader) = c
 close_in c Ended = c
+close_in c WaitsNoMore = c
 
 no_true : {P : Type 0} → false ≡ true → P
 no_true {P} h = absurd (false≢true h)
@@ -123,7 +125,9 @@ may_come None (Fail now id kind) h = absurd (cc)
 may_come (Some x) (Wake now id) h = let parts = neither_fault (moment_too_late_fault now) (fault_if_not_released x.stage) h in (in_time now parts.0, may_be_woken x.stage parts.1)
 may_come None (Wake now id) h = absurd (cc)
 may_come (Some x) (Abandon id) h = tt
+may_come (Some x) (Overdue id) h = waiting_from x.stage h
 may_come None (Abandon id) h = absurd (cc)
+may_come None (Overdue id) h = absurd (cc)
 
 -- ---- what follows
 
@@ -190,6 +194,7 @@ module _ (table : Table) (es : List Stored) where
   goes_on_by distinct xs (Some x) next (Wake now id) h = wake_goes_on now id x (decision_of (policy_of table.lines x.line) es x.asked now) refl
   goes_on_by distinct xs None next (Wake now id) h = absurd (cc)
   goes_on_by distinct xs x next (Abandon id) h = refl
+  goes_on_by distinct xs x next (Overdue id) h = refl
 
   -- ---- what closes
 
@@ -254,6 +259,7 @@ module _ (table : Table) (es : List Stored) where
   Closes None (Fail now id kind) o = ⊥
   Closes None (Wake now id) o = ⊥
   Closes x (Abandon id) o = o ≡ Ended
+  Closes x (Overdue id) o = o ≡ WaitsNoMore
 
   closes_by : (xs : List Exchange) (x : Option Exchange) (next : Option ℕ) (event : Event) → fault_at_exchange x event ≡ None → Closes x event (outcome_of table es xs x next event)
   closes_by xs x next (Arrive now id asked) h = arrival_closes xs now asked (verdict_of_asked table asked)
@@ -264,6 +270,7 @@ module _ (table : Table) (es : List Stored) where
   closes_by xs (Some x) next (Wake now id) h = wake_closes now x (decision_of (policy_of table.lines x.line) es x.asked now)
   closes_by xs None next (Wake now id) h = absurd (cc)
   closes_by xs x next (Abandon id) h = refl
+  closes_by xs x next (Overdue id) h = refl
 
 module _ (table : Table) (start : StoreAtStart) (first : ℕ) where
   -- the outcome, where the event is known
@@ -346,6 +353,9 @@ module _ (table : Table) (start : StoreAtStart) (first : ℕ) where
       by_event (Abandon id) e =
           let none : Forward line bytes ≡ Ended = sym h ∙ outcome_at item past g (Abandon id) e in
           absurd (cc)
+      by_event (Overdue id) e =
+          let none : Forward line bytes ≡ WaitsNoMore = sym h ∙ outcome_at item past g (Overdue id) e in
+          absurd (cc)
 
   comes : (item : Item) (past : List Item) → IsGoodHistory table start first (item ∷ past) → EventComesWhereItMay table start item past
   comes item past g = may_come (find_exchange (exchange_id_of_event item.event) (open_exchanges table start past)) item.event g.0.allowed
@@ -389,6 +399,9 @@ module _ (table : Table) (start : StoreAtStart) (first : ℕ) where
       by_event (Wake now id) e None w_is k = absurd k
       by_event (Abandon id) e w w_is k =
           let none : Replied reply ≡ Ended = sym h ∙ k in
+          absurd (cc)
+      by_event (Overdue id) e w w_is k =
+          let none : Replied reply ≡ WaitsNoMore = sym h ∙ k in
           absurd (cc)
 
   each : (P : Item → List Item → Type 0) → ((item : Item) (past : List Item) → IsGoodHistory table start first (item ∷ past) → P item past) →

@@ -20,7 +20,7 @@ use Rattle.hx_store.proofs.WeightedRecency.{is_in-within, weighed_held_more}
 use Rattle.proxy_core.specs.declared.open.exchange.Exchange.{Exchange}
 use Rattle.proxy_core.specs.declared.outcome.Outcome.{Outcome}
 use Rattle.proxy_core.specs.declared.event.Event.{Event}
-use Rattle.proxy_core.specs.declared.event.Event.TheVariants.{Arrive, Answer, Fail, Wake, Abandon}
+use Rattle.proxy_core.specs.declared.event.Event.TheVariants.{Arrive, Answer, Fail, Wake, Abandon, Overdue}
 use Rattle.proxy_core.specs.declared.core_fault.CoreFault.{CoreFault}
 use Rattle.proxy_core.specs.Validating.{stored_response_is_answered, freshened_by_304}
 use Rattle.proxy_core.specs.Outcomes.{find_exchange, exchange_id_of_event, outcome_of_event, step_fault}
@@ -58,6 +58,7 @@ used_serial (Some x) (Answer now id r) e = elim (stored_response_is_answered x r
 used_serial (Some x) (Fail now id kind) e = refl
 used_serial (Some x) (Wake now id) e = refl
 used_serial (Some x) (Abandon id) e = refl
+used_serial (Some x) (Overdue id) e = refl
 
 -- what has to be known of that list
 record Kept (next : Option ℕ) (st us : Option ℕ) (rm : List ℕ) (look : ℕ → Option Stored) (es zs : List Stored) : Type 0 where

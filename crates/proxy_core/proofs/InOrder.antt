@@ -8,21 +8,21 @@ use Rattle.hx_allow.specs.TableLines.{Table}
 use Rattle.hx_store.specs.Stored.{Stored}
 use Rattle.proxy_core.specs.declared.open.exchange.Exchange.{Exchange}
 use Rattle.proxy_core.specs.declared.outcome.Outcome.{Outcome}
-use Rattle.proxy_core.specs.declared.outcome.Outcome.TheVariants.{Reply, Forward, Waits, Ended}
+use Rattle.proxy_core.specs.declared.outcome.Outcome.TheVariants.{Reply, Forward, Waits, Ended, WaitsNoMore}
 use Rattle.proxy_core.specs.declared.event.Event.{Event}
-use Rattle.proxy_core.specs.declared.event.Event.TheVariants.{Arrive, Answer, Fail, Wake, Abandon}
+use Rattle.proxy_core.specs.declared.event.Event.TheVariants.{Arrive, Answer, Fail, Wake, Abandon, Overdue}
 use Rattle.proxy_core.specs.Outcomes.{find_exchange, exchange_id_of_event, fault_at_exchange}
 use Rattle.hx_allow.specs.Matching.{policy_of}
 use Rattle.proxy_core.specs.Allowing.{verdict_of_asked}
 use Rattle.hx_reuse.specs.Rules.{decision_of}
 use Rattle.proxy_core.specs.Validating.{condition_about_serial}
 use Rattle.proxy_core.specs.Scopes.{Scope}
-use Rattle.proxy_core.specs.State.{overtaken_exchange, released_exchange, exchanges_after_end, exchanges_after_purge, scope_purged, exchanges_after_close, forwarded_exchange, waiting_exchange, line_of_verdict, rule_of_decision, serial_named_by_decision, exchange_forwarded_again, exchanges_after_wake, scope_invalidated_by_response, open_exchanges_after}
+use Rattle.proxy_core.specs.State.{overtaken_exchange, released_exchange, exchanges_after_end, exchanges_after_purge, scope_purged, exchanges_after_close, forwarded_exchange, waiting_exchange, line_of_verdict, rule_of_decision, serial_named_by_decision, exchange_forwarded_again, exchanges_after_wake, scope_invalidated_by_response, open_exchanges_after, overdue_exchange}
 use Rattle.proxy_core.specs.Starts.{StoreAtStart}
 use Rattle.proxy_core.specs.Traces.{Item, initial_state, state_after_trace, IsGood}
 use Rattle.proxy_core.specs.Promises.{is_arrival_event, NoRequestArrives}
 use Rattle.proxy_core.specs.Carrying.{ArrivesBefore, IdsAreInOrderOfArrival, exchange_ids, ExchangesAreOpenInOrderOfArrival}
-use Rattle.proxy_core.proofs.ExchangeLists.{gone_out-id, sent_out-id, release-id, overtake-id}
+use Rattle.proxy_core.proofs.ExchangeLists.{gone_out-id, sent_out-id, release-id, overtake-id, overdue-id}
 use Rattle.proxy_core.proofs.Moves.{and_none}
 use Rattle.proxy_core.proofs.HeldLaw.{good_plain, exchanges_are_open}
 
@@ -236,6 +236,7 @@ in_order_step table es xs past (Arrive now id asked) o free h = by_outcome o (wa
     by_outcome (Reply r) f =
         same_ids (ids-purged (scope_purged asked (Reply r)) xs) (further (record { event = Arrive now id asked; outcome = Reply r }) past (exchange_ids xs) (new_apart now id asked (Reply r) xs f) h)
     by_outcome Ended f = further (record { event = Arrive now id asked; outcome = Ended }) past (exchange_ids xs) (new_apart now id asked Ended xs f) h
+    by_outcome WaitsNoMore f = further (record { event = Arrive now id asked; outcome = WaitsNoMore }) past (exchange_ids xs) (new_apart now id asked WaitsNoMore xs f) h
 in_order_step table es xs past (Answer now id r) (Forward line bytes) free h =
     let i : Item = record { event = Answer now id r; outcome = Forward line bytes } in
     same_ids (ids-map (exchange_forwarded_again id now) (gone_out-id id now) xs) (further i past (exchange_ids xs) (late_apart i (exchange_ids xs) refl) h)
@@ -247,6 +248,9 @@ in_order_step table es xs past (Answer now id r) (Waits leader) free h =
     same_ids (ids-left_open (scope_invalidated_by_response (find_exchange id xs) r) id xs) (without_one id (exchange_ids xs) (i ∷ past) (further i past (exchange_ids xs) (late_apart i (exchange_ids xs) refl) h))
 in_order_step table es xs past (Answer now id r) Ended free h =
     let i : Item = record { event = Answer now id r; outcome = Ended } in
+    same_ids (ids-left_open (scope_invalidated_by_response (find_exchange id xs) r) id xs) (without_one id (exchange_ids xs) (i ∷ past) (further i past (exchange_ids xs) (late_apart i (exchange_ids xs) refl) h))
+in_order_step table es xs past (Answer now id r) WaitsNoMore free h =
+    let i : Item = record { event = Answer now id r; outcome = WaitsNoMore } in
     same_ids (ids-left_open (scope_invalidated_by_response (find_exchange id xs) r) id xs) (without_one id (exchange_ids xs) (i ∷ past) (further i past (exchange_ids xs) (late_apart i (exchange_ids xs) refl) h))
 in_order_step table es xs past (Fail now id kind) o free h =
     let i : Item = record { event = Fail now id kind; outcome = o } in
@@ -263,6 +267,12 @@ in_order_step table es xs past (Wake now id) (Waits leader) free h =
 in_order_step table es xs past (Wake now id) Ended free h =
     let i : Item = record { event = Wake now id; outcome = Ended } in
     same_ids (ids-closed id xs) (without_one id (exchange_ids xs) (i ∷ past) (further i past (exchange_ids xs) (late_apart i (exchange_ids xs) refl) h))
+in_order_step table es xs past (Wake now id) WaitsNoMore free h =
+    let i : Item = record { event = Wake now id; outcome = WaitsNoMore } in
+    same_ids (ids-closed id xs) (without_one id (exchange_ids xs) (i ∷ past) (further i past (exchange_ids xs) (late_apart i (exchange_ids xs) refl) h))
+in_order_step table es xs past (Overdue id) o free h =
+    let i : Item = record { event = Overdue id; outcome = o } in
+    same_ids (ids-map (overdue_exchange id) (overdue-id id) xs) (further i past (exchange_ids xs) (late_apart i (exchange_ids xs) refl) h)
 in_order_step table es xs past (Abandon id) o free h =
     let i : Item = record { event = Abandon id; outcome = o } in
     same_ids (ids-closed id xs) (without_one id (exchange_ids xs) (i ∷ past) (further i past (exchange_ids xs) (late_apart i (exchange_ids xs) refl) h))

@@ -39,12 +39,14 @@ pub mod Purged
 mod Refusals
 pub mod Driven
 pub mod Waits
+pub mod Overdue
 pub mod Indexed
 pub mod Waiters
 pub mod Releases
 pub mod KeyIndices
 pub mod AskedArrivals
 pub mod Overtaking
+pub mod OverdueArrivals
 pub mod AddedLines
 pub mod Cutting
 pub mod HeldWithin

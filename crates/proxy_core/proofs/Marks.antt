@@ -9,7 +9,7 @@ use Rattle.hx_allow.specs.TableLines.{Table}
 use Rattle.proxy_core.specs.declared.open.exchange.Exchange.{Exchange}
 use Rattle.proxy_core.specs.declared.outcome.Outcome.{Outcome}
 use Rattle.proxy_core.specs.declared.event.Event.{Event}
-use Rattle.proxy_core.specs.declared.event.Event.TheVariants.{Arrive, Answer, Fail, Wake, Abandon}
+use Rattle.proxy_core.specs.declared.event.Event.TheVariants.{Arrive, Answer, Fail, Wake, Abandon, Overdue}
 use Rattle.hx_store.specs.Stored.{Stored}
 use Rattle.proxy_core.specs.Outcomes.{find_exchange, exchange_id_of_event, fault_at_exchange, outcome_of}
 use Rattle.proxy_core.specs.Carrying.{ExchangeWasJudged}
@@ -22,7 +22,7 @@ use Rattle.proxy_core.specs.Leading.{waits_for}
 use Rattle.proxy_core.specs.State.{released_exchange}
 use Rattle.proxy_core.specs.Starts.{StoreAtStart}
 use Rattle.proxy_core.proofs.ExchangeLists.{overtaken_by, released_by}
-use Rattle.proxy_core.proofs.Moves.{Move, apart, opens, queues, passes, again, wakes, closes, asked_of, ended_by, move_of, key_taken_by_answer, key_taken_by_step}
+use Rattle.proxy_core.proofs.Moves.{Move, apart, opens, queues, passes, again, wakes, closes, lapses, asked_of, ended_by, move_of, key_taken_by_answer, key_taken_by_step}
 use Rattle.proxy_core.proofs.Carries.{carries}
 use Rattle.proxy_core.proofs.UnsafeAnswers.{status_is_shown}
 use Rattle.proxy_core.proofs.Tracing.{same_table}
@@ -46,6 +46,7 @@ asked_apart id (Answer now i r) b n = refl
 asked_apart id (Fail now i kind) b n = refl
 asked_apart id (Wake now i) b n = refl
 asked_apart id (Abandon i) b n = refl
+asked_apart id (Overdue i) b n = refl
 
 asked_late : (id : ℕ) (event : Event) (b : Option Asked) → is_arrival_event event ≡ false → request_after_event id event b ≡ b
 asked_late id (Arrive now i asked) b n = absurd (false≢true (sym n))
@@ -53,6 +54,7 @@ asked_late id (Answer now i r) b n = refl
 asked_late id (Fail now i kind) b n = refl
 asked_late id (Wake now i) b n = refl
 asked_late id (Abandon i) b n = refl
+asked_late id (Overdue i) b n = refl
 
 release_asked : (i : ℕ) (x : Exchange) → (released_exchange i x).asked ≡ x.asked
 release_asked i x = elim (waits_for i x.stage) as (λ b. (cond b (record x { stage = Released }) x).asked ≡ x.asked) [
@@ -81,6 +83,7 @@ asked_more id w event o x y b a (passes t e x_is k h) f g = absurd (none_asked y
 asked_more id w event o x y b a (again z now t e q c k h j s) f g = asked_late id event b e ∙ f a (ap asked_of q ∙ sym (ap asked_of h) ∙ g)
 asked_more id w event o x y b a (wakes table es z now e q s k h) f g = ap (λ v. request_after_event id v b) e ∙ f a (ap asked_of q ∙ sym (ap asked_of h) ∙ g)
 asked_more id w event o x y b a (closes z t e q k h) f g = absurd (none_asked y a h g)
+asked_more id w event o x y b a (lapses z e q s k h) f g = ap (λ v. request_after_event id v b) e ∙ f a (ap asked_of q ∙ sym (ap asked_of h) ∙ g)
 
 pub asked_is : (table : Table) (start : StoreAtStart) (first : ℕ) (past : List Item) → IsGood (initial_state table start first) past → (id : ℕ) (a : Asked) →
     asked_of (find_exchange id (state_after_trace (initial_state table start first) past).exchanges) ≡ Some a → latest_request_of id past ≡ Some a
@@ -98,6 +101,7 @@ key_is None (Answer now i r) o b f h = absurd (cc)
 key_is None (Fail now i kind) o b f h = absurd (cc)
 key_is None (Wake now i) o b f h = absurd (cc)
 key_is None (Abandon i) o b f h = absurd (cc)
+key_is None (Overdue i) o b f h = absurd (cc)
 
 -- and as its outcome shows it
 shown : (table : Table) (start : StoreAtStart) (past : List Item) (es : List Stored) (xs : List Exchange) (next : Option ℕ) (w : Option Exchange) (event : Event) (o : Outcome) →
@@ -108,12 +112,14 @@ shown table start past es xs next None (Answer now i r) o a is = refl
 shown table start past es xs next None (Fail now i kind) o a is = refl
 shown table start past es xs next None (Wake now i) o a is = refl
 shown table start past es xs next None (Abandon i) o a is = refl
+shown table start past es xs next None (Overdue i) o a is = refl
 shown table start past es xs next (Some z) (Answer now i r) o a is =
     ap (option_map target_alone) (status_is_shown table start z past (a z refl) es now r next ∙ ap (key_taken_by_answer z.asked r) (sym is))
 shown table start past es xs next (Some z) (Arrive now i asked) o a is = refl
 shown table start past es xs next (Some z) (Fail now i kind) o a is = refl
 shown table start past es xs next (Some z) (Wake now i) o a is = refl
 shown table start past es xs next (Some z) (Abandon i) o a is = refl
+shown table start past es xs next (Some z) (Overdue i) o a is = refl
 
 pub same_key_of_step : (table : Table) (start : StoreAtStart) (first : ℕ) (i : Item) (past : List Item) → IsGood (initial_state table start first) (i ∷ past) →
     scope_invalidated_by_event (latest_request_of (exchange_id_of_event i.event) past) i.event i.outcome
@@ -197,6 +203,7 @@ out_now id w event o x y z (passes u e x_is q h) t f g = absurd (none_some y z h
 out_now id w event o x y z (again v now u e q c p h j s) t f g = ap (λ (z : Exchange). z.overtaken) (same_Some z _ (sym g ∙ h))
 out_now id w event o x y z (wakes table es v now e q s p h) t f g = ap (λ (z : Exchange). z.overtaken) (same_Some z _ (sym g ∙ h))
 out_now id w event o x y z (closes v u e q p h) t f g = absurd (none_some y z h g)
+out_now id w event o x y z (lapses v e q s p h) t f g = absurd (false≢true (sym (ap outcome_goes_forward p) ∙ f))
 
 or_swap : (a b : Bool) → (a || b) ≡ (b || a)
 or_swap true true = refl
@@ -250,6 +257,9 @@ module _ (table : Table) (start : StoreAtStart) (first : ℕ) (f : Item) (before
       let t : (eqb (exchange_id_of_event i.event) id && outcome_goes_forward i.outcome) ≡ true = ap (λ b. eqb (exchange_id_of_event i.event) id && b) p ∙ ap (λ b. b && true) u in
       absurd (false≢true (sym n ∙ t))
   out_step i items g n out y (closes v u e q p t) z r stage = absurd (none_some y z t r)
+  out_step i items g n out y (lapses v e q s p t) z r stage =
+      let no : Released ≡ Forwarded = ap (λ (z : Exchange). z.stage) (same_Some _ z (sym t ∙ r)) ∙ stage in
+      absurd (cc)
 
   -- since f, by which the exchange went forward last
   pub out_since : (items : List Item) → IsGood (initial_state table start first) (items ++ f ∷ before) → outcome_goes_forward f.outcome ≡ true → exchange_id_of_event f.event ≡ id →

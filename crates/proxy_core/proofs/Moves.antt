@@ -1,5 +1,5 @@
 -- What an accepted step does to the exchange of an id.
-use Rattle.std.proofs.Common.{◌≡◌, ℕ, Bool, true, false, not, cond, ◌&&◌, ◌==◌, eqb, Option, None, Some, is_some, List, refl, sym, ◌∙◌, ap, subst, arith, inl, inr}
+use Rattle.std.proofs.Common.{◌≡◌, ℕ, Bool, true, false, not, cond, ◌&&◌, ◌==◌, eqb, Option, None, Some, is_some, List, map, refl, sym, ◌∙◌, ap, subst, arith, inl, inr}
 use Rattle.std.specs.Prelude.{option_map, nat_le}
 use Rattle.std.proofs.lemmas.Bool.{cases_Bool, eqb-true, false≢true}
 use Rattle.std.proofs.lemmas.Bool.Decides.{nat_tests}
@@ -15,7 +15,7 @@ use Rattle.hx_store.specs.Stored.{Stored}
 use Rattle.hx_reuse.specs.Rules.{decision_of}
 use Rattle.hx_reuse.specs.declared.rule.ReuseRule.{ReuseRule}
 use Rattle.proxy_core.specs.declared.steps.condition.Condition.{Condition}
-use Rattle.proxy_core.specs.declared.core_fault.CoreFault.TheVariants.{NotForwarded, NotReady}
+use Rattle.proxy_core.specs.declared.core_fault.CoreFault.TheVariants.{NotForwarded, NotReady, NotWaiting}
 use Rattle.hx_reuse.specs.declared.decision.Decision.{Decision}
 use Rattle.hx_reuse.specs.declared.decision.Decision.TheVariants as decision
 use Rattle.hx_status.specs.declared.cause.FailKind.{FailKind}
@@ -24,23 +24,24 @@ use Rattle.proxy_core.specs.declared.open.stage.Stage.{Stage}
 use Rattle.proxy_core.specs.declared.open.exchange.Exchange.{Exchange}
 use Rattle.proxy_core.specs.declared.core_fault.CoreFault.{CoreFault}
 use Rattle.proxy_core.specs.Moments.{moment_too_late_fault}
-use Rattle.proxy_core.specs.Leading.{is_forwarded, is_released}
+use Rattle.proxy_core.specs.Leading.{is_forwarded, is_waiting, is_released}
 use Rattle.proxy_core.specs.declared.steps.fallback.Fallback.{Fallback}
 use Rattle.proxy_core.specs.declared.steps.fallback.Fallback.TheVariants.{Sends, Refuses}
 use Rattle.proxy_core.specs.declared.outcome.Outcome.{Outcome}
-use Rattle.proxy_core.specs.declared.outcome.Outcome.TheVariants.{Reply, Forward, Waits, Ended}
+use Rattle.proxy_core.specs.declared.outcome.Outcome.TheVariants.{Reply, Forward, Waits, Ended, WaitsNoMore}
 use Rattle.proxy_core.specs.declared.event.Event.{Event}
-use Rattle.proxy_core.specs.declared.event.Event.TheVariants.{Arrive, Answer, Fail, Wake, Abandon}
+use Rattle.proxy_core.specs.declared.event.Event.TheVariants.{Arrive, Answer, Fail, Wake, Abandon, Overdue}
 use Rattle.proxy_core.specs.Validating.{condition_about_serial, is_304_to_own_conditions, stored_response_validated}
 use Rattle.proxy_core.specs.Storing.{is_304_without_condition, key_invalidated}
-use Rattle.proxy_core.specs.Outcomes.{find_exchange, exchange_id_of_event, fallback_for, outcome_of_failure, is_error_status, outcome_of_passing_on_or_stale, outcome_of_304, outcome_of_answer, outcome_of_wake, outcome_of, or_fault, fault_if_not_forwarded, fault_if_not_released, fault_at_exchange}
+use Rattle.proxy_core.specs.Outcomes.{find_exchange, exchange_id_of_event, fallback_for, outcome_of_failure, is_error_status, outcome_of_passing_on_or_stale, outcome_of_304, outcome_of_answer, outcome_of_wake, outcome_of, or_fault, fault_if_not_forwarded, fault_if_not_released, fault_at_exchange, fault_if_not_waiting}
 use Rattle.proxy_core.specs.Scopes.{Scope, target_alone}
-use Rattle.proxy_core.specs.State.{State, state_after, open_exchanges_after, forwarded_exchange, waiting_exchange, line_of_verdict, rule_of_decision, serial_named_by_decision, exchange_gone_forward, exchange_forwarded_again, exchange_sent_forward, exchanges_after_wake, scope_invalidated_by_response, scope_purged}
+use Rattle.proxy_core.specs.State.{State, state_after, open_exchanges_after, forwarded_exchange, waiting_exchange, line_of_verdict, rule_of_decision, serial_named_by_decision, exchange_gone_forward, exchange_forwarded_again, exchange_sent_forward, exchanges_after_wake, scope_invalidated_by_response, scope_purged, exchange_past_its_wait, overdue_exchange}
 use Rattle.proxy_core.specs.Traces.{Item, ItemIsAccepted}
 use Rattle.proxy_core.specs.Promises.{outcome_goes_forward, outcome_is_reply, outcome_ends_exchange, is_arrival_event, reply_uses_no_stored_response}
 use Rattle.proxy_core.specs.Carrying.{judges_a_request}
+use Rattle.proxy_core.specs.TraceMeaning.{opens_an_exchange}
 use Rattle.proxy_core.proofs.UnsafeRequests.{unsafe_refuses}
-use Rattle.proxy_core.proofs.ExchangeLists.{find-map, find-closed, find-push, find-gone_out, find-left_open, find-purged, none_overtaken, found-id, sent_out-id, overtaken_by, changed_by}
+use Rattle.proxy_core.proofs.ExchangeLists.{find-map, find-closed, find-push, find-gone_out, find-left_open, find-purged, none_overtaken, found-id, sent_out-id, overdue-id, overtaken_by, changed_by}
 
 abbrev pub asked_of : Option Exchange → Option Asked
 asked_of None = None
@@ -64,12 +65,14 @@ ends_back (Reply r) h = refl
 ends_back (Forward line bytes) h = absurd (false≢true h)
 ends_back (Waits leader) h = refl
 ends_back Ended h = refl
+ends_back WaitsNoMore h = refl
 
 pub forward_goes_on : (o : Outcome) → outcome_goes_forward o ≡ true → outcome_ends_exchange o ≡ false
 forward_goes_on (Reply r) h = absurd (false≢true h)
 forward_goes_on (Forward line bytes) h = refl
 forward_goes_on (Waits leader) h = refl
 forward_goes_on Ended h = absurd (false≢true h)
+forward_goes_on WaitsNoMore h = absurd (false≢true h)
 
 -- what an answer invalidates, as its outcome shows it: no stored response is sent to an unsafe request
 abbrev pub key_taken_by_answer : Asked → Response → Outcome → Option Key
@@ -84,6 +87,7 @@ key_taken_by_step asked (Arrive now id other) outcome = scope_purged other outco
 key_taken_by_step asked (Fail now id kind) outcome = None
 key_taken_by_step asked (Wake now id) outcome = None
 key_taken_by_step asked (Abandon id) outcome = None
+key_taken_by_step asked (Overdue id) outcome = None
 
 -- of a step of the exchange w of its own id, what becomes of the exchange x of an id
 pub data Move (id : ℕ) (w : Option Exchange) (event : Event) (o : Outcome) (x y : Option Exchange) : Type 0 where
@@ -91,12 +95,13 @@ pub data Move (id : ℕ) (w : Option Exchange) (event : Event) (o : Outcome) (x 
   opens : (table : Table) (es : List Stored) (now : ℕ) (asked : Asked) (line : Route) → event ≡ Arrive now id asked → x ≡ None → outcome_goes_forward o ≡ true → y ≡ Some (forwarded_exchange table es now id asked line) → Move id w event o x y
   queues : (table : Table) (es : List Stored) (now : ℕ) (asked : Asked) (line : Route) (leader : ℕ) → event ≡ Arrive now id asked → x ≡ None → o ≡ Waits leader →
       line ≡ line_of_verdict (verdict_of_asked table asked) → y ≡ Some (waiting_exchange table es now id asked line leader) → Move id w event o x y
-  passes : eqb (exchange_id_of_event event) id ≡ true → is_arrival_event event ≡ true → x ≡ None → outcome_ends_exchange o ≡ true → y ≡ None → Move id w event o x y
+  passes : eqb (exchange_id_of_event event) id ≡ true → is_arrival_event event ≡ true → x ≡ None → opens_an_exchange o ≡ false → y ≡ None → Move id w event o x y
   again : (z : Exchange) (now : ℕ) → eqb (exchange_id_of_event event) id ≡ true → is_arrival_event event ≡ false → x ≡ Some z → is_some z.condition ≡ true →
       outcome_goes_forward o ≡ true → y ≡ Some (out_again now z) → judges_a_request event ≡ false → is_forwarded z.stage ≡ true → Move id w event o x y
   wakes : (table : Table) (es : List Stored) (z : Exchange) (now : ℕ) → event ≡ Wake now id → x ≡ Some z → is_released z.stage ≡ true → outcome_goes_forward o ≡ true →
       y ≡ Some (woken_form table es now z) → Move id w event o x y
   closes : (z : Exchange) → eqb (exchange_id_of_event event) id ≡ true → is_arrival_event event ≡ false → x ≡ Some z → outcome_ends_exchange o ≡ true → y ≡ None → Move id w event o x y
+  lapses : (z : Exchange) → event ≡ Overdue id → x ≡ Some z → is_waiting z.stage ≡ true → o ≡ WaitsNoMore → y ≡ Some (exchange_past_its_wait z) → Move id w event o x y
 
 -- ---- what an answer gives
 
@@ -210,6 +215,14 @@ other_sent i now q n c id (Some z) off_id h =
     let off : eqb z.id i ≡ false = grind (arith, nat_tests) in
     ap (λ b. Some (cond b (exchange_gone_forward now q n c z) z)) off
 
+pub other_overdue : (i id : ℕ) (o : Option Exchange) → eqb i id ≡ false → ((z : Exchange) → o ≡ Some z → eqb z.id id ≡ true) →
+    option_map (overdue_exchange i) o ≡ o
+other_overdue i id None n h = refl
+other_overdue i id (Some z) n h =
+    let e = eqb-true z.id id (h z refl) in
+    let off : eqb z.id i ≡ false = grind (arith, nat_tests) in
+    ap (λ b. Some (cond (b && is_waiting z.stage) (exchange_past_its_wait z) z)) off
+
 -- no fault stands of an answer or a failure
 pub forwarded_by : (a : Option CoreFault) (s : Stage) → or_fault a (fault_if_not_forwarded s) ≡ None → is_forwarded s ≡ true
 forwarded_by (Some fault) s h = absurd (cc)
@@ -228,6 +241,14 @@ released_from None s h = by_test (is_released s) h
     by_test true h = refl
     by_test false h = absurd (cc)
 
+-- nor of a wait that is over
+pub waiting_from : (s : Stage) → fault_if_not_waiting s ≡ None → is_waiting s ≡ true
+waiting_from s h = by_test (is_waiting s) h
+  where
+    by_test : (b : Bool) → cond b None (Some NotWaiting) ≡ None → b ≡ true
+    by_test true h = refl
+    by_test false h = absurd (cc)
+
 no_key : (asked : Asked) (r : Response) (line : Route) (bytes : List ℕ) → key_taken_by_answer asked r (Forward line bytes) ≡ None
 no_key asked r line bytes = ap (λ b. cond b (Some asked.target.key) None)
     (ap (λ b. not (is_among safe_methods asked.method) && b) (and_none (nat_le 200 r.status && nat_le r.status 399)) ∙ and_none (not (is_among safe_methods asked.method)))
@@ -237,6 +258,7 @@ is_either (Reply r) = true
 is_either (Forward line bytes) = true
 is_either (Waits leader) = false
 is_either Ended = false
+is_either WaitsNoMore = false
 
 pub answer_either : (table : Table) (es : List Stored) (now : ℕ) (x : Exchange) (r : Response) (next : Option ℕ) (d : Decision) → is_either (outcome_of_answer table es now x r next d) ≡ true
 answer_either table es now x r next d = by_304 (is_304_to_own_conditions x r)
@@ -316,6 +338,10 @@ module _ (table : Table) (es : List Stored) (xs : List Exchange) (next : Option 
     | inl t ↦ passes t refl (ap (λ n. find_exchange n xs) (sym (eqb-true i id t)) ∙ f) refl (ap (λ n. find_exchange n xs) (sym (eqb-true i id t)) ∙ f)
     | inr n ↦ apart n refl
   ]
+  arrives now i asked WaitsNoMore f = elim (cases_Bool (eqb i id)) [
+    | inl t ↦ passes t refl (ap (λ n. find_exchange n xs) (sym (eqb-true i id t)) ∙ f) refl (ap (λ n. find_exchange n xs) (sym (eqb-true i id t)) ∙ f)
+    | inr n ↦ apart n refl
+  ]
 
   answers : (now i : ℕ) (r : Response) (z : Exchange) (o : Outcome) → find_exchange i xs ≡ Some z → is_forwarded z.stage ≡ true → o ≡ outcome_of_answer table es now z r next (decision_of (policy_of table.lines z.line) es z.asked now) →
       Move id (Some z) (Answer now i r) o (find_exchange id xs) (find_exchange id (open_exchanges_after table es xs (Answer now i r) o))
@@ -339,6 +365,7 @@ module _ (table : Table) (es : List Stored) (xs : List Exchange) (next : Option 
       )
   answers now i r z (Waits leader) f s h = absurd (false≢true (ap is_either h ∙ answer_either table es now z r next (decision_of (policy_of table.lines z.line) es z.asked now)))
   answers now i r z Ended f s h = absurd (false≢true (ap is_either h ∙ answer_either table es now z r next (decision_of (policy_of table.lines z.line) es z.asked now)))
+  answers now i r z WaitsNoMore f s h = absurd (false≢true (ap is_either h ∙ answer_either table es now z r next (decision_of (policy_of table.lines z.line) es z.asked now)))
 
   -- what waited and is woken
   wakes_up : (now i : ℕ) (z : Exchange) (o : Outcome) (d : Decision) → decision_of (policy_of table.lines z.line) es z.asked now ≡ d → find_exchange i xs ≡ Some z → is_released z.stage ≡ true →
@@ -377,6 +404,22 @@ module _ (table : Table) (es : List Stored) (xs : List Exchange) (next : Option 
         | inr off ↦ apart off (p ∙ other_sent i now q n c id (find_exchange id xs) off (λ y g. found-id id xs y g))
       ]
 
+  -- who has waited as long as it is to wait
+  goes_over : (i : ℕ) (z : Exchange) (o : Outcome) → find_exchange i xs ≡ Some z → is_waiting z.stage ≡ true → o ≡ WaitsNoMore →
+      Move id (Some z) (Overdue i) o (find_exchange id xs) (find_exchange id (map (overdue_exchange i) xs))
+  goes_over i z o f s h =
+      let p = find-map (overdue_exchange i) (overdue-id i) id xs in
+      subst (λ (o : Outcome). Move id (Some z) (Overdue i) o (find_exchange id xs) (find_exchange id (map (overdue_exchange i) xs))) (sym h)
+      (elim (cases_Bool (eqb i id)) [
+        | inl t ↦ (
+            let same = eqb-true i id t in
+            let x_is : find_exchange id xs ≡ Some z = ap (λ k. find_exchange k xs) (sym same) ∙ f in
+            lapses z (ap (λ k. Overdue k) same) x_is s refl
+            (p ∙ ap (option_map (overdue_exchange i)) x_is ∙ ap (λ b. Some (cond b (exchange_past_its_wait z) z)) (ap (λ b. b && is_waiting z.stage) (found-id i xs z f) ∙ s))
+            )
+        | inr off ↦ apart off (p ∙ other_overdue i id (find_exchange id xs) off (λ y g. found-id id xs y g))
+      ])
+
   step : (event : Event) (o : Outcome) (w : Option Exchange) → find_exchange (exchange_id_of_event event) xs ≡ w → fault_at_exchange w event ≡ None → o ≡ outcome_of table es xs w next event →
       Move id w event o (find_exchange id xs) (find_exchange id (open_exchanges_after table es xs event o))
   step (Arrive now i asked) o None f a h = arrives now i asked o f
@@ -390,7 +433,9 @@ module _ (table : Table) (es : List Stored) (xs : List Exchange) (next : Option 
   step (Wake now i) o (Some w) f a h =
       wakes_up now i w o (decision_of (policy_of table.lines w.line) es w.asked now) refl f (released_from (moment_too_late_fault now) w.stage a) h
   step (Abandon i) o None f a h = absurd (cc)
+  step (Overdue i) o None f a h = absurd (cc)
   step (Abandon i) o (Some w) f a h = gone w (Abandon i) o f refl (ap outcome_ends_exchange h) _ (find-closed i id xs)
+  step (Overdue i) o (Some w) f a h = goes_over i w o f (waiting_from w.stage a) h
 
 pub move_of : (table : Table) (s : State) (i : Item) (id : ℕ) → s.table ≡ table → ItemIsAccepted table s.entries s.exchanges s.next i →
     Move id (find_exchange (exchange_id_of_event i.event) s.exchanges) i.event i.outcome (find_exchange id s.exchanges) (find_exchange id (state_after s i.event i.outcome).exchanges)

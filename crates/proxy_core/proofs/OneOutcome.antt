@@ -35,12 +35,12 @@ use Rattle.hx_status.specs.declared.cause.FailKind.TheVariants.{BadAnswer}
 use Rattle.hx_status.specs.declared.cause.Cause.TheVariants.{Denied, Looped, OnlyIfCached, Origin}
 use Rattle.proxy_core.specs.declared.open.exchange.Exchange.{Exchange}
 use Rattle.proxy_core.specs.declared.replies.stored_reply.CacheStatusInfo.{CacheStatusInfo}
-use Rattle.proxy_core.specs.declared.core_fault.CoreFault.TheVariants.{MomentTooLate, NotForwarded, NotReady}
+use Rattle.proxy_core.specs.declared.core_fault.CoreFault.TheVariants.{MomentTooLate, NotForwarded, NotReady, NotWaiting}
 use Rattle.proxy_core.specs.declared.outcome.Reply.{Reply}
 use Rattle.proxy_core.specs.declared.outcome.Outcome.{Outcome}
 use Rattle.proxy_core.specs.declared.outcome.Outcome.TheVariants.{Reply as Replied, Forward, Waits}
 use Rattle.proxy_core.specs.declared.event.Event.{Event}
-use Rattle.proxy_core.specs.declared.event.Event.TheVariants.{Arrive, Answer, Fail, Wake, Abandon}
+use Rattle.proxy_core.specs.declared.event.Event.TheVariants.{Arrive, Answer, Fail, Wake, Abandon, Overdue}
 use Rattle.proxy_core.specs.Moments.{moment_too_late_fault}
 use Rattle.proxy_core.specs.Storing.{storing_rule_to_explain, is_304_without_condition}
 use Rattle.proxy_core.specs.Validating.{condition_about_serial, is_304_to_own_conditions, stored_response_validated}
@@ -171,6 +171,7 @@ about_same None (Fail t id kind) m n a b h k = absurd h
 about_same (Some x) (Wake t id) m n a b h k = (sym h.0 ∙ k.0, sym h.1 ∙ k.1)
 about_same None (Wake t id) m n a b h k = absurd h
 about_same x (Abandon id) m n a b h k = absurd h
+about_same x (Overdue id) m n a b h k = absurd h
 
 same_line : (a b : Route) → verdict.Allowed a ≡ verdict.Allowed b → a ≡ b
 same_line a b h = cc
@@ -211,6 +212,7 @@ module _ (table : Table) (es : List Stored) (distinct : Distinct (serials es)) w
   how_same (Some x) (Wake now id) s h k a b = a ∙ sym b
   how_same None (Wake now id) s h k a b = absurd a
   how_same x (Abandon id) s h k a b = absurd a
+  how_same x (Overdue id) s h k a b = absurd a
 
   bytes_same : (x : Option Exchange) (event : Event) (o p : Outcome) (s : ℕ) (a : ReplyIsThatStoredResponse table es x event o s) (b : ReplyIsThatStoredResponse table es x event p s) → a.reply.bytes ≡ b.reply.bytes
   bytes_same x event o p s a b =
@@ -244,6 +246,7 @@ removed_same table es None (Answer now id r) a b stored used = refl
 removed_same table es x (Fail now id kind) a b stored used = refl
 removed_same table es x (Wake now id) a b stored used = refl
 removed_same table es x (Abandon id) a b stored used = refl
+removed_same table es x (Overdue id) a b stored used = refl
 
 -- what is asked of one outcome of an event, by the exchange of its id
 record Fits (table : Table) (start : StoreAtStart) (first : ℕ) (past : List Item) (x : Option Exchange) (event : Event) (o : Outcome) : Type 0 where
@@ -384,6 +387,7 @@ module _ (table : Table) (start : StoreAtStart) (first : ℕ) (past : List Item)
     unused_same (Some x) (Wake now id) come a b final final2 = wake_same now id x a b final final2
     unused_same None (Wake now id) come a b final final2 = absurd come
     unused_same x (Abandon id) come a b final final2 = a.goes_on ∙ sym b.goes_on
+    unused_same x (Overdue id) come a b final final2 = a.goes_on ∙ sym b.goes_on
 
   one_outcome : (x : Option Exchange) (event : Event) (o p : Outcome) → EventMayCome x event → (a : Fits table start first past x event o) (b : Fits table start first past x event p) →
       AnswerHasFinalStatus (record { event = event; outcome = o }) past → AnswerHasFinalStatus (record { event = event; outcome = p }) past → o ≡ p
@@ -412,7 +416,9 @@ no_fault None (Fail now id kind) h = absurd h
 no_fault (Some x) (Wake now id) h = ap (λ f. or_fault f (fault_if_not_released x.stage)) (on_time now h.0) ∙ ap (λ b. cond b None (Some NotReady)) h.1
 no_fault None (Wake now id) h = absurd h
 no_fault (Some x) (Abandon id) h = refl
+no_fault (Some x) (Overdue id) h = ap (λ b. cond b None (Some NotWaiting)) h
 no_fault None (Abandon id) h = absurd h
+no_fault None (Overdue id) h = absurd h
 
 -- ---- the law
 

@@ -11,7 +11,7 @@ use Rattle.hx_reuse.specs.Rules.{decision_of}
 use Rattle.hx_reuse.specs.declared.rule.ReuseRule.{ReuseRule}
 use Rattle.proxy_core.specs.declared.open.exchange.Exchange.{Exchange}
 use Rattle.proxy_core.specs.declared.outcome.Outcome.{Outcome}
-use Rattle.proxy_core.specs.declared.outcome.Outcome.TheVariants.{Reply, Forward, Waits, Ended}
+use Rattle.proxy_core.specs.declared.outcome.Outcome.TheVariants.{Reply, Forward, Waits, Ended, WaitsNoMore}
 use Rattle.proxy_core.specs.declared.event.Event.{Event}
 use Rattle.proxy_core.specs.declared.event.Event.TheVariants.{Arrive}
 use Rattle.proxy_core.specs.Outcomes.{find_exchange, exchange_id_of_event, fault_at_exchange}
@@ -26,7 +26,7 @@ use Rattle.proxy_core.specs.Promises.{outcome_goes_forward, outcome_ends_exchang
 use Rattle.proxy_core.specs.Carrying.{judges_a_request, NoRequestIsJudged}
 use Rattle.proxy_core.specs.TraceMeaning.{exchange_has_ended, opens_an_exchange, ExchangeIsOpenFromArrivalToEnd, ExchangeOpensByArrivalAlone, OpenExchangeHasItsRequest, OpenExchangeKeepsItsRule, ExchangeIsOvertakenWhereInvalidated}
 use Rattle.proxy_core.proofs.ExchangeLists.{overtaken_by, released_by, changed_by, find-push, find-purged, none_overtaken}
-use Rattle.proxy_core.proofs.Moves.{Move, apart, opens, queues, passes, again, wakes, closes, asked_of, ended_by, forward_goes_on, move_of, and_none, key_taken_by_step}
+use Rattle.proxy_core.proofs.Moves.{Move, apart, opens, queues, passes, again, wakes, closes, lapses, asked_of, ended_by, forward_goes_on, move_of, and_none, key_taken_by_step}
 use Rattle.proxy_core.proofs.Tracing.{same_table}
 use Rattle.proxy_core.proofs.TwiceForward.{not_both, fresh_arrival, part}
 use Rattle.proxy_core.proofs.HeldLaw.{good_plain, entries_are_held, exchanges_are_open}
@@ -62,6 +62,9 @@ open_step id w event o x y b e (wakes table es z now ev x_is s f h) a i =
     ∙ sym (ap (λ c. b && not (c || e)) (ap (λ c. eqb (exchange_id_of_event event) id && c) (forward_goes_on o f) ∙ and_none (eqb (exchange_id_of_event event) id)))
 open_step id w event o x y b e (closes z t ev x_is f h) a i =
     ap is_some h ∙ sym (ap (λ c. b && not (c || e)) (ap (λ c. c && outcome_ends_exchange o) t ∙ f) ∙ and_none b)
+open_step id w event o x y b e (lapses z ev x_is s f h) a i =
+    ap is_some h ∙ sym (ap is_some x_is) ∙ i
+    ∙ sym (ap (λ c. b && not (c || e)) (ap (λ (o : Outcome). eqb (exchange_id_of_event event) id && outcome_ends_exchange o) f ∙ and_none (eqb (exchange_id_of_event event) id)))
 
 open_first : (id : ℕ) (w : Option Exchange) (event : Event) (o : Outcome) (x y : Option Exchange) → Move id w event o x y →
     eqb (exchange_id_of_event event) id ≡ true → is_arrival_event event ≡ true → is_some y ≡ (opens_an_exchange o && true)
@@ -73,17 +76,13 @@ open_first id w event o x y (opens table es now asked line ev x_is f h) t a = ap
     forward_starts (Forward line bytes) h = refl
     forward_starts (Waits leader) h = refl
     forward_starts Ended h = absurd (false≢true h)
+    forward_starts WaitsNoMore h = absurd (false≢true h)
 open_first id w event o x y (queues table es now asked line leader ev x_is f l h) t a = ap is_some h ∙ sym (ap (λ (o : Outcome). opens_an_exchange o && true) f)
-open_first id w event o x y (passes u ev x_is f h) t a = ap is_some h ∙ sym (ap (λ b. b && true) (none_starts o f))
-  where
-    none_starts : (o : Outcome) → outcome_ends_exchange o ≡ true → opens_an_exchange o ≡ false
-    none_starts (Reply r) h = refl
-    none_starts (Forward line bytes) h = absurd (false≢true h)
-    none_starts (Waits leader) h = absurd (false≢true h)
-    none_starts Ended h = refl
+open_first id w event o x y (passes u ev x_is f h) t a = ap is_some h ∙ sym (ap (λ b. b && true) f)
 open_first id w event o x y (again z now u ev x_is c f h j s) t a = absurd (false≢true (sym ev ∙ a))
 open_first id w event o x y (wakes table es z now ev x_is s f h) t a = absurd (false≢true (sym (ap is_arrival_event ev) ∙ a))
 open_first id w event o x y (closes z u ev x_is f h) t a = absurd (false≢true (sym ev ∙ a))
+open_first id w event o x y (lapses z ev x_is s f h) t a = absurd (false≢true (sym (ap is_arrival_event ev) ∙ a))
 
 module _ (start : State) (before : List Item) (arrival : Item) where
   open_plain : (items : List Item) → IsGood start (items ++ arrival ∷ before) → is_arrival_event arrival.event ≡ true → NoRequestArrives (exchange_id_of_event arrival.event) items →
@@ -116,6 +115,7 @@ none_step id w event o x y (passes t ev x_is f h) a i = h
 none_step id w event o x y (wakes table es z now ev x_is s f h) a i = absurd (false≢true (ap is_some (sym i ∙ x_is)))
 none_step id w event o x y (again z now t ev x_is c f h j s) a i = absurd (false≢true (ap is_some (sym i ∙ x_is)))
 none_step id w event o x y (closes z t ev x_is f h) a i = h
+none_step id w event o x y (lapses z ev x_is s f h) a i = absurd (false≢true (ap is_some (sym i ∙ x_is)))
 
 none_plain : (table : Table) (start : StoreAtStart) (first id : ℕ) (trace : List Item) → IsGood (initial_state table start first) trace → NoRequestArrives id trace →
     find_exchange id (state_after_trace (initial_state table start first) trace).exchanges ≡ None
@@ -190,6 +190,9 @@ rule_step rule id w event o x y (again z now t ev x_is c f h j s) a i =
     let was : HasRule rule (Some z) = subst (HasRule rule) x_is i in
     subst (HasRule rule) (sym h) was
 rule_step rule id w event o x y (closes z t ev x_is f h) a i = subst (HasRule rule) (sym h) tt
+rule_step rule id w event o x y (lapses z ev x_is s f h) a i =
+    let was : HasRule rule (Some z) = subst (HasRule rule) x_is i in
+    subst (HasRule rule) (sym h) was
 
 -- at the arrival
 rule_first : (table : Table) (es : List Stored) (xs : List Exchange) (now id : ℕ) (asked : Asked) (o : Outcome) → find_exchange id xs ≡ None →
@@ -208,6 +211,7 @@ rule_first table es xs now id asked (Reply r) f =
     let key = scope_purged asked (Reply r) in
     subst (HasRule (rule_for table es asked now)) (sym (find-purged key id xs ∙ ap (overtaken_by key) f ∙ none_overtaken key)) tt
 rule_first table es xs now id asked Ended f = subst (HasRule (rule_for table es asked now)) (sym f) tt
+rule_first table es xs now id asked WaitsNoMore f = subst (HasRule (rule_for table es asked now)) (sym f) tt
 
 -- what arrives has an id that is free
 pub id_was_free : (w : Option Exchange) (now id : ℕ) (asked : Asked) → fault_at_exchange w (Arrive now id asked) ≡ None → w ≡ None

@@ -20,7 +20,7 @@ use Rattle.proxy_core.specs.declared.steps.fallback.Fallback.TheVariants.{Sends,
 use Rattle.proxy_core.specs.declared.open.exchange.Exchange.{Exchange}
 use Rattle.proxy_core.specs.declared.outcome.Outcome.{Outcome}
 use Rattle.proxy_core.specs.declared.event.Event.{Event}
-use Rattle.proxy_core.specs.declared.event.Event.TheVariants.{Arrive, Answer, Fail, Wake, Abandon}
+use Rattle.proxy_core.specs.declared.event.Event.TheVariants.{Arrive, Answer, Fail, Wake, Abandon, Overdue}
 use Rattle.proxy_core.specs.Allowing.{verdict_of_asked, is_purge}
 use Rattle.proxy_core.specs.Validating.{condition_about_serial, is_304_to_own_conditions, stored_response_validated}
 use Rattle.proxy_core.specs.Storing.{is_304_without_condition}
@@ -97,6 +97,7 @@ purges_by_event table es xs None next (Fail now id kind) = refl
 purges_by_event table es xs (Some x) next (Wake now id) = woken table es now x (decision_of (policy_of table.lines x.line) es x.asked now)
 purges_by_event table es xs None next (Wake now id) = refl
 purges_by_event table es xs x next (Abandon id) = refl
+purges_by_event table es xs x next (Overdue id) = refl
 
 pub purges_where_said : ItemPurgesWhereItsLineSaysSo
 purges_where_said table start first item past g =

@@ -17,9 +17,9 @@ use Rattle.hx_reuse.specs.declared.decision.Decision.TheVariants as decision
 use Rattle.hx_reuse.proofs.MeaningLemmas.{names_the_least}
 use Rattle.proxy_core.specs.declared.steps.condition.Condition.{Condition}
 use Rattle.proxy_core.specs.declared.outcome.Outcome.{Outcome}
-use Rattle.proxy_core.specs.declared.outcome.Outcome.TheVariants.{Reply, Forward, Waits, Ended}
+use Rattle.proxy_core.specs.declared.outcome.Outcome.TheVariants.{Reply, Forward, Waits, Ended, WaitsNoMore}
 use Rattle.proxy_core.specs.declared.event.Event.{Event}
-use Rattle.proxy_core.specs.declared.event.Event.TheVariants.{Arrive, Answer, Fail, Wake, Abandon}
+use Rattle.proxy_core.specs.declared.event.Event.TheVariants.{Arrive, Answer, Fail, Wake, Abandon, Overdue}
 use Rattle.proxy_core.specs.declared.core_fault.CoreFault.{CoreFault}
 use Rattle.proxy_core.specs.Validating.{condition_about_serial}
 use Rattle.proxy_core.specs.Outcomes.{step_fault, forward_text, outcome_of_event}
@@ -42,6 +42,7 @@ is_final (Arrive now id asked) = true
 is_final (Fail now id kind) = true
 is_final (Wake now id) = true
 is_final (Abandon id) = true
+is_final (Overdue id) = true
 
 abbrev pub finals : List Item → Bool
 finals [] = true
@@ -99,15 +100,18 @@ goes_by n (Forward line bytes) = line.number == n
 goes_by n (Reply r) = false
 goes_by n (Waits leader) = false
 goes_by n Ended = false
+goes_by n WaitsNoMore = false
 
 abbrev pub waits_on : ℕ → Outcome → Bool
 waits_on n (Waits leader) = leader == n
 waits_on n (Forward line bytes) = false
 waits_on n (Reply r) = false
 waits_on n Ended = false
+waits_on n WaitsNoMore = false
 
 abbrev pub is_end : Outcome → Bool
 is_end Ended = true
+is_end WaitsNoMore = false
 is_end (Waits leader) = false
 is_end (Forward line bytes) = false
 is_end (Reply r) = false
@@ -117,6 +121,7 @@ closes (Reply r) = r.close
 closes (Forward line bytes) = false
 closes (Waits leader) = false
 closes Ended = false
+closes WaitsNoMore = false
 
 -- ---- what goes forward at an arrival
 

@@ -41,7 +41,7 @@ use Rattle.proxy_core.specs.declared.steps.fallback.Fallback.TheVariants.{Sends,
 use Rattle.proxy_core.specs.declared.outcome.Outcome.{Outcome}
 use Rattle.proxy_core.specs.declared.outcome.Outcome.TheVariants.{Forward}
 use Rattle.proxy_core.specs.declared.event.Event.{Event}
-use Rattle.proxy_core.specs.declared.event.Event.TheVariants.{Arrive, Answer, Fail, Wake, Abandon}
+use Rattle.proxy_core.specs.declared.event.Event.TheVariants.{Arrive, Answer, Fail, Wake, Abandon, Overdue}
 use Rattle.proxy_core.specs.Validating.{condition_about_serial, is_304_to_own_conditions, stored_response_validated, freshened_by_304}
 use Rattle.proxy_core.specs.Storing.{is_304_without_condition}
 use Rattle.proxy_core.specs.Awaiting.{awaited_of, leader_of_request}
@@ -362,6 +362,7 @@ module _ (table : Table) (es : List Stored) (distinct : Distinct (serials es)) (
   may_be_used (Some x) next (Wake now id) s may = ap (λ (d : Decision). serial_used_by_outcome (outcome_of_wake table es now x d)) (reusable_hit (policy_of table.lines x.line) es distinct x.asked now s may)
   may_be_used None next (Wake now id) s may = absurd may
   may_be_used x next (Abandon id) s may = absurd may
+  may_be_used x next (Overdue id) s may = absurd may
 
   may_be_used_beside : (x : Option Exchange) (next : Option ℕ) (event : Event) (s : ℕ) → StoredResponseMayBeSentBeside table es xs event s → serial_used_by_outcome (outcome_of table es xs x next event) ≡ Some s
   may_be_used_beside x next (Arrive now id asked) s may =
@@ -370,6 +371,7 @@ module _ (table : Table) (es : List Stored) (distinct : Distinct (serials es)) (
   may_be_used_beside x next (Fail now id kind) s may = absurd may
   may_be_used_beside x next (Wake now id) s may = absurd may
   may_be_used_beside x next (Abandon id) s may = absurd may
+  may_be_used_beside x next (Overdue id) s may = absurd may
 
   may_be_used_either : (x : Option Exchange) (next : Option ℕ) (event : Event) (s : ℕ) → StoredResponseMayBeSent table es xs x event s → serial_used_by_outcome (outcome_of table es xs x next event) ≡ Some s
   may_be_used_either x next event s (inl may) = may_be_used x next event s may
@@ -384,6 +386,7 @@ module _ (table : Table) (es : List Stored) (distinct : Distinct (serials es)) (
   used_may_be (Some x) next (Wake now id) s h = inl (used_woken now x s (decision_of (policy_of table.lines x.line) es x.asked now) refl h)
   used_may_be None next (Wake now id) s h = absurd (never_one s h)
   used_may_be x next (Abandon id) s h = absurd (never_one s h)
+  used_may_be x next (Overdue id) s h = absurd (never_one s h)
 
 pub sends_what_may_be_sent : StoredResponseIsSentWhereItMayBe
 sends_what_may_be_sent table start first s item past g may =

@@ -33,7 +33,7 @@ use Rattle.proxy_core.specs.declared.steps.fallback.Fallback.{Fallback}
 use Rattle.proxy_core.specs.declared.steps.fallback.Fallback.TheVariants.{Sends, Refuses}
 use Rattle.proxy_core.specs.declared.outcome.Outcome.{Outcome}
 use Rattle.proxy_core.specs.declared.event.Event.{Event}
-use Rattle.proxy_core.specs.declared.event.Event.TheVariants.{Arrive, Answer, Fail, Wake, Abandon}
+use Rattle.proxy_core.specs.declared.event.Event.TheVariants.{Arrive, Answer, Fail, Wake, Abandon, Overdue}
 use Rattle.proxy_core.specs.Replies.{stored_text}
 use Rattle.proxy_core.specs.Validating.{stored_response_asked_about, condition_about_serial, stored_response_if_answered, is_304_to_own_conditions, stored_response_validated, freshened_by_304}
 use Rattle.proxy_core.specs.Storing.{is_304_without_condition}
@@ -272,6 +272,7 @@ module _ (table : Table) (es : List Stored) (distinct : Distinct (serials es)) w
   sends_by_event xs (Some x) next (Wake now id) s h = woken_sends x now id s (decision_of (policy_of table.lines x.line) es x.asked now) refl h
   sends_by_event xs None next (Wake now id) s h = absurd (never_one s h)
   sends_by_event xs x next (Abandon id) s h = absurd (never_one s h)
+  sends_by_event xs x next (Overdue id) s h = absurd (never_one s h)
 
 pub sends_what_is_held : SendsWhatIsHeld
 sends_what_is_held table start first s item past g h =

@@ -36,7 +36,7 @@ use Rattle.proxy_core.specs.declared.steps.fallback.Fallback.{Fallback}
 use Rattle.proxy_core.specs.declared.steps.fallback.Fallback.TheVariants.{Sends, Refuses}
 use Rattle.proxy_core.specs.declared.outcome.Outcome.{Outcome}
 use Rattle.proxy_core.specs.declared.event.Event.{Event}
-use Rattle.proxy_core.specs.declared.event.Event.TheVariants.{Arrive, Answer, Fail, Wake, Abandon}
+use Rattle.proxy_core.specs.declared.event.Event.TheVariants.{Arrive, Answer, Fail, Wake, Abandon, Overdue}
 use Rattle.proxy_core.specs.Validating.{condition_about_serial, is_304_to_own_conditions, stored_response_validated, freshened_by_304}
 use Rattle.proxy_core.specs.Storing.{storing_rule_to_explain, is_304_without_condition, is_storable, replaced_by, stored_response_made}
 use Rattle.proxy_core.specs.Awaiting.{awaited_of}
@@ -217,6 +217,7 @@ kind_of table es xs None (Fail now id kind) next h = idle refl refl
 kind_of table es xs (Some x) (Wake now id) next h = kind_woken table es (Some x) (Wake now id) next now x (decision_of (policy_of table.lines x.line) es x.asked now) (λ s k. hit_found (policy_of table.lines x.line) es x.asked now s k)
 kind_of table es xs None (Wake now id) next h = idle refl refl
 kind_of table es xs x (Abandon id) next h = idle refl refl
+kind_of table es xs x (Overdue id) next h = idle refl refl
 
 -- of an accepted step
 pub kind_in : (table : Table) (s : State) (i : Item) → NoSerialIsHeldFrom s.next s.entries → ItemIsAccepted table s.entries s.exchanges s.next i →

@@ -33,7 +33,7 @@ use Rattle.proxy_core.specs.declared.open.exchange.Exchange.{Exchange}
 use Rattle.proxy_core.specs.declared.outcome.Outcome.{Outcome}
 use Rattle.proxy_core.specs.declared.outcome.Outcome.TheVariants.{Forward}
 use Rattle.proxy_core.specs.declared.event.Event.{Event}
-use Rattle.proxy_core.specs.declared.event.Event.TheVariants.{Arrive, Answer, Fail, Wake, Abandon}
+use Rattle.proxy_core.specs.declared.event.Event.TheVariants.{Arrive, Answer, Fail, Wake, Abandon, Overdue}
 use Rattle.proxy_core.specs.declared.steps.fallback.Fallback.{Fallback}
 use Rattle.proxy_core.specs.declared.steps.fallback.Fallback.TheVariants.{Sends, Refuses}
 use Rattle.proxy_core.specs.Outcomes.{outcome_of_allowed_request, outcome_of_answer, outcome_of_arrival, outcome_of_failure, fallback_for, find_exchange, forward_text, forwarded_status_info, exchange_id_of_event, is_error_status, is_only_if_cached, outcome_of, outcome_of_passing_on, outcome_of_passing_on_or_stale, outcome_of_304, outcome_of_sending_stored, outcome_of_waiting_or_forwarding, outcome_of_sending_freshened, serial_of_stored_answer, outcome_without_stored_response, outcome_of_wake, step_fault, fault_at_exchange}
@@ -285,6 +285,7 @@ serials_removed_at table held x (Arrive now id asked) outcome = cond (request_pu
 serials_removed_at table held x (Fail now id kind) outcome = []
 serials_removed_at table held x (Wake now id) outcome = []
 serials_removed_at table held x (Abandon id) outcome = []
+serials_removed_at table held x (Overdue id) outcome = []
 
 -- ---- in words, and back
 
@@ -329,6 +330,7 @@ module _ (table : Table) (held : List Stored) where
   removed_by_words x (Fail now id kind) o h = h
   removed_by_words x (Wake now id) o h = h
   removed_by_words x (Abandon id) o h = h
+  removed_by_words x (Overdue id) o h = h
 
   removed_in_words : (x : Option Exchange) (event : Event) (o : Outcome) → serials_removed_by_outcome o ≡ serials_removed_at table held x event o → ThoseAreRemoved table held x event o
   removed_in_words (Some x) (Answer now id r) o h = by_stored_in_words x now r (serials_removed_by_outcome o) (serial_stored_by_outcome o) h
@@ -337,6 +339,7 @@ module _ (table : Table) (held : List Stored) where
   removed_in_words x (Fail now id kind) o h = h
   removed_in_words x (Wake now id) o h = h
   removed_in_words x (Abandon id) o h = h
+  removed_in_words x (Overdue id) o h = h
 
 -- an answer in whose place a stored response is sent takes nothing away
 none_by : (x : Exchange) (r : Response) (o : Outcome) → reply_uses_no_stored_response o ≡ false → key_taken_by_answer x.asked r o ≡ None
@@ -460,6 +463,7 @@ module _ (table : Table) (es : List Stored) (xs : List Exchange) (next : Option 
       by_decision (decision.Forward rule against) = refl
   goes_by_event None (Wake now id) shown = refl
   goes_by_event x (Abandon id) shown = refl
+  goes_by_event x (Overdue id) shown = refl
 
 pub removes_just_that : ItemRemovesExactlyThese
 removes_just_that table start first item past good =

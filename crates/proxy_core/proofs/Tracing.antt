@@ -12,7 +12,7 @@ use Rattle.hx_store.specs.Stored.{Stored}
 use Rattle.proxy_core.specs.declared.outcome.Outcome.{Outcome}
 use Rattle.proxy_core.specs.declared.open.exchange.Exchange.{Exchange}
 use Rattle.proxy_core.specs.declared.event.Event.{Event}
-use Rattle.proxy_core.specs.declared.event.Event.TheVariants.{Arrive, Answer, Fail, Wake, Abandon}
+use Rattle.proxy_core.specs.declared.event.Event.TheVariants.{Arrive, Answer, Fail, Wake, Abandon, Overdue}
 use Rattle.proxy_core.specs.declared.core_fault.CoreFault.{CoreFault}
 use Rattle.proxy_core.specs.declared.core_fault.CoreFault.TheVariants.{OutOfMemory}
 use Rattle.proxy_core.specs.Outcomes.{outcome_of_arrival, step_fault}
@@ -85,6 +85,7 @@ denied_item table s (Answer now id r) outcome a d = absurd d
 denied_item table s (Fail now id kind) outcome a d = absurd d
 denied_item table s (Wake now id) outcome a d = absurd d
 denied_item table s (Abandon id) outcome a d = absurd d
+denied_item table s (Overdue id) outcome a d = absurd d
 
 pub denied_leave_no_trace : (start : State) (trace : List Item) → IsGood start trace → DeniedRequestsLeaveNoTrace start.table trace
 denied_leave_no_trace start [] g = tt

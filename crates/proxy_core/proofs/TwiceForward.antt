@@ -4,19 +4,19 @@ use Rattle.std.proofs.lemmas.Bool.{eq-eqb, false≢true}
 use Rattle.hx_hop.specs.declared.request_view.Asked.{Asked}
 use Rattle.proxy_core.specs.declared.open.exchange.Exchange.{Exchange}
 use Rattle.proxy_core.specs.declared.outcome.Outcome.{Outcome}
-use Rattle.proxy_core.specs.declared.outcome.Outcome.TheVariants.{Reply, Forward, Waits, Ended}
+use Rattle.proxy_core.specs.declared.outcome.Outcome.TheVariants.{Reply, Forward, Waits, Ended, WaitsNoMore}
 use Rattle.proxy_core.specs.declared.event.Event.{Event}
 use Rattle.proxy_core.specs.declared.event.Event.TheVariants.{Arrive}
 use Rattle.proxy_core.specs.Outcomes.{find_exchange, exchange_id_of_event}
 use Rattle.proxy_core.specs.declared.open.stage.Stage.{Stage}
 use Rattle.proxy_core.specs.declared.open.stage.Stage.TheVariants.{Forwarded, Waiting, Released}
-use Rattle.proxy_core.specs.Leading.{is_forwarded, is_released, waits_for}
+use Rattle.proxy_core.specs.Leading.{is_forwarded, is_released, waits_for, is_waiting}
 use Rattle.proxy_core.specs.Scopes.{Scope, is_in_scope}
 use Rattle.proxy_core.specs.State.{State, released_exchange, overtaken_exchange, forwarded_exchange}
 use Rattle.proxy_core.specs.Traces.{Item, state_after_trace, IsGood}
 use Rattle.proxy_core.specs.Promises.{outcome_goes_forward, outcome_is_reply, is_arrival_event, count_of_outcomes, NoRequestArrives, TwiceForwardOneReply}
 use Rattle.proxy_core.proofs.ExchangeLists.{overtaken_by, released_by}
-use Rattle.proxy_core.proofs.Moves.{Move, apart, opens, queues, passes, again, wakes, closes, woken_form, asked_of, ended_by, ends_back, move_of, and_none, key_taken_by_step}
+use Rattle.proxy_core.proofs.Moves.{Move, apart, opens, queues, passes, again, wakes, closes, lapses, woken_form, asked_of, ended_by, ends_back, move_of, and_none, key_taken_by_step}
 use Rattle.proxy_core.proofs.Tracing.{same_table}
 
 -- a part of a good trace
@@ -94,6 +94,12 @@ released_left Forwarded n h = absurd (false≢true h)
 released_left (Waiting leader) n h = absurd (false≢true h)
 released_left Released n h = refl
 
+waiting_left : (s : Stage) (n : ℕ) → is_waiting s ≡ true → by_stage s n ≡ 2
+unfolding by_stage
+waiting_left Forwarded n h = absurd (false≢true h)
+waiting_left (Waiting leader) n h = refl
+waiting_left Released n h = absurd (false≢true h)
+
 one_most : (b : Bool) → one b ≤ 1
 unfolding one
 one_most true = omega arith
@@ -112,6 +118,7 @@ forward_only (Reply r) h = absurd (false≢true h)
 forward_only (Forward line bytes) h = refl
 forward_only (Waits leader) h = refl
 forward_only Ended h = refl
+forward_only WaitsNoMore h = refl
 
 budget : (id : ℕ) (w : Option Exchange) (event : Event) (o : Outcome) (x y : Option Exchange) → Move id w event o x y →
     (eqb (exchange_id_of_event event) id && is_arrival_event event) ≡ false → Budget id event o x y
@@ -141,6 +148,14 @@ budget id w event o x y (wakes table es z now e f s k h) a =
     let f1 : forwards_left y ≡ one (is_some (woken_form table es now z).condition) = ap forwards_left h in
     let f2 = one_most (is_some (woken_form table es now z).condition) in
     let f3 : forwards_left x ≡ 2 = ap forwards_left f ∙ released_left z.stage (cond (is_some z.condition) 1 0) s in
+    let r1 : replies_left y ≡ 1 = ap replies_left h in
+    let r2 : replies_left x ≡ 1 = ap replies_left f in
+    record { forwards = omega arith; replies = omega arith }
+budget id w event o x y (lapses z e f s k h) a =
+    let f0 : one (eqb (exchange_id_of_event event) id && outcome_goes_forward o) ≡ 0 = ap (λ (o : Outcome). one (eqb (exchange_id_of_event event) id && outcome_goes_forward o)) k ∙ ap one (and_none (eqb (exchange_id_of_event event) id)) in
+    let r0 : one (eqb (exchange_id_of_event event) id && outcome_is_reply o) ≡ 0 = ap (λ (o : Outcome). one (eqb (exchange_id_of_event event) id && outcome_is_reply o)) k ∙ ap one (and_none (eqb (exchange_id_of_event event) id)) in
+    let f1 : forwards_left y ≡ 2 = ap forwards_left h in
+    let f2 : forwards_left x ≡ 2 = ap forwards_left f ∙ waiting_left z.stage (cond (is_some z.condition) 1 0) s in
     let r1 : replies_left y ≡ 1 = ap replies_left h in
     let r2 : replies_left x ≡ 1 = ap replies_left f in
     record { forwards = omega arith; replies = omega arith }
@@ -183,6 +198,7 @@ opening id w event o x y (passes u e x_is g h) t a =
 opening id w event o x y (wakes table es z now e f s k h) t a = absurd (false≢true (sym (ap is_arrival_event e) ∙ a))
 opening id w event o x y (again z now u e f c k h j s) t a = absurd (false≢true (sym e ∙ a))
 opening id w event o x y (closes z u e f g h) t a = absurd (false≢true (sym e ∙ a))
+opening id w event o x y (lapses z e f s k h) t a = absurd (false≢true (sym (ap is_arrival_event e) ∙ a))
 
 one_more : (b : Bool) (n : ℕ) → cond b (n + 1) n ≡ one b + n
 unfolding one

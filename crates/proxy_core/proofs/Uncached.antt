@@ -20,7 +20,7 @@ use Rattle.proxy_core.specs.Allowing.{exchanges_to_wait_for}
 use Rattle.proxy_core.specs.declared.steps.condition.Condition.{Condition}
 use Rattle.proxy_core.specs.declared.open.exchange.Exchange.{Exchange}
 use Rattle.proxy_core.specs.declared.event.Event.{Event}
-use Rattle.proxy_core.specs.declared.event.Event.TheVariants.{Arrive, Answer, Fail, Wake, Abandon}
+use Rattle.proxy_core.specs.declared.event.Event.TheVariants.{Arrive, Answer, Fail, Wake, Abandon, Overdue}
 use Rattle.proxy_core.specs.Validating.{condition_about_serial, is_304_to_own_conditions}
 use Rattle.proxy_core.specs.declared.open.awaited.Awaited.{Awaited}
 use Rattle.proxy_core.specs.Leading.{leader_if_awaited}
@@ -90,7 +90,9 @@ module _ (table : Table) (line : Route) (off : (policy_of table.lines line).cach
   nothing_sent start s past (Some x) (Wake now id) carries over may = not_reusable (held_entries table start past) x.asked now s x.line over may
   nothing_sent start s past None (Wake now id) carries over may = over
   nothing_sent start s past (Some x) (Abandon id) carries over may = may
+  nothing_sent start s past (Some x) (Overdue id) carries over may = may
   nothing_sent start s past None (Abandon id) carries over may = may
+  nothing_sent start s past None (Overdue id) carries over may = may
 
   nothing_beside : (start : StoreAtStart) (s : ℕ) (past : List Item) (x : Option Exchange) (event : Event) → EventGoesOverLine table x event line → StoredResponseMayBeSentBeside table (held_entries table start past) (open_exchanges table start past) event s → ⊥
   nothing_beside start s past x (Arrive now id asked) over may =
@@ -100,6 +102,7 @@ module _ (table : Table) (line : Route) (off : (policy_of table.lines line).cach
   nothing_beside start s past x (Fail now id kind) over may = may
   nothing_beside start s past x (Wake now id) over may = may
   nothing_beside start s past x (Abandon id) over may = may
+  nothing_beside start s past x (Overdue id) over may = may
 
 pub sends_nothing_over_it : NothingStoredIsSentOverUncachedLine
 sends_nothing_over_it table start first line item past g over off =

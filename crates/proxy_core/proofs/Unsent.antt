@@ -37,7 +37,7 @@ use Rattle.proxy_core.specs.declared.steps.fallback.Fallback.{Fallback}
 use Rattle.proxy_core.specs.declared.steps.fallback.Fallback.TheVariants.{Sends, Refuses}
 use Rattle.proxy_core.specs.declared.outcome.Outcome.{Outcome}
 use Rattle.proxy_core.specs.declared.event.Event.{Event}
-use Rattle.proxy_core.specs.declared.event.Event.TheVariants.{Arrive, Answer, Fail, Wake, Abandon}
+use Rattle.proxy_core.specs.declared.event.Event.TheVariants.{Arrive, Answer, Fail, Wake, Abandon, Overdue}
 use Rattle.proxy_core.specs.Validating.{condition_about_serial, is_304_to_own_conditions, stored_response_is_answered, stored_response_validated, freshened_by_304}
 use Rattle.proxy_core.specs.Storing.{storing_rule_to_explain, storing_facts_of_answer, is_storable, is_304_without_condition, answer_invalidates, key_invalidated}
 use Rattle.proxy_core.specs.Leading.{is_forwarded}
@@ -179,6 +179,7 @@ storing_of table es xs (Some z) next (Wake now i) s h = absurd (stored_wake (dec
     stored_wake (decision.Hit t) h = none_stored s h
     stored_wake (decision.Forward rule against) h = none_stored s h
 storing_of table es xs w next (Abandon i) s h = absurd (none_stored s h)
+storing_of table es xs w next (Overdue i) s h = absurd (none_stored s h)
 
 -- ---- what an item that invalidates removes
 
@@ -279,6 +280,7 @@ removes_scope table es xs None next (Answer now i r) o k e h = absurd (cc)
 removes_scope table es xs None next (Fail now i kind) o k e h = absurd (cc)
 removes_scope table es xs None next (Wake now i) o k e h = absurd (cc)
 removes_scope table es xs None next (Abandon i) o k e h = absurd (cc)
+removes_scope table es xs None next (Overdue i) o k e h = absurd (cc)
 removes_scope table es xs (Some z) next (Answer now i r) o k e h =
     let named = scope_of_some (key_taken_by_answer z.asked r o) k h in
     ap serials_removed_by_outcome e
@@ -288,6 +290,7 @@ removes_scope table es xs (Some z) next (Answer now i r) o k e h =
 removes_scope table es xs (Some z) next (Fail now i kind) o k e h = absurd (cc)
 removes_scope table es xs (Some z) next (Wake now i) o k e h = absurd (cc)
 removes_scope table es xs (Some z) next (Abandon i) o k e h = absurd (cc)
+removes_scope table es xs (Some z) next (Overdue i) o k e h = absurd (cc)
 
 -- ---- serials from below
 
@@ -350,6 +353,7 @@ used_key (Some x) (Answer now id r) e = elim (stored_response_is_answered x r no
 used_key (Some x) (Fail now id kind) e = refl
 used_key (Some x) (Wake now id) e = refl
 used_key (Some x) (Abandon id) e = refl
+used_key (Some x) (Overdue id) e = refl
 
 key_kept : (x : Option Exchange) (event : Event) (st us : Option ℕ) (look : ℕ → Option Stored) (s : ℕ) → is_that_serial st s ≡ false →
     key_of (look_after x event st us look s) ≡ key_of (look s)

@@ -37,30 +37,31 @@ use Rattle.proxy_core.specs.declared.open.exchange.Exchange.{Exchange}
 use Rattle.proxy_core.specs.declared.steps.fallback.Fallback.{Fallback}
 use Rattle.proxy_core.specs.declared.steps.fallback.Fallback.TheVariants.{Sends, Refuses}
 use Rattle.proxy_core.specs.declared.outcome.Outcome.{Outcome}
-use Rattle.proxy_core.specs.declared.outcome.Outcome.TheVariants.{Reply, Forward, Waits, Ended}
+use Rattle.proxy_core.specs.declared.outcome.Outcome.TheVariants.{Reply, Forward, Waits, Ended, WaitsNoMore}
 use Rattle.proxy_core.specs.declared.event.Event.{Event}
-use Rattle.proxy_core.specs.declared.event.Event.TheVariants.{Arrive, Answer, Fail, Wake, Abandon}
+use Rattle.proxy_core.specs.declared.event.Event.TheVariants.{Arrive, Answer, Fail, Wake, Abandon, Overdue}
 use Rattle.proxy_core.specs.declared.core_fault.CoreFault.{CoreFault}
 use Rattle.proxy_core.specs.Moments.{moment_too_late_fault}
-use Rattle.proxy_core.specs.Leading.{is_forwarded, is_released, waits_for, is_get, is_uri_miss, names_serial, asks_for, may_serve, answer_may_serve, leads_waiters, leader, ready_ids}
+use Rattle.proxy_core.specs.Leading.{is_forwarded, is_waiting, is_released, waits_for, is_get, is_uri_miss, names_serial, asks_for, may_serve, answer_may_serve, leads_waiters, leader, ready_ids}
 use Rattle.proxy_core.specs.Awaiting.{asks_the_origin, RequestAwaits, leader_of_request}
 use Rattle.proxy_core.specs.declared.open.awaited.Awaited.{Awaited}
 use Rattle.proxy_core.specs.declared.open.awaited.Awaited.TheVariants.{Missing, Expired}
 use Rattle.proxy_core.specs.Validating.{condition_about_serial}
 use Rattle.proxy_core.specs.Outcomes.{find_exchange, exchange_id_of_event, outcome_of_arrival, outcome_of_allowed_request, outcome_of_waiting_or_forwarding, revalidating_status_info, outcome_unless_sent_beside, outcome_without_stored_response, is_only_if_cached, fallback_for, outcome_of_failure, outcome_of_wake, outcome_of, outcome_of_event, or_fault, fault_if_not_released, fault_at_exchange, step_fault, forward_text}
 use Rattle.proxy_core.specs.Scopes.{Scope, is_in_scope}
-use Rattle.proxy_core.specs.State.{State, overtaken_exchange, released_exchange, forwarded_exchange, waiting_exchange, rule_of_decision, serial_named_by_decision, open_exchanges_after, serial_used_by_outcome}
+use Rattle.proxy_core.specs.State.{State, overtaken_exchange, released_exchange, forwarded_exchange, waiting_exchange, rule_of_decision, serial_named_by_decision, open_exchanges_after, serial_used_by_outcome, exchange_past_its_wait}
 use Rattle.proxy_core.specs.Starts.{StoreAtStart}
 use Rattle.proxy_core.specs.Traces.{Item, initial_state, state_after_trace, IsGood}
 use Rattle.proxy_core.specs.Histories.{held_entries, open_exchanges, next_serial, IsGoodHistory}
 use Rattle.proxy_core.specs.Promises.{outcome_goes_forward, outcome_ends_exchange, is_arrival_event, NoRequestArrives}
+use Rattle.proxy_core.specs.TraceMeaning.{opens_an_exchange}
 use Rattle.proxy_core.specs.Carrying.{ArrivesBefore, IdsAreInOrderOfArrival, exchange_ids}
 use Rattle.proxy_core.specs.Sending.{StoredResponseIsReusable, MayBeSentBesideLeader}
-use Rattle.proxy_core.specs.Waiting.{RequestCouldWait, RequestWaitsWhereOneLeads, RequestIsToWait, RequestWaitsNowhereElse, exchange_has_closed, went_for, OnlyOneGoesForwardForKey, PlainLinesWaitForMisses, is_wake_event, was_woken, NothingHappenedToExchange, stage_of_exchange, ExchangeMayBeWoken, RequestWaitsUntilItsLeaderEnds, RequestIsWokenOnceBehindItsLeader, ReleasedAreInOrderOfArrival, WakeIsAcceptedExactlyWhereReady, WokenRequestIsJudgedAnew}
+use Rattle.proxy_core.specs.Waiting.{RequestCouldWait, RequestWaitsWhereOneLeads, RequestIsToWait, RequestWaitsNowhereElse, exchange_has_closed, went_for, OnlyOneGoesForwardForKey, PlainLinesWaitForMisses, is_wake_event, was_woken, is_overdue_event, was_overdue, NothingButItsTimeHappened, stage_of_exchange, ExchangeMayBeWoken, RequestWaitsUntilItsLeaderEndsOrItsTime, RequestIsWokenOnceBehindItsLeaderOrItsTime, ReleasedAreInOrderOfArrival, WakeIsAcceptedExactlyWhereReady, WokenRequestIsJudgedAnew}
 use Rattle.proxy_core.proofs.Awaits.{one_named}
 use Rattle.proxy_core.proofs.Leads.{led_by, led_for, first_leads, is_led, no_leader}
 use Rattle.proxy_core.proofs.ExchangeLists.{changed_by, find-push}
-use Rattle.proxy_core.proofs.Moves.{Move, apart, opens, queues, passes, again, wakes, closes, asked_of, ended_by, move_of, and_none, is_either, answer_either, released_from, key_taken_by_step}
+use Rattle.proxy_core.proofs.Moves.{Move, apart, opens, queues, passes, again, wakes, closes, lapses, asked_of, ended_by, move_of, and_none, is_either, answer_either, released_from, key_taken_by_step}
 use Rattle.proxy_core.proofs.Tracing.{same_table}
 use Rattle.proxy_core.proofs.TwiceForward.{part, not_both, fresh_arrival}
 use Rattle.proxy_core.proofs.HeldLaw.{good_plain, entries_are_held, exchanges_are_open}
@@ -147,12 +148,14 @@ is_wait (Reply r) = false
 is_wait (Forward line bytes) = false
 is_wait (Waits l) = true
 is_wait Ended = false
+is_wait WaitsNoMore = false
 
 either_no_wait : (o : Outcome) → is_either o ≡ true → is_wait o ≡ false
 either_no_wait (Reply r) h = refl
 either_no_wait (Forward line bytes) h = refl
 either_no_wait (Waits l) h = absurd (false≢true h)
 either_no_wait Ended h = absurd (false≢true h)
+either_no_wait WaitsNoMore h = absurd (false≢true h)
 
 pub late_no_wait : (table : Table) (es : List Stored) (xs : List Exchange) (w : Option Exchange) (next : Option ℕ) (event : Event) → is_arrival_event event ≡ false → is_wait (outcome_of table es xs w next event) ≡ false
 late_no_wait table es xs w next (Arrive now id asked) h = absurd (false≢true (sym h))
@@ -172,6 +175,7 @@ late_no_wait table es xs (Some x) next (Wake now id) h = by_decision (decision_o
     by_decision (decision.Hit s) = refl
     by_decision (decision.Forward rule against) = refl
 late_no_wait table es xs w next (Abandon id) h = refl
+late_no_wait table es xs w next (Overdue id) h = refl
 
 wait_is : (l : ℕ) → is_wait (Waits l) ≡ true
 wait_is l = refl
@@ -207,6 +211,7 @@ waits_nowhere_else table start first l item past g h = by_event item.event refl
     by_event (Fail now id kind) e = late (ap is_arrival_event e)
     by_event (Wake now id) e = late (ap is_arrival_event e)
     by_event (Abandon id) e = late (ap is_arrival_event e)
+    by_event (Overdue id) e = late (ap is_arrival_event e)
 
 -- ---- what a step of another id does to a stage
 
@@ -266,11 +271,27 @@ stage_more l event o closed = by_end (not (is_arrival_event event) && outcome_en
 
 -- ---- until when it waits
 
--- it waits still, or may be woken since its leader has ended
+arrives_not_overdue : (event : Event) → is_arrival_event event ≡ true → is_overdue_event event ≡ false
+arrives_not_overdue (Arrive now id asked) h = refl
+arrives_not_overdue (Answer now id r) h = refl
+arrives_not_overdue (Fail now id kind) h = refl
+arrives_not_overdue (Wake now id) h = refl
+arrives_not_overdue (Abandon id) h = refl
+arrives_not_overdue (Overdue id) h = absurd (false≢true h)
+
+overdue_gives : (table : Table) (es : List Stored) (xs : List Exchange) (next : Option ℕ) (event : Event) → is_overdue_event event ≡ true → outcome_of_event table es xs next event ≡ WaitsNoMore
+overdue_gives table es xs next (Arrive now id asked) h = absurd (false≢true h)
+overdue_gives table es xs next (Answer now id r) h = absurd (false≢true h)
+overdue_gives table es xs next (Fail now id kind) h = absurd (false≢true h)
+overdue_gives table es xs next (Wake now id) h = absurd (false≢true h)
+overdue_gives table es xs next (Abandon id) h = absurd (false≢true h)
+overdue_gives table es xs next (Overdue id) h = refl
+
+-- it waits still, or may be woken since its leader has ended or its time is over
 record StandsBy (id l : ℕ) (items : List Item) (y : Option Exchange) : Type 0 where
   x : Exchange
   y_is : y ≡ Some x
-  stage : x.stage ≡ waiting_stage l (exchange_has_closed l items)
+  stage : x.stage ≡ waiting_stage l (exchange_has_closed l items || was_overdue id items)
   unwoken : was_woken id items ≡ false
 
 stands_apart : (id l : ℕ) (i : Item) (items : List Item) (key : Option Scope) (x y : Option Exchange) → eqb (exchange_id_of_event i.event) id ≡ false → y ≡ changed_by key (ended_by i.event i.outcome) x →
@@ -280,8 +301,26 @@ stands_apart id l i items key x y n h s =
     record {
       x = c.0;
       y_is = h ∙ c.1;
-      stage = c.2 ∙ (ap (stage_by (ended_by i.event i.outcome)) s.stage ∙ stage_more l i.event i.outcome (exchange_has_closed l items));
+      stage = c.2 ∙ (ap (stage_by (ended_by i.event i.outcome)) s.stage
+          ∙ (stage_more l i.event i.outcome (exchange_has_closed l items || was_overdue id items)
+          ∙ ap (waiting_stage l) (both_ways (eqb (exchange_id_of_event i.event) l && (not (is_arrival_event i.event) && outcome_ends_exchange i.outcome)) (exchange_has_closed l items) (was_overdue id items)
+          ∙ ap (λ b. exchange_has_closed l (i ∷ items) || cond (b && is_overdue_event i.event) true (was_overdue id items)) (sym n))));
       unwoken = ap (λ b. cond (b && is_wake_event i.event) true (was_woken id items)) n ∙ s.unwoken;
+    }
+  where
+    both_ways : (a b c : Bool) → (a || (b || c)) ≡ ((a || b) || c)
+    both_ways true b c = refl
+    both_ways false b c = refl
+
+-- its time to wait is over
+stands_past : (id l : ℕ) (i : Item) (items : List Item) (z : Exchange) (y : Option Exchange) → i.event ≡ Overdue id → y ≡ Some (exchange_past_its_wait z) → was_woken id items ≡ false → StandsBy id l (i ∷ items) y
+stands_past id l i items z y e h unwoken =
+    let over : was_overdue id (i ∷ items) ≡ true = ap (λ (v : Event). cond (eqb (exchange_id_of_event v) id && is_overdue_event v) true (was_overdue id items)) e ∙ ap (λ b. cond (b && true) true (was_overdue id items)) (eq-eqb id id refl) in
+    record {
+      x = exchange_past_its_wait z;
+      y_is = h;
+      stage = sym (ap (λ b. waiting_stage l (exchange_has_closed l (i ∷ items) || b)) over ∙ ap (waiting_stage l) (sym (or_true (exchange_has_closed l (i ∷ items)))));
+      unwoken = ap (λ (v : Event). cond (eqb (exchange_id_of_event v) id && is_wake_event v) true (was_woken id items)) e ∙ (ap (λ b. cond b true (was_woken id items)) (and_none (eqb id id)) ∙ unwoken);
     }
 
 module _ (table : Table) (start : StoreAtStart) (first l : ℕ) (before : List Item) (arrival : Item) where
@@ -321,10 +360,11 @@ module _ (table : Table) (start : StoreAtStart) (first l : ℕ) (before : List I
         where
           same_wait : (a b : ℕ) → Waits a ≡ Waits b → a ≡ b
           same_wait a b q = cc
-      by_move y (passes t e x_is f h) = absurd (no_end f)
+      by_move y (passes t e x_is f h) = absurd (false≢true (sym f ∙ ap opens_an_exchange w))
       by_move y (again z now t e x_is c f h j s) = absurd (no_forward f)
       by_move y (wakes at es z now e x_is s f h) = absurd (no_forward f)
       by_move y (closes z t e x_is f h) = absurd (no_end f)
+      by_move y (lapses z e x_is s f h) = absurd (false≢true (sym (ap is_wait f) ∙ ap is_wait w))
 
   fate_more : (i : Item) (items : List Item) (x y : Option Exchange) (w : Option Exchange) → (eqb (exchange_id_of_event i.event) id && is_arrival_event i.event) ≡ false → Move id w i.event i.outcome x y → Fate items x → Fate (i ∷ items) y
   fate_more i items x y w a (apart n h) (stands_by s) = stands_by (stands_apart id l i items (key_taken_by_step (asked_of w) i.event i.outcome) x y n h s)
@@ -352,31 +392,50 @@ module _ (table : Table) (start : StoreAtStart) (first l : ℕ) (before : List I
       out_is t r = refl
   fate_more i items x y w a (wakes at es z now e x_is r f h) s = out _ h refl
   fate_more i items x y w a (closes z t e x_is f h) s = over h
+  fate_more i items x y w a (lapses z e x_is s f h) (stands_by b) = stands_by (stands_past id l i items z y e h b.unwoken)
+  fate_more i items x y w a (lapses z e x_is s f h) (out v y_is stage) =
+      let at : z.stage ≡ Forwarded = ap (λ (u : Exchange). u.stage) (same_Some z v (sym x_is ∙ y_is)) ∙ stage in
+      absurd (false≢true (sym (ap is_waiting at) ∙ s))
+  fate_more i items x y w a (lapses z e x_is s f h) (over none) =
+      let no : None ≡ Some z = sym none ∙ x_is in
+      absurd (cc)
 
   fate : (items : List Item) → IsGood begun (items ++ arrival ∷ before) → arrival.outcome ≡ Waits l → NoRequestArrives id items → Fate items (exchange items)
   fate [] g w n = stands_by (at_first g w)
   fate (i ∷ items) g w n =
       fate_more i items (exchange items) (exchange (i ∷ items)) _ n.0 (move_of table (state_after_trace begun (items ++ arrival ∷ before)) i id (same_table begun (items ++ arrival ∷ before)) g.0) (fate items g.1 w n.1)
 
-  -- while nothing happens to it
-  applies : (items : List Item) → IsGood begun (items ++ arrival ∷ before) → arrival.outcome ≡ Waits l → NothingHappenedToExchange id items → StandsBy id l items (exchange items)
+  -- while nothing but the end of its time happens to it
+  applies : (items : List Item) → IsGood begun (items ++ arrival ∷ before) → arrival.outcome ≡ Waits l → NothingButItsTimeHappened id items → StandsBy id l items (exchange items)
   applies [] g w n = at_first g w
   applies (i ∷ items) g w n =
       by_move (applies items g.1 w n.1) (exchange (i ∷ items)) (move_of table (state_after_trace begun (items ++ arrival ∷ before)) i id (same_table begun (items ++ arrival ∷ before)) g.0)
     where
-      not_it : (e : Event) → i.event ≡ e → exchange_id_of_event e ≡ id → ⊥
-      not_it e q same = false≢true (sym n.0 ∙ eq-eqb (exchange_id_of_event i.event) id (ap exchange_id_of_event q ∙ same))
+      not_it : (e : Event) → i.event ≡ e → exchange_id_of_event e ≡ id → is_overdue_event e ≡ false → ⊥
+      not_it e q same other =
+          false≢true (sym n.0 ∙ (ap (λ b. b && not (is_overdue_event i.event)) (eq-eqb (exchange_id_of_event i.event) id (ap exchange_id_of_event q ∙ same)) ∙ ap not (ap is_overdue_event q ∙ other)))
+
+      no_lapse : (test : Outcome → Bool) → test WaitsNoMore ≡ false → test i.outcome ≡ true → is_overdue_event i.event ≡ false
+      no_lapse test fails holds = by_kind (is_overdue_event i.event) refl
+        where
+          by_kind : (b : Bool) → is_overdue_event i.event ≡ b → is_overdue_event i.event ≡ false
+          by_kind true k = absurd (false≢true (sym fails ∙ (sym (ap test (g.0.outcome_is ∙ overdue_gives _ _ _ _ i.event k)) ∙ holds)))
+          by_kind false k = k
+
+      not_its : eqb (exchange_id_of_event i.event) id ≡ true → is_overdue_event i.event ≡ false → ⊥
+      not_its t other = false≢true (sym n.0 ∙ (ap (λ b. b && not (is_overdue_event i.event)) t ∙ ap not other))
 
       by_move : StandsBy id l items (exchange items) → (y : Option Exchange) → Move id (find_exchange (exchange_id_of_event i.event) (state_after_trace begun (items ++ arrival ∷ before)).exchanges) i.event i.outcome (exchange items) y → StandsBy id l (i ∷ items) y
       by_move was y (apart k h) = stands_apart id l i items _ (exchange items) y k h was
-      by_move was y (opens at es now asked line e x_is f h) = absurd (not_it (Arrive now id asked) e refl)
-      by_move was y (queues at es now asked line m e x_is f k h) = absurd (not_it (Arrive now id asked) e refl)
-      by_move was y (passes t e x_is f h) = absurd (false≢true (sym n.0 ∙ t))
-      by_move was y (again z now t e x_is c f h j s) = absurd (false≢true (sym n.0 ∙ t))
-      by_move was y (wakes at es z now e x_is s f h) = absurd (not_it (Wake now id) e refl)
-      by_move was y (closes z t e x_is f h) = absurd (false≢true (sym n.0 ∙ t))
+      by_move was y (opens at es now asked line e x_is f h) = absurd (not_it (Arrive now id asked) e refl refl)
+      by_move was y (queues at es now asked line m e x_is f k h) = absurd (not_it (Arrive now id asked) e refl refl)
+      by_move was y (passes t e x_is f h) = absurd (not_its t (arrives_not_overdue i.event e))
+      by_move was y (again z now t e x_is c f h j s) = absurd (not_its t (no_lapse outcome_goes_forward refl f))
+      by_move was y (wakes at es z now e x_is s f h) = absurd (not_it (Wake now id) e refl refl)
+      by_move was y (closes z t e x_is f h) = absurd (not_its t (no_lapse outcome_ends_exchange refl f))
+      by_move was y (lapses z e x_is s f h) = stands_past id l i items z y e h was.unwoken
 
-pub waits_until_its_leader_ends : RequestWaitsUntilItsLeaderEnds
+pub waits_until_its_leader_ends : RequestWaitsUntilItsLeaderEndsOrItsTime
 waits_until_its_leader_ends table start first l items before arrival g w n =
     let p = good_plain table start first (items ++ arrival ∷ before) g in
     let s = applies table start first l before arrival items p w n in
@@ -396,7 +455,7 @@ closed_by : (l : ℕ) (closed : Bool) → is_released (waiting_stage l closed) �
 closed_by l true h = refl
 closed_by l false h = absurd (false≢true h)
 
-pub woken_once_behind_its_leader : RequestIsWokenOnceBehindItsLeader
+pub woken_once_behind_its_leader : RequestIsWokenOnceBehindItsLeaderOrItsTime
 woken_once_behind_its_leader table start first now l items before wake arrival g w e n =
     let p = good_plain table start first (wake ∷ (items ++ arrival ∷ before)) g in
     let id = exchange_id_of_event arrival.event in
@@ -409,10 +468,11 @@ woken_once_behind_its_leader table start first now l items before wake arrival g
 
     by_fate : ExchangeMayBeWoken (exchange_id_of_event arrival.event) (state_after_trace (initial_state table start first) (items ++ arrival ∷ before)).exchanges →
         Fate table start first l before arrival items (find_exchange (exchange_id_of_event arrival.event) (state_after_trace (initial_state table start first) (items ++ arrival ∷ before)).exchanges) →
-        (exchange_has_closed l items ≡ true) × (was_woken (exchange_id_of_event arrival.event) items ≡ false)
+        ((exchange_has_closed l items || was_overdue (exchange_id_of_event arrival.event) items) ≡ true) × (was_woken (exchange_id_of_event arrival.event) items ≡ false)
     by_fate r (stands_by s) =
-        let same : r.x.stage ≡ waiting_stage l (exchange_has_closed l items) = same_stage _ r.x s.x r.is_open s.y_is ∙ s.stage in
-        (closed_by l (exchange_has_closed l items) (ap is_released (sym same) ∙ r.stage), s.unwoken)
+        let over : Bool = exchange_has_closed l items || was_overdue (exchange_id_of_event arrival.event) items in
+        let same : r.x.stage ≡ waiting_stage l over = same_stage _ r.x s.x r.is_open s.y_is ∙ s.stage in
+        (closed_by l over (ap is_released (sym same) ∙ r.stage), s.unwoken)
     by_fate r (out x y_is s) = absurd (false≢true (ap is_released (sym s ∙ sym (same_stage _ r.x x r.is_open y_is)) ∙ r.stage))
     by_fate r (over y_is) =
         let none : None ≡ Some r.x = sym y_is ∙ r.is_open in
@@ -587,6 +647,9 @@ module _ (table : Table) (start : StoreAtStart) (first now id : ℕ) (rule : Reu
   origin_more i items w x y (wakes at es z t e x_is s f h) a =
       let same : z.stage ≡ Forwarded = ap (λ (v : Exchange). v.stage) (same_Some z a.x (sym x_is ∙ a.y_is)) ∙ a.stage in
       absurd (false≢true (ap is_released (sym same) ∙ s))
+  origin_more i items w x y (lapses z e x_is s f h) a =
+      let same : z.stage ≡ Forwarded = ap (λ (v : Exchange). v.stage) (same_Some z a.x (sym x_is ∙ a.y_is)) ∙ a.stage in
+      absurd (false≢true (sym (ap is_waiting same) ∙ s))
   origin_more i items w x y (closes z t e x_is f h) a =
       inl (ap (λ b. (b && (not (is_arrival_event i.event) && outcome_ends_exchange i.outcome)) || exchange_has_closed id items) t ∙ (ap (λ b. (not b && outcome_ends_exchange i.outcome) || exchange_has_closed id items) e ∙ ap (λ b. b || exchange_has_closed id items) f))
 

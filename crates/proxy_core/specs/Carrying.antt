@@ -20,7 +20,7 @@ use Rattle.proxy_core.specs.declared.open.exchange.Exchange.{Exchange}
 use Rattle.proxy_core.specs.declared.outcome.Outcome.{Outcome}
 use Rattle.proxy_core.specs.declared.outcome.Outcome.TheVariants.{Forward, Waits}
 use Rattle.proxy_core.specs.declared.event.Event.{Event}
-use Rattle.proxy_core.specs.declared.event.Event.TheVariants.{Arrive, Answer, Fail, Wake, Abandon}
+use Rattle.proxy_core.specs.declared.event.Event.TheVariants.{Arrive, Answer, Fail, Wake, Abandon, Overdue}
 use Rattle.proxy_core.specs.Validating.{condition_about_serial}
 use Rattle.proxy_core.specs.Outcomes.{find_exchange, exchange_id_of_event, forward_text}
 use Rattle.proxy_core.specs.Traces.{Item}
@@ -35,6 +35,7 @@ judges_a_request (Answer now id r) = false
 judges_a_request (Fail now id kind) = false
 judges_a_request (Wake now id) = true
 judges_a_request (Abandon id) = false
+judges_a_request (Overdue id) = false
 
 -- no request of this id is judged
 abbrev pub NoRequestIsJudged : ℕ → List Item → Type 0

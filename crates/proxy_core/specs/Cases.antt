@@ -17,7 +17,7 @@ use Rattle.proxy_core.specs.Leading.{has_no_store}
 use Rattle.proxy_core.specs.declared.open.stage.Stage.TheVariants.{Forwarded, Waiting}
 use Rattle.proxy_core.specs.declared.open.exchange.Exchange.{Exchange}
 use Rattle.proxy_core.specs.declared.outcome.Outcome.{Outcome}
-use Rattle.proxy_core.specs.declared.outcome.Outcome.TheVariants.{Reply, Forward, Waits, Ended}
+use Rattle.proxy_core.specs.declared.outcome.Outcome.TheVariants.{Reply, Forward, Waits, Ended, WaitsNoMore}
 
 abbrev pub key_of_path : List ℕ → Key
 key_of_path path = record { host = codes "h"; port = 80; path_query = path }
@@ -52,6 +52,7 @@ line_with_no_cache = record {
   vary = [];
   origin_timeout = None;
   purge_key = None;
+  wait_timeout = None;
 }
 
 abbrev pub table : Table
@@ -262,3 +263,4 @@ reply_bytes (Reply r) = r.bytes
 reply_bytes (Forward line bytes) = bytes
 reply_bytes (Waits leader) = []
 reply_bytes Ended = []
+reply_bytes WaitsNoMore = []

@@ -19,28 +19,31 @@ use Rattle.proxy_core.specs.declared.steps.condition.Condition.{Condition}
 use Rattle.proxy_core.specs.declared.open.exchange.Exchange.{Exchange}
 use Rattle.proxy_core.specs.declared.outcome.Reply.{Reply}
 use Rattle.proxy_core.specs.declared.outcome.Outcome.{Outcome}
-use Rattle.proxy_core.specs.declared.outcome.Outcome.TheVariants.{Reply as Replied, Forward, Ended}
+use Rattle.proxy_core.specs.declared.outcome.Outcome.TheVariants.{Reply as Replied, Forward, Ended, WaitsNoMore}
 use Rattle.proxy_core.specs.declared.event.Event.{Event}
-use Rattle.proxy_core.specs.declared.event.Event.TheVariants.{Arrive, Answer, Fail, Wake, Abandon}
-use Rattle.proxy_core.specs.Leading.{is_forwarded, is_released}
+use Rattle.proxy_core.specs.declared.event.Event.TheVariants.{Arrive, Answer, Fail, Wake, Abandon, Overdue}
+use Rattle.proxy_core.specs.Leading.{is_forwarded, is_waiting, is_released}
 use Rattle.proxy_core.specs.Validating.{condition_about_serial, is_304_to_own_conditions}
 use Rattle.proxy_core.specs.Outcomes.{forward_text}
 use Rattle.proxy_core.specs.Sending.{StoredResponseMayBeSentAt, RequestGoesForward}
 
 -- A request arrives under an id that no open exchange has; an answer or a failure is of one that is
--- at the origin; who waited is woken behind the end of the exchange that it waited for; any open
--- one may be abandoned. Moments lie before the year 10000.
+-- at the origin; only who waits can be overdue; who waited is woken behind the end of the exchange
+-- that it waited for, or behind the end of its time to wait; any open one may be abandoned. Moments
+-- lie before the year 10000.
 abbrev pub EventMayCome : Option Exchange → Event → Type 0
 EventMayCome None (Arrive now id asked) = now < END_OF_TIME
 EventMayCome (Some x) (Answer now id r) = (now < END_OF_TIME) × (is_forwarded x.stage ≡ true)
 EventMayCome (Some x) (Fail now id kind) = (now < END_OF_TIME) × (is_forwarded x.stage ≡ true)
 EventMayCome (Some x) (Wake now id) = (now < END_OF_TIME) × (is_released x.stage ≡ true)
 EventMayCome (Some x) (Abandon id) = Unit {0}
+EventMayCome (Some x) (Overdue id) = is_waiting x.stage ≡ true
 EventMayCome (Some x) (Arrive now id asked) = ⊥
 EventMayCome None (Answer now id r) = ⊥
 EventMayCome None (Fail now id kind) = ⊥
 EventMayCome None (Wake now id) = ⊥
 EventMayCome None (Abandon id) = ⊥
+EventMayCome None (Overdue id) = ⊥
 
 -- the answer is a 304 to the proxy's own conditions, and there is no stored response to send for it
 abbrev pub NeedsSecondForward : Table → List Stored → Exchange → ℕ → ℕ → Response → Type 0
@@ -55,7 +58,8 @@ IsClientReply outcome = (reply : Reply) × (outcome ≡ Replied reply)
 -- client
 -- its reply, unless the client's own request has to go forward without the proxy's conditions; a
 -- failure gives it its reply; a wake does, or sends the request forward by the rule that stands
--- now; and a client that went away ends its exchange.
+-- now; a client that went away ends its exchange; and who is overdue waits no more, and is given
+-- nothing yet.
 abbrev pub ExchangeGoesOnBy : Table → List Stored → Option Exchange → Event → Outcome → Type 0
 ExchangeGoesOnBy table held x (Arrive now id asked) outcome = Unit {0}
 ExchangeGoesOnBy table held (Some x) (Answer now id r) outcome =
@@ -68,6 +72,7 @@ ExchangeGoesOnBy table held None (Answer now id r) outcome = ⊥
 ExchangeGoesOnBy table held None (Fail now id kind) outcome = ⊥
 ExchangeGoesOnBy table held None (Wake now id) outcome = ⊥
 ExchangeGoesOnBy table held x (Abandon id) outcome = outcome ≡ Ended
+ExchangeGoesOnBy table held x (Overdue id) outcome = outcome ≡ WaitsNoMore
 
 -- What a request carries beside its client's own fields: where it is judged, which is at its
 -- arrival or its wake, the conditions about the response that the least rule is on; behind a 304
@@ -82,3 +87,4 @@ IsConditionOfEvent policy held asked (Wake now id) condition =
 IsConditionOfEvent policy held asked (Answer now id r) condition = condition ≡ None
 IsConditionOfEvent policy held asked (Fail now id kind) condition = ⊥
 IsConditionOfEvent policy held asked (Abandon id) condition = ⊥
+IsConditionOfEvent policy held asked (Overdue id) condition = ⊥

@@ -4,7 +4,7 @@
 -- may_serve, answer_may_serve: nothing that is known keeps its answer from that request
 -- leads_waiters: the request waits for this exchange
 -- leader: the first of these to arrive
--- waits_for: an exchange waits for another
+-- waits_for, is_waiting: an exchange waits for another
 -- ready_ids: the exchanges that may be woken, in the order of arrival
 -- NoExchangeLeads, IsFirstLeader: the same in words
 use Rattle.std.specs.Prelude.{◌≡◌, ℕ, ◌==◌, ◌&&◌, ◌||◌, not, Bool, true, false, List, [], ◌∷◌, ◌++◌, Option, Some, None}
@@ -32,6 +32,12 @@ abbrev pub is_forwarded : Stage → Bool
 is_forwarded Forwarded = true
 is_forwarded (Waiting leader) = false
 is_forwarded Released = false
+
+-- it waits for the answer to another
+abbrev pub is_waiting : Stage → Bool
+is_waiting Forwarded = false
+is_waiting (Waiting leader) = true
+is_waiting Released = false
 
 -- it may be woken
 abbrev pub is_released : Stage → Bool

@@ -31,9 +31,9 @@ use Rattle.hx_status.specs.declared.cause.FailKind.TheVariants.{BadAnswer}
 use Rattle.hx_status.specs.declared.cause.Cause.TheVariants.{Denied, NoLine, Looped, OnlyIfCached, Origin}
 use Rattle.proxy_core.specs.declared.open.exchange.Exchange.{Exchange}
 use Rattle.proxy_core.specs.declared.outcome.Outcome.{Outcome}
-use Rattle.proxy_core.specs.declared.outcome.Outcome.TheVariants.{Reply, Forward, Waits, Ended}
+use Rattle.proxy_core.specs.declared.outcome.Outcome.TheVariants.{Reply, Forward, Waits, Ended, WaitsNoMore}
 use Rattle.proxy_core.specs.declared.event.Event.{Event}
-use Rattle.proxy_core.specs.declared.event.Event.TheVariants.{Arrive, Answer, Fail, Wake, Abandon}
+use Rattle.proxy_core.specs.declared.event.Event.TheVariants.{Arrive, Answer, Fail, Wake, Abandon, Overdue}
 use Rattle.proxy_core.specs.Scopes.{serials_purged}
 use Rattle.proxy_core.specs.Replies.{passed_answer_text, refusal_reply_text, purge_reply_text, is_head}
 use Rattle.proxy_core.specs.Storing.{is_304_without_condition, storing_rule_to_explain}
@@ -105,6 +105,7 @@ AnswerNamesByEvent table start past next None (Answer now id r) bytes stored = �
 AnswerNamesByEvent table start past next None (Fail now id kind) bytes stored = ⊥
 AnswerNamesByEvent table start past next None (Wake now id) bytes stored = ⊥
 AnswerNamesByEvent table start past next x (Abandon id) bytes stored = ⊥
+AnswerNamesByEvent table start past next x (Overdue id) bytes stored = ⊥
 
 -- an item whose reply is no stored response, behind those before it
 abbrev pub AnswerNamesFirstRule : Table → StoreAtStart → List Item → Option ℕ → Option Exchange → Event → Outcome
@@ -114,6 +115,7 @@ AnswerNamesFirstRule table start past next x event (Reply r) =
 AnswerNamesFirstRule table start past next x event (Forward line bytes) = Unit {0}
 AnswerNamesFirstRule table start past next x event (Waits leader) = Unit {0}
 AnswerNamesFirstRule table start past next x event Ended = Unit {0}
+AnswerNamesFirstRule table start past next x event WaitsNoMore = Unit {0}
 
 -- ---- the statement
 

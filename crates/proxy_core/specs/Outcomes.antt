@@ -48,13 +48,14 @@ use Rattle.proxy_core.specs.declared.steps.fallback.Fallback.{Fallback}
 use Rattle.proxy_core.specs.declared.steps.fallback.Fallback.TheVariants.{Sends, Refuses}
 use Rattle.proxy_core.specs.declared.replies.stored_reply.CacheStatusInfo.{CacheStatusInfo}
 use Rattle.proxy_core.specs.declared.outcome.Outcome.{Outcome}
-use Rattle.proxy_core.specs.declared.outcome.Outcome.TheVariants.{Reply, Forward, Waits, Ended}
+use Rattle.proxy_core.specs.declared.outcome.Outcome.TheVariants.{Reply, Forward, Waits, Ended, WaitsNoMore}
 use Rattle.proxy_core.specs.declared.event.Event.{Event}
-use Rattle.proxy_core.specs.declared.event.Event.TheVariants.{Arrive, Answer, Fail, Wake, Abandon}
+use Rattle.proxy_core.specs.declared.event.Event.TheVariants.{Arrive, Answer, Fail, Wake, Abandon, Overdue}
 use Rattle.proxy_core.specs.declared.core_fault.CoreFault.{CoreFault}
 use Rattle.proxy_core.specs.declared.core_fault.CoreFault.TheVariants.{IdTaken, UnknownId, NotForwarded, NotReady}
+use Rattle.proxy_core.specs.declared.core_fault.CoreFault.TheVariants.{NotWaiting}
 use Rattle.proxy_core.specs.Moments.{moment_too_late_fault}
-use Rattle.proxy_core.specs.Leading.{is_forwarded, is_released}
+use Rattle.proxy_core.specs.Leading.{is_forwarded, is_waiting, is_released}
 use Rattle.proxy_core.specs.Awaiting.{awaited_of, leader_of_request}
 use Rattle.proxy_core.specs.Revalidating.{sent_beside}
 use Rattle.proxy_core.specs.Scopes.{serials_purged}
@@ -207,6 +208,7 @@ outcome_that_removes removed (Reply r) = Reply (record r { removed = removed })
 outcome_that_removes removed (Forward line bytes) = Forward line bytes
 outcome_that_removes removed (Waits leader) = Waits leader
 outcome_that_removes removed Ended = Ended
+outcome_that_removes removed WaitsNoMore = WaitsNoMore
 
 -- A failure sends such a response, else it is named with the rules that keep it back. A status may have come with it.
 abbrev pub outcome_of_failure : Table → List Stored → ℕ → Exchange → FailKind → Option ℕ → Fallback → Outcome
@@ -296,6 +298,7 @@ exchange_id_of_event (Answer now id r) = id
 exchange_id_of_event (Fail now id kind) = id
 exchange_id_of_event (Wake now id) = id
 exchange_id_of_event (Abandon id) = id
+exchange_id_of_event (Overdue id) = id
 
 -- A request that waited is judged anew: the stored response that no rule keeps back now is sent, else the request goes
 -- forward.
@@ -321,6 +324,7 @@ outcome_of table es xs (Some x) next (Wake now id) =
     outcome_of_wake table es now x (decision_of (policy_of table.lines x.line) es x.asked now)
 outcome_of table es xs None next (Wake now id) = Ended
 outcome_of table es xs x next (Abandon id) = Ended
+outcome_of table es xs x next (Overdue id) = WaitsNoMore
 
 -- over the held responses, all open exchanges in the order of arrival, and the next serial
 abbrev pub outcome_of_event : Table → List Stored → List Exchange → Option ℕ → Event → Outcome
@@ -339,6 +343,10 @@ fault_if_not_forwarded stage = cond (is_forwarded stage) None (Some NotForwarded
 abbrev pub fault_if_not_released : Stage → Option CoreFault
 fault_if_not_released stage = cond (is_released stage) None (Some NotReady)
 
+-- it doesn't wait for another's answer, or no longer
+abbrev pub fault_if_not_waiting : Stage → Option CoreFault
+fault_if_not_waiting stage = cond (is_waiting stage) None (Some NotWaiting)
+
 -- what stands against any event of an open exchange: it isn't open, or the moment has no date
 abbrev pub fault_at_moment : Option Exchange → ℕ → Option CoreFault
 fault_at_moment None now = Some UnknownId
@@ -355,7 +363,9 @@ fault_at_exchange None (Fail now id kind) = Some UnknownId
 fault_at_exchange (Some x) (Wake now id) = or_fault (moment_too_late_fault now) (fault_if_not_released x.stage)
 fault_at_exchange None (Wake now id) = Some UnknownId
 fault_at_exchange (Some x) (Abandon id) = None
+fault_at_exchange (Some x) (Overdue id) = fault_if_not_waiting x.stage
 fault_at_exchange None (Abandon id) = Some UnknownId
+fault_at_exchange None (Overdue id) = Some UnknownId
 
 abbrev pub step_fault : List Exchange → Event → Option CoreFault
 step_fault xs event = fault_at_exchange (find_exchange (exchange_id_of_event event) xs) event

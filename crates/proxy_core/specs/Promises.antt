@@ -12,9 +12,9 @@ use Rattle.hx_framing.specs.declared.messages.Response.{Response}
 use Rattle.hx_target.specs.declared.keys.Key.{Key}
 use Rattle.hx_hop.specs.declared.request_view.Asked.{Asked}
 use Rattle.proxy_core.specs.declared.outcome.Outcome.{Outcome}
-use Rattle.proxy_core.specs.declared.outcome.Outcome.TheVariants.{Reply, Forward, Waits, Ended}
+use Rattle.proxy_core.specs.declared.outcome.Outcome.TheVariants.{Reply, Forward, Waits, Ended, WaitsNoMore}
 use Rattle.proxy_core.specs.declared.event.Event.{Event}
-use Rattle.proxy_core.specs.declared.event.Event.TheVariants.{Arrive, Answer, Fail, Wake, Abandon}
+use Rattle.proxy_core.specs.declared.event.Event.TheVariants.{Arrive, Answer, Fail, Wake, Abandon, Overdue}
 use Rattle.proxy_core.specs.Storing.{status_invalidates}
 use Rattle.proxy_core.specs.Outcomes.{exchange_id_of_event}
 use Rattle.proxy_core.specs.Scopes.{Scope, is_in_scope, target_alone}
@@ -26,12 +26,14 @@ outcome_goes_forward (Forward line bytes) = true
 outcome_goes_forward (Waits leader) = false
 outcome_goes_forward (Reply r) = false
 outcome_goes_forward Ended = false
+outcome_goes_forward WaitsNoMore = false
 
 abbrev pub outcome_is_reply : Outcome → Bool
 outcome_is_reply (Reply r) = true
 outcome_is_reply (Forward line bytes) = false
 outcome_is_reply (Waits leader) = false
 outcome_is_reply Ended = false
+outcome_is_reply WaitsNoMore = false
 
 -- the exchange ends by it: by a reply, or since the client went away
 abbrev pub outcome_ends_exchange : Outcome → Bool
@@ -39,6 +41,7 @@ outcome_ends_exchange (Reply r) = true
 outcome_ends_exchange (Forward line bytes) = false
 outcome_ends_exchange (Waits leader) = false
 outcome_ends_exchange Ended = true
+outcome_ends_exchange WaitsNoMore = false
 
 abbrev pub is_arrival_event : Event → Bool
 is_arrival_event (Arrive now id asked) = true
@@ -46,6 +49,7 @@ is_arrival_event (Answer now id r) = false
 is_arrival_event (Fail now id kind) = false
 is_arrival_event (Wake now id) = false
 is_arrival_event (Abandon id) = false
+is_arrival_event (Overdue id) = false
 
 -- how many of these items are of this id and have such an outcome
 abbrev pub count_of_outcomes : (Outcome → Bool) → ℕ → List Item → ℕ
@@ -78,6 +82,7 @@ request_after_event id (Answer now i r) before = before
 request_after_event id (Fail now i kind) before = before
 request_after_event id (Wake now i) before = before
 request_after_event id (Abandon i) before = before
+request_after_event id (Overdue i) before = before
 
 abbrev pub latest_request_of : ℕ → List Item → Option Asked
 latest_request_of id [] = None
@@ -89,6 +94,7 @@ reply_uses_no_stored_response (Reply r) = is_none r.used
 reply_uses_no_stored_response (Forward line bytes) = false
 reply_uses_no_stored_response (Waits leader) = false
 reply_uses_no_stored_response Ended = false
+reply_uses_no_stored_response WaitsNoMore = false
 
 -- A status that isn't an error, 2xx or 3xx, came in response to an unsafe request: what is held for
 -- its key is invalidated (RFC 9111, section 4.4), whatever the client is told.
@@ -106,6 +112,7 @@ scope_invalidated_by_event asked (Arrive now id other) outcome = scope_purged ot
 scope_invalidated_by_event asked (Fail now id kind) outcome = None
 scope_invalidated_by_event asked (Wake now id) outcome = None
 scope_invalidated_by_event asked (Abandon id) outcome = None
+scope_invalidated_by_event asked (Overdue id) outcome = None
 
 abbrev pub is_invalidated_key : Option Scope → Key → Bool
 is_invalidated_key None key = false

@@ -8,7 +8,7 @@ use Rattle.hx_framing.specs.declared.messages.Response.{Response}
 use Rattle.hx_framing.specs.Reading.{Spelled}
 use Rattle.hx_framing.specs.ResponseReading.{Reads}
 use Rattle.proxy_core.specs.declared.event.Event.{Event}
-use Rattle.proxy_core.specs.declared.event.Event.TheVariants.{Arrive, Answer, Fail, Wake, Abandon}
+use Rattle.proxy_core.specs.declared.event.Event.TheVariants.{Arrive, Answer, Fail, Wake, Abandon, Overdue}
 
 -- within some limit, to a HEAD or not, a stream begins with this response
 pub record WasReadFromAStream (response : Response) : Type 0 where
@@ -25,3 +25,4 @@ EventIsReadFromAStream (Arrive now id asked) = Unit {0}
 EventIsReadFromAStream (Fail now id kind) = Unit {0}
 EventIsReadFromAStream (Wake now id) = Unit {0}
 EventIsReadFromAStream (Abandon id) = Unit {0}
+EventIsReadFromAStream (Overdue id) = Unit {0}

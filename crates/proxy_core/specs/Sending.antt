@@ -39,7 +39,7 @@ use Rattle.proxy_core.specs.declared.outcome.Reply.{Reply}
 use Rattle.proxy_core.specs.declared.outcome.Outcome.{Outcome}
 use Rattle.proxy_core.specs.declared.outcome.Outcome.TheVariants.{Reply as Replied, Forward, Waits}
 use Rattle.proxy_core.specs.declared.event.Event.{Event}
-use Rattle.proxy_core.specs.declared.event.Event.TheVariants.{Arrive, Answer, Fail, Wake, Abandon}
+use Rattle.proxy_core.specs.declared.event.Event.TheVariants.{Arrive, Answer, Fail, Wake, Abandon, Overdue}
 use Rattle.proxy_core.specs.Storing.{is_304_without_condition}
 use Rattle.proxy_core.specs.Validating.{condition_about_serial, is_304_to_own_conditions, stored_response_validated}
 use Rattle.proxy_core.specs.Replies.{stored_text}
@@ -101,6 +101,7 @@ StoredResponseMayBeSentAt table held None (Answer now id r) s = ⊥
 StoredResponseMayBeSentAt table held None (Fail now id kind) s = ⊥
 StoredResponseMayBeSentAt table held None (Wake now id) s = ⊥
 StoredResponseMayBeSentAt table held x (Abandon id) s = ⊥
+StoredResponseMayBeSentAt table held x (Overdue id) s = ⊥
 
 -- While one asks the origin about it (RFC 5861, section 3): a GET that takes an answer of the origin could wait for the
 -- first to arrive of those that went there for the response of this serial, which is the chosen one, and over, and may
@@ -126,6 +127,7 @@ StoredResponseMayBeSentBeside table held xs (Answer now id r) s = ⊥
 StoredResponseMayBeSentBeside table held xs (Fail now id kind) s = ⊥
 StoredResponseMayBeSentBeside table held xs (Wake now id) s = ⊥
 StoredResponseMayBeSentBeside table held xs (Abandon id) s = ⊥
+StoredResponseMayBeSentBeside table held xs (Overdue id) s = ⊥
 
 abbrev pub StoredResponseMayBeSent : Table → List Stored → List Exchange → Option Exchange → Event → ℕ → Type 0
 StoredResponseMayBeSent table held xs x event s =
@@ -229,6 +231,7 @@ CacheStatusShowsHow table held None (Answer now id r) s h = ⊥
 CacheStatusShowsHow table held None (Fail now id kind) s h = ⊥
 CacheStatusShowsHow table held None (Wake now id) s h = ⊥
 CacheStatusShowsHow table held x (Abandon id) s h = ⊥
+CacheStatusShowsHow table held x (Overdue id) s h = ⊥
 
 -- the moment of an event, and the request that it is about
 abbrev pub IsAbout : Option Exchange → Event → ℕ → Asked → Type 0
@@ -240,6 +243,7 @@ IsAbout None (Answer t id r) now asked = ⊥
 IsAbout None (Fail t id kind) now asked = ⊥
 IsAbout None (Wake t id) now asked = ⊥
 IsAbout x (Abandon id) now asked = ⊥
+IsAbout x (Overdue id) now asked = ⊥
 
 -- What is sent is the held response of this serial, freshened where the 304 answers it: its
 -- content, its head, or its 304 to the client's own conditions, by what `stored_text` says.

@@ -6,7 +6,7 @@
 -- state_after: what a step leaves
 -- StepIsAccepted: a step that was done             StepIsRefusedWith: one that wasn't
 use Rattle.std.specs.Prelude.{◌≡◌, ◌⊎◌, ℕ, ◌+◌, ◌^◌, ◌≤◌, ◌==◌, nat_lt, not, Bool, true, false, List, [], ◌∷◌, ◌++◌}
-use Rattle.std.specs.Prelude.{filter, map, Option, Some, None, option_map, cond}
+use Rattle.std.specs.Prelude.{filter, map, Option, Some, None, option_map, cond, ◌&&◌}
 use Rattle.hx_framing.specs.declared.messages.Response.{Response}
 use Rattle.hx_hop.specs.declared.request_view.Asked.{Asked}
 use Rattle.hx_allow.specs.TableLines.{Table}
@@ -27,12 +27,12 @@ use Rattle.proxy_core.specs.declared.steps.condition.Condition.{Condition}
 use Rattle.proxy_core.specs.declared.open.stage.Stage.TheVariants.{Forwarded, Waiting, Released}
 use Rattle.proxy_core.specs.declared.open.exchange.Exchange.{Exchange}
 use Rattle.proxy_core.specs.declared.outcome.Outcome.{Outcome}
-use Rattle.proxy_core.specs.declared.outcome.Outcome.TheVariants.{Reply, Forward, Waits, Ended}
+use Rattle.proxy_core.specs.declared.outcome.Outcome.TheVariants.{Reply, Forward, Waits, Ended, WaitsNoMore}
 use Rattle.proxy_core.specs.declared.event.Event.{Event}
-use Rattle.proxy_core.specs.declared.event.Event.TheVariants.{Arrive, Answer, Fail, Wake, Abandon}
+use Rattle.proxy_core.specs.declared.event.Event.TheVariants.{Arrive, Answer, Fail, Wake, Abandon, Overdue}
 use Rattle.proxy_core.specs.declared.core_fault.CoreFault.{CoreFault}
 use Rattle.proxy_core.specs.declared.core_fault.CoreFault.TheVariants.{OutOfMemory}
-use Rattle.proxy_core.specs.Leading.{waits_for, has_no_store}
+use Rattle.proxy_core.specs.Leading.{waits_for, is_waiting, has_no_store}
 use Rattle.proxy_core.specs.Outcomes.{find_exchange, exchange_id_of_event, outcome_of_event, step_fault}
 use Rattle.proxy_core.specs.Storing.{stored_response_made, key_invalidated}
 use Rattle.proxy_core.specs.Scopes.{Scope, is_in_scope, target_alone, scope_of_purge}
@@ -52,18 +52,21 @@ serial_stored_by_outcome (Reply r) = r.stored
 serial_stored_by_outcome (Forward line bytes) = None
 serial_stored_by_outcome (Waits leader) = None
 serial_stored_by_outcome Ended = None
+serial_stored_by_outcome WaitsNoMore = None
 
 abbrev pub serial_used_by_outcome : Outcome → Option ℕ
 serial_used_by_outcome (Reply r) = r.used
 serial_used_by_outcome (Forward line bytes) = None
 serial_used_by_outcome (Waits leader) = None
 serial_used_by_outcome Ended = None
+serial_used_by_outcome WaitsNoMore = None
 
 abbrev pub serials_removed_by_outcome : Outcome → List ℕ
 serials_removed_by_outcome (Reply r) = r.removed
 serials_removed_by_outcome (Forward line bytes) = []
 serials_removed_by_outcome (Waits leader) = []
 serials_removed_by_outcome Ended = []
+serials_removed_by_outcome WaitsNoMore = []
 
 -- the outcome is that of a purge
 abbrev pub outcome_purges : Outcome → Bool
@@ -71,6 +74,7 @@ outcome_purges (Reply r) = r.purged
 outcome_purges (Forward line bytes) = false
 outcome_purges (Waits leader) = false
 outcome_purges Ended = false
+outcome_purges WaitsNoMore = false
 
 -- what a step makes of a held response that it sends: one that a 304 answers is freshened
 abbrev pub stored_response_as_used : Option Exchange → Event → Stored → Stored
@@ -80,6 +84,7 @@ stored_response_as_used (Some x) (Arrive now id asked) e = e
 stored_response_as_used (Some x) (Fail now id kind) e = e
 stored_response_as_used (Some x) (Wake now id) e = e
 stored_response_as_used (Some x) (Abandon id) e = e
+stored_response_as_used (Some x) (Overdue id) e = e
 stored_response_as_used None event e = e
 
 -- what is used comes first
@@ -96,6 +101,7 @@ stored_response_by_answer (Some x) (Arrive now id asked) serial = None
 stored_response_by_answer (Some x) (Fail now id kind) serial = None
 stored_response_by_answer (Some x) (Wake now id) serial = None
 stored_response_by_answer (Some x) (Abandon id) serial = None
+stored_response_by_answer (Some x) (Overdue id) serial = None
 stored_response_by_answer None event serial = None
 
 abbrev pub entries_without_serials : List ℕ → List Stored → List Stored
@@ -127,6 +133,15 @@ entries_after bounds es x event o =
 -- an exchange that waits for the one of this id waits no longer
 abbrev pub released_exchange : ℕ → Exchange → Exchange
 released_exchange id x = cond (waits_for id x.stage) (record x { stage = Released }) x
+
+-- one whose time to wait is over
+abbrev pub exchange_past_its_wait : Exchange → Exchange
+exchange_past_its_wait x = record x { stage = Released }
+
+-- own: the exchange of this id waits no longer, if it waits; whatever it waits for, others wait for that still ("Who
+-- has waited long goes by itself")
+abbrev pub overdue_exchange : ℕ → Exchange → Exchange
+overdue_exchange id x = cond (x.id == id && is_waiting x.stage) (exchange_past_its_wait x) x
 
 -- an exchange ends, and releases those that wait for it
 abbrev pub exchanges_after_close : ℕ → List Exchange → List Exchange
@@ -244,6 +259,7 @@ open_exchanges_after table es xs (Arrive now id asked) (Waits leader) =
 open_exchanges_after table es xs (Arrive now id asked) (Reply r) =
     exchanges_after_purge (scope_purged asked (Reply r)) xs
 open_exchanges_after table es xs (Arrive now id asked) Ended = xs
+open_exchanges_after table es xs (Arrive now id asked) WaitsNoMore = xs
 open_exchanges_after table es xs (Answer now id r) (Forward line bytes) = map (exchange_forwarded_again id now) xs
 open_exchanges_after table es xs (Answer now id r) (Reply reply) = exchanges_after_end
     (scope_invalidated_by_response (find_exchange id xs) r) id xs
@@ -251,13 +267,17 @@ open_exchanges_after table es xs (Answer now id r) (Waits leader) = exchanges_af
     (scope_invalidated_by_response (find_exchange id xs) r) id xs
 open_exchanges_after table es xs (Answer now id r) Ended = exchanges_after_end
     (scope_invalidated_by_response (find_exchange id xs) r) id xs
+open_exchanges_after table es xs (Answer now id r) WaitsNoMore = exchanges_after_end
+    (scope_invalidated_by_response (find_exchange id xs) r) id xs
 open_exchanges_after table es xs (Fail now id kind) outcome = exchanges_after_close id xs
 open_exchanges_after table es xs (Wake now id) (Forward line bytes) = exchanges_after_wake table es id now
     (find_exchange id xs) xs
 open_exchanges_after table es xs (Wake now id) (Reply r) = exchanges_after_close id xs
 open_exchanges_after table es xs (Wake now id) (Waits leader) = exchanges_after_close id xs
 open_exchanges_after table es xs (Wake now id) Ended = exchanges_after_close id xs
+open_exchanges_after table es xs (Wake now id) WaitsNoMore = exchanges_after_close id xs
 open_exchanges_after table es xs (Abandon id) outcome = exchanges_after_close id xs
+open_exchanges_after table es xs (Overdue id) outcome = map (overdue_exchange id) xs
 
 -- the serial after this one, if one is left
 -- own: of so many, each is given once ("Each stored response has a serial")

@@ -38,7 +38,7 @@ use Rattle.hx_validate.specs.Room.{head_leaves_room}
 use Rattle.proxy_core.specs.declared.open.exchange.Exchange.{Exchange}
 use Rattle.proxy_core.specs.declared.outcome.Outcome.{Outcome}
 use Rattle.proxy_core.specs.declared.event.Event.{Event}
-use Rattle.proxy_core.specs.declared.event.Event.TheVariants.{Arrive, Answer, Fail, Wake, Abandon}
+use Rattle.proxy_core.specs.declared.event.Event.TheVariants.{Arrive, Answer, Fail, Wake, Abandon, Overdue}
 use Rattle.proxy_core.specs.Storing.{replaced_by, weight_of_answer}
 use Rattle.proxy_core.specs.Validating.{stored_response_validated, freshened_by_304, freshened_may_be_kept}
 use Rattle.proxy_core.specs.Validating.{head_of_stored}
@@ -181,6 +181,7 @@ ThoseAreRemoved table held x (Arrive now id asked) outcome = serials_removed_by_
 ThoseAreRemoved table held x (Fail now id kind) outcome = serials_removed_by_outcome outcome ≡ []
 ThoseAreRemoved table held x (Wake now id) outcome = serials_removed_by_outcome outcome ≡ []
 ThoseAreRemoved table held x (Abandon id) outcome = serials_removed_by_outcome outcome ≡ []
+ThoseAreRemoved table held x (Overdue id) outcome = serials_removed_by_outcome outcome ≡ []
 
 -- by the table an event purges
 abbrev pub event_purges : Table → Event → Bool
@@ -189,6 +190,7 @@ event_purges table (Answer now id r) = false
 event_purges table (Fail now id kind) = false
 event_purges table (Wake now id) = false
 event_purges table (Abandon id) = false
+event_purges table (Overdue id) = false
 
 -- ---- the statements
 

@@ -21,7 +21,7 @@ use Rattle.proxy_core.specs.Histories.{held_entries, open_exchanges, next_serial
 use Rattle.proxy_core.specs.Carrying.{NoRequestIsJudged}
 use Rattle.proxy_core.specs.declared.open.stage.Stage.TheVariants.{Forwarded}
 use Rattle.proxy_core.specs.declared.outcome.Outcome.{Outcome}
-use Rattle.proxy_core.specs.declared.outcome.Outcome.TheVariants.{Reply, Forward, Waits, Ended}
+use Rattle.proxy_core.specs.declared.outcome.Outcome.TheVariants.{Reply, Forward, Waits, Ended, WaitsNoMore}
 use Rattle.proxy_core.specs.Promises.{outcome_goes_forward, outcome_ends_exchange, is_arrival_event, count_of_outcomes}
 use Rattle.proxy_core.specs.Promises.{NoRequestArrives, latest_request_of, some_item_invalidates}
 
@@ -37,6 +37,7 @@ opens_an_exchange (Reply r) = false
 opens_an_exchange (Forward line bytes) = true
 opens_an_exchange (Waits leader) = true
 opens_an_exchange Ended = false
+opens_an_exchange WaitsNoMore = false
 
 abbrev pub count_of_stored : List Item → ℕ
 count_of_stored [] = 0

@@ -10,9 +10,9 @@ use Rattle.proxy_core.specs.Allowing.{verdict_of_asked, request_purges}
 use Rattle.hx_allow.specs.declared.verdicts.Verdict.TheVariants.{Allowed}
 use Rattle.hx_allow.specs.declared.verdicts.Route.{Route}
 use Rattle.proxy_core.specs.declared.outcome.Outcome.{Outcome}
-use Rattle.proxy_core.specs.declared.outcome.Outcome.TheVariants.{Reply, Forward, Waits, Ended}
+use Rattle.proxy_core.specs.declared.outcome.Outcome.TheVariants.{Reply, Forward, Waits, Ended, WaitsNoMore}
 use Rattle.proxy_core.specs.declared.event.Event.{Event}
-use Rattle.proxy_core.specs.declared.event.Event.TheVariants.{Arrive, Answer, Fail, Wake, Abandon}
+use Rattle.proxy_core.specs.declared.event.Event.TheVariants.{Arrive, Answer, Fail, Wake, Abandon, Overdue}
 use Rattle.proxy_core.specs.declared.core_fault.CoreFault.{CoreFault}
 use Rattle.proxy_core.specs.declared.open.exchange.Exchange.{Exchange}
 use Rattle.hx_store.specs.Stored.{Stored}
@@ -79,6 +79,7 @@ ArrivalIsDenied table (Answer now id r) = ⊥
 ArrivalIsDenied table (Fail now id kind) = ⊥
 ArrivalIsDenied table (Wake now id) = ⊥
 ArrivalIsDenied table (Abandon id) = ⊥
+ArrivalIsDenied table (Overdue id) = ⊥
 
 -- nothing is stored, used or removed, and no exchange opens
 abbrev pub OutcomeLeavesNoTrace : Outcome → Type 0
@@ -86,6 +87,7 @@ OutcomeLeavesNoTrace (Reply r) = (r.stored ≡ None) × (r.used ≡ None) × (r.
 OutcomeLeavesNoTrace (Forward line bytes) = ⊥
 OutcomeLeavesNoTrace (Waits leader) = ⊥
 OutcomeLeavesNoTrace Ended = ⊥
+OutcomeLeavesNoTrace WaitsNoMore = ⊥
 
 -- a denied request leaves no trace
 abbrev pub DeniedRequestsLeaveNoTrace : Table → List Item → Type 0

@@ -16,7 +16,7 @@ use Rattle.proxy_core.specs.declared.open.exchange.Exchange.{Exchange}
 use Rattle.proxy_core.specs.declared.outcome.Outcome.{Outcome}
 use Rattle.proxy_core.specs.declared.outcome.Outcome.TheVariants.{Forward}
 use Rattle.proxy_core.specs.declared.event.Event.{Event}
-use Rattle.proxy_core.specs.declared.event.Event.TheVariants.{Arrive, Answer, Fail, Wake, Abandon}
+use Rattle.proxy_core.specs.declared.event.Event.TheVariants.{Arrive, Answer, Fail, Wake, Abandon, Overdue}
 use Rattle.proxy_core.specs.Outcomes.{find_exchange, exchange_id_of_event, outcome_of_refusal, forward_text}
 use Rattle.proxy_core.specs.Outcomes.{is_only_if_cached}
 use Rattle.proxy_core.specs.State.{serial_stored_by_outcome, serial_used_by_outcome}
@@ -31,10 +31,12 @@ EventGoesOverLine table (Some x) (Answer now id r) line = x.line ≡ line
 EventGoesOverLine table (Some x) (Fail now id kind) line = x.line ≡ line
 EventGoesOverLine table (Some x) (Wake now id) line = x.line ≡ line
 EventGoesOverLine table (Some x) (Abandon id) line = x.line ≡ line
+EventGoesOverLine table (Some x) (Overdue id) line = x.line ≡ line
 EventGoesOverLine table None (Answer now id r) line = ⊥
 EventGoesOverLine table None (Fail now id kind) line = ⊥
 EventGoesOverLine table None (Wake now id) line = ⊥
 EventGoesOverLine table None (Abandon id) line = ⊥
+EventGoesOverLine table None (Overdue id) line = ⊥
 
 -- a request goes forward as the client's own, or where it takes no response but a stored one it is
 -- told the operator's rule

@@ -3,8 +3,9 @@
 -- RequestCouldWait: a request that could be sent one (`Awaiting.antt`), for the first that leads (`Leading.antt`)
 -- RequestWaitsWhereOneLeads, RequestWaitsNowhereElse, OnlyOneGoesForwardForKey: who waits, and what for
 -- ExchangeMayBeWoken: an exchange that may be woken
--- RequestWaitsUntilItsLeaderEnds, RequestIsWokenOnceBehindItsLeader, ReleasedAreInOrderOfArrival,
--- WakeIsAcceptedExactlyWhereReady, WokenRequestIsJudgedAnew: how it ends
+-- RequestWaitsUntilItsLeaderEndsOrItsTime, RequestIsWokenOnceBehindItsLeaderOrItsTime, ReleasedAreInOrderOfArrival,
+-- TimeIsOverExactlyOfWhoWaits, OverdueRequestMayBeWoken, WakeIsAcceptedExactlyWhereReady, WokenRequestIsJudgedAnew:
+-- how it ends
 --
 -- The laws of `src/laws.rt` prove the statements.
 use Rattle.std.specs.Prelude.{◌≡◌, ◌⊎◌, ℕ, ◌==◌, ◌&&◌, ◌||◌, not, Bool, true, false, List, [], ◌∷◌, ◌++◌, Option, Some}
@@ -29,13 +30,13 @@ use Rattle.proxy_core.specs.declared.open.stage.Stage.TheVariants.{Waiting, Rele
 use Rattle.proxy_core.specs.declared.open.awaited.Awaited.{Awaited}
 use Rattle.proxy_core.specs.declared.open.awaited.Awaited.TheVariants.{Missing, Expired}
 use Rattle.proxy_core.specs.declared.open.exchange.Exchange.{Exchange}
-use Rattle.proxy_core.specs.declared.outcome.Outcome.TheVariants.{Forward, Waits}
+use Rattle.proxy_core.specs.declared.outcome.Outcome.TheVariants.{Forward, Waits, WaitsNoMore}
 use Rattle.proxy_core.specs.declared.event.Event.{Event}
-use Rattle.proxy_core.specs.declared.event.Event.TheVariants.{Arrive, Answer, Fail, Wake, Abandon}
+use Rattle.proxy_core.specs.declared.event.Event.TheVariants.{Arrive, Answer, Fail, Wake, Abandon, Overdue}
 use Rattle.proxy_core.specs.Moments.{moment_too_late_fault}
 use Rattle.hx_policy.specs.declared.words.Policy.{Policy}
 use Rattle.proxy_core.specs.Leading.{is_forwarded, is_released, is_get, is_uri_miss, names_serial, may_serve}
-use Rattle.proxy_core.specs.Leading.{leads_waiters, ready_ids, IsFirstLeader}
+use Rattle.proxy_core.specs.Leading.{is_waiting, leads_waiters, ready_ids, IsFirstLeader}
 use Rattle.proxy_core.specs.Awaiting.{RequestAwaits}
 use Rattle.proxy_core.specs.Outcomes.{find_exchange, exchange_id_of_event, step_fault, is_only_if_cached}
 use Rattle.proxy_core.specs.State.{serial_used_by_outcome}
@@ -163,15 +164,31 @@ is_wake_event (Answer now id r) = false
 is_wake_event (Fail now id kind) = false
 is_wake_event (Wake now id) = true
 is_wake_event (Abandon id) = false
+is_wake_event (Overdue id) = false
 
 -- the request of this id is woken
 abbrev pub was_woken : ℕ → List Item → Bool
 was_woken id [] = false
 was_woken id (i ∷ items) = cond (exchange_id_of_event i.event == id && is_wake_event i.event) true (was_woken id items)
 
--- nothing has happened to the exchange of this id
-abbrev pub NothingHappenedToExchange : ℕ → List Item → Type 0
-NothingHappenedToExchange id items = AllByRecursion (λ (i : Item). (exchange_id_of_event i.event == id) ≡ false) items
+abbrev pub is_overdue_event : Event → Bool
+is_overdue_event (Arrive now id asked) = false
+is_overdue_event (Answer now id r) = false
+is_overdue_event (Fail now id kind) = false
+is_overdue_event (Wake now id) = false
+is_overdue_event (Abandon id) = false
+is_overdue_event (Overdue id) = true
+
+-- the request of this id has waited as long as it is to wait
+abbrev pub was_overdue : ℕ → List Item → Bool
+was_overdue id [] = false
+was_overdue id (i ∷ items) =
+    cond (exchange_id_of_event i.event == id && is_overdue_event i.event) true (was_overdue id items)
+
+-- nothing has happened to the exchange of this id, but that its time to wait may be over
+abbrev pub NothingButItsTimeHappened : ℕ → List Item → Type 0
+NothingButItsTimeHappened id items =
+    AllByRecursion (λ (i : Item). (exchange_id_of_event i.event == id && not (is_overdue_event i.event)) ≡ false) items
 
 abbrev pub stage_of_exchange : Option Exchange → Option Stage
 stage_of_exchange x = option_map (λ (x : Exchange). x.stage) x
@@ -182,25 +199,58 @@ pub record ExchangeMayBeWoken (id : ℕ) (xs : List Exchange) : Type 0 where
   pub is_open : find_exchange id xs ≡ Some x
   pub stage : is_released x.stage ≡ true
 
--- Who waits does so until its leader has ended, by a reply or since the client went away, and may
--- be woken from then on.
-abbrev pub RequestWaitsUntilItsLeaderEnds : Type 0
-RequestWaitsUntilItsLeaderEnds = (table : Table) (start : StoreAtStart) (first leader : ℕ) (items before : List Item)
-    (arrival : Item) →
+-- the exchange of this id is open and waits for the answer to another
+pub record ExchangeIsWaiting (id : ℕ) (xs : List Exchange) : Type 0 where
+  pub x : Exchange
+  pub is_open : find_exchange id xs ≡ Some x
+  pub stage : is_waiting x.stage ≡ true
+
+-- Who waits does so until its leader has ended, by a reply or since the client went away, or until
+-- its time to wait is over, and may be woken from then on.
+abbrev pub RequestWaitsUntilItsLeaderEndsOrItsTime : Type 0
+RequestWaitsUntilItsLeaderEndsOrItsTime =
+    (table : Table) (start : StoreAtStart) (first leader : ℕ) (items before : List Item) (arrival : Item) →
     IsGoodHistory table start first (items ++ arrival ∷ before) → arrival.outcome ≡ Waits leader
-    → NothingHappenedToExchange (exchange_id_of_event arrival.event) items →
+    → NothingButItsTimeHappened (exchange_id_of_event arrival.event) items →
     stage_of_exchange (find_exchange (exchange_id_of_event arrival.event)
     (open_exchanges table start (items ++ arrival ∷ before)))
-    ≡ Some (cond (exchange_has_closed leader items) Released (Waiting leader))
+    ≡ Some (cond (exchange_has_closed leader items || was_overdue (exchange_id_of_event arrival.event) items) Released
+    (Waiting leader))
 
--- It is woken behind the end of its leader, and once.
-abbrev pub RequestIsWokenOnceBehindItsLeader : Type 0
-RequestIsWokenOnceBehindItsLeader =
+-- It is woken behind the end of its leader or of its time, and once.
+abbrev pub RequestIsWokenOnceBehindItsLeaderOrItsTime : Type 0
+RequestIsWokenOnceBehindItsLeaderOrItsTime =
     (table : Table) (start : StoreAtStart) (first now leader : ℕ) (items before : List Item) (wake arrival : Item) →
     IsGoodHistory table start first (wake ∷ (items ++ arrival ∷ before)) → arrival.outcome ≡ Waits leader →
     wake.event ≡ Wake now (exchange_id_of_event arrival.event) → NoRequestArrives
     (exchange_id_of_event arrival.event) items →
-    (exchange_has_closed leader items ≡ true) × (was_woken (exchange_id_of_event arrival.event) items ≡ false)
+    ((exchange_has_closed leader items || was_overdue (exchange_id_of_event arrival.event) items) ≡ true)
+    × (was_woken (exchange_id_of_event arrival.event) items ≡ false)
+
+-- the time is over of one that waits for the answer to another, and of no other
+abbrev pub TimeIsOverExactlyOfWhoWaits : Type 0
+TimeIsOverExactlyOfWhoWaits = (table : Table) (start : StoreAtStart) (first id : ℕ) (trace : List Item)
+    → IsGoodHistory table start first trace →
+    (step_fault (open_exchanges table start trace) (Overdue id) ≡ None
+    → ExchangeIsWaiting id (open_exchanges table start trace))
+    × (ExchangeIsWaiting id (open_exchanges table start trace)
+    → step_fault (open_exchanges table start trace) (Overdue id) ≡ None)
+
+-- Then it may be woken, and nothing else has changed: no other exchange, whether it waits or leads, and nothing that is
+-- held. Nothing is sent yet.
+pub record OnlyThatOneWaitsNoMore (table : Table) (start : StoreAtStart) (id : ℕ) (item : Item)
+    (past : List Item) : Type 0 where
+  pub outcome_is : item.outcome ≡ WaitsNoMore
+  pub may_be_woken : ExchangeMayBeWoken id (open_exchanges table start (item ∷ past))
+  pub others_stay : (other : ℕ) → (id == other) ≡ false →
+      find_exchange other (open_exchanges table start (item ∷ past))
+      ≡ find_exchange other (open_exchanges table start past)
+  pub held_stays : held_entries table start (item ∷ past) ≡ held_entries table start past
+
+abbrev pub OverdueRequestMayBeWoken : Type 0
+OverdueRequestMayBeWoken = (table : Table) (start : StoreAtStart) (first id : ℕ) (item : Item) (past : List Item)
+    → IsGoodHistory table start first (item ∷ past) →
+    item.event ≡ Overdue id → OnlyThatOneWaitsNoMore table start id item past
 
 -- those that may be woken stand in the order of arrival, so the first of them arrived first
 abbrev pub ReleasedAreInOrderOfArrival : Type 0

@@ -17,6 +17,8 @@ pub enum CoreFault {
     NotForwarded,
     /// A wake, and the request doesn't wait, or the one that it waits for is open.
     NotReady,
+    /// The time of a wait is over, and the request doesn't wait for another's answer, or no longer.
+    NotWaiting,
 }
 
 impl From<AllocError> for CoreFault {

@@ -8,8 +8,8 @@ ghost use Rattle.proxy_core.specs.Moments.{moment_too_late_fault};
 ghost use Rattle.proxy_core.specs.Waiting.{ExchangeMayBeWoken};
 ghost use Rattle.proxy_core.specs.Leading.{ready_ids};
 ghost use Rattle.proxy_core.specs.Outcomes.{find_exchange, step_fault, fault_if_not_forwarded, fault_if_not_released};
-ghost use Rattle.proxy_core.specs.Outcomes.{fault_at_moment};
-ghost use Rattle.proxy_core.specs.declared.event.Event.TheVariants.{Abandon, Answer, Fail, Wake};
+ghost use Rattle.proxy_core.specs.Outcomes.{fault_at_moment, fault_if_not_waiting};
+ghost use Rattle.proxy_core.specs.declared.event.Event.TheVariants.{Abandon, Answer, Fail, Overdue, Wake};
 ghost use Rattle.proxy_core.specs.State.{State, StepIsAccepted, StepIsRefusedWith, bounds_of};
 ghost use Rattle.proxy_core.specs.Starts.{StartStands};
 ghost use Rattle.proxy_core.specs.Traces.{initial_state};
@@ -20,7 +20,7 @@ use crate::moments::moment_fault;
 use crate::open::exchange::Exchange;
 use crate::open::exchanges::Exchanges;
 use crate::open::ids::Ids;
-use crate::open::leading::{is_forwarded, is_released};
+use crate::open::leading::{is_forwarded, is_released, is_waiting};
 use crate::open::stage::Stage;
 use crate::outcome::Outcome;
 use hx_allow::Config;
@@ -47,6 +47,17 @@ fn fault_if_not_released(stage: Stage) -> Option<CoreFault>
         None
     } else {
         Some(CoreFault::NotReady)
+    }
+}
+
+/// The fault of a time that is over where nothing waits for another's answer.
+fn fault_if_not_waiting(stage: Stage) -> Option<CoreFault>
+    ensures { result ≡ fault_if_not_waiting stage }
+{
+    if is_waiting(stage) {
+        None
+    } else {
+        Some(CoreFault::NotWaiting)
     }
 }
 
@@ -226,6 +237,17 @@ impl<S: Shelf> Core<S> {
                 Some(_) => None,
                 None => Some(CoreFault::UnknownId),
             },
+            Event::Overdue(id) => self.fault_of_overdue(*id),
+        }
+    }
+
+    /// The least fault that stands where the time of a wait is over.
+    fn fault_of_overdue(&self, id: u64) -> Option<CoreFault>
+        ensures { result ≡ step_fault self.now.exchanges (Overdue id) }
+    {
+        match self.exchanges.find(id) {
+            Some(x) => fault_if_not_waiting(x.stage),
+            None => Some(CoreFault::UnknownId),
         }
     }
 
@@ -240,6 +262,22 @@ impl<S: Shelf> Core<S> {
             Some(_) => {
                 self.exchanges.close(id);
                 Ok(Outcome::Ended)
+            }
+        }
+    }
+
+    /// A request has waited for another's answer as long as it is to wait: it may be woken from now on, as if its
+    /// leader had ended, and others wait as before. No memory is taken.
+    pub fn overdue(&mut self, id: u64) -> Result<Outcome, CoreFault>
+        ensures ok { IfOk result (λ outcome. StepIsAccepted self.old (Overdue id) outcome self.new) }
+        ensures err { IfErr result (λ fault. step_fault self.old.exchanges (Overdue id) ≡ Some fault) }
+        ensures unchanged { OnErr result (self.new ≡ self.old) }
+    {
+        match self.fault_of_overdue(id) {
+            Some(fault) => Err(fault),
+            None => {
+                self.exchanges.overdue(id);
+                Ok(Outcome::WaitsNoMore)
             }
         }
     }

@@ -13,4 +13,6 @@ pub enum Event {
     /// A request that waited may be answered from the store now, or goes forward.
     Wake(u64, u64),
     Abandon(u64),
+    /// A request has waited for another's answer as long as it is to wait.
+    Overdue(u64),
 }

@@ -30,7 +30,9 @@ ghost use Rattle.proxy_core.specs.Sending.{AllowedRequestReachesCacheOrOrigin};
 ghost use Rattle.proxy_core.specs.Sending.{OtherRequestIsRefused, PurgeTakesItsScopeAway};
 ghost use Rattle.proxy_core.specs.Waiting.{RequestWaitsWhereOneLeads, RequestWaitsNowhereElse};
 ghost use Rattle.proxy_core.specs.Waiting.{OnlyOneGoesForwardForKey};
-ghost use Rattle.proxy_core.specs.Waiting.{RequestWaitsUntilItsLeaderEnds, RequestIsWokenOnceBehindItsLeader};
+ghost use Rattle.proxy_core.specs.Waiting.{RequestWaitsUntilItsLeaderEndsOrItsTime};
+ghost use Rattle.proxy_core.specs.Waiting.{RequestIsWokenOnceBehindItsLeaderOrItsTime, TimeIsOverExactlyOfWhoWaits};
+ghost use Rattle.proxy_core.specs.Waiting.{OverdueRequestMayBeWoken};
 ghost use Rattle.proxy_core.specs.Waiting.{ReleasedAreInOrderOfArrival};
 ghost use Rattle.proxy_core.specs.Waiting.{WakeIsAcceptedExactlyWhereReady, WokenRequestIsJudgedAnew};
 ghost use Rattle.proxy_core.specs.Waiting.{PlainLinesWaitForMisses};
@@ -208,15 +210,22 @@ pub fn who_waited_is_kept_back_by_the_answer_alone()
     ensures { WhoWaitedIsKeptBackByTheAnswerAlone }
 {}
 
-/// In a good trace a request that waits does so until the exchange that it waits for has ended, and
-/// may be woken from then on, once; those that may be woken stand in the order of arrival. What a
+/// In a good trace a request that waits does so until the exchange that it waits for has ended, or its time to wait is
+/// over, and may be woken from then on, once; those that may be woken stand in the order of arrival. What a
 /// woken one gets is decided anew, and it doesn't wait again.
 pub fn a_waiting_request_is_woken_once_behind_its_leader()
-    ensures waits { RequestWaitsUntilItsLeaderEnds }
-    ensures once { RequestIsWokenOnceBehindItsLeader }
+    ensures waits { RequestWaitsUntilItsLeaderEndsOrItsTime }
+    ensures once { RequestIsWokenOnceBehindItsLeaderOrItsTime }
     ensures order { ReleasedAreInOrderOfArrival }
     ensures ready { WakeIsAcceptedExactlyWhereReady }
     ensures anew { WokenRequestIsJudgedAnew }
+{}
+
+/// In a good trace the time to wait is over of a request that waits for the answer to another, and of no other. Then it
+/// may be woken, and nothing else has changed: who waits beside it waits on, and nothing is sent yet.
+pub fn an_overdue_request_may_be_woken()
+    ensures waits { TimeIsOverExactlyOfWhoWaits }
+    ensures released { OverdueRequestMayBeWoken }
 {}
 
 /// In a good trace the answer to an open exchange is stored exactly where RFC 9111, section 3 lets

@@ -5,6 +5,7 @@
 //!         a rule -> FORWARDED -- answer or fail --> a reply      the id is free again
 //!         a GET, nothing held for its key, and one such is FORWARDED
 //!                -> WAITING -- the reply or end of that one --> RELEASED
+//!                           -- overdue: it waited as long as it is to --> RELEASED
 //!         RELEASED -- wake --> the stored response, or FORWARDED
 //!         abandon -> nothing                                     the id is free again
 //! ```

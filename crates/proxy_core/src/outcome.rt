@@ -32,6 +32,8 @@ pub enum Outcome {
     Waits(u64),
     /// The exchange was abandoned.
     Ended,
+    /// The request waits no more, and nothing is sent yet: it may be woken.
+    WaitsNoMore,
 }
 
 /// What a run gave: the outcomes of the events in order, and the fault of the first that was refused.

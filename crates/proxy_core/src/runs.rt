@@ -27,6 +27,7 @@ impl<S: Shelf> Core<S> {
             Event::Fail(now, id, kind) => self.fail(alloc, *now, *id, *kind),
             Event::Wake(now, id) => self.wake(alloc, *now, *id),
             Event::Abandon(id) => self.abandon(*id),
+            Event::Overdue(id) => self.overdue(*id),
         }
     }
 }

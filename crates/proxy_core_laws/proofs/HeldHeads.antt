@@ -24,7 +24,7 @@ use Rattle.proxy_core.specs.declared.steps.condition.Condition.{Condition}
 use Rattle.proxy_core.specs.declared.open.exchange.Exchange.{Exchange}
 use Rattle.proxy_core.specs.declared.outcome.Outcome.{Outcome}
 use Rattle.proxy_core.specs.declared.event.Event.{Event}
-use Rattle.proxy_core.specs.declared.event.Event.TheVariants.{Arrive, Answer, Fail, Wake, Abandon}
+use Rattle.proxy_core.specs.declared.event.Event.TheVariants.{Arrive, Answer, Fail, Wake, Abandon, Overdue}
 use Rattle.hx_status.specs.declared.cause.FailKind.TheVariants.{BadAnswer}
 use Rattle.proxy_core.specs.Histories.{IsGoodHistory, store_change_of, held_entries, held_entry, held_serials, next_serial, open_exchanges}
 use Rattle.proxy_core.specs.Moments.{moment_too_late_fault}
@@ -136,6 +136,7 @@ module _ (table : Table) (es : List Stored) (xs : List Exchange) (next : Option 
   used_so (Some x) (Fail now id kind) s e found is out = is
   used_so (Some x) (Wake now id) s e found is out = is
   used_so (Some x) (Abandon id) s e found is out = is
+  used_so (Some x) (Overdue id) s e found is out = is
   used_so None event s e found is out = is
 
 -- ---- what an answer makes
@@ -154,6 +155,7 @@ made_so (Some x) (Arrive now id asked) s e allowed is h = absurd cc
 made_so (Some x) (Fail now id kind) s e allowed is h = absurd cc
 made_so (Some x) (Wake now id) s e allowed is h = absurd cc
 made_so (Some x) (Abandon id) s e allowed is h = absurd cc
+made_so (Some x) (Overdue id) s e allowed is h = absurd cc
 made_so None event s e allowed is h = absurd cc
 
 -- ---- the law

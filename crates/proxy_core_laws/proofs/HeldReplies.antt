@@ -7,7 +7,7 @@ use Rattle.hx_store.specs.Stored.{Stored}
 use Rattle.hx_store.specs.Recency.{is_that_serial}
 use Rattle.proxy_core.specs.declared.open.exchange.Exchange.{Exchange}
 use Rattle.proxy_core.specs.declared.event.Event.{Event}
-use Rattle.proxy_core.specs.declared.event.Event.TheVariants.{Arrive, Answer, Fail, Wake, Abandon}
+use Rattle.proxy_core.specs.declared.event.Event.TheVariants.{Arrive, Answer, Fail, Wake, Abandon, Overdue}
 use Rattle.proxy_core.specs.declared.core_fault.CoreFault.{CoreFault}
 use Rattle.proxy_core.specs.declared.core_fault.CoreFault.TheVariants.{MomentTooLate}
 use Rattle.proxy_core.specs.Histories.{held_entry, open_exchanges}
@@ -44,6 +44,7 @@ made_so (Some x) (Arrive now id asked) s e allowed is h = absurd cc
 made_so (Some x) (Fail now id kind) s e allowed is h = absurd cc
 made_so (Some x) (Wake now id) s e allowed is h = absurd cc
 made_so (Some x) (Abandon id) s e allowed is h = absurd cc
+made_so (Some x) (Overdue id) s e allowed is h = absurd cc
 made_so None event s e allowed is h = absurd cc
 
 pub left_so : (x : Option Exchange) (event : Event) (e : Stored) → fault_at_exchange x event ≡ None → EventIsReadFromAStream event → StoredIsSendable e → StoredIsSendable (stored_response_as_used x event e)
@@ -56,6 +57,7 @@ left_so (Some x) (Arrive now id asked) e allowed is sendable = sendable
 left_so (Some x) (Fail now id kind) e allowed is sendable = sendable
 left_so (Some x) (Wake now id) e allowed is sendable = sendable
 left_so (Some x) (Abandon id) e allowed is sendable = sendable
+left_so (Some x) (Overdue id) e allowed is sendable = sendable
 left_so None event e allowed is sendable = sendable
 
 used_so : (x : Option Exchange) (event : Event) (o : Option Stored) (e : Stored) → fault_at_exchange x event ≡ None → EventIsReadFromAStream event → ((f : Stored) → o ≡ Some f → StoredIsSendable f)

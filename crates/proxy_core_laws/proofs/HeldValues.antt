@@ -18,7 +18,7 @@ use Rattle.hx_validate.specs.Validators.{conditions_of, is_date, is_entity_tag, 
 use Rattle.hx_hop_laws.specs.OneMessage.{ConditionsAreFieldValues, IsFieldValue}
 use Rattle.proxy_core.specs.declared.open.exchange.Exchange.{Exchange}
 use Rattle.proxy_core.specs.declared.event.Event.{Event}
-use Rattle.proxy_core.specs.declared.event.Event.TheVariants.{Arrive, Answer, Fail, Wake, Abandon}
+use Rattle.proxy_core.specs.declared.event.Event.TheVariants.{Arrive, Answer, Fail, Wake, Abandon, Overdue}
 use Rattle.proxy_core.specs.Histories.{IsGoodHistory, held_entry, open_exchanges}
 use Rattle.proxy_core.specs.Outcomes.{find_exchange, exchange_id_of_event}
 use Rattle.proxy_core.specs.ReadAnswers.{EventIsReadFromAStream}
@@ -77,6 +77,7 @@ used_content (Some x) (Arrive now id asked) e = refl
 used_content (Some x) (Fail now id kind) e = refl
 used_content (Some x) (Wake now id) e = refl
 used_content (Some x) (Abandon id) e = refl
+used_content (Some x) (Overdue id) e = refl
 used_content None event e = refl
 
 the_serial : (o : Option ℕ) (s : ℕ) → is_that_serial o s ≡ true → o ≡ Some s

@@ -1,5 +1,5 @@
 -- The request of each open exchange was read, where each that arrived was.
-use Rattle.std.proofs.Common.{◌≡◌, ℕ, eqb, ◌==◌, Bool, true, false, not, cond, List, [], ◌∷◌, ◌++◌, refl, sym, subst}
+use Rattle.std.proofs.Common.{◌≡◌, ℕ, eqb, ◌==◌, Bool, true, false, not, ◌&&◌, cond, List, [], ◌∷◌, ◌++◌, refl, sym, subst}
 use Rattle.std.specs.Prelude.{All, Option, None, Some, filter, map}
 use Rattle.std.proofs.lemmas.List.Elements.{All-nil, All-cons, All-append, All-filter, All-head, All-map, All-tail, All-weaker}
 use Rattle.hx_allow.specs.TableLines.{Table}
@@ -8,15 +8,15 @@ use Rattle.hx_store.specs.Stored.{Stored}
 use Rattle.proxy_core.specs.declared.open.exchange.Exchange.{Exchange}
 use Rattle.proxy_core.specs.declared.open.stage.Stage.TheVariants.{Released}
 use Rattle.proxy_core.specs.declared.steps.condition.Condition.{Condition}
-use Rattle.proxy_core.specs.Leading.{waits_for}
+use Rattle.proxy_core.specs.Leading.{is_waiting, waits_for}
 use Rattle.proxy_core.specs.declared.event.Event.{Event}
-use Rattle.proxy_core.specs.declared.event.Event.TheVariants.{Arrive, Answer, Fail, Wake, Abandon}
+use Rattle.proxy_core.specs.declared.event.Event.TheVariants.{Arrive, Answer, Fail, Wake, Abandon, Overdue}
 use Rattle.proxy_core.specs.declared.outcome.Outcome.{Outcome}
-use Rattle.proxy_core.specs.declared.outcome.Outcome.TheVariants.{Reply, Forward, Waits, Ended}
+use Rattle.proxy_core.specs.declared.outcome.Outcome.TheVariants.{Reply, Forward, Waits, Ended, WaitsNoMore}
 use Rattle.proxy_core.specs.Histories.{held_entries, open_exchanges}
 use Rattle.proxy_core.specs.Outcomes.{find_exchange}
 use Rattle.proxy_core.specs.Scopes.{Scope, is_in_scope}
-use Rattle.proxy_core.specs.State.{exchanges_after_close, exchanges_after_end, exchanges_after_purge, scope_purged, exchange_forwarded_again, open_exchanges_after, forwarded_exchange, overtaken_exchange, waiting_exchange, released_exchange, exchange_gone_forward, exchange_sent_forward, exchanges_after_wake, scope_invalidated_by_response}
+use Rattle.proxy_core.specs.State.{exchanges_after_close, exchanges_after_end, exchanges_after_purge, scope_purged, exchange_forwarded_again, open_exchanges_after, forwarded_exchange, overtaken_exchange, waiting_exchange, released_exchange, exchange_gone_forward, exchange_sent_forward, exchanges_after_wake, scope_invalidated_by_response, overdue_exchange, exchange_past_its_wait}
 use Rattle.proxy_core.specs.Starts.{StoreAtStart}
 use Rattle.proxy_core.specs.Traces.{Item}
 use Rattle.proxy_core_laws.specs.SentMessages.{EventsWereRead, EventWasRead, RequestWasRead, OpenRequestsWereRead}
@@ -30,6 +30,9 @@ gone_out-asked id now x = elim (eqb x.id id) as (λ b. (cond b (exchange_gone_fo
 
 release-asked : (q : ℕ) (x : Exchange) → (released_exchange q x).asked ≡ x.asked
 release-asked q x = elim (waits_for q x.stage) as (λ b. (cond b (record x { stage = Released }) x).asked ≡ x.asked) [ true ↦ refl | false ↦ refl ]
+
+overdue-asked : (q : ℕ) (x : Exchange) → (overdue_exchange q x).asked ≡ x.asked
+overdue-asked q x = elim (x.id == q && is_waiting x.stage) as (λ b. (cond b (exchange_past_its_wait x) x).asked ≡ x.asked) [ true ↦ refl | false ↦ refl ]
 
 overtake-asked : (key : Scope) (x : Exchange) → (overtaken_exchange key x).asked ≡ x.asked
 overtake-asked key x = elim (is_in_scope key x.asked.target.key) as (λ b. (cond b (record x { overtaken = true }) x).asked ≡ x.asked) [ true ↦ refl | false ↦ refl ]
@@ -65,16 +68,20 @@ after_so table es xs (Arrive now id asked) (Forward line bytes) is all = added x
 after_so table es xs (Arrive now id asked) (Waits leader) is all = added xs (waiting_exchange table es now id asked _ leader) all is
 after_so table es xs (Arrive now id asked) (Reply r) is all = purged_so (scope_purged asked (Reply r)) xs all
 after_so table es xs (Arrive now id asked) Ended is all = all
+after_so table es xs (Arrive now id asked) WaitsNoMore is all = all
 after_so table es xs (Answer now id r) (Forward line bytes) is all = mapped (exchange_forwarded_again id now) (gone_out-asked id now) xs all
 after_so table es xs (Answer now id r) (Reply reply) is all = left_so (scope_invalidated_by_response (find_exchange id xs) r) id xs all
 after_so table es xs (Answer now id r) (Waits leader) is all = left_so (scope_invalidated_by_response (find_exchange id xs) r) id xs all
 after_so table es xs (Answer now id r) Ended is all = left_so (scope_invalidated_by_response (find_exchange id xs) r) id xs all
+after_so table es xs (Answer now id r) WaitsNoMore is all = left_so (scope_invalidated_by_response (find_exchange id xs) r) id xs all
 after_so table es xs (Fail now id kind) outcome is all = closed_so id xs all
 after_so table es xs (Wake now id) (Forward line bytes) is all = woken_so table es id now (find_exchange id xs) xs all
 after_so table es xs (Wake now id) (Reply r) is all = closed_so id xs all
 after_so table es xs (Wake now id) (Waits leader) is all = closed_so id xs all
 after_so table es xs (Wake now id) Ended is all = closed_so id xs all
+after_so table es xs (Wake now id) WaitsNoMore is all = closed_so id xs all
 after_so table es xs (Abandon id) outcome is all = closed_so id xs all
+after_so table es xs (Overdue id) outcome is all = mapped (overdue_exchange id) (overdue-asked id) xs all
 
 open_so : (table : Table) (start : StoreAtStart) (trace : List Item) → EventsWereRead trace → All HasReadRequest (open_exchanges table start trace)
 open_so table start [] is = All-nil HasReadRequest

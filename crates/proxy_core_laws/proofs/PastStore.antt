@@ -20,7 +20,7 @@ use Rattle.proxy_core.specs.declared.open.exchange.Exchange.{Exchange}
 use Rattle.proxy_core.specs.declared.outcome.Outcome.{Outcome}
 use Rattle.proxy_core.specs.declared.outcome.Outcome.TheVariants.{Waits}
 use Rattle.proxy_core.specs.declared.event.Event.{Event}
-use Rattle.proxy_core.specs.declared.event.Event.TheVariants.{Arrive, Answer, Fail, Wake, Abandon}
+use Rattle.proxy_core.specs.declared.event.Event.TheVariants.{Arrive, Answer, Fail, Wake, Abandon, Overdue}
 use Rattle.proxy_core.specs.Leading.{is_get, is_uri_miss, names_serial, asks_for, answer_may_serve}
 use Rattle.proxy_core.specs.Outcomes.{find_exchange, exchange_id_of_event}
 use Rattle.proxy_core.specs.State.{rule_of_decision, serial_named_by_decision, forwarded_exchange}
@@ -51,10 +51,12 @@ module _ (table : Table) (line : Route) (asked : Asked) where
   line_allows (Some x) carries (Fail now id kind) over is = of_open x (carries x refl) over is
   line_allows (Some x) carries (Wake now id) over is = of_open x (carries x refl) over is
   line_allows (Some x) carries (Abandon id) over is = of_open x (carries x refl) over is
+  line_allows (Some x) carries (Overdue id) over is = of_open x (carries x refl) over is
   line_allows None carries (Answer now id r) over is = absurd over
   line_allows None carries (Fail now id kind) over is = absurd over
   line_allows None carries (Wake now id) over is = absurd over
   line_allows None carries (Abandon id) over is = absurd over
+  line_allows None carries (Overdue id) over is = absurd over
 
 never_waits : (table : Table) (now : ℕ) (asked : Asked) (line : Route) (o : Outcome) (leader : ℕ) → RequestIsAnsweredByTheOperator table now asked line o → o ≡ Waits leader → ⊥
 never_waits table now asked line o leader (inl forward) waits = let e = sym forward.1 ∙ waits in cc

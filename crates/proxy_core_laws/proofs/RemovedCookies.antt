@@ -26,7 +26,7 @@ use Rattle.hx_validate.specs.declared.ranges.RangeAnswer.TheVariants.{Whole, Par
 use Rattle.hx_validate.specs.NotModified.{fields_of_304, gets_304, is_carried_by_304, is_carried_to_asker}
 use Rattle.proxy_core.specs.declared.open.exchange.Exchange.{Exchange}
 use Rattle.proxy_core.specs.declared.event.Event.{Event}
-use Rattle.proxy_core.specs.declared.event.Event.TheVariants.{Arrive, Answer, Fail, Wake, Abandon}
+use Rattle.proxy_core.specs.declared.event.Event.TheVariants.{Arrive, Answer, Fail, Wake, Abandon, Overdue}
 use Rattle.proxy_core.specs.declared.outcome.Outcome.{Outcome}
 use Rattle.proxy_core.specs.declared.outcome.Outcome.TheVariants.{Reply as Replied}
 use Rattle.proxy_core.specs.declared.outcome.Reply.{Reply}
@@ -100,6 +100,7 @@ policy_shown table held None (Answer now id r) outcome s line is over = absurd o
 policy_shown table held None (Fail now id kind) outcome s line is over = absurd over
 policy_shown table held None (Wake now id) outcome s line is over = absurd over
 policy_shown table held x (Abandon id) outcome s line is over = absurd is.shows_how
+policy_shown table held x (Overdue id) outcome s line is over = absurd is.shows_how
 
 module _ (table : Table) (held : List Stored) (x : Option Exchange) (event : Event) (outcome : Outcome) (s : ℕ) (is : ReplyIsThatStoredResponse table held x event outcome s) (removes : is.info.policy.removes_cookies ≡ true) where
   abbrev form : Stored
@@ -203,6 +204,7 @@ leaves_no_cookie table start (item ∷ past) s x e left removes held =
     by_event (Some y) (Fail now id kind) own look earlier k h = unchanged (stored_response_as_used (Some y) (Fail now id kind)) (λ f. refl) stored used look earlier k h
     by_event (Some y) (Wake now id) own look earlier k h = unchanged (stored_response_as_used (Some y) (Wake now id)) (λ f. refl) stored used look earlier k h
     by_event (Some y) (Abandon id) own look earlier k h = unchanged (stored_response_as_used (Some y) (Abandon id)) (λ f. refl) stored used look earlier k h
+    by_event (Some y) (Overdue id) own look earlier k h = unchanged (stored_response_as_used (Some y) (Overdue id)) (λ f. refl) stored used look earlier k h
     by_event None event own look earlier k h = unchanged (stored_response_as_used None event) (λ f. refl) stored used look earlier k h
 
 -- ---- who asked

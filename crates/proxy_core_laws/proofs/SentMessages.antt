@@ -56,7 +56,7 @@ use Rattle.proxy_core.specs.declared.open.exchange.Exchange.{Exchange}
 use Rattle.proxy_core.specs.declared.steps.fallback.Fallback.{Fallback}
 use Rattle.proxy_core.specs.declared.steps.fallback.Fallback.TheVariants.{Sends, Refuses}
 use Rattle.proxy_core.specs.declared.event.Event.{Event}
-use Rattle.proxy_core.specs.declared.event.Event.TheVariants.{Arrive, Answer, Fail, Wake, Abandon}
+use Rattle.proxy_core.specs.declared.event.Event.TheVariants.{Arrive, Answer, Fail, Wake, Abandon, Overdue}
 use Rattle.proxy_core.specs.declared.outcome.Outcome.{Outcome}
 use Rattle.proxy_core.specs.declared.outcome.Outcome.TheVariants.{Forward}
 use Rattle.proxy_core.specs.Histories.{held_entries, held_entry, held_serials, next_serial, open_exchanges}
@@ -261,6 +261,7 @@ module _ (table : Table) (es : List Stored) (token : IsToken table.name) (fit : 
       woken_one now (in_time now (first_none (moment_too_late_fault now) (fault_if_not_released x.stage) free)) x (open_read x refl) (decision_of (policy_of table.lines x.line) es x.asked now) unused
   unsent_one xs None next (Wake now id) free is open_read unused = tt
   unsent_one xs x next (Abandon id) free is open_read unused = tt
+  unsent_one xs x next (Overdue id) free is open_read unused = tt
 
 -- ---- a stored response that is sent
 
@@ -274,6 +275,7 @@ about_head None (Answer t id r) now asked is = absurd is
 about_head None (Fail t id kind) now asked is = absurd is
 about_head None (Wake t id) now asked is = absurd is
 about_head x (Abandon id) now asked is = absurd is
+about_head x (Overdue id) now asked is = absurd is
 
 module _ (table : Table) (held : List Stored) (x : Option Exchange) (event : Event) (outcome : Outcome) (s : ℕ) (is : ReplyIsThatStoredResponse table held x event outcome s) (token : IsToken table.name) where
   abbrev form : Stored
@@ -317,6 +319,7 @@ answers_of (item ∷ past) is = (one item.event is.0, answers_of past is.1)
     one (Fail now id kind) h = tt
     one (Wake now id) h = tt
     one (Abandon id) h = tt
+    one (Overdue id) h = tt
 
 -- the conditions that a held response gives
 conditions_held : (es : List Stored) → ((s : ℕ) (e : Stored) → find_entry s es ≡ Some e → StoredIsSendable e) → (against : Option ℕ) → IfSome (conditions_to_send (condition_about_serial es against)) ConditionsAreFieldValues

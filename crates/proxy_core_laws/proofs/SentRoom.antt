@@ -27,7 +27,7 @@ use Rattle.hx_validate.specs.NotModified.{gets_304}
 use Rattle.hx_validate.specs.Room.{head_leaves_room}
 use Rattle.proxy_core.specs.declared.open.exchange.Exchange.{Exchange}
 use Rattle.proxy_core.specs.declared.event.Event.{Event}
-use Rattle.proxy_core.specs.declared.event.Event.TheVariants.{Arrive, Answer, Fail, Wake, Abandon}
+use Rattle.proxy_core.specs.declared.event.Event.TheVariants.{Arrive, Answer, Fail, Wake, Abandon, Overdue}
 use Rattle.proxy_core.specs.declared.outcome.Outcome.{Outcome}
 use Rattle.proxy_core.specs.declared.outcome.Outcome.TheVariants.{Reply as Replied}
 use Rattle.proxy_core.specs.declared.outcome.Reply.{Reply}
@@ -121,6 +121,7 @@ shown_of table held None (Answer now id r) outcome s is read status e = absurd i
 shown_of table held None (Fail now id kind) outcome s is read status e = absurd is.shows_how
 shown_of table held None (Wake now id) outcome s is read status e = absurd is.shows_how
 shown_of table held x (Abandon id) outcome s is read status e = absurd is.shows_how
+shown_of table held x (Overdue id) outcome s is read status e = absurd is.shows_how
 
 -- ---- what is sent
 

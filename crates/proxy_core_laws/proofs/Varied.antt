@@ -29,16 +29,16 @@ use Rattle.proxy_core.specs.declared.open.exchange.Exchange.{Exchange}
 use Rattle.proxy_core.specs.declared.open.stage.Stage.TheVariants.{Released}
 use Rattle.proxy_core.specs.declared.steps.condition.Condition.{Condition}
 use Rattle.proxy_core.specs.declared.event.Event.{Event}
-use Rattle.proxy_core.specs.declared.event.Event.TheVariants.{Arrive, Answer, Fail, Wake, Abandon}
+use Rattle.proxy_core.specs.declared.event.Event.TheVariants.{Arrive, Answer, Fail, Wake, Abandon, Overdue}
 use Rattle.proxy_core.specs.declared.outcome.Outcome.{Outcome}
-use Rattle.proxy_core.specs.declared.outcome.Outcome.TheVariants.{Reply, Forward, Waits, Ended}
+use Rattle.proxy_core.specs.declared.outcome.Outcome.TheVariants.{Reply, Forward, Waits, Ended, WaitsNoMore}
 use Rattle.proxy_core.specs.Histories.{IsGoodHistory, held_entries, held_entry, held_serials, next_serial, open_exchanges}
-use Rattle.proxy_core.specs.Leading.{waits_for}
+use Rattle.proxy_core.specs.Leading.{is_waiting, waits_for}
 use Rattle.proxy_core.specs.Outcomes.{find_exchange, exchange_id_of_event, outcome_of}
 use Rattle.proxy_core.specs.Sending.{IsStoredFallback, ReplyIsThatStoredResponse, StoredResponseIsReusable, StoredResponseMayBeSent, StoredResponseMayBeSentAt, StoredResponseMayBeSentBeside}
 use Rattle.proxy_core.specs.Starts.{StoreAtStart}
 use Rattle.proxy_core.specs.Scopes.{Scope, is_in_scope}
-use Rattle.proxy_core.specs.State.{exchanges_after_close, exchanges_after_end, exchanges_after_purge, scope_purged, exchange_forwarded_again, open_exchanges_after, forwarded_exchange, overtaken_exchange, waiting_exchange, released_exchange, exchange_gone_forward, exchange_sent_forward, exchanges_after_wake, scope_invalidated_by_response, serial_stored_by_outcome, serial_used_by_outcome, serials_removed_by_outcome, stored_response_as_used, stored_response_by_answer}
+use Rattle.proxy_core.specs.State.{exchanges_after_close, exchanges_after_end, exchanges_after_purge, scope_purged, exchange_forwarded_again, open_exchanges_after, forwarded_exchange, overtaken_exchange, waiting_exchange, released_exchange, exchange_gone_forward, exchange_sent_forward, exchanges_after_wake, scope_invalidated_by_response, serial_stored_by_outcome, serial_used_by_outcome, serials_removed_by_outcome, stored_response_as_used, stored_response_by_answer, overdue_exchange, exchange_past_its_wait}
 use Rattle.proxy_core.specs.Storing.{stored_response_made}
 use Rattle.proxy_core.specs.Traces.{Item}
 use Rattle.proxy_core.specs.Validating.{freshened_by_304, freshened_may_be_kept, stored_response_is_answered}
@@ -81,6 +81,9 @@ gone_out-names id now x = elim (eqb x.id id) as (λ b. names_and_line (cond b (e
 release-names : (q : ℕ) (x : Exchange) → names_and_line (released_exchange q x) ≡ names_and_line x
 release-names q x = elim (waits_for q x.stage) as (λ b. names_and_line (cond b (record x { stage = Released }) x) ≡ names_and_line x) [ true ↦ refl | false ↦ refl ]
 
+overdue-names : (q : ℕ) (x : Exchange) → names_and_line (overdue_exchange q x) ≡ names_and_line x
+overdue-names q x = elim (x.id == q && is_waiting x.stage) as (λ b. names_and_line (cond b (exchange_past_its_wait x) x) ≡ names_and_line x) [ true ↦ refl | false ↦ refl ]
+
 overtake-names : (key : Scope) (x : Exchange) → names_and_line (overtaken_exchange key x) ≡ names_and_line x
 overtake-names key x = elim (is_in_scope key x.asked.target.key) as (λ b. names_and_line (cond b (record x { overtaken = true }) x) ≡ names_and_line x) [ true ↦ refl | false ↦ refl ]
 
@@ -112,16 +115,20 @@ module _ (table : Table) where
   after_so es xs (Arrive now id asked) (Waits leader) all = added xs (waiting_exchange table es now id asked _ leader) all refl refl
   after_so es xs (Arrive now id asked) (Reply r) all = purged_so (scope_purged asked (Reply r)) xs all
   after_so es xs (Arrive now id asked) Ended all = all
+  after_so es xs (Arrive now id asked) WaitsNoMore all = all
   after_so es xs (Answer now id r) (Forward line bytes) all = mapped (exchange_forwarded_again id now) (gone_out-names id now) xs all
   after_so es xs (Answer now id r) (Reply reply) all = left_so (scope_invalidated_by_response (find_exchange id xs) r) id xs all
   after_so es xs (Answer now id r) (Waits leader) all = left_so (scope_invalidated_by_response (find_exchange id xs) r) id xs all
   after_so es xs (Answer now id r) Ended all = left_so (scope_invalidated_by_response (find_exchange id xs) r) id xs all
+  after_so es xs (Answer now id r) WaitsNoMore all = left_so (scope_invalidated_by_response (find_exchange id xs) r) id xs all
   after_so es xs (Fail now id kind) outcome all = closed_so id xs all
   after_so es xs (Wake now id) (Forward line bytes) all = woken_so es id now (find_exchange id xs) xs all
   after_so es xs (Wake now id) (Reply r) all = closed_so id xs all
   after_so es xs (Wake now id) (Waits leader) all = closed_so id xs all
   after_so es xs (Wake now id) Ended all = closed_so id xs all
+  after_so es xs (Wake now id) WaitsNoMore all = closed_so id xs all
   after_so es xs (Abandon id) outcome all = closed_so id xs all
+  after_so es xs (Overdue id) outcome all = mapped (overdue_exchange id) (overdue-names id) xs all
 
   open_so : (start : StoreAtStart) (trace : List Item) → All (HasNames table) (open_exchanges table start trace)
   open_so start [] = All-nil (HasNames table)
@@ -208,6 +215,7 @@ module _ (table : Table) (es : List Stored) (xs : List Exchange) (distinct : Dis
   answered_at (Some y) (Fail now id kind) f = false
   answered_at (Some y) (Wake now id) f = false
   answered_at (Some y) (Abandon id) f = false
+  answered_at (Some y) (Overdue id) f = false
   answered_at None event f = false
 
   -- who is sent it without a 304 that answers it
@@ -229,7 +237,9 @@ module _ (table : Table) (es : List Stored) (xs : List Exchange) (distinct : Dis
   sent_so None (Fail now id kind) asked s f may is found none = absurd cc
   sent_so None (Wake now id) asked s f may is found none = absurd cc
   sent_so x (Abandon id) asked s f (inl may) is found none = absurd may
+  sent_so x (Overdue id) asked s f (inl may) is found none = absurd may
   sent_so x (Abandon id) asked s f (inr may) is found none = absurd may
+  sent_so x (Overdue id) asked s f (inr may) is found none = absurd may
 
   -- the request is that of the exchange that leaves it, or compares with it
   same_or_compared : (o : Option Exchange) (event : Event) (outcome : Outcome) (before : Option Exchange) (s : ℕ) (x : Exchange) (asked : Asked) (f : Stored) →
@@ -250,6 +260,7 @@ module _ (table : Table) (es : List Stored) (xs : List Exchange) (distinct : Dis
   same_or_compared (Some y) (Fail now id kind) outcome before s x asked f may found used is left earlier = inr (earlier left asked (sent_so (Some y) (Fail now id kind) asked s f may is found refl))
   same_or_compared (Some y) (Wake now id) outcome before s x asked f may found used is left earlier = inr (earlier left asked (sent_so (Some y) (Wake now id) asked s f may is found refl))
   same_or_compared (Some y) (Abandon id) outcome before s x asked f may found used is left earlier = inr (earlier left asked (sent_so (Some y) (Abandon id) asked s f may is found refl))
+  same_or_compared (Some y) (Overdue id) outcome before s x asked f may found used is left earlier = inr (earlier left asked (sent_so (Some y) (Overdue id) asked s f may is found refl))
   same_or_compared None event outcome before s x asked f may found used is left earlier = inr (earlier left asked (sent_so None event asked s f may is found refl))
 
 -- ---- over a history
@@ -310,6 +321,9 @@ module _ (table : Table) (start : StoreAtStart) (first : ℕ) where
       earlier e was.0 was.1 left
   step_so (Some y) (Abandon id) outcome look before s x e kept earlier k left =
       let was = as_it_was (Some y) (Abandon id) outcome look s e refl (λ f. refl) (is_that_serial (serial_stored_by_outcome outcome) s) (is_that_serial (serial_used_by_outcome outcome) s) k in
+      earlier e was.0 was.1 left
+  step_so (Some y) (Overdue id) outcome look before s x e kept earlier k left =
+      let was = as_it_was (Some y) (Overdue id) outcome look s e refl (λ f. refl) (is_that_serial (serial_stored_by_outcome outcome) s) (is_that_serial (serial_used_by_outcome outcome) s) k in
       earlier e was.0 was.1 left
   step_so None event outcome look before s x e kept earlier k left =
       let was = as_it_was None event outcome look s e refl (λ f. refl) (is_that_serial (serial_stored_by_outcome outcome) s) (is_that_serial (serial_used_by_outcome outcome) s) k in
@@ -375,6 +389,7 @@ left_named table start (item ∷ past) s x left =
     by_event (Some y) (Fail now id kind) own earlier k = earlier k
     by_event (Some y) (Wake now id) own earlier k = earlier k
     by_event (Some y) (Abandon id) own earlier k = earlier k
+    by_event (Some y) (Overdue id) own earlier k = earlier k
     by_event None event own earlier k = earlier k
 
 same_value : (a b : Option (List ℕ)) → is_same_value a b ≡ true → a ≡ b

@@ -19,7 +19,7 @@ use Rattle.proxy_core.specs.declared.open.exchange.Exchange.{Exchange}
 use Rattle.proxy_core.specs.declared.outcome.Outcome.{Outcome}
 use Rattle.proxy_core.specs.declared.outcome.Outcome.TheVariants.{Waits}
 use Rattle.proxy_core.specs.declared.event.Event.{Event}
-use Rattle.proxy_core.specs.declared.event.Event.TheVariants.{Arrive, Answer, Fail, Wake, Abandon}
+use Rattle.proxy_core.specs.declared.event.Event.TheVariants.{Arrive, Answer, Fail, Wake, Abandon, Overdue}
 use Rattle.proxy_core.specs.Leading.{leads_waiters}
 use Rattle.proxy_core.specs.Outcomes.{find_exchange, exchange_id_of_event}
 use Rattle.proxy_core.specs.Replies.{cache_status_of_passed_answer}
@@ -36,10 +36,12 @@ request_of_event (Some x) (Answer now id r) = Some x.asked
 request_of_event (Some x) (Fail now id kind) = Some x.asked
 request_of_event (Some x) (Wake now id) = Some x.asked
 request_of_event (Some x) (Abandon id) = Some x.asked
+request_of_event (Some x) (Overdue id) = Some x.asked
 request_of_event None (Answer now id r) = None
 request_of_event None (Fail now id kind) = None
 request_of_event None (Wake now id) = None
 request_of_event None (Abandon id) = None
+request_of_event None (Overdue id) = None
 
 -- no stored response is sent, nothing is stored, and the request waits for no other
 pub record PassesTheStore (outcome : Outcome) : Type 0 where

@@ -33,9 +33,9 @@ use Rattle.hx_hop_laws.specs.OneMessage.{ConditionsAreFieldValues, RequestIsWith
 use Rattle.hx_hop_laws.specs.OneResponse.{ResponseFitsAReader}
 use Rattle.proxy_core.specs.declared.open.exchange.Exchange.{Exchange}
 use Rattle.proxy_core.specs.declared.event.Event.{Event}
-use Rattle.proxy_core.specs.declared.event.Event.TheVariants.{Arrive, Answer, Fail, Wake, Abandon}
+use Rattle.proxy_core.specs.declared.event.Event.TheVariants.{Arrive, Answer, Fail, Wake, Abandon, Overdue}
 use Rattle.proxy_core.specs.declared.outcome.Outcome.{Outcome}
-use Rattle.proxy_core.specs.declared.outcome.Outcome.TheVariants.{Reply, Forward, Waits, Ended}
+use Rattle.proxy_core.specs.declared.outcome.Outcome.TheVariants.{Reply, Forward, Waits, Ended, WaitsNoMore}
 use Rattle.proxy_core.specs.Histories.{IsGoodHistory, held_entry, open_exchanges}
 use Rattle.proxy_core.specs.Outcomes.{find_exchange, exchange_id_of_event}
 use Rattle.proxy_core.specs.ReadAnswers.{WasReadFromAStream, EventIsReadFromAStream}
@@ -68,6 +68,7 @@ EventWasRead (Answer now id response) = WasReadFromAStream response
 EventWasRead (Fail now id kind) = Unit {0}
 EventWasRead (Wake now id) = Unit {0}
 EventWasRead (Abandon id) = Unit {0}
+EventWasRead (Overdue id) = Unit {0}
 
 -- so was each so far
 abbrev pub EventsWereRead : List Item → Type 0
@@ -107,10 +108,12 @@ event_is_to_head None (Answer now id response) = false
 event_is_to_head None (Fail now id kind) = false
 event_is_to_head None (Wake now id) = false
 event_is_to_head None (Abandon id) = false
+event_is_to_head None (Overdue id) = false
 event_is_to_head (Some x) (Answer now id response) = is_head x.asked
 event_is_to_head (Some x) (Fail now id kind) = is_head x.asked
 event_is_to_head (Some x) (Wake now id) = is_head x.asked
 event_is_to_head (Some x) (Abandon id) = is_head x.asked
+event_is_to_head (Some x) (Overdue id) = is_head x.asked
 
 -- what an outcome sends is one message
 abbrev pub OutcomeIsOneMessage : List ℕ → Bool → Outcome → Type 0
@@ -118,6 +121,7 @@ OutcomeIsOneMessage name to_head (Reply reply) = BytesAreOneResponse to_head rep
 OutcomeIsOneMessage name to_head (Forward line bytes) = BytesAreOneRequest name bytes
 OutcomeIsOneMessage name to_head (Waits leader) = Unit {0}
 OutcomeIsOneMessage name to_head Ended = Unit {0}
+OutcomeIsOneMessage name to_head WaitsNoMore = Unit {0}
 
 -- ---- the statements
 

@@ -14,7 +14,7 @@ use Rattle.hx_store.specs.Recency.{is_that_serial}
 use Rattle.proxy_core.specs.declared.open.exchange.Exchange.{Exchange}
 use Rattle.proxy_core.specs.declared.outcome.Outcome.{Outcome}
 use Rattle.proxy_core.specs.declared.event.Event.{Event}
-use Rattle.proxy_core.specs.declared.event.Event.TheVariants.{Arrive, Answer, Fail, Wake, Abandon}
+use Rattle.proxy_core.specs.declared.event.Event.TheVariants.{Arrive, Answer, Fail, Wake, Abandon, Overdue}
 use Rattle.proxy_core.specs.Outcomes.{find_exchange, exchange_id_of_event}
 use Rattle.proxy_core.specs.Starts.{StoreAtStart}
 use Rattle.proxy_core.specs.State.{serial_stored_by_outcome, serial_used_by_outcome}
@@ -36,6 +36,7 @@ exchange_left_by (Some x) (Arrive now id asked) o e before s = before
 exchange_left_by (Some x) (Fail now id kind) o e before s = before
 exchange_left_by (Some x) (Wake now id) o e before s = before
 exchange_left_by (Some x) (Abandon id) o e before s = before
+exchange_left_by (Some x) (Overdue id) o e before s = before
 exchange_left_by None event o e before s = before
 
 -- there is none for what was held at first

@@ -3,15 +3,15 @@
 
 ghost use Rattle.std.specs.Prelude.{◌≡◌, ◌∷◌, [], Some, None, true, false, codes};
 ghost use Rattle.hx_status.specs.declared.cause.FailKind.TheVariants as kinds;
-ghost use Rattle.proxy_core.specs.declared.event.Event.TheVariants.{Arrive, Answer, Fail, Wake, Abandon};
-ghost use Rattle.proxy_core.specs.declared.outcome.Outcome.TheVariants.{Forward, Waits, Ended};
+ghost use Rattle.proxy_core.specs.declared.event.Event.TheVariants.{Arrive, Answer, Fail, Wake, Abandon, Overdue};
+ghost use Rattle.proxy_core.specs.declared.outcome.Outcome.TheVariants.{Forward, Waits, Ended, WaitsNoMore};
 ghost use Rattle.proxy_core.specs.Traces.{trace_of};
 ghost use Rattle.proxy_core.specs.Promises.{latest_request_of, outcome_ends_exchange, outcome_goes_forward};
 ghost use Rattle.proxy_core.specs.Promises.{is_arrival_event, outcome_is_reply, reply_uses_no_stored_response};
 ghost use Rattle.proxy_core.specs.Promises.{some_item_invalidates, count_of_outcomes};
 ghost use Rattle.proxy_core.specs.TraceMeaning.{exchange_has_ended, count_of_stored, opens_an_exchange};
 ghost use Rattle.proxy_core.specs.Carrying.{judges_a_request};
-ghost use Rattle.proxy_core.specs.Waiting.{exchange_has_closed, is_wake_event, was_woken};
+ghost use Rattle.proxy_core.specs.Waiting.{exchange_has_closed, is_wake_event, was_overdue, was_woken};
 ghost use Rattle.proxy_core.specs.Cases.{key_of_path, response_with};
 ghost use Rattle.proxy_core.specs.WrongTraces.{fresh_for_a_minute, get_a, get_b, forward_over_line_3};
 ghost use Rattle.proxy_core.specs.WrongTraces.{trace_sends_invalidated, trace_sends_behind, item_of};
@@ -24,16 +24,19 @@ pub fn worked_kinds_of_events()
     ensures failure_arrives { is_arrival_event (Fail 1 2 kinds.Refused) ≡ false }
     ensures wake_arrives { is_arrival_event (Wake 1 2) ≡ false }
     ensures abandoning_arrives { is_arrival_event (Abandon 2) ≡ false }
+    ensures overdue_arrives { is_arrival_event (Overdue 2) ≡ false }
     ensures arrival_wakes { is_wake_event (Arrive 1 2 get_a) ≡ false }
     ensures answer_wakes { is_wake_event (Answer 1 2 fresh_for_a_minute) ≡ false }
     ensures failure_wakes { is_wake_event (Fail 1 2 kinds.Refused) ≡ false }
     ensures wake_wakes { is_wake_event (Wake 1 2) ≡ true }
     ensures abandoning_wakes { is_wake_event (Abandon 2) ≡ false }
+    ensures overdue_wakes { is_wake_event (Overdue 2) ≡ false }
     ensures arrival_judges { judges_a_request (Arrive 1 2 get_a) ≡ true }
     ensures answer_judges { judges_a_request (Answer 1 2 fresh_for_a_minute) ≡ false }
     ensures failure_judges { judges_a_request (Fail 1 2 kinds.Refused) ≡ false }
     ensures wake_judges { judges_a_request (Wake 1 2) ≡ true }
     ensures abandoning_judges { judges_a_request (Abandon 2) ≡ false }
+    ensures overdue_judges { judges_a_request (Overdue 2) ≡ false }
 {}
 
 /// Which outcomes go forward, reply, open an exchange and end one, and which send nothing that is held.
@@ -54,6 +57,10 @@ pub fn worked_kinds_of_outcomes()
     ensures forward_ends { outcome_ends_exchange forward_over_line_3 ≡ false }
     ensures wait_ends { outcome_ends_exchange (Waits 1) ≡ false }
     ensures end_ends { outcome_ends_exchange Ended ≡ true }
+    ensures no_more_goes { outcome_goes_forward WaitsNoMore ≡ false }
+    ensures no_more_replies { outcome_is_reply WaitsNoMore ≡ false }
+    ensures no_more_starts { opens_an_exchange WaitsNoMore ≡ false }
+    ensures no_more_ends { outcome_ends_exchange WaitsNoMore ≡ false }
     ensures own_is_not_held { reply_uses_no_stored_response (reply_without_store []) ≡ true }
     ensures stored_is_held { reply_uses_no_stored_response (reply_that_sends_stored 1 []) ≡ false }
     ensures forward_sends_nothing { reply_uses_no_stored_response forward_over_line_3 ≡ false }
@@ -80,6 +87,10 @@ pub fn worked_counts_of_traces()
     ensures another_closed { exchange_has_closed 2 trace_with_two_replies ≡ false }
     ensures woken { was_woken 2 (item_of (Wake 5 2) forward_over_line_3 ∷ trace_with_two_replies) ≡ true }
     ensures another_woken { was_woken 1 (item_of (Wake 5 2) forward_over_line_3 ∷ trace_with_two_replies) ≡ false }
+    ensures overdue { was_overdue 2 (item_of (Overdue 2) WaitsNoMore ∷ trace_with_two_replies) ≡ true }
+    ensures another_overdue { was_overdue 1 (item_of (Overdue 2) WaitsNoMore ∷ trace_with_two_replies) ≡ false }
+    ensures woken_is_not_overdue { was_overdue 2 (item_of (Wake 5 2) forward_over_line_3 ∷ trace_with_two_replies)
+        ≡ false }
     ensures not_woken { was_woken 2 (item_of (Abandon 2) Ended ∷ trace_with_two_replies) ≡ false }
     ensures invalidated { some_item_invalidates (key_of_path (codes "/a")) trace_sends_invalidated [] ≡ true }
     ensures another_key { some_item_invalidates (key_of_path (codes "/b")) trace_sends_invalidated [] ≡ false }

@@ -4,7 +4,7 @@
 ghost use Rattle.std.specs.Prelude.{◌≡◌, ◌∷◌, [], Some, None, true, false, codes};
 ghost use Rattle.hx_status.specs.declared.cause.FailKind.TheVariants as kinds;
 ghost use Rattle.proxy_core.specs.declared.event.Event.TheVariants.{Arrive, Answer, Fail, Wake};
-ghost use Rattle.proxy_core.specs.declared.outcome.Outcome.TheVariants.{Forward, Waits, Ended};
+ghost use Rattle.proxy_core.specs.declared.outcome.Outcome.TheVariants.{Forward, Waits, Ended, WaitsNoMore};
 ghost use Rattle.proxy_core.specs.declared.core_fault.CoreFault.TheVariants.{IdTaken, NotForwarded, OutOfMemory};
 ghost use Rattle.proxy_core.specs.Outcomes.{forward_text};
 ghost use Rattle.proxy_core.specs.Traces.{DeniedRequestsLeaveNoTrace};

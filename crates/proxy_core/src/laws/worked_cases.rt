@@ -18,11 +18,11 @@ ghost use Rattle.hx_status.specs.declared.status.Detail.TheVariants.{StaleIfErro
 ghost use Rattle.hx_status.specs.declared.cause.FailKind.TheVariants.{BadAnswer, Refused};
 ghost use Rattle.hx_status.specs.declared.cause.Cause.TheVariants.{Denied, NoLine, Looped, OnlyIfCached, Origin};
 ghost use Rattle.proxy_core.specs.declared.steps.fallback.Fallback.TheVariants.{Sends, Refuses};
-ghost use Rattle.proxy_core.specs.declared.event.Event.TheVariants.{Arrive, Answer, Fail, Wake, Abandon};
-ghost use Rattle.proxy_core.specs.declared.outcome.Outcome.TheVariants.{Reply, Forward, Waits, Ended};
+ghost use Rattle.proxy_core.specs.declared.event.Event.TheVariants.{Arrive, Answer, Fail, Wake, Abandon, Overdue};
+ghost use Rattle.proxy_core.specs.declared.outcome.Outcome.TheVariants.{Reply, Forward, Waits, Ended, WaitsNoMore};
 ghost use Rattle.proxy_core.specs.declared.open.stage.Stage.TheVariants.{Waiting, Released};
 ghost use Rattle.proxy_core.specs.declared.core_fault.CoreFault.TheVariants.{IdTaken, UnknownId, MomentTooLate};
-ghost use Rattle.proxy_core.specs.declared.core_fault.CoreFault.TheVariants.{NotForwarded, NotReady};
+ghost use Rattle.proxy_core.specs.declared.core_fault.CoreFault.TheVariants.{NotForwarded, NotReady, NotWaiting};
 ghost use Rattle.hx_storable.specs.declared.rule.StoreRule.TheVariants.{NothingToReuse};
 ghost use Rattle.proxy_core.specs.Replies.{passed_answer_text, refusal_reply_text, stored_text, ttl_of_stored};
 ghost use Rattle.proxy_core.specs.Storing.{answer_invalidates, is_storable, is_304_without_condition};
@@ -496,6 +496,12 @@ pub fn faults_and_serials_in_order()
     ensures a_failure { fault_at_exchange (Some waiting) (Fail 5 2 Refused) ≡ Some NotForwarded }
     ensures a_wake { fault_at_exchange (Some waiting) (Wake 5 2) ≡ Some NotReady }
     ensures ready { fault_at_exchange (Some (record waiting { stage = Released })) (Wake 5 2) ≡ None }
+    ensures overdue { fault_at_exchange (Some waiting) (Overdue 2) ≡ None }
+    ensures overdue_at_its_origin { fault_at_exchange (Some (forwarded_on_miss (get_a_with []))) (Overdue 1)
+        ≡ Some NotWaiting }
+    ensures overdue_twice { fault_at_exchange (Some (record waiting { stage = Released })) (Overdue 2)
+        ≡ Some NotWaiting }
+    ensures overdue_unknown { fault_at_exchange None (Overdue 2) ≡ Some UnknownId }
     ensures second { serial_after_this 1 ≡ Some 2 }
     ensures last { serial_after_this 18446744073709551614 ≡ Some 18446744073709551615 }
     ensures none_left { serial_after_this 18446744073709551615 ≡ None }

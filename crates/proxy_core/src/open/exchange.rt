@@ -1,7 +1,8 @@
 //! A request that went forward, or waits for the answer to another, and isn't answered yet.
 ghost use Rattle.std.specs.Prelude.{◌≡◌};
 ghost use Rattle.proxy_core.specs.Scopes.{target_alone};
-ghost use Rattle.proxy_core.specs.State.{exchange_gone_forward, overtaken_exchange, released_exchange};
+ghost use Rattle.proxy_core.specs.State.{exchange_gone_forward, overtaken_exchange};
+ghost use Rattle.proxy_core.specs.State.{released_exchange, exchange_past_its_wait};
 
 use crate::open::leading::waits_for;
 use crate::open::stage::Stage;
@@ -63,6 +64,13 @@ impl Exchange {
         if waits_for(self.stage, leader) {
             self.stage = Stage::Released;
         }
+    }
+
+    /// Its time to wait is over.
+    pub(crate) fn wait_no_more(&mut self)
+        ensures { self.new ≡ exchange_past_its_wait self.old }
+    {
+        self.stage = Stage::Released;
     }
 
     /// Marks it, if it is of a key that was invalidated (RFC 9111, section 4.4).

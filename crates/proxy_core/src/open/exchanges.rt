@@ -26,14 +26,16 @@ ghost use Rattle.proxy_core.specs.Leading.{leader, ready_ids};
 ghost use Rattle.proxy_core.specs.Scopes.{target_alone};
 ghost use Rattle.proxy_core.specs.State.{exchanges_after_close, released_exchange, overtaken_exchange};
 ghost use Rattle.proxy_core.specs.State.{exchanges_after_end, exchange_forwarded_again, exchange_sent_forward};
+ghost use Rattle.proxy_core.specs.State.{overdue_exchange};
 
 use crate::open::arrivals_by_key::ArrivalsByKey;
 use crate::open::awaited::Awaited;
 use crate::open::exchange::Exchange;
 use crate::open::ids::Ids;
 use crate::open::key_index::KeyIndex;
-use crate::open::leading::{is_released, leads_waiters};
+use crate::open::leading::{is_released, is_waiting, leads_waiters};
 use crate::open::released::Released;
+use crate::open::stage::Stage;
 use crate::open::wait_index::WaitIndex;
 use crate::steps::condition::Condition;
 use hx_allow::PurgeScope;
@@ -204,6 +206,24 @@ impl Exchanges {
         if let Some(waiting) = self.waiting.take(leader) {
             release_each(&mut self.by_arrival, &waiting, leader);
             self.released.enter_all(&waiting);
+            self.released.settle(&self.by_arrival);
+        }
+    }
+
+    /// The exchange of an id waits no longer, if it waits. No memory is taken.
+    pub(crate) fn overdue(&mut self, id: u64)
+        ensures { self.new ≡ map (overdue_exchange id) self.old }
+    {
+        let Some(arrival) = self.arrivals.get(&id) else {
+            return;
+        };
+        let Some(x) = self.by_arrival.get_mut(arrival) else {
+            return;
+        };
+        if is_waiting(x.stage) {
+            self.waiting.leave(x.stage, *arrival);
+            x.wait_no_more();
+            self.released.enter(Stage::Released, *arrival);
             self.released.settle(&self.by_arrival);
         }
     }

@@ -1,7 +1,7 @@
 //! Which open exchange others wait for.
 ghost use Rattle.std.specs.Prelude.{◌≡◌, option_copied, IfOk};
 ghost use Rattle.hx_directives.specs.Occurrences.{occurrences_of};
-ghost use Rattle.proxy_core.specs.Leading.{is_forwarded, is_released, waits_for, is_get, is_uri_miss};
+ghost use Rattle.proxy_core.specs.Leading.{is_forwarded, is_waiting, is_released, waits_for, is_get, is_uri_miss};
 ghost use Rattle.proxy_core.specs.Leading.{has_authorization, has_no_store, asks_for, sends_clients_condition};
 ghost use Rattle.proxy_core.specs.Leading.{may_serve, answer_may_serve, leads_waiters};
 ghost use Rattle.proxy_core.specs.Awaiting.{has_expired, asks_the_origin, awaited_of_chosen, awaited_by_rule};
@@ -24,6 +24,16 @@ pub(crate) fn is_forwarded(stage: Stage) -> bool
     match stage {
         Stage::Forwarded => true,
         Stage::Waiting(_) | Stage::Released => false,
+    }
+}
+
+/// Whether it waits for the answer to another.
+pub(crate) fn is_waiting(stage: Stage) -> bool
+    ensures { result ≡ is_waiting stage }
+{
+    match stage {
+        Stage::Waiting(_) => true,
+        Stage::Forwarded | Stage::Released => false,
     }
 }
 

@@ -7,6 +7,6 @@ pub enum Stage {
     Forwarded,
     /// It waits for the answer to the exchange of this id, which leads.
     Waiting(u64),
-    /// The one that it waited for has ended: it may be woken.
+    /// The one that it waited for has ended, or its time to wait is over: it may be woken.
     Released,
 }

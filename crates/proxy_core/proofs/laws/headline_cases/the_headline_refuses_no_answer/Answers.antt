@@ -10,8 +10,8 @@ use Rattle.hx_reuse.specs.Rules.{decision_of, reuse_rule_of}
 use Rattle.hx_storable.specs.Rules.{storage_rule_of}
 use Rattle.hx_validate.specs.Answering.{freshened_of}
 use Rattle.hx_status.specs.declared.cause.FailKind.TheVariants as kinds
-use Rattle.proxy_core.specs.declared.event.Event.TheVariants.{Abandon, Answer, Arrive, Fail, Wake}
-use Rattle.proxy_core.specs.declared.outcome.Outcome.TheVariants.{Ended, Forward, Waits}
+use Rattle.proxy_core.specs.declared.event.Event.TheVariants.{Abandon, Overdue, Answer, Arrive, Fail, Wake}
+use Rattle.proxy_core.specs.declared.outcome.Outcome.TheVariants.{Ended, WaitsNoMore, Forward, Waits}
 use Rattle.proxy_core.specs.Outcomes.{forward_text}
 use Rattle.proxy_core.specs.Promises.{outcome_goes_forward, outcome_is_reply}
 use Rattle.proxy_core.specs.Cases.{etag_field}

@@ -10,8 +10,8 @@ use Rattle.hx_reuse.specs.Rules.{decision_of, reuse_rule_of}
 use Rattle.hx_storable.specs.Rules.{storage_rule_of}
 use Rattle.hx_validate.specs.Answering.{freshened_of}
 use Rattle.hx_status.specs.declared.cause.FailKind.TheVariants as kinds
-use Rattle.proxy_core.specs.declared.event.Event.TheVariants.{Abandon, Answer, Arrive, Fail, Wake}
-use Rattle.proxy_core.specs.declared.outcome.Outcome.TheVariants.{Ended, Forward}
+use Rattle.proxy_core.specs.declared.event.Event.TheVariants.{Abandon, Overdue, Answer, Arrive, Fail, Wake}
+use Rattle.proxy_core.specs.declared.outcome.Outcome.TheVariants.{Ended, WaitsNoMore, Forward}
 use Rattle.proxy_core.specs.declared.core_fault.CoreFault.TheVariants.{IdTaken, MomentTooLate, NotForwarded, NotReady, UnknownId}
 use Rattle.proxy_core.specs.Outcomes.{forward_text}
 use Rattle.proxy_core.specs.WrongTraces.{edge_table, fresh_for_a_minute, get_a, get_b, events_that_store_a, events_where_one_waits, reply_without_store}

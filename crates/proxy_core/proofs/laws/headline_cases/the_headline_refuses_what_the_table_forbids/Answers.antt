@@ -11,7 +11,7 @@ use Rattle.hx_storable.specs.Rules.{storage_rule_of}
 use Rattle.hx_validate.specs.Answering.{freshened_of}
 use Rattle.hx_status.specs.declared.cause.Cause.TheVariants.{Denied, NoLine}
 use Rattle.proxy_core.specs.declared.event.Event.TheVariants.{Arrive}
-use Rattle.proxy_core.specs.declared.outcome.Outcome.TheVariants.{Ended, Forward, Waits}
+use Rattle.proxy_core.specs.declared.outcome.Outcome.TheVariants.{Ended, WaitsNoMore, Forward, Waits}
 use Rattle.proxy_core.specs.Outcomes.{forward_text, outcome_of_refusal}
 use Rattle.proxy_core.specs.Promises.{outcome_goes_forward, outcome_is_reply}
 use Rattle.proxy_core.specs.Cases.{reply_bytes}
