@@ -1,5 +1,5 @@
 -- An act is done in one way, and the same steps have one trace.
-use Rattle.std.proofs.Common.{◌≡◌, inl, inr, ℕ, ◌+◌, List, [], ◌∷◌, ◌++◌, bytes_eq, codes, sym, ap, ◌∙◌, subst, Bool, Result, Ok, Err}
+use Rattle.std.proofs.Common.{◌≡◌, inl, inr, ℕ, ◌+◌, List, [], ◌∷◌, ◌++◌, bytes_eq, codes, sym, ap, ◌∙◌, subst, Bool, Option, None, Some, Result, Ok, Err}
 use Rattle.hx_allow.specs.TableLines.{Table}
 use Rattle.hx_framing.specs.declared.messages.Request.{Request}
 use Rattle.hx_framing.specs.declared.frame_fault.FrameFault.TheVariants as frame
@@ -20,7 +20,7 @@ use Rattle.proxy_engine.specs.Admitted.{Refusal, RequestIsAdmittedOrRefused, ask
 use Rattle.proxy_engine.specs.EngineModel.{EngineModel, connection_at, with_core}
 use Rattle.proxy_engine.specs.Due.{Act, Abandons, Finishes, Wakes, Serves, Gives, Breaks}
 use Rattle.proxy_engine.specs.Acts.{outcome_by_table, model_after_outcome, effects_of_outcome, next_link_number, CoreIsStepped, RequestArrives, ConnectionIsServed, RequestIsRefused, ConnectionIsClosed}
-use Rattle.proxy_engine.specs.Executions.{ExecutionStep, Took, Worked, StepLeads, IsCoreEventOfAct, ActAsksCoreNothing, IsItemOfAct, StepAddsToTrace, ActIsDoneInOneWay, StepsHaveOneTrace}
+use Rattle.proxy_engine.specs.Executions.{ExecutionStep, Took, Worked, StepLeads, IsCoreEventOfAct, ActAsksCoreNothing, IsItemOfAct, StepAddsToTrace, TakingAddsToTrace, core_event_of_happening, ActIsDoneInOneWay, StepsHaveOneTrace}
 
 -- the same effects, and the same model behind them
 abbrev Same : List Effect → List Effect → EngineModel → EngineModel → Type 0
@@ -132,8 +132,15 @@ module _ (asked_once : (request : Request) (r s : Result Asked TargetFault) → 
       let outcome : i.outcome ≡ j.outcome = outcome_once s.core i.event i.outcome j.outcome t.core t.core h.steps steps in
       ap (λ (e : Event). record { event = e; outcome = i.outcome }) event ∙ ap (λ (o : Outcome). record { event = j.event; outcome = o }) outcome
 
+  taken_once : (s : EngineModel) (event : Option Event) (t : EngineModel) (past trace other : List Item) → TakingAddsToTrace s event t past trace → TakingAddsToTrace s event t past other → trace ≡ other
+  taken_once s None t past trace other l m = l ∙ sym m
+  taken_once s (Some event) t past trace other (i, is, i_event, i_steps) (j, js, j_event, j_steps) =
+      let outcome : i.outcome ≡ j.outcome = outcome_once s.core event i.outcome j.outcome t.core t.core i_steps j_steps in
+      let same : i ≡ j = ap (λ (e : Event). record { event = e; outcome = i.outcome }) (i_event ∙ sym j_event) ∙ ap (λ (o : Outcome). record { event = j.event; outcome = o }) outcome in
+      is ∙ (ap (λ (k : Item). k ∷ past) same ∙ sym js)
+
   adds_once : (table : Table) (s : EngineModel) (step : ExecutionStep) (t : EngineModel) (past trace other : List Item) → StepAddsToTrace table s step t past trace → StepAddsToTrace table s step t past other → trace ≡ other
-  adds_once table s (Took h) t past trace other l m = l ∙ sym m
+  adds_once table s (Took h) t past trace other l m = taken_once s (core_event_of_happening h) t past trace other l m
   adds_once table s (Worked now act emitted) t past trace other (inl l) (inl m) = l.1 ∙ (ap (λ (i : Item). i ∷ past) (item_once table s now act l.0 m.0 emitted t l.2 m.2) ∙ sym m.1)
   adds_once table s (Worked now act emitted) t past trace other (inl l) (inr m) = event_or_none s now act l.0.event l.2.event_is m.1
   adds_once table s (Worked now act emitted) t past trace other (inr l) (inl m) = event_or_none s now act m.0.event m.2.event_is l.1

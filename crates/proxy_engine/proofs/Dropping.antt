@@ -12,7 +12,7 @@ use Rattle.proxy_core.specs.declared.event.Event.{Event}
 use Rattle.proxy_script.specs.declared.effect_list.Effect.{Effect}
 use Rattle.proxy_script.specs.declared.effect_list.Effect.TheVariants as effects
 use Rattle.proxy_engine.specs.Admitted.{Refusal}
-use Rattle.proxy_engine.specs.Happenings.{Accepts, Sends, Hears, Ends, Leaves, Retires, Shuts, Fails}
+use Rattle.proxy_engine.specs.Happenings.{Accepts, Sends, Hears, Ends, Leaves, Retires, Overdues, Shuts, Fails}
 use Rattle.proxy_engine.specs.EngineModel.{EngineModel, LinkModel, no_link, new_link_model, link_at, link_after_bytes, link_after_shut, link_after_failure, with_core, with_connection}
 use Rattle.proxy_engine.specs.Due.{Abandons, Finishes, Wakes, Serves, Gives, Breaks}
 use Rattle.proxy_engine.specs.Acts.{OutcomeOnConnection, Replies, Forwards, Nothing, outcome_by_table, effects_of_outcome, next_link_number, model_after_outcome, model_after_link_freed, with_dropped, CoreIsStepped, ConnectionIsServed, RequestArrives, RequestIsRefused, ConnectionIsClosed, Queues, with_activity}
@@ -178,6 +178,7 @@ takes_drop_none s (Sends n bytes) j = refl
 takes_drop_none s (Ends n) j = refl
 takes_drop_none s (Leaves n) j = refl
 takes_drop_none s (Retires n) j = refl
+takes_drop_none s (Overdues n) j = refl
 takes_drop_none s (Hears l bytes) j =
     let k = link_at s (l - s.first) in
     same_set s.links (l - s.first) (link_after_bytes bytes k) j (same_by (k.dropped || (is_some k.failed || k.progress.ended)) k (record k { progress = stream_with_piece k.progress bytes }) refl)

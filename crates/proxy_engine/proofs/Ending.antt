@@ -34,6 +34,7 @@ is_reply (outcomes.Reply r) = true
 is_reply (outcomes.Forward line bytes) = false
 is_reply (outcomes.Waits leader) = false
 is_reply outcomes.Ended = false
+is_reply outcomes.WaitsNoMore = false
 
 failed_replies : (table : Table) (es : List Stored) (now : ℕ) (x : Exchange) (kind : FailKind) (came : Option ℕ) (fallback : Fallback) → is_reply (outcome_of_failure table es now x kind came fallback) ≡ true
 failed_replies table es now x kind came (Sends serial detail) = refl
@@ -49,6 +50,7 @@ goes_by (outcomes.Reply r) e = refl
 goes_by (outcomes.Forward line bytes) e = absurd (cc)
 goes_by (outcomes.Waits leader) e = absurd (cc)
 goes_by outcomes.Ended e = refl
+goes_by outcomes.WaitsNoMore e = refl
 
 -- what goes forward once more was answered
 pub goes_given : (core core1 : CoreState) (now id : ℕ) (f : LinkResult) (o : Outcome) → is_some (find_exchange id core.exchanges) ≡ true → ExchangeIsFinishedBy core now id f o core1 → outcome_needs_link o ≡ true → is_whole_answer f ≡ true
@@ -74,12 +76,14 @@ Remains (outcomes.Reply r) id xs ys = (key : Option Scope) × (ys ≡ exchanges_
 Remains (outcomes.Forward line bytes) id xs ys = (g : Exchange → Exchange) × Renews g × (ys ≡ map (renewed id g) xs)
 Remains (outcomes.Waits leader) id xs ys = ⊥
 Remains outcomes.Ended id xs ys = (key : Option Scope) × (ys ≡ exchanges_after_end key id xs)
+Remains outcomes.WaitsNoMore id xs ys = (key : Option Scope) × (ys ≡ exchanges_after_end key id xs)
 
 answer_remains : (table : Table) (es : List Stored) (xs : List Exchange) (now id : ℕ) (r : Response) (o : Outcome) → is_wait o ≡ false → Remains o id xs (open_exchanges_after table es xs (events.Answer now id r) o)
 answer_remains table es xs now id r (outcomes.Reply reply) n = (scope_invalidated_by_response (find_exchange id xs) r, refl)
 answer_remains table es xs now id r (outcomes.Forward line bytes) n = ((λ (x : Exchange). exchange_gone_forward now x.rule x.named None x), record { id = λ x. refl; stage = λ x. refl }, refl)
 answer_remains table es xs now id r (outcomes.Waits leader) n = absurd (cc)
 answer_remains table es xs now id r outcomes.Ended n = (scope_invalidated_by_response (find_exchange id xs) r, refl)
+answer_remains table es xs now id r outcomes.WaitsNoMore n = (scope_invalidated_by_response (find_exchange id xs) r, refl)
 
 wake_remains : (table : Table) (es : List Stored) (xs : List Exchange) (now id : ℕ) (o : Outcome) (w : Option Exchange) → is_some w ≡ true → is_wait o ≡ false → find_exchange id xs ≡ w → Remains o id xs (open_exchanges_after table es xs (events.Wake now id) o)
 wake_remains table es xs now id (outcomes.Reply reply) w there n f = (None, refl)
@@ -89,12 +93,14 @@ wake_remains table es xs now id (outcomes.Forward line bytes) (Some x) there n f
     ((λ (y : Exchange). exchange_gone_forward now (rule_of_decision d) (serial_named_by_decision d) (condition_about_serial es (serial_named_by_decision d)) y), record { id = λ y. refl; stage = λ y. refl }, ap (λ (w : Option Exchange). exchanges_after_wake table es id now w xs) f)
 wake_remains table es xs now id (outcomes.Waits leader) w there n f = absurd (cc)
 wake_remains table es xs now id outcomes.Ended w there n f = (None, refl)
+wake_remains table es xs now id outcomes.WaitsNoMore w there n f = (None, refl)
 
 reply_remains : (o : Outcome) (id : ℕ) (xs : List Exchange) → is_reply o ≡ true → Remains o id xs (exchanges_after_close id xs)
 reply_remains (outcomes.Reply r) id xs e = (None, refl)
 reply_remains (outcomes.Forward line bytes) id xs e = absurd (cc)
 reply_remains (outcomes.Waits leader) id xs e = absurd (cc)
 reply_remains outcomes.Ended id xs e = absurd (cc)
+reply_remains outcomes.WaitsNoMore id xs e = absurd (cc)
 
 pub failure_remains : (table : Table) (es : List Stored) (xs : List Exchange) (next : Option ℕ) (now id : ℕ) (kind : FailKind) (o : Outcome) → is_some (find_exchange id xs) ≡ true → o ≡ outcome_of table es xs (find_exchange id xs) next (events.Fail now id kind)
     → Remains o id xs (exchanges_after_close id xs)
@@ -121,6 +127,7 @@ one_more (outcomes.Reply r) id xs ys h = omega arith
 one_more (outcomes.Forward line bytes) id xs ys h = omega arith
 one_more (outcomes.Waits leader) id xs ys h = absurd h
 one_more outcomes.Ended id xs ys h = omega arith
+one_more outcomes.WaitsNoMore id xs ys h = omega arith
 
 -- and whatever comes two
 pub two_more : (o : Outcome) → acts_due_after_outcome o ≤ 2
@@ -128,3 +135,4 @@ two_more (outcomes.Reply r) = omega arith
 two_more (outcomes.Forward line bytes) = omega arith
 two_more (outcomes.Waits leader) = omega arith
 two_more outcomes.Ended = omega arith
+two_more outcomes.WaitsNoMore = omega arith

@@ -20,6 +20,7 @@ use Rattle.proxy_engine.specs.EngineModel.{EngineModel, ConnectionModel, LinkMod
 use Rattle.proxy_engine.specs.Due.{Act, Abandons, Finishes, Wakes, Serves, Gives, Breaks, IsDueFirst, LinkResultUnlessDropped, ConnectionActionUnlessBusy, link_result_of, takes_no_request, due_request_action}
 use Rattle.proxy_engine.specs.Executions.{Took, Worked, IsCoreEventOfAct}
 use Rattle.proxy_engine.specs.FinalAnswers.{EachActIsSpelled, EachAnswerIsFinal, EachAnswerWasRead, EventHasFinalStatus, LinkSpellsAnswer, ConnectionSpellsRequest}
+use Rattle.proxy_engine.proofs.Asking.{taking_adds}
 
 -- ---- what an act is about is what a stream spells
 
@@ -110,7 +111,7 @@ AreRead = AllByRecursion (λ item. EventIsReadFromAStream item.event)
 pub answers_are_read : EachAnswerWasRead
 answers_are_read table begin last [] trace h = subst AreRead (sym h.1) tt
 answers_are_read table begin last (Took happening ∷ steps) trace (before, past, has_trace, leads, adds) =
-    subst AreRead (sym adds) (answers_are_read table begin before steps past has_trace)
+    taking_adds (λ item. EventIsReadFromAStream item.event) (λ n item e. subst EventIsReadFromAStream (sym e) tt) before last happening past trace adds (answers_are_read table begin before steps past has_trace)
 answers_are_read table begin last (Worked now act emitted ∷ steps) trace (before, past, has_trace, leads, inl (item, is, one)) =
     subst AreRead (sym is) (event_read before now act item.event leads.0 one.event_is, answers_are_read table begin before steps past has_trace)
 answers_are_read table begin last (Worked now act emitted ∷ steps) trace (before, past, has_trace, leads, inr (same, none, own)) =
@@ -130,6 +131,7 @@ module _ (read : ReadsFinal) where
   final (events.Fail now id kind) is = tt
   final (events.Wake now id) is = tt
   final (events.Abandon id) is = tt
+  final (events.Overdue id) is = tt
 
   all_final : (trace : List Item) → AreRead trace → AllByRecursion (λ item. EventHasFinalStatus item.event) trace
   all_final [] h = tt

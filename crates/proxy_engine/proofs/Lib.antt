@@ -1,4 +1,5 @@
 pub mod Peeking
+pub mod Asking
 pub mod Parts
 pub mod ActivityCases
 pub mod Keeping

@@ -1,5 +1,5 @@
 -- The core's steps are a good run, whatever an engine lives through.
-use Rattle.std.proofs.Common.{◌≡◌, ◌⊎◌, inl, inr, ℕ, Some, List, [], ◌∷◌, ◌++◌, refl, sym, ap, ◌∙◌, subst, Bool, Result, Ok, Err}
+use Rattle.std.proofs.Common.{◌≡◌, ◌⊎◌, inl, inr, ℕ, Option, None, Some, List, [], ◌∷◌, ◌++◌, refl, sym, ap, ◌∙◌, subst, Bool, Result, Ok, Err}
 use Rattle.hx_allow.specs.TableLines.{Table}
 use Rattle.hx_framing.specs.declared.messages.Request.{Request}
 use Rattle.hx_framing.specs.declared.frame_fault.FrameFault.TheVariants as frame
@@ -8,19 +8,22 @@ use Rattle.hx_framing.specs.declared.messages.Next.TheVariants as next
 use Rattle.hx_hop.specs.declared.request_view.Asked.{Asked}
 use Rattle.hx_status.specs.declared.cause.Cause.{Cause}
 use Rattle.proxy_core.specs.Driving.{CoreWentThrough}
-use Rattle.proxy_core.specs.State.{State as CoreState, StepIsAccepted, bounds_of}
+use Rattle.proxy_core.specs.State.{State as CoreState, StepIsAccepted, state_after, bounds_of}
+use Rattle.proxy_core.specs.declared.event.Event.TheVariants as events
+use Rattle.proxy_core.specs.declared.outcome.Outcome.TheVariants as outcomes
+use Rattle.proxy_engine.proofs.Asking.{overdue_steps}
 use Rattle.proxy_core.specs.Starts.{StoreAtStart, StartStands}
 use Rattle.proxy_core.specs.declared.event.Event.{Event}
 use Rattle.proxy_core.specs.Traces.{Item, initial_state as core_begun}
 use Rattle.proxy_core.proofs.Driven.{promises_of_a_driven_core}
 use Rattle.proxy_script.specs.declared.effect_list.Effect.{Effect}
 use Rattle.proxy_engine.specs.Admitted.{Refusal, RequestIsAdmittedOrRefused, asked_on_connection}
-use Rattle.proxy_engine.specs.Happenings.{PlainHappening, Accepts as Accepted, Sends, Hears, Ends, Leaves, Retires, Shuts, Fails}
+use Rattle.proxy_engine.specs.Happenings.{PlainHappening, Accepts as Accepted, Sends, Hears, Ends, Leaves, Retires, Overdues, Shuts, Fails}
 use Rattle.proxy_engine.specs.EngineModel.{EngineModel, connection_at, model_after_happening, with_core}
 use Rattle.proxy_engine.specs.Due.{Act, Abandons, Finishes, Wakes, Serves, Gives, Breaks}
 use Rattle.proxy_engine.specs.Acts.{OutcomeOnConnection, Replies, Forwards, Nothing, outcome_by_table, model_after_outcome, effects_of_outcome, next_link_number, CoreIsStepped, ActIsDone, RequestArrives, ConnectionIsServed, RequestIsRefused as IsRefused, ConnectionIsClosed as IsClosed, Queues}
 use Rattle.proxy_engine.specs.State.{new_engine_model}
-use Rattle.proxy_engine.specs.Executions.{ExecutionStep, Took, Worked, StepLeads, StepsLead, connection_place_of_act, drop_effects_of_act, IsCoreEventOfAct, ActAsksCoreNothing, IsItemOfAct, IsEffectsWithoutCoreStep, Continues, Refuses, Closes, StepsHaveTrace, ExecutionsAreRuns}
+use Rattle.proxy_engine.specs.Executions.{ExecutionStep, Took, Worked, StepLeads, StepsLead, connection_place_of_act, drop_effects_of_act, IsCoreEventOfAct, ActAsksCoreNothing, IsItemOfAct, IsEffectsWithoutCoreStep, Continues, Refuses, Closes, core_event_of_happening, TakingAddsToTrace, StepsHaveTrace, ExecutionsAreRuns}
 
 module _ (table : Table) where
   -- an act is one step of the core, or none
@@ -83,16 +86,6 @@ module _ (table : Table) where
   acts now (Wakes i) s emitted after config h = stepped now (Wakes i) s _ _ _ emitted after config refl h.1
   acts now (Serves i action) s emitted after config h = serves now s i action emitted after config h
 
-heard_core : (s : EngineModel) (h : PlainHappening) → (model_after_happening s h).core ≡ s.core
-heard_core s (Accepted n) = refl
-heard_core s (Sends n bytes) = refl
-heard_core s (Hears l bytes) = refl
-heard_core s (Ends n) = refl
-heard_core s (Leaves n) = refl
-heard_core s (Retires n) = refl
-heard_core s (Shuts l) = refl
-heard_core s (Fails l kind) = refl
-
 module _ (table : Table) (start : StoreAtStart) (first : ℕ) (begin : EngineModel) where
   -- the core's steps so far, as they were told
   pub record Runs (steps : List ExecutionStep) (t : EngineModel) : Type 0 where
@@ -115,15 +108,43 @@ module _ (table : Table) (start : StoreAtStart) (first : ℕ) (begin : EngineMod
     has_trace = (s, run.trace, run.has_trace, leads, inr (refl, h.1, h.2));
   }
 
-  step_on : (steps : List ExecutionStep) (step : ExecutionStep) (s t : EngineModel) → StepLeads s step t → Runs steps s → Runs (step ∷ steps) t
-  step_on steps (Took h) s t l run =
-      let same : t.core ≡ s.core = ap (λ (u : EngineModel). u.core) l.1 ∙ heard_core s h in
+  -- it asks the core nothing
+  unasked : (steps : List ExecutionStep) (h : PlainHappening) (s t : EngineModel) → StepLeads s (Took h) t → core_event_of_happening h ≡ None → (model_after_happening s h).core ≡ s.core → Runs steps s → Runs (Took h ∷ steps) t
+  unasked steps h s t l nothing stays run =
+      let same : t.core ≡ s.core = ap (λ (u : EngineModel). u.core) l.1 ∙ stays in
       record {
         trace = run.trace;
         has_run = subst (λ (u : CoreState). CoreWentThrough table start first run.trace u) (sym same) run.has_run;
         config = ap (λ (u : CoreState). u.table) same ∙ run.config;
-        has_trace = (s, run.trace, run.has_trace, l, refl);
+        has_trace = (s, run.trace, run.has_trace, l, subst (λ (e : Option Event). TakingAddsToTrace s e t run.trace run.trace) (sym nothing) refl);
       }
+
+  -- a request has waited as long as it is to wait
+  overdue : (steps : List ExecutionStep) (n : ℕ) (s t : EngineModel) → StepLeads s (Took (Overdues n)) t → Runs steps s → Runs (Took (Overdues n) ∷ steps) t
+  overdue steps n s t l run =
+      let item : Item = record { event = events.Overdue n; outcome = outcomes.WaitsNoMore } in
+      let core : t.core ≡ state_after s.core (events.Overdue n) outcomes.WaitsNoMore = ap (λ (u : EngineModel). u.core) l.1 in
+      let stepped : StepIsAccepted s.core (events.Overdue n) outcomes.WaitsNoMore t.core = subst (StepIsAccepted s.core (events.Overdue n) outcomes.WaitsNoMore) (sym core) (overdue_steps s n l.0) in
+      record {
+        trace = item ∷ run.trace;
+        has_run = (s.core, run.has_run, stepped);
+        config = ap (λ (u : CoreState). u.table) core ∙ run.config;
+        has_trace = (s, run.trace, run.has_trace, l, (item, refl, refl, stepped));
+      }
+
+  taken : (steps : List ExecutionStep) (h : PlainHappening) (s t : EngineModel) → StepLeads s (Took h) t → Runs steps s → Runs (Took h ∷ steps) t
+  taken steps (Accepted n) s t l run = unasked steps (Accepted n) s t l refl refl run
+  taken steps (Sends n bytes) s t l run = unasked steps (Sends n bytes) s t l refl refl run
+  taken steps (Hears k bytes) s t l run = unasked steps (Hears k bytes) s t l refl refl run
+  taken steps (Ends n) s t l run = unasked steps (Ends n) s t l refl refl run
+  taken steps (Leaves n) s t l run = unasked steps (Leaves n) s t l refl refl run
+  taken steps (Retires n) s t l run = unasked steps (Retires n) s t l refl refl run
+  taken steps (Overdues n) s t l run = overdue steps n s t l run
+  taken steps (Shuts k) s t l run = unasked steps (Shuts k) s t l refl refl run
+  taken steps (Fails k kind) s t l run = unasked steps (Fails k kind) s t l refl refl run
+
+  step_on : (steps : List ExecutionStep) (step : ExecutionStep) (s t : EngineModel) → StepLeads s step t → Runs steps s → Runs (step ∷ steps) t
+  step_on steps (Took h) s t l run = taken steps h s t l run
   step_on steps (Worked now act emitted) s t l run = worked steps now act emitted s t l run (acts table now act s emitted t run.config l.1)
 
   pub executes : StartStands (bounds_of table start.limit) (Some first) start.entries → begin.core ≡ core_begun table start first → (steps : List ExecutionStep) (t : EngineModel) → StepsLead begin steps t → Runs steps t

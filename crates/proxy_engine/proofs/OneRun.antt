@@ -1,5 +1,5 @@
 -- A run refuses what wasn't done.
-use Rattle.std.proofs.Common.{◌≡◌, inl, inr, ℕ, ◌+◌, ◌≤◌, List, [], ◌∷◌, length, sym, ap, ◌∙◌, subst, arith, Some, None}
+use Rattle.std.proofs.Common.{◌≡◌, inl, inr, ℕ, ◌+◌, ◌≤◌, List, [], ◌∷◌, length, sym, ap, ◌∙◌, subst, arith, Option, Some, None}
 use Rattle.std.proofs.lemmas.Option.{same_Some}
 use Rattle.hx_framing.specs.declared.messages.Next.TheVariants as next
 use Rattle.proxy_core.specs.declared.event.Event.{Event}
@@ -7,8 +7,8 @@ use Rattle.proxy_core.specs.Traces.{Item}
 use Rattle.proxy_engine.specs.EngineModel.{EngineModel, happening_fault}
 use Rattle.proxy_engine.specs.Due.{Act, Abandons, Finishes, Wakes, Serves, Gives, Breaks, IsDueFirst}
 use Rattle.proxy_engine.specs.Acts.{ActIsDone}
-use Rattle.proxy_engine.specs.Executions.{Took, Worked, StepAddsToTrace, IsCoreEventOfAct, ActIsDoneInOneWay, StepsHaveOneTrace}
-use Rattle.proxy_engine.specs.OneRun.{moment_of_event, count_of_acts, RunHasNoOtherEffects, RunHasNoOtherAct, RunHasNoOtherMoment, RunHasNoUntakenHappening, RunHasNoMoreItems, RunHasNoItemWithoutStep}
+use Rattle.proxy_engine.specs.Executions.{Took, Worked, StepAddsToTrace, TakingAddsToTrace, core_event_of_happening, IsCoreEventOfAct, ActIsDoneInOneWay, StepsHaveOneTrace}
+use Rattle.proxy_engine.specs.OneRun.{moment_of_event, count_of_core_steps, count_of_events, RunHasNoOtherEffects, RunHasNoOtherAct, RunHasNoOtherMoment, RunHasNoUntakenHappening, RunHasNoMoreItems, RunHasNoItemWithoutStep}
 use Rattle.proxy_engine.proofs.Once.{due_first_once}
 
 some_act : {a b : Act} → Some a ≡ Some b → a ≡ b
@@ -52,12 +52,16 @@ nothing_untaken once table start first begin before last past trace happening le
 
 pub no_more_items : RunHasNoMoreItems
 no_more_items table begin last [] trace h = subst (λ (z : List Item). length z ≤ 0) (sym h.1) (omega arith)
-no_more_items table begin last (Took happening ∷ past) trace h = subst (λ (z : List Item). length z ≤ count_of_acts past) (sym h.4) (no_more_items table begin h.0 past h.1 h.2)
+no_more_items table begin last (Took happening ∷ past) trace h = by_question (core_event_of_happening happening) (no_more_items table begin h.0 past h.1 h.2) h.4
+  where
+    by_question : (event : Option Event) → length h.1 ≤ count_of_core_steps past → TakingAddsToTrace h.0 event last h.1 trace → length trace ≤ count_of_core_steps past + count_of_events event
+    by_question None few adds = subst (λ (z : List Item). length z ≤ count_of_core_steps past + 0) (sym adds) (omega (arith, few))
+    by_question (Some event) few adds = subst (λ (z : List Item). length z ≤ count_of_core_steps past + 1) (sym adds.1) (omega (arith, few))
 no_more_items table begin last (Worked now act emitted ∷ past) trace h = by_step (no_more_items table begin h.0 past h.1 h.2) h.4
   where
-    by_step : length h.1 ≤ count_of_acts past → StepAddsToTrace table h.0 (Worked now act emitted) last h.1 trace → length trace ≤ count_of_acts past + 1
-    by_step few (inl (item, is, done)) = subst (λ (z : List Item). length z ≤ count_of_acts past + 1) (sym is) (omega (arith, few))
-    by_step few (inr (is, none, own)) = subst (λ (z : List Item). length z ≤ count_of_acts past + 1) (sym is) (omega (arith, few))
+    by_step : length h.1 ≤ count_of_core_steps past → StepAddsToTrace table h.0 (Worked now act emitted) last h.1 trace → length trace ≤ count_of_core_steps past + 1
+    by_step few (inl (item, is, done)) = subst (λ (z : List Item). length z ≤ count_of_core_steps past + 1) (sym is) (omega (arith, few))
+    by_step few (inr (is, none, own)) = subst (λ (z : List Item). length z ≤ count_of_core_steps past + 1) (sym is) (omega (arith, few))
 
 pub nothing_undone : RunHasNoItemWithoutStep
 nothing_undone table begin last item past h = let never : item ∷ past ≡ [] = h.1 in absurd (cc)

@@ -25,7 +25,7 @@ use Rattle.proxy_core.specs.Waiting.{ExchangeMayBeWoken}
 use Rattle.proxy_core.proofs.Waits.{ready_by}
 use Rattle.proxy_script.specs.declared.effect_list.Effect.{Effect}
 use Rattle.proxy_script.specs.declared.effect_list.Effect.TheVariants as effects
-use Rattle.proxy_engine.specs.Happenings.{Accepts, Sends, Hears, Ends, Leaves, Retires, Shuts, Fails}
+use Rattle.proxy_engine.specs.Happenings.{Accepts, Sends, Hears, Ends, Leaves, Retires, Overdues, Shuts, Fails}
 use Rattle.proxy_engine.specs.EngineModel.{EngineModel, ConnectionModel, LinkModel, no_connection, no_link, new_connection_model, new_link_model, connection_at, link_at, with_connection, with_core, model_after_happening}
 use Rattle.proxy_engine.specs.Due.{Abandons, Finishes, Wakes, Serves, LinkResult, Gives, Breaks, LinkResultUnlessDropped, ConnectionActionUnlessBusy, takes_no_request, IsDueFirst}
 use Rattle.proxy_engine.specs.Acts.{ActIsDone, ConnectionIsServed, LinkIsFinished, RequestIsWoken, RequestArrives, RequestIsRefused, ConnectionIsClosed, Replies, outcome_by_table, exchange_asks_head, effects_of_outcome, model_after_outcome, model_after_link_freed, with_activity, with_closed, with_dropped, with_next_passed, next_link_number}
@@ -37,7 +37,7 @@ use Rattle.proxy_engine.specs.declared.endpoints.activities.Activity.TheVariants
 use Rattle.proxy_engine.proofs.ActivityCases.{free_from, open_from, forwarded_from, waiting_from}
 use Rattle.proxy_engine.proofs.Shown.{lost_by}
 use Rattle.proxy_engine.proofs.Ending.{Remains, Renews, renewed, remains, woken_remains}
-use Rattle.proxy_engine.proofs.Pairs.{within, has_place, waits_inside, some_out, ready_waits, paired_more, paired_freed, paired_unqueued, paired_opened, paired_queued, paired_left, paired_again, paired_awake, paired_purged}
+use Rattle.proxy_engine.proofs.Pairs.{within, has_place, waits_inside, some_out, ready_waits, paired_more, paired_freed, paired_unqueued, paired_opened, paired_queued, paired_left, paired_again, paired_awake, paired_purged, paired_overdue}
 
 -- what stands at a place of either list
 doing_here : (cs : List ConnectionModel) (i : ℕ) → activity_at (map activity_of_model cs) i ≡ (get_or cs i no_connection).activity
@@ -142,6 +142,7 @@ takes_in_order s (Sends n bytes) h = orderly (model_after_happening s (Sends n b
 takes_in_order s (Ends n) h = orderly (model_after_happening s (Ends n)) (let c = connection_at s (n - 1) in marked s (n - 1) (c.gone || c.closed) (record c { progress = stream_finished c.progress }) refl refl h)
 takes_in_order s (Leaves n) h = orderly (model_after_happening s (Leaves n)) (let c = connection_at s (n - 1) in marked s (n - 1) c.closed (record c { gone = true }) refl refl h)
 takes_in_order s (Retires n) h = orderly (model_after_happening s (Retires n)) (let c = connection_at s (n - 1) in marked s (n - 1) false (record c { retired = true }) refl refl h)
+takes_in_order s (Overdues n) h = orderly (model_after_happening s (Overdues n)) (paired_overdue (map activity_of_model s.connections) (map owner_of_model s.links) s.core.exchanges n h.paired, h.free)
 takes_in_order s (Hears l bytes) h = orderly (model_after_happening s (Hears l bytes)) (let k = link_at s (l - s.first) in marked_link s (l - s.first) (k.dropped || (is_some k.failed || k.progress.ended)) (record k { progress = stream_with_piece k.progress bytes }) refl h)
 takes_in_order s (Shuts l) h = orderly (model_after_happening s (Shuts l)) (let k = link_at s (l - s.first) in marked_link s (l - s.first) (k.dropped || is_some k.failed) (record k { progress = stream_finished k.progress }) refl h)
 takes_in_order s (Fails l kind) h = orderly (model_after_happening s (Fails l kind)) (let k = link_at s (l - s.first) in marked_link s (l - s.first) (k.dropped || is_some k.failed) (record k { failed = Some kind }) refl h)
@@ -323,6 +324,8 @@ finished_order s i j o core to_head emitted after h within_links here link_open 
     by_outcome (outcomes.Waits leader) left emitted_is after_is = absurd left
     by_outcome outcomes.Ended left emitted_is after_is =
         both_moved s base after emitted (effects.Drop (s.first + j) ∷ []) after_is emitted_is (orderly base (free left.0 left.1)) (drops base [] (sym (append-nil ks)), tt)
+    by_outcome outcomes.WaitsNoMore left emitted_is after_is =
+        both_moved s base after emitted (effects.Drop (s.first + j) ∷ []) after_is emitted_is (orderly base (free left.0 left.1)) (drops base [] (sym (append-nil ks)), tt)
 
 -- ---- what is known where an act is due
 
@@ -492,6 +495,8 @@ wakes_order s now i emitted after h due d = by_outcome d.1.outcome (woken_remain
     by_outcome (outcomes.Waits leader) left emitted_is after_is = absurd left
     by_outcome outcomes.Ended left emitted_is after_is =
         both_moved s base after emitted [] after_is emitted_is (orderly base (free left.0 left.1)) tt
+    by_outcome outcomes.WaitsNoMore left emitted_is after_is =
+        both_moved s base after emitted [] after_is emitted_is (orderly base (free left.0 left.1)) tt
 
 -- a request arrived on the connection at i
 arrived_order : (s : EngineModel) (now i : ℕ) (m : Next Request) (asked : Asked) (o : Outcome) (core : CoreState) (to_head : Bool) (emitted : List Effect) (after : EngineModel) → ModelIsOrderly s → i < length s.connections → ConnectionIsOpen s (i + 1) → (connection_at s i).closed ≡ false → (connection_at s i).activity ≡ Free
@@ -541,6 +546,9 @@ arrived_order s now i m asked o core to_head emitted after h inside unshut unclo
         both_moved s behind after emitted [] after_is emitted_is
         (orderly behind (subst (λ (xs : List Exchange). Order behind.connections behind.links xs) (sym more) (queued_order cs s.links s.core.exchanges x i inside_now none_now unclosed_now refl refl passed))) tt
     by_outcome outcomes.Ended steps emitted_is after_is =
+        let same : core.exchanges ≡ s.core.exchanges = ap (λ (k : CoreState). k.exchanges) steps.leaves in
+        both_moved s base after emitted [] after_is emitted_is (orderly base (subst (λ (xs : List Exchange). Order cs s.links xs) (sym same) passed)) tt
+    by_outcome outcomes.WaitsNoMore steps emitted_is after_is =
         let same : core.exchanges ≡ s.core.exchanges = ap (λ (k : CoreState). k.exchanges) steps.leaves in
         both_moved s base after emitted [] after_is emitted_is (orderly base (subst (λ (xs : List Exchange). Order cs s.links xs) (sym same) passed)) tt
 

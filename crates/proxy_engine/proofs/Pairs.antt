@@ -8,7 +8,7 @@ use Rattle.std.proofs.Math.Seq.{get_or-append_seam}
 use Rattle.hx_fields.specs.declared.limits.TheConstants.{END_OF_TIME}
 use Rattle.proxy_core.specs.Moments.{moment_too_late_fault}
 use Rattle.proxy_core.specs.Outcomes.{find_exchange, or_fault, fault_if_not_forwarded, fault_if_not_released, fault_at_exchange, step_fault}
-use Rattle.proxy_core.specs.Leading.{is_forwarded, is_released, waits_for}
+use Rattle.proxy_core.specs.Leading.{is_forwarded, is_waiting as stage_waits, is_released, waits_for}
 use Rattle.proxy_core.specs.Waiting.{ExchangeMayBeWoken}
 use Rattle.proxy_core.specs.declared.open.stage.Stage.{Stage}
 use Rattle.proxy_core.specs.declared.open.stage.Stage.TheVariants as stages
@@ -23,11 +23,11 @@ use Rattle.hx_allow.specs.TableLines.{Table}
 use Rattle.hx_store.specs.Stored.{Stored}
 use Rattle.proxy_engine.proofs.Ending.{Remains, Renews, renewed}
 use Rattle.proxy_core.specs.Scopes.{Scope, is_in_scope}
-use Rattle.proxy_core.specs.State.{exchanges_after_close, released_exchange, forwarded_exchange, waiting_exchange, line_of_verdict, open_exchanges_after, overtaken_exchange, exchanges_after_end, exchanges_after_purge, scope_purged}
+use Rattle.proxy_core.specs.State.{exchanges_after_close, released_exchange, forwarded_exchange, waiting_exchange, line_of_verdict, open_exchanges_after, overtaken_exchange, exchanges_after_end, exchanges_after_purge, scope_purged, exchange_past_its_wait, overdue_exchange}
 use Rattle.proxy_core.specs.declared.outcome.Outcome.{Outcome}
 use Rattle.proxy_core.specs.declared.event.Event.{Event}
 use Rattle.proxy_core.specs.declared.event.Event.TheVariants.{Arrive, Answer, Fail, Wake}
-use Rattle.proxy_core.specs.declared.outcome.Outcome.TheVariants.{Reply, Forward, Waits, Ended}
+use Rattle.proxy_core.specs.declared.outcome.Outcome.TheVariants.{Reply, Forward, Waits, Ended, WaitsNoMore}
 use Rattle.proxy_core.specs.declared.open.exchange.Exchange.{Exchange}
 use Rattle.proxy_engine.specs.Activities.{link_place_of_activity, has_exchange, forwarded_or_waiting}
 use Rattle.proxy_engine.specs.Pairing.{ConnectionsAndLinksArePaired, forwarded_or_waiting_at, activity_at, owner_at, activity_of, owner_of, activities_of, owners_of, activities_after, owners_after}
@@ -158,6 +158,38 @@ released_by false l x id o p w h = out_by (x.id == id) x o p h
 out_released : (l id : ℕ) (xs : List Exchange) → forwarded_or_waiting_at id (map (released_exchange l) xs) ≡ forwarded_or_waiting_at id xs
 out_released l id [] = refl
 out_released l id (x ∷ xs) = released_by (waits_for l x.stage) l x id (find_exchange id (map (released_exchange l) xs)) (find_exchange id xs) refl (out_released l id xs)
+
+waits_apart_still : (s : Stage) → stage_waits s ≡ true → ◌≡◌ {A = Option Bool} (Some false) (Some (is_forwarded s))
+waits_apart_still stages.Forwarded h = absurd (cc)
+waits_apart_still (stages.Waiting m) h = refl
+waits_apart_still stages.Released h = absurd (cc)
+
+overdue_by : (b : Bool) (x : Exchange) (id : ℕ) (o p : Option Exchange) → (b ≡ true → stage_waits x.stage ≡ true) → out o ≡ out p
+    → out (cond ((cond b (exchange_past_its_wait x) x).id == id) (Some (cond b (exchange_past_its_wait x) x)) o) ≡ out (cond (x.id == id) (Some x) p)
+overdue_by true x id o p w h = open_by (x.id == id)
+  where
+    open_by : (b : Bool) → out (cond b (Some (exchange_past_its_wait x)) o) ≡ out (cond b (Some x) p)
+    open_by true = waits_apart_still x.stage (w refl)
+    open_by false = h
+overdue_by false x id o p w h = out_by (x.id == id) x o p h
+
+second_holds : (a b : Bool) → (a && b) ≡ true → b ≡ true
+second_holds true b h = h
+second_holds false b h = absurd (cc)
+
+-- so has one whose time to wait is over
+out_overdue : (n id : ℕ) (xs : List Exchange) → forwarded_or_waiting_at id (map (overdue_exchange n) xs) ≡ forwarded_or_waiting_at id xs
+out_overdue n id [] = refl
+out_overdue n id (x ∷ xs) =
+    overdue_by (x.id == n && stage_waits x.stage) x id (find_exchange id (map (overdue_exchange n) xs)) (find_exchange id xs) (second_holds (x.id == n) (stage_waits x.stage)) (out_overdue n id xs)
+
+pub paired_overdue : (activities : List Activity) (owners : List (Option ℕ)) (xs : List Exchange) (n : ℕ) → ConnectionsAndLinksArePaired activities owners xs → ConnectionsAndLinksArePaired activities owners (map (overdue_exchange n) xs)
+paired_overdue activities owners xs n h = record {
+  owned = h.owned;
+  linked = h.linked;
+  opened = λ i. out_overdue n (i + 1) xs ∙ h.opened i;
+  numbered = out_overdue n 0 xs ∙ h.numbered;
+}
 
 forwarded_closed : (id : ℕ) (xs : List Exchange) → forwarded_or_waiting_at id (exchanges_after_close id xs) ≡ None
 forwarded_closed id xs = out_released id id (but id xs) ∙ ap out (find_closed id xs)
@@ -465,6 +497,7 @@ paired_arrived table cs cs1 cs2 ks ks2 held xs now i asked (Waits leader) inside
     paired_same _ _ _ _ (xs ++ x ∷ []) (links ∙ ap (λ (ds : List Activity). set ds i Waiting) same) owners
     (paired_queued (activities_of cs) (owners_of ks) xs x i (omega (arith, inside, pairing)) free refl refl h)
 paired_arrived table cs cs1 cs2 ks ks2 held xs now i asked Ended inside same free links owners h = paired_same _ _ _ _ xs (links ∙ same) owners h
+paired_arrived table cs cs1 cs2 ks ks2 held xs now i asked WaitsNoMore inside same free links owners h = paired_same _ _ _ _ xs (links ∙ same) owners h
 
 -- ---- on both sides
 
@@ -584,6 +617,7 @@ paired_finished cs cs1 cs2 ks ks1 ks2 xs ys i j (Forward line bytes) here links 
     (owners2 ∙ ap (λ (os : List (Option ℕ)). os ++ Some i ∷ []) owners) (paired_again (activities_of cs) (owners_of ks) xs i j left.0 left.1 here there h))
 paired_finished cs cs1 cs2 ks ks1 ks2 xs ys i j (Waits leader) here links owners links2 owners2 there left h = absurd left
 paired_finished cs cs1 cs2 ks ks1 ks2 xs ys i j Ended here links owners links2 owners2 there left h = paired_ended cs cs2 ks ks2 xs ys i j here (links2 ∙ links) (owners2 ∙ owners) left.0 left.1 h
+paired_finished cs cs1 cs2 ks ks1 ks2 xs ys i j WaitsNoMore here links owners links2 owners2 there left h = paired_ended cs cs2 ks ks2 xs ys i j here (links2 ∙ links) (owners2 ∙ owners) left.0 left.1 h
 
 -- the exchange of a request that waited has ended, on all sides
 pub paired_waited : (cs cs1 : List (Option Connection)) (os : List (Option ℕ)) (xs xs1 : List Exchange) (i : ℕ) → activity_at (activities_of cs) i ≡ Waiting → activities_of cs1 ≡ set (activities_of cs) i Free → (key : Option Scope) → xs1 ≡ exchanges_after_end key (i + 1) xs
@@ -605,6 +639,8 @@ paired_woken cs cs1 cs2 ks ks2 xs ys i (Forward line bytes) here links links2 ow
     owners2 (paired_awake (activities_of cs) (owners_of ks) xs i left.0 left.1 here there h))
 paired_woken cs cs1 cs2 ks ks2 xs ys i (Waits leader) here links links2 owners2 there left h = absurd left
 paired_woken cs cs1 cs2 ks ks2 xs ys i Ended here links links2 owners2 there left h =
+    subst (λ (os : List (Option ℕ)). ConnectionsAndLinksArePaired (activities_of cs2) os ys) (sym owners2) (paired_waited cs cs2 (owners_of ks) xs ys i here (links2 ∙ links) left.0 left.1 h)
+paired_woken cs cs1 cs2 ks ks2 xs ys i WaitsNoMore here links links2 owners2 there left h =
     subst (λ (os : List (Option ℕ)). ConnectionsAndLinksArePaired (activities_of cs2) os ys) (sym owners2) (paired_waited cs cs2 (owners_of ks) xs ys i here (links2 ∙ links) left.0 left.1 h)
 
 -- a connection was accepted, or wasn't

@@ -18,6 +18,7 @@ use Rattle.proxy_engine.specs.Executions.{ExecutionStep, Took, Worked, IsCoreEve
 use Rattle.proxy_engine.specs.Orderly.{EndedStaysEnded}
 use Rattle.proxy_engine.specs.Retired.{EventClosesOn, RetirementMarksItsConnection, EachLaterRequestCloses, OtherRequestsComeAsTheyAreAsked}
 use Rattle.proxy_engine.proofs.Staying.{takes_stay, acts_stay}
+use Rattle.proxy_engine.proofs.Asking.{taking_adds}
 
 -- ---- the mark
 
@@ -74,7 +75,7 @@ module _ (table : Table) (begin : EngineModel) (i : ℕ) (within : i < length be
   closes [] t trace h = subst (λ (u : EngineModel). Closes u trace) (sym h.0) (record { there = within; still = marked; each = subst (AllByRecursion (λ item. EventClosesOn (i + 1) item.event)) (sym h.1) tt })
   closes (Took happening ∷ steps) t trace (before, past, has_trace, leads, adds) =
       let h = closes steps before past has_trace in
-      on before t past trace (subst (EndedStaysEnded before) (sym leads.1) (takes_stay before happening)) (subst (AllByRecursion (λ item. EventClosesOn (i + 1) item.event)) (sym adds) h.each) h
+      on before t past trace (subst (EndedStaysEnded before) (sym leads.1) (takes_stay before happening)) (taking_adds (λ item. EventClosesOn (i + 1) item.event) (λ n item e. subst (EventClosesOn (i + 1)) (sym e) tt) before t happening past trace adds h.each) h
   closes (Worked now act emitted ∷ steps) t trace (before, past, has_trace, leads, inl (item, is, one)) =
       let h = closes steps before past has_trace in
       on before t past trace (acts_stay before now act emitted t leads.1)

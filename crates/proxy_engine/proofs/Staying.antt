@@ -9,10 +9,12 @@ use Rattle.hx_framing.specs.declared.messages.Next.TheVariants as next
 use Rattle.hx_framing.specs.Progress.{stream_with_piece, stream_finished}
 use Rattle.hx_hop.specs.declared.request_view.Asked.{Asked}
 use Rattle.proxy_engine.specs.Admitted.{Refusal}
-use Rattle.proxy_core.specs.State.{State as CoreState}
+use Rattle.proxy_core.specs.State.{State as CoreState, state_after}
+use Rattle.proxy_core.specs.declared.event.Event.TheVariants.{Overdue}
+use Rattle.proxy_core.specs.declared.outcome.Outcome.TheVariants.{WaitsNoMore}
 use Rattle.proxy_core.specs.declared.event.Event.{Event}
 use Rattle.proxy_script.specs.declared.effect_list.Effect.{Effect}
-use Rattle.proxy_engine.specs.Happenings.{Accepts, Sends, Hears, Ends, Leaves, Retires, Shuts, Fails}
+use Rattle.proxy_engine.specs.Happenings.{Accepts, Sends, Hears, Ends, Leaves, Retires, Overdues, Shuts, Fails}
 use Rattle.proxy_engine.specs.EngineModel.{EngineModel, ConnectionModel, LinkModel, no_connection, no_link, new_connection_model, new_link_model, connection_at, with_connection, with_link, with_core, connection_after_bytes, connection_after_end, connection_after_disconnect, connection_after_retirement, link_after_bytes, link_after_shut, link_after_failure}
 use Rattle.proxy_engine.specs.Due.{Abandons, Finishes, Wakes, Serves, Gives, Breaks}
 use Rattle.proxy_engine.specs.Acts.{OutcomeOnConnection, Replies, Forwards, Nothing, ConnectionIsServed, RequestArrives, CoreIsStepped, outcome_by_table, model_after_outcome, model_after_link_freed, with_activity, with_closed, with_dropped, with_next_passed, with_opened_link, Queues}
@@ -111,6 +113,7 @@ takes_stay s (Sends n bytes) = stays_connection s (n - 1) (connection_after_byte
 takes_stay s (Ends n) = stays_connection s (n - 1) connection_after_end (λ c e. shut_by (c.gone || c.closed) c (record c { progress = stream_finished c.progress }) refl e) (λ c e. gone_by (c.gone || c.closed) c (record c { progress = stream_finished c.progress }) (λ g. g) e) (λ c e. retired_by (c.gone || c.closed) c (record c { progress = stream_finished c.progress }) refl e)
 takes_stay s (Leaves n) = stays_connection s (n - 1) connection_after_disconnect (λ c e. shut_by c.closed c (record c { gone = true }) refl e) (λ c e. gone_by c.closed c (record c { gone = true }) (λ g. refl) e) (λ c e. retired_by c.closed c (record c { gone = true }) refl e)
 takes_stay s (Retires n) = stays_connection s (n - 1) connection_after_retirement (λ c e. e) (λ c e. e) (λ c e. refl)
+takes_stay s (Overdues n) = stays_here s (state_after s.core (Overdue n) WaitsNoMore)
 takes_stay s (Hears l bytes) = stays_link s (l - s.first) (link_after_bytes bytes) (λ k e. dropped_by (k.dropped || (is_some k.failed || k.progress.ended)) k (record k { progress = stream_with_piece k.progress bytes }) refl e)
 takes_stay s (Shuts l) = stays_link s (l - s.first) link_after_shut (λ k e. dropped_by (k.dropped || is_some k.failed) k (record k { progress = stream_finished k.progress }) refl e)
 takes_stay s (Fails l kind) = stays_link s (l - s.first) (link_after_failure kind) (λ k e. dropped_by (k.dropped || is_some k.failed) k (record k { failed = Some kind }) refl e)

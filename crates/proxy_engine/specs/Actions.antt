@@ -18,6 +18,7 @@ use Rattle.proxy_engine.specs.Admitted.{RequestIsAdmittedOrRefused}
 use Rattle.proxy_engine.specs.Due.{LinkResult, Gives, Breaks}
 use Rattle.proxy_engine.specs.declared.work.EngineFault.{EngineFault}
 use Rattle.proxy_engine.specs.declared.work.EngineFault.TheVariants.{WrongNumber, NotAccepted, OutOfMemory, Spent}
+use Rattle.proxy_engine.specs.declared.work.EngineFault.TheVariants.{NotWaiting}
 use Rattle.proxy_engine.specs.declared.steps.actions.Action.{Action}
 use Rattle.proxy_engine.specs.declared.steps.actions.Action.TheVariants as action
 
@@ -62,6 +63,7 @@ is_whole_answer (Breaks kind) = false
 abbrev pub IsFaultOfFinishing : Bool → LinkResult → EngineFault → Type 0
 IsFaultOfFinishing exhausted finish WrongNumber = ⊥
 IsFaultOfFinishing exhausted finish NotAccepted = ⊥
+IsFaultOfFinishing exhausted finish NotWaiting = ⊥
 IsFaultOfFinishing exhausted (Gives r) OutOfMemory = exhausted ≡ false
 IsFaultOfFinishing exhausted (Breaks kind) OutOfMemory = Unit {0}
 IsFaultOfFinishing exhausted (Gives r) Spent = exhausted ≡ true
@@ -72,6 +74,7 @@ outcome_needs_link (outcomes.Reply reply) = false
 outcome_needs_link (outcomes.Forward line bytes) = true
 outcome_needs_link (outcomes.Waits leader) = false
 outcome_needs_link outcomes.Ended = false
+outcome_needs_link outcomes.WaitsNoMore = false
 
 -- what an outcome leaves to do: on the link of a request that goes forward, or of one that waits
 abbrev pub acts_due_after_outcome : Outcome → ℕ
@@ -79,3 +82,4 @@ acts_due_after_outcome (outcomes.Reply reply) = 0
 acts_due_after_outcome (outcomes.Forward line bytes) = 1
 acts_due_after_outcome (outcomes.Waits leader) = 2
 acts_due_after_outcome outcomes.Ended = 0
+acts_due_after_outcome outcomes.WaitsNoMore = 0

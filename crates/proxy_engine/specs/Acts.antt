@@ -56,6 +56,7 @@ outcome_by_table table (outcomes.Reply r) = Replies r.bytes r.close
 outcome_by_table table (outcomes.Forward line bytes) = Forwards (origin_address_of_line table line) bytes
 outcome_by_table table (outcomes.Waits leader) = Queues
 outcome_by_table table outcomes.Ended = Nothing
+outcome_by_table table outcomes.WaitsNoMore = Nothing
 
 abbrev pub with_closed : Bool → ConnectionModel → ConnectionModel
 with_closed close c = record c { closed = c.closed || close }

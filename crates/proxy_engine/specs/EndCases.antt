@@ -8,6 +8,7 @@ use Rattle.hx_framing.specs.ResponseState.{State as ResponseState}
 use Rattle.hx_status.specs.declared.cause.FailKind.{FailKind}
 use Rattle.hx_status.specs.declared.cause.FailKind.TheVariants as kinds
 use Rattle.hx_allow.specs.Matching.{over_line}
+use Rattle.proxy_core.specs.declared.open.stage.Stage.TheVariants as stages
 use Rattle.proxy_core.specs.Cases.{forwarded_on_miss, get_a_with, line_with_no_cache, table}
 use Rattle.proxy_core.specs.declared.open.exchange.Exchange.{Exchange}
 use Rattle.proxy_engine.specs.Happenings.{Accepts, Leaves, Shuts, Fails}
@@ -48,6 +49,17 @@ model_with_two_lines = record model_with_two_links {
   core = record model_with_two_links.core {
     table = record table { lines = line_with_no_cache ∷ record line_with_no_cache { origin_timeout = Some 7 } ∷ [] };
     exchanges = exchange_over 1 2 ∷ exchange_over 3 1 ∷ [];
+  };
+}
+
+-- The second line lets requests wait for 3 seconds. Over it the first client's request went forward, and the second
+-- one's waits for it; the third one's does over the first line, which says nothing.
+abbrev pub model_with_waiters : EngineModel
+model_with_waiters = record model_with_two_links {
+  core = record model_with_two_links.core {
+    table = record table { lines = line_with_no_cache ∷ record line_with_no_cache { wait_timeout = Some 3 } ∷ [] };
+    exchanges = exchange_over 1 2 ∷ record (exchange_over 2 2) { stage = stages.Waiting 1 }
+        ∷ record (exchange_over 3 1) { stage = stages.Waiting 1 } ∷ [];
   };
 }
 

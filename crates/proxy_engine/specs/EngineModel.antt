@@ -11,14 +11,19 @@ use Rattle.hx_framing.specs.declared.messages.Request.{Request}
 use Rattle.hx_framing.specs.declared.messages.Response.{Response}
 use Rattle.hx_framing.specs.Progress.{Progress, no_stream, stream_with_piece, stream_finished}
 use Rattle.hx_status.specs.declared.cause.FailKind.{FailKind}
-use Rattle.proxy_core.specs.State.{State as CoreState}
+use Rattle.proxy_core.specs.Leading.{is_waiting}
+use Rattle.proxy_core.specs.Outcomes.{find_exchange}
+use Rattle.proxy_core.specs.declared.event.Event.TheVariants.{Overdue}
+use Rattle.proxy_core.specs.declared.open.exchange.Exchange.{Exchange}
+use Rattle.proxy_core.specs.declared.outcome.Outcome.TheVariants.{WaitsNoMore}
+use Rattle.proxy_core.specs.State.{State as CoreState, state_after}
 use Rattle.proxy_engine.specs.ConnectionNumbers.{connection_number, connection_place, link_place}
-use Rattle.proxy_engine.specs.Happenings.{PlainHappening, Accepts, Sends, Hears, Ends, Leaves, Retires, Shuts}
+use Rattle.proxy_engine.specs.Happenings.{PlainHappening, Accepts, Sends, Hears, Ends, Leaves, Retires, Overdues, Shuts}
 use Rattle.proxy_engine.specs.Happenings.{Fails}
 use Rattle.proxy_engine.specs.declared.endpoints.activities.Activity.{Activity}
 use Rattle.proxy_engine.specs.declared.endpoints.activities.Activity.TheVariants.{Free}
 use Rattle.proxy_engine.specs.declared.work.EngineFault.{EngineFault}
-use Rattle.proxy_engine.specs.declared.work.EngineFault.TheVariants.{WrongNumber, NotAccepted}
+use Rattle.proxy_engine.specs.declared.work.EngineFault.TheVariants.{WrongNumber, NotAccepted, NotWaiting}
 
 pub record ConnectionModel : Type 0 where
   pub progress : Progress Request
@@ -80,6 +85,11 @@ connection_fault count n = if nat_lt 0 n && nat_le n count then None else Some N
 abbrev pub link_fault : ℕ → ℕ → ℕ → Option EngineFault
 link_fault first count l = if nat_le first l && nat_lt (link_place first l) count then None else Some WrongNumber
 
+-- it doesn't wait for the answer to another
+abbrev pub fault_if_none_waits : Option Exchange → Option EngineFault
+fault_if_none_waits None = Some NotWaiting
+fault_if_none_waits (Some x) = if is_waiting x.stage then None else Some NotWaiting
+
 -- why a happening isn't taken
 abbrev pub happening_fault : EngineModel → PlainHappening → Option EngineFault
 happening_fault s (Accepts n) = if n == connection_number (length s.connections) then None else Some WrongNumber
@@ -87,6 +97,7 @@ happening_fault s (Sends n bytes) = connection_fault (length s.connections) n
 happening_fault s (Ends n) = connection_fault (length s.connections) n
 happening_fault s (Leaves n) = connection_fault (length s.connections) n
 happening_fault s (Retires n) = connection_fault (length s.connections) n
+happening_fault s (Overdues n) = fault_if_none_waits (find_exchange n s.core.exchanges)
 happening_fault s (Hears l bytes) = link_fault s.first (length s.links) l
 happening_fault s (Shuts l) = link_fault s.first (length s.links) l
 happening_fault s (Fails l kind) = link_fault s.first (length s.links) l
@@ -133,6 +144,7 @@ happening_is_kept s (Hears l bytes) = keeps_answer (link_at s (link_place s.firs
 happening_is_kept s (Ends n) = false
 happening_is_kept s (Leaves n) = false
 happening_is_kept s (Retires n) = false
+happening_is_kept s (Overdues n) = false
 happening_is_kept s (Shuts l) = false
 happening_is_kept s (Fails l kind) = false
 
@@ -169,6 +181,7 @@ model_after_happening s (Sends n bytes) = with_connection s (connection_place n)
 model_after_happening s (Ends n) = with_connection s (connection_place n) connection_after_end
 model_after_happening s (Leaves n) = with_connection s (connection_place n) connection_after_disconnect
 model_after_happening s (Retires n) = with_connection s (connection_place n) connection_after_retirement
+model_after_happening s (Overdues n) = with_core s (state_after s.core (Overdue n) WaitsNoMore)
 model_after_happening s (Hears l bytes) = with_link s (link_place s.first l) (link_after_bytes bytes)
 model_after_happening s (Shuts l) = with_link s (link_place s.first l) link_after_shut
 model_after_happening s (Fails l kind) = with_link s (link_place s.first l) (link_after_failure kind)

@@ -3,10 +3,11 @@
 -- ExecutionStep, StepsLead: steps one after another, the latest first     effects_of_steps: what they did
 -- IsCoreEventOfAct, ActAsksCoreNothing: what an act asks the core, or that it asks nothing
 -- IsItemOfAct, IsEffectsWithoutCoreStep: a step of the core with its effects, or effects without one
+-- core_event_of_happening, TakingAddsToTrace: what is taken asks the core nothing, or is its step of the core
 -- StepAddsToTrace, StepsHaveTrace: each act is its step of the core, and has its effects
 -- StepsAreAGoodRun: the steps of the core are a good run
 -- ActIsDoneInOneWay, StepsHaveOneTrace, ExecutionsAreRuns: the laws
-use Rattle.std.specs.Prelude.{◌≡◌, ◌⊎◌, ℕ, List, [], ◌∷◌, ◌++◌, Bool, true, None, Some, Ok, Err}
+use Rattle.std.specs.Prelude.{◌≡◌, ◌⊎◌, ℕ, List, [], ◌∷◌, ◌++◌, Bool, true, Option, None, Some, Ok, Err}
 use Rattle.hx_allow.specs.TableLines.{Table}
 use Rattle.hx_framing.specs.declared.messages.Next.TheVariants as next
 use Rattle.hx_framing.specs.Text.{continue_text}
@@ -24,7 +25,8 @@ use Rattle.proxy_script.specs.declared.effect_list.Effect.{Effect}
 use Rattle.proxy_script.specs.declared.effect_list.Effect.TheVariants as effects
 use Rattle.proxy_engine.specs.ConnectionNumbers.{connection_number, link_number}
 use Rattle.proxy_engine.specs.Admitted.{Refusal, RequestIsAdmittedOrRefused, RequestIsHandedOver}
-use Rattle.proxy_engine.specs.Happenings.{PlainHappening}
+use Rattle.proxy_engine.specs.Happenings.{PlainHappening, Accepts, Sends, Hears, Ends, Leaves, Retires, Overdues}
+use Rattle.proxy_engine.specs.Happenings.{Shuts, Fails}
 use Rattle.proxy_engine.specs.EngineModel.{EngineModel, connection_at, link_at, model_after_happening}
 use Rattle.proxy_engine.specs.EngineModel.{happening_fault}
 use Rattle.proxy_engine.specs.Due.{Act, Abandons, Finishes, Wakes, Serves, Gives, Breaks, IsDueFirst}
@@ -117,9 +119,27 @@ pub data IsEffectsWithoutCoreStep (now place : ℕ) (emitted : List Effect) : Ty
       → IsEffectsWithoutCoreStep now place emitted
   Closes : emitted ≡ effects.Close (connection_number place) ∷ [] → IsEffectsWithoutCoreStep now place emitted
 
+-- what is taken asks the core nothing, but that a request has waited as long as it is to wait
+abbrev pub core_event_of_happening : PlainHappening → Option Event
+core_event_of_happening (Accepts n) = None
+core_event_of_happening (Sends n bytes) = None
+core_event_of_happening (Hears l bytes) = None
+core_event_of_happening (Ends n) = None
+core_event_of_happening (Leaves n) = None
+core_event_of_happening (Retires n) = None
+core_event_of_happening (Overdues n) = Some (events.Overdue n)
+core_event_of_happening (Shuts l) = None
+core_event_of_happening (Fails l kind) = None
+
+-- the core took that step, whose item is the next of the trace; where it is asked nothing the trace stays
+abbrev pub TakingAddsToTrace : EngineModel → Option Event → EngineModel → List Item → List Item → Type 0
+TakingAddsToTrace s None after past trace = trace ≡ past
+TakingAddsToTrace s (Some event) after past trace =
+    (item : Item) × (trace ≡ item ∷ past) × (item.event ≡ event) × StepIsAccepted s.core event item.outcome after.core
+
 -- a step from this model to the next did the next item of the trace, or no step of the core
 abbrev pub StepAddsToTrace : Table → EngineModel → ExecutionStep → EngineModel → List Item → List Item → Type 0
-StepAddsToTrace table s (Took h) after past trace = trace ≡ past
+StepAddsToTrace table s (Took h) after past trace = TakingAddsToTrace s (core_event_of_happening h) after past trace
 StepAddsToTrace table s (Worked now act emitted) after past trace =
     ((item : Item) × (trace ≡ item ∷ past) × IsItemOfAct table s now act item emitted after)
     ⊎ ((trace ≡ past) × ActAsksCoreNothing act × IsEffectsWithoutCoreStep now (connection_place_of_act s act) emitted)

@@ -58,6 +58,7 @@ EventHasFinalStatus (events.Arrive now id asked) = Unit {0}
 EventHasFinalStatus (events.Fail now id kind) = Unit {0}
 EventHasFinalStatus (events.Wake now id) = Unit {0}
 EventHasFinalStatus (events.Abandon id) = Unit {0}
+EventHasFinalStatus (events.Overdue id) = Unit {0}
 
 -- whatever act is due
 abbrev pub EachActIsSpelled : Type 0

@@ -8,6 +8,7 @@ pub use Rattle.proxy_script.specs.Happenings.{
   Ends,
   Leaves,
   Retires,
+  Overdues,
   Shuts,
   Fails,
   plain_happening,
@@ -21,5 +22,6 @@ happening_takes_memory (Hears l bytes) = true
 happening_takes_memory (Ends n) = false
 happening_takes_memory (Leaves n) = false
 happening_takes_memory (Retires n) = false
+happening_takes_memory (Overdues n) = false
 happening_takes_memory (Shuts l) = false
 happening_takes_memory (Fails l kind) = false

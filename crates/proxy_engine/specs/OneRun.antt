@@ -1,7 +1,7 @@
 -- What a run refuses: what the steps of an engine didn't do. So `StepsAreAGoodRun` is met by what was done, and by
 -- nothing beside it.
 --
--- moment_of_event: of an event     count_of_acts: how many acts are among steps
+-- moment_of_event: of an event     count_of_core_steps: how many of these steps may be steps of the core
 -- RunHasNoOtherEffects and what follows it: the statements
 use Rattle.std.specs.Prelude.{◌≡◌, ◌≢◌, ℕ, ◌+◌, ◌≤◌, List, [], ◌∷◌, length, Option, Some, None}
 use Rattle.hx_allow.specs.TableLines.{Table}
@@ -14,6 +14,7 @@ use Rattle.proxy_engine.specs.Happenings.{PlainHappening}
 use Rattle.proxy_engine.specs.EngineModel.{EngineModel, happening_fault}
 use Rattle.proxy_engine.specs.Due.{Act}
 use Rattle.proxy_engine.specs.Executions.{ExecutionStep, Took, Worked, StepsHaveTrace, IsItemOfAct, StepsAreAGoodRun}
+use Rattle.proxy_engine.specs.Executions.{core_event_of_happening}
 
 abbrev pub moment_of_event : Event → Option ℕ
 moment_of_event (events.Arrive now id asked) = Some now
@@ -21,11 +22,18 @@ moment_of_event (events.Answer now id response) = Some now
 moment_of_event (events.Fail now id kind) = Some now
 moment_of_event (events.Wake now id) = Some now
 moment_of_event (events.Abandon id) = None
+moment_of_event (events.Overdue id) = None
 
-abbrev pub count_of_acts : List ExecutionStep → ℕ
-count_of_acts [] = 0
-count_of_acts (Took happening ∷ past) = count_of_acts past
-count_of_acts (Worked now act emitted ∷ past) = count_of_acts past + 1
+abbrev pub count_of_events : Option Event → ℕ
+count_of_events None = 0
+count_of_events (Some event) = 1
+
+-- each act, and what is taken where it asks the core
+abbrev pub count_of_core_steps : List ExecutionStep → ℕ
+count_of_core_steps [] = 0
+count_of_core_steps (Took happening ∷ past) =
+    count_of_core_steps past + count_of_events (core_event_of_happening happening)
+count_of_core_steps (Worked now act emitted ∷ past) = count_of_core_steps past + 1
 
 -- effects that the act didn't tell: one more, one less, another end, other bytes, another order
 abbrev pub RunHasNoOtherEffects : Type 0
@@ -61,11 +69,11 @@ RunHasNoUntakenHappening =
     StepsHaveTrace table begin past before trace → happening_fault before happening ≢ None
     → StepsAreAGoodRun table start first begin (Took happening ∷ past) last → ⊥
 
--- items that no act did: there are no more than acts
+-- items that nothing did: there are no more than acts, and happenings that ask the core
 abbrev pub RunHasNoMoreItems : Type 0
 RunHasNoMoreItems =
     (table : Table) (begin last : EngineModel) (steps : List ExecutionStep) (trace : List Item)
-    → StepsHaveTrace table begin steps last trace → length trace ≤ count_of_acts steps
+    → StepsHaveTrace table begin steps last trace → length trace ≤ count_of_core_steps steps
 
 -- and none where nothing was done
 abbrev pub RunHasNoItemWithoutStep : Type 0

@@ -12,7 +12,7 @@ use Rattle.proxy_core.specs.Leading.{is_forwarded}
 use Rattle.proxy_core.specs.Outcomes.{find_exchange}
 use Rattle.proxy_core.specs.declared.open.exchange.Exchange.{Exchange}
 use Rattle.proxy_core.specs.declared.outcome.Outcome.{Outcome}
-use Rattle.proxy_core.specs.declared.outcome.Outcome.TheVariants.{Reply, Forward, Waits, Ended}
+use Rattle.proxy_core.specs.declared.outcome.Outcome.TheVariants.{Reply, Forward, Waits, Ended, WaitsNoMore}
 use Rattle.proxy_engine.specs.ConnectionNumbers.{connection_number, link_place}
 use Rattle.proxy_engine.specs.Activities.{link_place_of_activity, forwarded_or_waiting}
 use Rattle.proxy_engine.specs.State.{State}
@@ -37,6 +37,7 @@ activities_after i n (Reply r) activities = activities
 activities_after i n (Forward line bytes) activities = slice_set activities i (Forwarded n)
 activities_after i n (Waits leader) activities = slice_set activities i Waiting
 activities_after i n Ended activities = activities
+activities_after i n WaitsNoMore activities = activities
 
 -- the connections of the links
 abbrev pub owners_after : ℕ → Outcome → List (Option ℕ) → List (Option ℕ)
@@ -44,6 +45,7 @@ owners_after i (Reply r) owners = owners
 owners_after i (Forward line bytes) owners = owners ++ Some i ∷ []
 owners_after i (Waits leader) owners = owners
 owners_after i Ended owners = owners
+owners_after i WaitsNoMore owners = owners
 
 -- what the connection at a place does; beyond the list none has an exchange
 abbrev pub activity_at : List Activity → ℕ → Activity

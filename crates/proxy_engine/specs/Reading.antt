@@ -6,12 +6,15 @@
 -- end_may_send: whether bytes may come from an end
 -- IsBetweenRequests: a client is between two requests
 -- link_of_connection: the link on which the request of a client went forward
+-- wait_timeout_of_client: for how long the request of a client waits for the answer to another
 -- line_of_link, origin_timeout_of_link: the line over which the request of a link went forward, and what it says
 use Rattle.std.specs.Prelude.{◌≡◌, ℕ, ◌+◌, ◌^◌, List, [], ◌∷◌, ◌++◌, map, length, Bool, true, false, ◌&&◌, ◌||◌}
 use Rattle.std.specs.Prelude.{not, nat_lt, nat_le, Option, None, Some, is_some, if◌then◌else◌}
 use Rattle.std.specs.Option.{option_and_then, option_map}
-use Rattle.hx_allow.specs.Matching.{origin_timeout_of}
+use Rattle.hx_allow.specs.Matching.{origin_timeout_of, wait_timeout_of}
+use Rattle.hx_allow.specs.TableLines.{Line}
 use Rattle.hx_framing.specs.RequestStream.{StreamSpells}
+use Rattle.proxy_core.specs.Leading.{is_waiting}
 use Rattle.proxy_core.specs.Outcomes.{find_exchange}
 use Rattle.proxy_core.specs.declared.open.exchange.Exchange.{Exchange}
 use Rattle.proxy_engine.specs.ConnectionNumbers.{connection_number, connection_place, link_number, link_place}
@@ -102,6 +105,14 @@ line_of_owner exchanges (Some i) = line_of_exchange (find_exchange (connection_n
 -- the line over which the request that is open on the link of this number went forward
 abbrev pub line_of_link : EngineModel → ℕ → Option ℕ
 line_of_link s l = line_of_owner s.core.exchanges (owner_of_number s l)
+
+-- for how many seconds the request of an open exchange waits for the answer to another, where it does, by these lines
+abbrev pub wait_timeout_of_exchange : List Line → Option Exchange → Option ℕ
+wait_timeout_of_exchange lines None = None
+wait_timeout_of_exchange lines (Some x) = if is_waiting x.stage then wait_timeout_of lines x.line.number else None
+
+abbrev pub wait_timeout_of_client : EngineModel → ℕ → Option ℕ
+wait_timeout_of_client s n = wait_timeout_of_exchange s.core.table.lines (find_exchange n s.core.exchanges)
 
 -- for how many seconds the origin of that link may send no byte, where this line says so
 abbrev pub origin_timeout_of_link : EngineModel → ℕ → Option ℕ

@@ -14,7 +14,7 @@ use Rattle.proxy_core.specs.declared.event.Event.TheVariants as events
 use Rattle.proxy_core.specs.Traces.{Item}
 use Rattle.proxy_engine.specs.ConnectionNumbers.{connection_number, connection_place}
 use Rattle.proxy_engine.specs.Admitted.{RequestIsAdmittedOrRefused}
-use Rattle.proxy_engine.specs.Happenings.{Retires}
+use Rattle.proxy_engine.specs.Happenings.{Retires, Overdues}
 use Rattle.proxy_engine.specs.EngineModel.{EngineModel, connection_at, happening_fault, model_after_happening}
 use Rattle.proxy_engine.specs.Due.{Serves}
 use Rattle.proxy_engine.specs.Executions.{ExecutionStep, IsCoreEventOfAct, StepsHaveTrace}
@@ -26,6 +26,7 @@ EventClosesOn n (events.Answer now id response) = Unit {0}
 EventClosesOn n (events.Fail now id kind) = Unit {0}
 EventClosesOn n (events.Wake now id) = Unit {0}
 EventClosesOn n (events.Abandon id) = Unit {0}
+EventClosesOn n (events.Overdue id) = Unit {0}
 
 -- ---- the statements
 

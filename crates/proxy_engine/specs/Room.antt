@@ -6,7 +6,7 @@
 -- RoomIsGivenBack, ConnectionRoomIsGivenBack, ClientRoomIsGivenBack: no room is kept where no byte waits
 use Rattle.std.specs.Prelude.{◌≡◌, ℕ, ◌≤◌, ◌^◌, ◌⊎◌, List, [], length, true, Option, None, Some, slice_index_or}
 use Rattle.proxy_engine.specs.ConnectionNumbers.{connection_number, connection_place, link_place}
-use Rattle.proxy_engine.specs.Happenings.{PlainHappening, Accepts, Sends, Hears, Ends, Leaves, Retires, Shuts}
+use Rattle.proxy_engine.specs.Happenings.{PlainHappening, Accepts, Sends, Hears, Ends, Leaves, Retires, Overdues, Shuts}
 use Rattle.proxy_engine.specs.Happenings.{Fails}
 use Rattle.proxy_engine.specs.State.{State}
 use Rattle.proxy_engine.specs.declared.endpoints.ends.Connection.{Connection}
@@ -35,6 +35,7 @@ HappeningFindsMemory e (Hears l bytes) = LinkHasSpare (slice_index_or e.links (l
 HappeningFindsMemory e (Ends n) = Unit {0}
 HappeningFindsMemory e (Leaves n) = Unit {0}
 HappeningFindsMemory e (Retires n) = Unit {0}
+HappeningFindsMemory e (Overdues n) = Unit {0}
 HappeningFindsMemory e (Shuts l) = Unit {0}
 HappeningFindsMemory e (Fails l kind) = Unit {0}
 

@@ -35,6 +35,7 @@ use Rattle.proxy_engine.specs.declared.endpoints.ends.Connection.{Connection}
 use Rattle.proxy_engine.specs.declared.endpoints.ends.Link.{Link}
 use Rattle.proxy_engine.specs.declared.work.EngineFault.{EngineFault}
 use Rattle.proxy_engine.specs.declared.work.EngineFault.TheVariants.{WrongNumber, NotAccepted, OutOfMemory, Spent}
+use Rattle.proxy_engine.specs.declared.work.EngineFault.TheVariants.{NotWaiting}
 use Rattle.proxy_script.specs.declared.effect_list.Effect.{Effect}
 use Rattle.proxy_engine.specs.declared.work.Work.{Work}
 use Rattle.proxy_engine.specs.declared.work.Work.TheVariants as work
@@ -245,6 +246,7 @@ FirstDueActWasDone s now (work.Did effects) new = (act : Act) × IsDueFirst s (S
 abbrev pub NoActWasDoneSince : EngineModel → EngineFault → Type 0
 NoActWasDoneSince s WrongNumber = ⊥
 NoActWasDoneSince s NotAccepted = ⊥
+NoActWasDoneSince s NotWaiting = ⊥
 NoActWasDoneSince s OutOfMemory = Unit {0}
 NoActWasDoneSince s Spent = (act : Act) × IsDueFirst s (Some act) × ActMayForward act × (2 ^ 64 ≤ next_link_number s)
 

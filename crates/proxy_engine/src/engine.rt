@@ -11,7 +11,9 @@ ghost use Rattle.proxy_engine.specs.Reading.{readable_ends_of, failed_links, ope
 ghost use Rattle.proxy_engine.specs.Reading.{next_connection_number, end_may_send, IsBetweenRequests};
 ghost use Rattle.proxy_engine.specs.Pairing.{owner_kept};
 ghost use Rattle.proxy_engine.specs.Reading.{link_of_connection, line_of_exchange, line_of_link};
-ghost use Rattle.proxy_engine.specs.Reading.{origin_timeout_of_link};
+ghost use Rattle.proxy_core.specs.Leading.{is_waiting};
+ghost use Rattle.proxy_engine.specs.Happenings.{Overdues};
+ghost use Rattle.proxy_engine.specs.Reading.{origin_timeout_of_link, wait_timeout_of_client, wait_timeout_of_exchange};
 ghost use Rattle.proxy_engine.specs.Room.{HappeningFindsMemory, NextHappeningFindsMemory, ClientRoomIsGivenBack};
 ghost use Rattle.proxy_engine.specs.State.{State, EngineRepresents, EngineTakesHappening, IsFaultOfTaking};
 ghost use Rattle.proxy_engine.specs.State.{new_engine_model};
@@ -24,7 +26,7 @@ use crate::takes;
 use crate::work::{End, EngineFault};
 use hx_allow::Config;
 use hx_store::Shelf;
-use proxy_core::Core;
+use proxy_core::{Core, Stage};
 use proxy_script::Happening;
 use std::alloc::{AllocError, Global};
 use std::marker::Model;
@@ -36,6 +38,30 @@ fn line_of_exchange<S: Shelf>(core: &Core<S>, id: u64) -> Option<u16>
     match core.exchange(id) {
         Some(exchange) => Some(exchange.line.number),
         None => None,
+    }
+}
+
+/// For how many seconds the request of an exchange waits for the answer to another, where it does.
+fn wait_timeout_of_exchange<S: Shelf>(core: &Core<S>, id: u64) -> Option<u32>
+    ensures { result ≡ wait_timeout_of_exchange core.now.table.lines (find_exchange id core.now.exchanges) }
+{
+    let Some(exchange) = core.exchange(id) else {
+        return None;
+    };
+    if is_waiting(exchange.stage) {
+        core.config().wait_timeout(exchange.line.number)
+    } else {
+        None
+    }
+}
+
+/// Whether a request waits for the answer to another.
+fn is_waiting(stage: Stage) -> bool
+    ensures { result ≡ is_waiting stage }
+{
+    match stage {
+        Stage::Waiting(_) => true,
+        Stage::Forwarded | Stage::Released => false,
     }
 }
 
@@ -173,6 +199,7 @@ impl<S: Shelf> Engine<S> {
             Happening::End(n) => takes::finish_client(&mut self.ends.connections, n),
             Happening::Gone(n) => takes::disconnect_client(&mut self.ends.connections, n),
             Happening::Retire(n) => takes::retire_client(&mut self.ends.connections, n),
+            Happening::Overdue(n) => self.overdue(n),
             Happening::Shut(l) => takes::shut_link(&mut self.ends.links, self.ends.first_link, l),
             Happening::Fail(l, kind) => takes::break_link(
                 &mut self.ends.links,
@@ -181,6 +208,30 @@ impl<S: Shelf> Engine<S> {
                 kind,
             ),
         }
+    }
+
+    /// The request of a client has waited for the answer to another as long as it is to wait.
+    fn overdue(&mut self, n: u64) -> Result<(), EngineFault>
+        ensures ok { OnOk result ((s : EngineModel) → EngineRepresents self.old s → EngineTakesHappening s
+            (Overdues n) self.new) }
+        ensures fault { IfErr result (λ fault. (s : EngineModel) → EngineRepresents self.old s
+            → IsFaultOfTaking s (Overdues n) fault) }
+        ensures memory { IfErr result (λ fault. fault ≡ EngineFault.NotWaiting) }
+        ensures unchanged { OnErr result (self.new ≡ self.old) }
+    {
+        match self.core.overdue(n) {
+            Ok(_) => {}
+            Err(_) => return Err(EngineFault::NotWaiting),
+        }
+        Ok(())
+    }
+
+    /// The seconds for which the request of a client waits for the answer to another, where it does and the line over
+    /// which it came says so.
+    pub fn wait_timeout(&self, n: u64) -> Option<u32>
+        ensures { (s : EngineModel) → EngineRepresents self.now s → result ≡ wait_timeout_of_client s n }
+    {
+        wait_timeout_of_exchange(&self.core, n)
     }
 
     /// Makes room, so that the next `take` of that end finds its memory: of an accept for the listener, of at most

@@ -20,6 +20,7 @@ mod run_laws;
 pub use end_cases::{
     worked_actions, worked_activities, worked_lines_of_links, worked_loads, worked_lookaheads,
     worked_marks, worked_numbers, worked_open_connections, worked_readable_ends,
+    worked_waits_of_clients,
 };
 use hx_framing::laws::response_laws::what_is_read_is_final;
 use hx_hop::laws::a_request_is_asked_in_one_way;

@@ -4,7 +4,7 @@ ghost use Rattle.std.specs.Prelude.{List, length, true, false, is_some, IsOk, If
 ghost use Rattle.std.specs.Prelude.{OnErr, Option, Some, None, Err, MatchOption, slice_index_or};
 ghost use Rattle.proxy_core.specs.State.{State as CoreState};
 ghost use Rattle.proxy_engine.specs.ConnectionNumbers.{connection_number, connection_place, link_place};
-ghost use Rattle.proxy_engine.specs.Happenings.{Accepts, Sends, Hears, Ends, Leaves, Retires, Shuts, Fails};
+ghost use Rattle.proxy_engine.specs.Happenings.{Accepts, Sends, Hears, Ends, Leaves, Retires, Overdues, Shuts, Fails};
 ghost use Rattle.proxy_engine.specs.EngineModel.{EngineModel, ConnectionModel, LinkModel, connection_after_bytes};
 ghost use Rattle.proxy_engine.specs.EngineModel.{connection_after_end, connection_after_disconnect};
 ghost use Rattle.proxy_engine.specs.EngineModel.{connection_after_retirement, link_after_bytes};

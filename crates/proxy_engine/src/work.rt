@@ -21,6 +21,8 @@ pub enum EngineFault {
     OutOfMemory,
     /// The act may need a link, and the last number is used.
     Spent,
+    /// A connection whose request doesn't wait for the answer to another, or that was never accepted.
+    NotWaiting,
 }
 
 /// What one call of `work` did.

@@ -20,6 +20,7 @@ use Rattle.proxy_engine.specs.FinalAnswers.{LinkSpellsAnswer, ConnectionSpellsRe
 use Rattle.proxy_engine.specs.Executions.{Took, Worked, IsCoreEventOfAct}
 use Rattle.proxy_engine.proofs.FinalAnswers.{acts_are_spelled}
 use Rattle.proxy_engine_laws.specs.OneMessageEach.{CoreIsHandedWhatWasRead}
+use Rattle.proxy_engine.proofs.Asking.{taking_adds}
 
 read_answer : (k : LinkModel) (r : Response) → LinkSpellsAnswer k r → WasReadFromAStream r
 read_answer k r is = record { max_body = k.progress.max_body; to_head = k.progress.to_head; ended = k.progress.ended; bytes = k.progress.stream; rest = is.rest; reads = is.reads }
@@ -59,7 +60,7 @@ event_read s now (Serves i next.End) event due is = absurd is
 pub hands_what_was_read : CoreIsHandedWhatWasRead
 hands_what_was_read table begin last [] trace h = subst EventsWereRead (sym h.1) tt
 hands_what_was_read table begin last (Took happening ∷ steps) trace (before, past, has_trace, leads, adds) =
-    subst EventsWereRead (sym adds) (hands_what_was_read table begin before steps past has_trace)
+    taking_adds (λ item. EventWasRead item.event) (λ n item e. subst EventWasRead (sym e) tt) before last happening past trace adds (hands_what_was_read table begin before steps past has_trace)
 hands_what_was_read table begin last (Worked now act emitted ∷ steps) trace (before, past, has_trace, leads, inl (item, is, one)) =
     subst EventsWereRead (sym is) (event_read before now act item.event leads.0 one.event_is, hands_what_was_read table begin before steps past has_trace)
 hands_what_was_read table begin last (Worked now act emitted ∷ steps) trace (before, past, has_trace, leads, inr (same, none, own)) =

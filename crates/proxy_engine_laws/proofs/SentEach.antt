@@ -120,6 +120,7 @@ module _ (table : Table) (now : ℕ) (h : Bool) where
       All-cons (IsSent table.name now h) (effects.Forward number (origin_address_of_line table line) bytes) [] (record { forwarded = one; answered = λ early. tt }) (All-nil (IsSent table.name now h))
   came_sent i number (outcomes.Waits leader) one = All-nil (IsSent table.name now h)
   came_sent i number outcomes.Ended one = All-nil (IsSent table.name now h)
+  came_sent i number outcomes.WaitsNoMore one = All-nil (IsSent table.name now h)
 
   continue_sent : (n : ℕ) (emitted : List Effect) → emitted ≡ effects.Client n continue_text ∷ [] → All (IsSent table.name now h) emitted
   continue_sent n emitted is =

@@ -292,6 +292,7 @@ as_many s (happening.Hears l bytes) = set_many s.links (l - s.first) _
 as_many s (happening.Ends n) = refl
 as_many s (happening.Leaves n) = refl
 as_many s (happening.Retires n) = refl
+as_many s (happening.Overdues n) = refl
 as_many s (happening.Shuts l) = set_many s.links (l - s.first) _
 as_many s (happening.Fails l kind) = set_many s.links (l - s.first) _
 

@@ -86,6 +86,7 @@ refuses_by s now h (Some f) fault is refusal other = inl (is ∙ ap Some (sym re
 refused_by : (s : EngineModel) (now : ℕ) (h : Happening) (fault : EngineFault) → IsFaultOfTaking s h fault → PlayingItemFails s now (Some h) [] (replay_fault_of_engine_fault fault)
 refused_by s now h engine.WrongNumber refusal = (h, refl, refuses_by s now h (happening_fault s h) engine.WrongNumber refl refusal (λ e. cc), refl)
 refused_by s now h engine.NotAccepted refusal = (h, refl, refuses_by s now h (happening_fault s h) engine.NotAccepted refl refusal (λ e. cc), refl)
+refused_by s now h engine.NotWaiting refusal = (h, refl, refuses_by s now h (happening_fault s h) engine.NotWaiting refl refusal (λ e. cc), refl)
 refused_by s now h engine.OutOfMemory refusal = refl
 refused_by s now h engine.Spent refusal = (h, refl, refuses_by s now h (happening_fault s h) engine.Spent refl refusal (λ e. cc), refl)
 
@@ -95,6 +96,7 @@ untaken s now h fault old refusal = record { written = []; appends = Appends-nil
 breaks_by : (s : EngineModel) (now : ℕ) (h : Happening) (fault : EngineFault) → happening_fault s h ≡ None → PlayBreaksOff (model_after_happening s h) now fault → PlayingItemFails s now (Some h) [] (replay_fault_of_engine_fault fault)
 breaks_by s now h engine.WrongNumber free breaks = absurd breaks.failed
 breaks_by s now h engine.NotAccepted free breaks = absurd breaks.failed
+breaks_by s now h engine.NotWaiting free breaks = absurd breaks.failed
 breaks_by s now h engine.OutOfMemory free breaks = refl
 breaks_by s now h engine.Spent free breaks = (h, refl, inr (refl, free, breaks), refl)
 

@@ -59,6 +59,7 @@ engine_fault_line engine.WrongNumber = codes "engine fault 1"
 engine_fault_line engine.NotAccepted = codes "engine fault 2"
 engine_fault_line engine.OutOfMemory = codes "no memory"
 engine_fault_line engine.Spent = codes "engine fault 4"
+engine_fault_line engine.NotWaiting = codes "engine fault 5"
 
 -- the line, without its LF
 abbrev pub fault_line : ReplayFault → List ℕ

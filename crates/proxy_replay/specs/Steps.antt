@@ -36,6 +36,7 @@ replay_fault_of_config_fault fault = faults.Config fault
 abbrev pub replay_fault_of_engine_fault : EngineFault → ReplayFault
 replay_fault_of_engine_fault engine.WrongNumber = faults.Engine engine.WrongNumber
 replay_fault_of_engine_fault engine.NotAccepted = faults.Engine engine.NotAccepted
+replay_fault_of_engine_fault engine.NotWaiting = faults.Engine engine.NotWaiting
 replay_fault_of_engine_fault engine.OutOfMemory = faults.OutOfMemory
 replay_fault_of_engine_fault engine.Spent = faults.Engine engine.Spent
 

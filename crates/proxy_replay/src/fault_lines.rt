@@ -87,6 +87,7 @@ fn engine_text(fault: EngineFault) -> &'static str
         EngineFault::NotAccepted => "engine fault 2",
         EngineFault::OutOfMemory => "no memory",
         EngineFault::Spent => "engine fault 4",
+        EngineFault::NotWaiting => "engine fault 5",
     }
 }
 

@@ -55,6 +55,7 @@ impl ReplayFault {
         match fault {
             EngineFault::WrongNumber => ReplayFault::Engine(EngineFault::WrongNumber),
             EngineFault::NotAccepted => ReplayFault::Engine(EngineFault::NotAccepted),
+            EngineFault::NotWaiting => ReplayFault::Engine(EngineFault::NotWaiting),
             EngineFault::OutOfMemory => ReplayFault::OutOfMemory,
             EngineFault::Spent => ReplayFault::Engine(EngineFault::Spent),
         }

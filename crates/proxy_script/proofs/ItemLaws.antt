@@ -7,7 +7,7 @@ use Rattle.proxy_script.specs.ScriptLines.{line_text, LineHasSpelling, is_config
 use Rattle.proxy_script.specs.Happenings as happening
 use Rattle.proxy_script.specs.Script.{PlainItem, Table, Moment, Happens, line_of_item, block_of_item, item_spelling, ItemHasSpelling, ItemMayStandHere, Found, Whole, Short, Bad, block_in_front, item_reading_with_block, item_of_line, item_of_line_if_any, item_after_line_end, item_in_front}
 use Rattle.proxy_script.specs.declared.line_parser.ItemLine.{ItemLine}
-use Rattle.proxy_script.specs.declared.line_parser.ItemLine.TheVariants.{Config, At, Accept, Client, Link, End, Gone, Retire, Shut, Fail}
+use Rattle.proxy_script.specs.declared.line_parser.ItemLine.TheVariants.{Config, At, Accept, Client, Link, End, Gone, Retire, Overdue, Shut, Fail}
 use Rattle.proxy_script.proofs.NumberLaws.{cut_found, cut_again}
 use Rattle.proxy_script.proofs.LineLaws.{line_one_line, placed_again, placed_found}
 
@@ -32,6 +32,7 @@ said_again (Happens (happening.Hears l bytes)) rest = ap (item_reading_with_bloc
 said_again (Happens (happening.Ends n)) rest = refl
 said_again (Happens (happening.Leaves n)) rest = refl
 said_again (Happens (happening.Retires n)) rest = refl
+said_again (Happens (happening.Overdues n)) rest = refl
 said_again (Happens (happening.Shuts l)) rest = refl
 said_again (Happens (happening.Fails l kind)) rest = refl
 
@@ -86,6 +87,7 @@ behind_found (Link l len) bytes rest h e = block_found (λ b. Happens (happening
 behind_found (End n) bytes rest h e = plain_found (Happens (happening.Ends n)) h bytes rest refl e
 behind_found (Gone n) bytes rest h e = plain_found (Happens (happening.Leaves n)) h bytes rest refl e
 behind_found (Retire n) bytes rest h e = plain_found (Happens (happening.Retires n)) h bytes rest refl e
+behind_found (Overdue n) bytes rest h e = plain_found (Happens (happening.Overdues n)) h bytes rest refl e
 behind_found (Shut l) bytes rest h e = plain_found (Happens (happening.Shuts l)) h bytes rest refl e
 behind_found (Fail l kind) bytes rest h e = plain_found (Happens (happening.Fails l kind)) h bytes rest refl e
 

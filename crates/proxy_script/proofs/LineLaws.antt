@@ -16,7 +16,7 @@ use Rattle.hx_status.specs.Refusals.{fail_kind_word}
 use Rattle.hx_status.specs.declared.cause.FailKind.{FailKind}
 use Rattle.hx_status.specs.declared.cause.FailKind.TheVariants.{Refused, TimedOut, Closed, BadAnswer, TooLarge}
 use Rattle.proxy_script.specs.declared.line_parser.ItemLine.{ItemLine}
-use Rattle.proxy_script.specs.declared.line_parser.ItemLine.TheVariants.{Config, At, Accept, Client, Link, End, Gone, Retire, Shut, Fail}
+use Rattle.proxy_script.specs.declared.line_parser.ItemLine.TheVariants.{Config, At, Accept, Client, Link, End, Gone, Retire, Overdue, Shut, Fail}
 use Rattle.proxy_script.proofs.NumberLaws.{cut_found, cut_again, lacks, lacks-append, lacks_decimal, number_found, number_again, same_pair}
 
 -- what is found passes the test
@@ -37,6 +37,7 @@ word_again word.Link = refl
 word_again word.End = refl
 word_again word.Gone = refl
 word_again word.Retire = refl
+word_again word.Overdue = refl
 word_again word.Shut = refl
 word_again word.Fail = refl
 
@@ -56,6 +57,7 @@ word_lacks word.Link = refl
 word_lacks word.End = refl
 word_lacks word.Gone = refl
 word_lacks word.Retire = refl
+word_lacks word.Overdue = refl
 word_lacks word.Shut = refl
 word_lacks word.Fail = refl
 
@@ -68,6 +70,7 @@ word_one_line word.Link = refl
 word_one_line word.End = refl
 word_one_line word.Gone = refl
 word_one_line word.Retire = refl
+word_one_line word.Overdue = refl
 word_one_line word.Shut = refl
 word_one_line word.Fail = refl
 
@@ -105,6 +108,7 @@ rest_one_line (Link n len) fits = lacks-append 10 (decimal n) (32 ∷ decimal le
 rest_one_line (End n) fits = lacks_decimal 10 n (omega arith) fits
 rest_one_line (Gone n) fits = lacks_decimal 10 n (omega arith) fits
 rest_one_line (Retire n) fits = lacks_decimal 10 n (omega arith) fits
+rest_one_line (Overdue n) fits = lacks_decimal 10 n (omega arith) fits
 rest_one_line (Shut n) fits = lacks_decimal 10 n (omega arith) fits
 rest_one_line (Fail n f) fits = lacks-append 10 (decimal n) (32 ∷ fail_kind_word f) (lacks_decimal 10 n (omega arith) fits.0) (failure_one_line f)
 
@@ -129,6 +133,7 @@ with_again (Link n len) fits = ap (option_map (λ p. Link p.0 p.1)) (two_again n
 with_again (End n) fits = rw (number_again n fits) refl
 with_again (Gone n) fits = rw (number_again n fits) refl
 with_again (Retire n) fits = rw (number_again n fits) refl
+with_again (Overdue n) fits = rw (number_again n fits) refl
 with_again (Shut n) fits = rw (number_again n fits) refl
 with_again (Fail n f) fits = ap (option_map (λ p. Fail p.0 p.1)) (failing_again n f fits.0 fits.1)
 
@@ -226,6 +231,7 @@ with_found word.Link bs h e = pair_found Link word.Link (two_numbers bs) bs h re
 with_found word.End bs h e = one_found End (number_of bs) bs word.End h refl (λ n. refl) (λ n k. k) e
 with_found word.Gone bs h e = one_found Gone (number_of bs) bs word.Gone h refl (λ n. refl) (λ n k. k) e
 with_found word.Retire bs h e = one_found Retire (number_of bs) bs word.Retire h refl (λ n. refl) (λ n k. k) e
+with_found word.Overdue bs h e = one_found Overdue (number_of bs) bs word.Overdue h refl (λ n. refl) (λ n k. k) e
 with_found word.Shut bs h e = one_found Shut (number_of bs) bs word.Shut h refl (λ n. refl) (λ n k. k) e
 with_found word.Fail bs h e = failing_found (number_and_failure bs) bs h refl e
 

@@ -11,6 +11,7 @@ pub data PlainHappening : Type 0 where
   Ends : (n : ℕ) → PlainHappening
   Leaves : (n : ℕ) → PlainHappening
   Retires : (n : ℕ) → PlainHappening
+  Overdues : (n : ℕ) → PlainHappening
   Shuts : (l : ℕ) → PlainHappening
   Fails : (l : ℕ) (kind : FailKind) → PlainHappening
 
@@ -21,5 +22,6 @@ plain_happening (happenings.Link l bytes) = Hears l bytes.now
 plain_happening (happenings.End n) = Ends n
 plain_happening (happenings.Gone n) = Leaves n
 plain_happening (happenings.Retire n) = Retires n
+plain_happening (happenings.Overdue n) = Overdues n
 plain_happening (happenings.Shut l) = Shuts l
 plain_happening (happenings.Fail l kind) = Fails l kind

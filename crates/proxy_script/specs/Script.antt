@@ -12,7 +12,7 @@ use Rattle.proxy_script.specs.Happenings.{PlainHappening as Happening}
 use Rattle.proxy_script.specs.Happenings as happening
 use Rattle.proxy_script.specs.declared.line_parser.ItemLine.{ItemLine}
 use Rattle.proxy_script.specs.declared.line_parser.ItemLine.TheVariants.{Config, At, Accept, Client, Link, End, Gone}
-use Rattle.proxy_script.specs.declared.line_parser.ItemLine.TheVariants.{Retire, Shut, Fail}
+use Rattle.proxy_script.specs.declared.line_parser.ItemLine.TheVariants.{Retire, Overdue, Shut, Fail}
 use Rattle.proxy_script.specs.declared.items.Item.{Item}
 use Rattle.proxy_script.specs.declared.items.Item.TheVariants as item
 use Rattle.proxy_script.specs.declared.parser.FrontItem.{FrontItem}
@@ -35,6 +35,7 @@ line_of_item (Happens (happening.Hears l bytes)) = Link l (length bytes)
 line_of_item (Happens (happening.Ends n)) = End n
 line_of_item (Happens (happening.Leaves n)) = Gone n
 line_of_item (Happens (happening.Retires n)) = Retire n
+line_of_item (Happens (happening.Overdues n)) = Overdue n
 line_of_item (Happens (happening.Shuts l)) = Shut l
 line_of_item (Happens (happening.Fails l kind)) = Fail l kind
 
@@ -48,6 +49,7 @@ block_of_item (Happens (happening.Hears l bytes)) = bytes ++ 10 ∷ []
 block_of_item (Happens (happening.Ends n)) = []
 block_of_item (Happens (happening.Leaves n)) = []
 block_of_item (Happens (happening.Retires n)) = []
+block_of_item (Happens (happening.Overdues n)) = []
 block_of_item (Happens (happening.Shuts l)) = []
 block_of_item (Happens (happening.Fails l kind)) = []
 
@@ -98,6 +100,7 @@ item_of_line (Link l len) rest = item_reading_with_block (λ bytes. Happens (hap
 item_of_line (End n) rest = Found (Happens (happening.Ends n)) rest
 item_of_line (Gone n) rest = Found (Happens (happening.Leaves n)) rest
 item_of_line (Retire n) rest = Found (Happens (happening.Retires n)) rest
+item_of_line (Overdue n) rest = Found (Happens (happening.Overdues n)) rest
 item_of_line (Shut l) rest = Found (Happens (happening.Shuts l)) rest
 item_of_line (Fail l kind) rest = Found (Happens (happening.Fails l kind)) rest
 

@@ -12,7 +12,7 @@ use Rattle.hx_status.specs.declared.cause.FailKind.{FailKind}
 use Rattle.hx_status.specs.declared.cause.FailKind.TheVariants.{Refused, TimedOut, Closed, BadAnswer, TooLarge}
 use Rattle.proxy_script.specs.declared.line_parser.ItemLine.{ItemLine}
 use Rattle.proxy_script.specs.declared.line_parser.ItemLine.TheVariants.{Config, At, Accept, Client, Link, End, Gone}
-use Rattle.proxy_script.specs.declared.line_parser.ItemLine.TheVariants.{Retire, Shut, Fail}
+use Rattle.proxy_script.specs.declared.line_parser.ItemLine.TheVariants.{Retire, Overdue, Shut, Fail}
 
 abbrev pub word_text : Word → List ℕ
 word_text word.Config = codes "config"
@@ -23,13 +23,14 @@ word_text word.Link = codes "link"
 word_text word.End = codes "end"
 word_text word.Gone = codes "gone"
 word_text word.Retire = codes "retire"
+word_text word.Overdue = codes "overdue"
 word_text word.Shut = codes "shut"
 word_text word.Fail = codes "fail"
 
 abbrev pub words : List Word
 words =
-    word.Config ∷ word.At ∷ word.Accept ∷ word.Client ∷ word.Link ∷ word.End ∷ word.Gone ∷ word.Retire ∷ word.Shut
-    ∷ word.Fail ∷ []
+    word.Config ∷ word.At ∷ word.Accept ∷ word.Client ∷ word.Link ∷ word.End ∷ word.Gone ∷ word.Retire
+    ∷ word.Overdue ∷ word.Shut ∷ word.Fail ∷ []
 
 -- how a link fails by itself; the other kinds are what the proxy makes of an answer
 abbrev pub link_failures : List FailKind
@@ -51,6 +52,7 @@ word_of_line (Link l len) = word.Link
 word_of_line (End n) = word.End
 word_of_line (Gone n) = word.Gone
 word_of_line (Retire n) = word.Retire
+word_of_line (Overdue n) = word.Overdue
 word_of_line (Shut l) = word.Shut
 word_of_line (Fail l kind) = word.Fail
 
@@ -64,6 +66,7 @@ text_behind_word (Link l len) = decimal l ++ 32 ∷ decimal len
 text_behind_word (End n) = decimal n
 text_behind_word (Gone n) = decimal n
 text_behind_word (Retire n) = decimal n
+text_behind_word (Overdue n) = decimal n
 text_behind_word (Shut l) = decimal l
 text_behind_word (Fail l kind) = decimal l ++ 32 ∷ fail_kind_word kind
 
@@ -81,6 +84,7 @@ LineHasSpelling (Link l len) = (l < 2 ^ 64) × (len < 2 ^ 64)
 LineHasSpelling (End n) = n < 2 ^ 64
 LineHasSpelling (Gone n) = n < 2 ^ 64
 LineHasSpelling (Retire n) = n < 2 ^ 64
+LineHasSpelling (Overdue n) = n < 2 ^ 64
 LineHasSpelling (Shut l) = l < 2 ^ 64
 LineHasSpelling (Fail l kind) = (l < 2 ^ 64) × IsLinkFailure kind
 
@@ -114,6 +118,7 @@ line_behind_word word.Link rest = option_map (λ p. Link p.0 p.1) (two_numbers r
 line_behind_word word.End rest = option_map End (number_of rest)
 line_behind_word word.Gone rest = option_map Gone (number_of rest)
 line_behind_word word.Retire rest = option_map Retire (number_of rest)
+line_behind_word word.Overdue rest = option_map Overdue (number_of rest)
 line_behind_word word.Shut rest = option_map Shut (number_of rest)
 line_behind_word word.Fail rest = option_map (λ p. Fail p.0 p.1) (number_and_failure rest)
 

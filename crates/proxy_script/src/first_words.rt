@@ -16,6 +16,7 @@ pub enum Word {
     End,
     Gone,
     Retire,
+    Overdue,
     Shut,
     Fail,
 }
@@ -40,6 +41,8 @@ pub fn word_of(text: &[u8]) -> Option<Word>
         Some(Word::Gone)
     } else if text == b"retire".as_slice() {
         Some(Word::Retire)
+    } else if text == b"overdue".as_slice() {
+        Some(Word::Overdue)
     } else if text == b"shut".as_slice() {
         Some(Word::Shut)
     } else if text == b"fail".as_slice() {

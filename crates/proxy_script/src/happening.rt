@@ -17,6 +17,8 @@ pub enum Happening<'a> {
     Gone(u64),
     /// The proxy wants to end a client's connection: its next request is the last one that is read.
     Retire(u64),
+    /// The request of a client has waited for the answer to another as long as it is to wait.
+    Overdue(u64),
     /// The origin on this link closed it.
     Shut(u64),
     /// A link failed before its answer was whole: the kind is `Refused`, `TimedOut` or `Closed`.

@@ -20,6 +20,7 @@ pub enum ItemLine {
     End(u64),
     Gone(u64),
     Retire(u64),
+    Overdue(u64),
     Shut(u64),
     Fail(u64, FailKind),
 }
@@ -70,6 +71,7 @@ fn line_behind_word(word: Word, rest: &[u8]) -> Option<ItemLine>
         Word::End => ItemLine::End(number_of(rest)?),
         Word::Gone => ItemLine::Gone(number_of(rest)?),
         Word::Retire => ItemLine::Retire(number_of(rest)?),
+        Word::Overdue => ItemLine::Overdue(number_of(rest)?),
         Word::Shut => ItemLine::Shut(number_of(rest)?),
         Word::Fail => {
             let (l, kind) = number_and_failure(rest)?;

@@ -71,6 +71,7 @@ fn item_of_line(header: ItemLine, rest: &[u8]) -> FrontItem<'_>
         ItemLine::End(n) => front_with_happening(Happening::End(n), rest),
         ItemLine::Gone(n) => front_with_happening(Happening::Gone(n), rest),
         ItemLine::Retire(n) => front_with_happening(Happening::Retire(n), rest),
+        ItemLine::Overdue(n) => front_with_happening(Happening::Overdue(n), rest),
         ItemLine::Shut(l) => front_with_happening(Happening::Shut(l), rest),
         ItemLine::Fail(l, kind) => front_with_happening(Happening::Fail(l, kind), rest),
     }

@@ -17,6 +17,7 @@ pub fn worked_items_are_spelled()
     ensures ends { item_spelling (Happens (happening.Ends 1)) ≡ codes "end 1\n" }
     ensures leaves { item_spelling (Happens (happening.Leaves 1)) ≡ codes "gone 1\n" }
     ensures retires { item_spelling (Happens (happening.Retires 1)) ≡ codes "retire 1\n" }
+    ensures overdue { item_spelling (Happens (happening.Overdues 1)) ≡ codes "overdue 1\n" }
     ensures shuts { item_spelling (Happens (happening.Shuts 2)) ≡ codes "shut 2\n" }
     ensures refused { item_spelling (Happens (happening.Fails 2 Refused)) ≡ codes "fail 2 refused\n" }
     ensures timed_out { item_spelling (Happens (happening.Fails 2 TimedOut)) ≡ codes "fail 2 timed-out\n" }
@@ -39,6 +40,7 @@ pub fn worked_items_are_read()
     ensures ends { item_in_front false (codes "end 1\n") ≡ Found (Happens (happening.Ends 1)) [] }
     ensures leaves { item_in_front false (codes "gone 1\n") ≡ Found (Happens (happening.Leaves 1)) [] }
     ensures retires { item_in_front false (codes "retire 1\n") ≡ Found (Happens (happening.Retires 1)) [] }
+    ensures overdue { item_in_front false (codes "overdue 1\n") ≡ Found (Happens (happening.Overdues 1)) [] }
     ensures shuts { item_in_front false (codes "shut 2\n") ≡ Found (Happens (happening.Shuts 2)) [] }
     ensures refused { item_in_front false (codes "fail 2 refused\n") ≡ Found (Happens (happening.Fails 2 Refused)) [] }
     ensures timed_out { item_in_front false (codes "fail 2 timed-out\n") ≡ Found (Happens (happening.Fails 2 TimedOut)) [] }

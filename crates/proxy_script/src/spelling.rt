@@ -23,6 +23,7 @@ fn word_text(word: Word) -> &'static [u8]
         Word::End => b"end",
         Word::Gone => b"gone",
         Word::Retire => b"retire",
+        Word::Overdue => b"overdue",
         Word::Shut => b"shut",
         Word::Fail => b"fail",
     }
@@ -52,6 +53,7 @@ fn word_of_line(header: ItemLine) -> Word
         ItemLine::End(_) => Word::End,
         ItemLine::Gone(_) => Word::Gone,
         ItemLine::Retire(_) => Word::Retire,
+        ItemLine::Overdue(_) => Word::Overdue,
         ItemLine::Shut(_) => Word::Shut,
         ItemLine::Fail(_, _) => Word::Fail,
     }
@@ -79,6 +81,7 @@ fn push_text_behind_word(text: &mut Vec<u8>, header: ItemLine) -> Result<(), All
         ItemLine::End(n) => push_number(text, n),
         ItemLine::Gone(n) => push_number(text, n),
         ItemLine::Retire(n) => push_number(text, n),
+        ItemLine::Overdue(n) => push_number(text, n),
         ItemLine::Shut(l) => push_number(text, l),
         ItemLine::Fail(l, kind) => {
             push_number(text, l)?;
@@ -110,6 +113,7 @@ fn line_of_item(item: Item<'_>) -> ItemLine
         Item::Happens(Happening::End(n)) => ItemLine::End(n),
         Item::Happens(Happening::Gone(n)) => ItemLine::Gone(n),
         Item::Happens(Happening::Retire(n)) => ItemLine::Retire(n),
+        Item::Happens(Happening::Overdue(n)) => ItemLine::Overdue(n),
         Item::Happens(Happening::Shut(l)) => ItemLine::Shut(l),
         Item::Happens(Happening::Fail(l, kind)) => ItemLine::Fail(l, kind),
     }

@@ -14,7 +14,7 @@ use Rattle.proxy_core.specs.Traces.{initial_state as core_begun}
 use Rattle.proxy_core.specs.declared.event.Event.{Event}
 use Rattle.proxy_script.specs.declared.effect_list.Effect.{Effect}
 use Rattle.proxy_engine.specs.Admitted.{Refusal}
-use Rattle.proxy_engine.specs.Happenings.{PlainHappening, Accepts, Sends, Hears, Ends, Leaves, Retires, Shuts, Fails}
+use Rattle.proxy_engine.specs.Happenings.{PlainHappening, Accepts, Sends, Hears, Ends, Leaves, Retires, Overdues, Shuts, Fails}
 use Rattle.proxy_engine.specs.EngineModel.{EngineModel, model_after_happening, with_core}
 use Rattle.proxy_engine.specs.Due.{Act, Abandons, Finishes, Wakes, Serves, Gives, Breaks}
 use Rattle.proxy_engine.specs.Acts.{ActIsDone, CoreIsStepped, RequestIsRefused, ConnectionIsClosed, ConnectionIsServed, RequestArrives, OutcomeOnConnection, Replies, Forwards, Queues, Nothing, outcome_by_table, model_after_outcome}
@@ -37,13 +37,14 @@ kept_core k = (k.table, k.limit)
 abbrev kept : EngineModel → Table × ℕ
 kept s = kept_core s.core
 
-core_heard : (s : EngineModel) (h : PlainHappening) → (model_after_happening s h).core ≡ s.core
+core_heard : (s : EngineModel) (h : PlainHappening) → kept_core (model_after_happening s h).core ≡ kept_core s.core
 core_heard s (Accepts n) = refl
 core_heard s (Sends n bytes) = refl
 core_heard s (Hears l bytes) = refl
 core_heard s (Ends n) = refl
 core_heard s (Leaves n) = refl
 core_heard s (Retires n) = refl
+core_heard s (Overdues n) = refl
 core_heard s (Shuts l) = refl
 core_heard s (Fails l kind) = refl
 
@@ -93,7 +94,7 @@ does_keep s now (Serves i action) emitted after done = by_action action done
 executes_keep : (s : EngineModel) (steps : List ExecutionStep) (t : EngineModel) → StepsLead s steps t → kept t ≡ kept s
 executes_keep s [] t here = ap kept here
 executes_keep s (Took h ∷ past) t executes =
-    ap kept executes.2.1 ∙ (ap kept_core (core_heard executes.0 h) ∙ executes_keep s past executes.0 executes.1)
+    ap kept executes.2.1 ∙ (core_heard executes.0 h ∙ executes_keep s past executes.0 executes.1)
 executes_keep s (Worked now act emitted ∷ past) t executes = does_keep executes.0 now act emitted t executes.2.1 ∙ executes_keep s past executes.0 executes.1
 
 -- an engine that stands for what was lived from a beginning by this table has that table

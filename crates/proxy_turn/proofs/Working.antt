@@ -137,6 +137,7 @@ module _ (now : ℕ) (s : EngineModel) (e : State) (gone : List End) (did : List
       reports : (fault : EngineFault) → NoActWasDoneSince done.some.last fault → ActsReport done.rounds done.some.last (Err (turn_fault_of_engine_fault fault))
       reports engine.WrongNumber failed = absurd failed
       reports engine.NotAccepted failed = absurd failed
+      reports engine.NotWaiting failed = absurd failed
       reports engine.OutOfMemory failed = tt
       reports engine.Spent failed = failed
 

@@ -29,6 +29,7 @@ use Rattle.proxy_turn.specs.declared.report.TurnFault.TheVariants as faults
 abbrev pub turn_fault_of_engine_fault : EngineFault → TurnFault
 turn_fault_of_engine_fault engine.WrongNumber = faults.NoMemory
 turn_fault_of_engine_fault engine.NotAccepted = faults.NoMemory
+turn_fault_of_engine_fault engine.NotWaiting = faults.NoMemory
 turn_fault_of_engine_fault engine.OutOfMemory = faults.NoMemory
 turn_fault_of_engine_fault engine.Spent = faults.Spent
 

@@ -12,6 +12,7 @@ use Rattle.hx_allow.specs.TableLines.{Table}
 use Rattle.hx_store.specs.Stored.{Stored}
 use Rattle.proxy_engine.specs.Beginnings.{MayBeHeldAtFirst, begun_model, store_with}
 use Rattle.proxy_engine.specs.Happenings.{PlainHappening, Accepts, Sends, Hears, Ends, Leaves, Retires, Shuts, Fails}
+use Rattle.proxy_engine.specs.Happenings.{Overdues}
 use Rattle.proxy_engine.specs.EngineModel.{EngineModel}
 use Rattle.proxy_engine.specs.Orderly.{ModelIsOrderly}
 use Rattle.proxy_engine.specs.Executions.{ExecutionStep, Took, StepsLead, StepsAreAGoodRun}
@@ -79,7 +80,7 @@ EngineGoesOn e new = (s : EngineModel) → EngineRepresents e s → ModelIsOrder
 
 -- ---- a turn of a server
 
--- a client went away or is to end, or a link failed
+-- a client went away, is to end, or has waited as long as it is to wait, or a link failed
 abbrev pub IsLostEnd : PlainHappening → Type 0
 IsLostEnd (Accepts n) = ⊥
 IsLostEnd (Sends n bytes) = ⊥
@@ -87,6 +88,7 @@ IsLostEnd (Hears l bytes) = ⊥
 IsLostEnd (Ends n) = ⊥
 IsLostEnd (Leaves n) = Unit {0}
 IsLostEnd (Retires n) = Unit {0}
+IsLostEnd (Overdues n) = Unit {0}
 IsLostEnd (Shuts l) = ⊥
 IsLostEnd (Fails l kind) = Unit {0}
 
@@ -95,8 +97,8 @@ abbrev pub steps_of_taking : List PlainHappening → List ExecutionStep → List
 steps_of_taking [] past = past
 steps_of_taking (h ∷ hs) past = steps_of_taking hs (Took h ∷ past)
 
--- clients that went away or are to end and links that failed were taken, one after another, and nothing else was taken
--- or done
+-- clients that went away, are to end or have waited long enough, and links that failed were taken, one after another,
+-- and nothing else was taken or done
 pub record LossesAreTaken (s : EngineModel) (e : State) : Type 0 where
   pub lost : List PlainHappening
   pub are_losses : AllByRecursion IsLostEnd lost

@@ -5,7 +5,7 @@ ghost use Rattle.std.specs.Prelude.{◌≡◌, ◌∷◌, [], Some, None, true, 
 ghost use Rattle.hx_allow.specs.Addresses.{address_of_numbers};
 ghost use Rattle.hx_status.specs.declared.cause.FailKind.TheVariants as kinds;
 ghost use Rattle.proxy_script.specs.declared.effect_list.Effect.TheVariants as effects;
-ghost use Rattle.proxy_engine.specs.Happenings.{Accepts, Sends, Hears, Ends, Leaves, Retires, Shuts, Fails};
+ghost use Rattle.proxy_engine.specs.Happenings.{Accepts, Sends, Hears, Ends, Leaves, Retires, Overdues, Shuts, Fails};
 ghost use Rattle.proxy_engine.specs.Due.{Wakes};
 ghost use Rattle.proxy_engine.specs.Executions.{Took, Worked};
 ghost use Rattle.proxy_engine.specs.declared.work.End.TheVariants as ends;
@@ -96,6 +96,7 @@ pub fn a_turn_refuses_what_is_not_done()
     ensures answers_are_no_loss { IsLostEnd (Hears 5 (codes "x")) → ⊥ }
     ensures a_connection_is_no_loss { IsLostEnd (Accepts 1) → ⊥ }
     ensures who_is_to_end_is_one { IsLostEnd (Retires 1) }
+    ensures who_is_overdue_is_one { IsLostEnd (Overdues 1) }
     ensures an_end_is_no_loss { IsLostEnd (Ends 1) → ⊥ }
     ensures a_shut_link_is_no_loss { IsLostEnd (Shuts 5) → ⊥ }
 {}

@@ -39,20 +39,22 @@ use Rattle.proxy_core.specs.Outcomes.{find_exchange, exchange_id_of_event, fault
 use Rattle.proxy_core.specs.Promises.{is_arrival_event, outcome_ends_exchange, outcome_goes_forward}
 use Rattle.proxy_core.specs.Replies.{is_head}
 use Rattle.proxy_core.specs.Scopes.{Scope, is_in_scope}
-use Rattle.proxy_core.specs.State.{State as CoreState, state_after, released_exchange, overtaken_exchange, forwarded_exchange, waiting_exchange}
+use Rattle.proxy_core.specs.State.{State as CoreState, state_after, released_exchange, overtaken_exchange, forwarded_exchange, waiting_exchange, StepIsAccepted, exchange_past_its_wait}
+use Rattle.proxy_core.specs.TraceMeaning.{opens_an_exchange}
+use Rattle.proxy_engine.proofs.Asking.{overdue_steps}
 use Rattle.proxy_core.specs.Starts.{StoreAtStart}
 use Rattle.proxy_core.specs.Traces.{initial_state as core_begun}
 use Rattle.proxy_core.proofs.SentBeside.{led_over, sent_over, unless_sent}
 use Rattle.proxy_core.proofs.ExchangeLists.{changed_by}
-use Rattle.proxy_core.proofs.Moves.{Move, apart, opens, queues, passes, again, wakes, closes, move_of, out_again, woken_form, forward_goes_on, is_either, answer_either}
+use Rattle.proxy_core.proofs.Moves.{Move, apart, opens, queues, passes, again, wakes, closes, lapses, move_of, out_again, woken_form, forward_goes_on, is_either, answer_either}
 use Rattle.proxy_script.specs.declared.effect_list.Effect.{Effect}
 use Rattle.proxy_script.specs.declared.effect_list.Effect.TheVariants as effects
 use Rattle.proxy_engine.specs.Activities.{has_exchange, link_place_of_activity, forwarded_or_waiting}
 use Rattle.proxy_engine.specs.Acts.{OutcomeOnConnection, Replies, Forwards, Queues, Nothing, outcome_by_table, effects_of_outcome, model_after_outcome, next_link_number, CoreIsStepped, RequestIsRefused, ConnectionIsClosed, RequestArrives, ConnectionIsServed, ActIsDone, drop_effects}
 use Rattle.proxy_engine.specs.Admitted.{Refusal, RequestIsAdmittedOrRefused, asked_on_connection}
 use Rattle.proxy_engine.specs.Due.{Act, Abandons, Finishes, Wakes, Serves, Gives, Breaks, IsDueFirst, ConnectionActionUnlessBusy, takes_no_request}
-use Rattle.proxy_engine.specs.EngineModel.{EngineModel, ConnectionModel, no_connection, connection_at, link_at, with_core, model_after_happening}
-use Rattle.proxy_engine.specs.Happenings.{PlainHappening, Accepts, Sends, Hears, Ends, Leaves, Retires, Shuts, Fails}
+use Rattle.proxy_engine.specs.EngineModel.{EngineModel, ConnectionModel, no_connection, connection_at, link_at, with_core, happening_fault, model_after_happening}
+use Rattle.proxy_engine.specs.Happenings.{PlainHappening, Accepts, Sends, Hears, Ends, Leaves, Retires, Overdues, Shuts, Fails}
 use Rattle.proxy_engine.specs.Orderly.{ModelIsOrderly, activity_of_model, EndedStaysEnded, NewModelIsOrderly, HappeningKeepsOrder, ActKeepsOrder, HappeningKeepsEnded, ActKeepsEnded}
 use Rattle.proxy_engine.specs.Pairing.{activity_at}
 use Rattle.proxy_engine.specs.State.{new_engine_model}
@@ -69,6 +71,7 @@ told_by (outcomes.Reply r) = ReplyWent r.bytes ∷ []
 told_by (outcomes.Forward line bytes) = []
 told_by (outcomes.Waits leader) = []
 told_by outcomes.Ended = []
+told_by outcomes.WaitsNoMore = []
 
 off_more : (p i : ℕ) → (p == i) ≡ false → (p + 1 == i + 1) ≡ false
 off_more p i off = grind (arith, nat_tests)
@@ -86,12 +89,14 @@ told_here i n table (outcomes.Reply r) = client_told (i + 1) (i + 1) r.bytes r.c
 told_here i n table (outcomes.Forward line bytes) = refl
 told_here i n table (outcomes.Waits leader) = refl
 told_here i n table outcomes.Ended = refl
+told_here i n table outcomes.WaitsNoMore = refl
 
 told_away : (i p n : ℕ) (table : Table) (o : Outcome) → (p == i) ≡ false → replies_to (i + 1) (effects_of_outcome p n (outcome_by_table table o)) ≡ []
 told_away i p n table (outcomes.Reply r) off = client_told (i + 1) (p + 1) r.bytes r.close false (off_more p i off)
 told_away i p n table (outcomes.Forward line bytes) off = refl
 told_away i p n table (outcomes.Waits leader) off = refl
 told_away i p n table outcomes.Ended off = refl
+told_away i p n table outcomes.WaitsNoMore off = refl
 
 drops_silent : (n first : ℕ) (l : Option ℕ) (es : List Effect) → replies_to n (drop_effects first l ++ es) ≡ replies_to n es
 drops_silent n first None es = refl
@@ -104,6 +109,7 @@ is_end (outcomes.Reply r) = false
 is_end (outcomes.Forward line bytes) = false
 is_end (outcomes.Waits leader) = false
 is_end outcomes.Ended = true
+is_end outcomes.WaitsNoMore = true
 
 arrival_tells : (table : Table) (es : List Stored) (xs : List Exchange) (now : ℕ) (asked : Asked) (v : Verdict) → is_end (outcome_of_arrival table es xs now asked v) ≡ false
 arrival_tells table es xs now asked (verdict.Allowed line) = by_decision (decision_of (policy_of table.lines line) es asked now)
@@ -131,6 +137,7 @@ either_tells (outcomes.Reply r) h = refl
 either_tells (outcomes.Forward line bytes) h = refl
 either_tells (outcomes.Waits leader) h = refl
 either_tells outcomes.Ended h = absurd (false≢true h)
+either_tells outcomes.WaitsNoMore h = absurd (false≢true h)
 
 answer_tells : (table : Table) (es : List Stored) (xs : List Exchange) (next_serial : Option ℕ) (now id : ℕ) (r : Response) (w : Option Exchange) → fault_at_exchange w (events.Answer now id r) ≡ None → is_end (outcome_of table es xs w next_serial (events.Answer now id r)) ≡ false
 answer_tells table es xs next_serial now id r None a = absurd (cc)
@@ -196,12 +203,15 @@ module _ (G : Type 0) (id now : ℕ) (asked : Asked) (r : Request) (v x y : Opti
   waiting (outcomes.Waits leader) e z same is =
       record { standing = Awaited; stands = (refl, stands); last = (r, said, z, refl, is, subst (λ (a : Asked). RequestCameAs r a) (sym same) admitted); gone = λ e. absurd (cc) }
   waiting outcomes.Ended e z same is = absurd (false≢true (sym e))
+  waiting outcomes.WaitsNoMore e z same is =
+      record { standing = Awaited; stands = (refl, stands); last = (r, said, z, refl, is, subst (λ (a : Asked). RequestCameAs r a) (sym same) admitted); gone = λ e. absurd (cc) }
 
-  answered : (o : Outcome) → outcome_ends_exchange o ≡ true → is_end o ≡ false → y ≡ None → After o
+  answered : (o : Outcome) → opens_an_exchange o ≡ false → is_end o ≡ false → y ≡ None → After o
   answered (outcomes.Reply p) e tells is = record { standing = Answered; stands = (refl, (refl, stands)); last = is; gone = λ e. absurd (cc) }
-  answered (outcomes.Forward line bytes) e tells is = absurd (false≢true e)
-  answered (outcomes.Waits leader) e tells is = absurd (false≢true e)
+  answered (outcomes.Forward line bytes) e tells is = absurd (false≢true (sym e))
+  answered (outcomes.Waits leader) e tells is = absurd (false≢true (sym e))
   answered outcomes.Ended e tells is = absurd (false≢true (sym tells))
+  answered outcomes.WaitsNoMore e tells is = absurd (false≢true (sym tells))
 
   arrives_here : (o : Outcome) → is_end o ≡ false → Move id v (events.Arrive now id asked) o x y → After o
   arrives_here o tells (apart n e) = absurd (false≢true (sym n ∙ eq-eqb id id refl))
@@ -215,6 +225,7 @@ module _ (G : Type 0) (id now : ℕ) (asked : Asked) (r : Request) (v x y : Opti
   arrives_here o tells (again z now2 t a xi c g yi j f) = absurd (false≢true (sym a))
   arrives_here o tells (wakes table es z now2 ev xi st g yi) = absurd (cc)
   arrives_here o tells (closes z t a xi en yn) = absurd (false≢true (sym a))
+  arrives_here o tells (lapses z ev xi st f yi) = absurd (cc)
 
 -- the open exchange goes on, or is answered
 module _ (G : Type 0) (id : ℕ) (event : Event) (v x y : Option Exchange) (said : List Said) (own : exchange_id_of_event event ≡ id) (late : is_arrival_event event ≡ false) (here : Here G said x) where
@@ -227,12 +238,16 @@ module _ (G : Type 0) (id : ℕ) (event : Event) (v x y : Option Exchange) (said
       let f = awaited_there G said x z here xi in
       record { standing = Awaited; stands = f.stands; last = (f.request, f.past, z2, f.said_is, yi, subst (λ (a : Asked). RequestCameAs f.request a) (sym same) f.admitted); gone = λ e. absurd (cc) }
   waits_on outcomes.Ended e z z2 xi same yi = absurd (false≢true (sym e))
+  waits_on outcomes.WaitsNoMore e z z2 xi same yi =
+      let f = awaited_there G said x z here xi in
+      record { standing = Awaited; stands = f.stands; last = (f.request, f.past, z2, f.said_is, yi, subst (λ (a : Asked). RequestCameAs f.request a) (sym same) f.admitted); gone = λ e. absurd (cc) }
 
   is_answered : (o : Outcome) → outcome_ends_exchange o ≡ true → is_end o ≡ false → (z : Exchange) → x ≡ Some z → y ≡ None → Here G (told_by o ++ said) y
   is_answered (outcomes.Reply p) e tells z xi yn = record { standing = Answered; stands = (refl, (awaited_there G said x z here xi).stands); last = yn; gone = λ e. absurd (cc) }
   is_answered (outcomes.Forward line bytes) e tells z xi yn = absurd (false≢true e)
   is_answered (outcomes.Waits leader) e tells z xi yn = absurd (false≢true e)
   is_answered outcomes.Ended e tells z xi yn = absurd (false≢true (sym tells))
+  is_answered outcomes.WaitsNoMore e tells z xi yn = absurd (false≢true e)
 
   later_here : (o : Outcome) → is_end o ≡ false → Move id v event o x y → Here G (told_by o ++ said) y
   later_here o tells (apart n e) = absurd (false≢true (sym n ∙ eq-eqb (exchange_id_of_event event) id own))
@@ -242,6 +257,18 @@ module _ (G : Type 0) (id : ℕ) (event : Event) (v x y : Option Exchange) (said
   later_here o tells (again z now2 t a xi c g yi j f) = waits_on o (forward_goes_on o g) z (out_again now2 z) xi refl yi
   later_here o tells (wakes table es z now2 ev xi st g yi) = waits_on o (forward_goes_on o g) z (woken_form table es now2 z) xi refl yi
   later_here o tells (closes z t a xi en yn) = is_answered o en tells z xi yn
+  later_here o tells (lapses z ev xi st f yi) = waits_on o (ap outcome_ends_exchange f) z (exchange_past_its_wait z) xi refl yi
+
+  -- it waits no more
+  overdue_here : Move id v event outcomes.WaitsNoMore x y → Here G said y
+  overdue_here (apart n e) = absurd (false≢true (sym n ∙ eq-eqb (exchange_id_of_event event) id own))
+  overdue_here (opens table es now2 asked2 line ev xn goes yi) = absurd (false≢true (sym late ∙ ap is_arrival_event ev))
+  overdue_here (queues table es now2 asked2 line leader ev xn oi li yi) = absurd (false≢true (sym late ∙ ap is_arrival_event ev))
+  overdue_here (passes t a xn en yn) = absurd (false≢true (sym late ∙ a))
+  overdue_here (again z now2 t a xi c g yi j f) = absurd (false≢true g)
+  overdue_here (wakes table es z now2 ev xi st g yi) = absurd (false≢true g)
+  overdue_here (closes z t a xi en yn) = absurd (false≢true en)
+  overdue_here (lapses z ev xi st f yi) = waits_on outcomes.WaitsNoMore refl z (exchange_past_its_wait z) xi refl yi
 
   abandoned_here : (o : Outcome) → o ≡ outcomes.Ended → Move id v event o x y → StandsAt Awaited said × (y ≡ None)
   abandoned_here o ends (apart n e) = absurd (false≢true (sym n ∙ eq-eqb (exchange_id_of_event event) id own))
@@ -251,6 +278,9 @@ module _ (G : Type 0) (id : ℕ) (event : Event) (v x y : Option Exchange) (said
   abandoned_here o ends (again z now2 t a xi c g yi j f) = absurd (false≢true (sym (ap outcome_goes_forward ends) ∙ g))
   abandoned_here o ends (wakes table es z now2 ev xi st g yi) = absurd (false≢true (sym (ap outcome_goes_forward ends) ∙ g))
   abandoned_here o ends (closes z t a xi en yn) = ((awaited_there G said x z here xi).stands, yn)
+  abandoned_here o ends (lapses z ev xi st f yi) =
+      let no : outcomes.Ended ≡ outcomes.WaitsNoMore = sym ends ∙ f in
+      absurd (cc)
 
 -- what a step on another connection does to it
 released_asked : (i : ℕ) (x : Exchange) → (released_exchange i x).asked ≡ x.asked
@@ -300,6 +330,7 @@ away_here G id event o v x y said off here (passes t a xn en yn) = absurd (false
 away_here G id event o v x y said off here (again z now2 t a xi c g yi j f) = absurd (false≢true (sym off ∙ t))
 away_here G id event o v x y said off here (wakes table es z now2 ev xi st g yi) = absurd (false≢true (sym off ∙ eq-eqb (exchange_id_of_event event) id (ap exchange_id_of_event ev)))
 away_here G id event o v x y said off here (closes z t a xi en yn) = absurd (false≢true (sym off ∙ t))
+away_here G id event o v x y said off here (lapses z ev xi st f yi) = absurd (false≢true (sym off ∙ eq-eqb (exchange_id_of_event event) id (ap exchange_id_of_event ev)))
 
 -- ---- the model of an engine
 
@@ -308,16 +339,6 @@ core_after i to_head (Replies bytes close) s = refl
 core_after i to_head (Forwards address bytes) s = refl
 core_after i to_head Queues s = refl
 core_after i to_head Nothing s = refl
-
-heard_core : (s : EngineModel) (h : PlainHappening) → (model_after_happening s h).core ≡ s.core
-heard_core s (Accepts n) = refl
-heard_core s (Sends n bytes) = refl
-heard_core s (Hears l bytes) = refl
-heard_core s (Ends n) = refl
-heard_core s (Leaves n) = refl
-heard_core s (Retires n) = refl
-heard_core s (Shuts l) = refl
-heard_core s (Fails l kind) = refl
 
 doing_there : (cs : List ConnectionModel) (i : ℕ) → activity_at (map activity_of_model cs) i ≡ (get_or cs i no_connection).activity
 doing_there [] i = refl
@@ -558,6 +579,36 @@ module _ (i : ℕ) where
     by_act (Wakes p) due d = woken p _ _ d.1
     by_act (Serves p w) due d = serves p w due d
 
+  -- ---- what is taken
+
+  abbrev past_wait : EngineModel → ℕ → CoreState
+  past_wait s n = state_after s.core (events.Overdue n) outcomes.WaitsNoMore
+
+  -- the request of some connection has waited as long as it is to wait
+  overdue_taken : (G : Type 0) (s : EngineModel) (n : ℕ) (said : List Said) → happening_fault s (Overdues n) ≡ None → Here G said (open_at s) → Here G said (open_at (model_after_happening s (Overdues n)))
+  overdue_taken G s n said free here = by_place (cases_Bool (n == i + 1))
+    where
+      steps : StepIsAccepted s.core (events.Overdue n) outcomes.WaitsNoMore (past_wait s n)
+      steps = overdue_steps s n free
+
+      moved : Move (i + 1) (find_exchange n s.core.exchanges) (events.Overdue n) outcomes.WaitsNoMore (open_at s) (find_exchange (i + 1) (past_wait s n).exchanges)
+      moved = move_of s.core.table s.core (record { event = events.Overdue n; outcome = outcomes.WaitsNoMore }) (i + 1) refl (record { allowed = steps.allowed; outcome_is = steps.outcome_is })
+
+      by_place : ((n == i + 1) ≡ true) ⊎ ((n == i + 1) ≡ false) → Here G said (find_exchange (i + 1) (past_wait s n).exchanges)
+      by_place (inl test) = overdue_here G (i + 1) (events.Overdue n) (find_exchange n s.core.exchanges) (open_at s) (find_exchange (i + 1) (past_wait s n).exchanges) said (eqb-true n (i + 1) test) refl here moved
+      by_place (inr off) = away_here G (i + 1) (events.Overdue n) outcomes.WaitsNoMore (find_exchange n s.core.exchanges) (open_at s) (find_exchange (i + 1) (past_wait s n).exchanges) said off here moved
+
+  heard_here : (G : Type 0) (s : EngineModel) (h : PlainHappening) (said : List Said) → happening_fault s h ≡ None → Here G said (open_at s) → Here G said (open_at (model_after_happening s h))
+  heard_here G s (Accepts n) said free here = here
+  heard_here G s (Sends n bytes) said free here = here
+  heard_here G s (Hears l bytes) said free here = here
+  heard_here G s (Ends n) said free here = here
+  heard_here G s (Leaves n) said free here = here
+  heard_here G s (Retires n) said free here = here
+  heard_here G s (Overdues n) said free here = overdue_taken G s n said free here
+  heard_here G s (Shuts l) said free here = here
+  heard_here G s (Fails l kind) said free here = here
+
   -- ---- what an engine lives through
 
   record InStep (s : EngineModel) (said : List Said) : Type 0 where
@@ -571,7 +622,7 @@ module _ (i : ℕ) where
         let next_one : InStep after (said_by_steps i past) = record {
           orderly = takes s h st.orderly;
           here = weaker_here (IsGone s) (IsGone after) (said_by_steps i past) (open_at after) (gone_stays s after (heard s h))
-              (subst (λ (c : CoreState). Here (IsGone s) (said_by_steps i past) (find_exchange (i + 1) c.exchanges)) (sym (heard_core s h)) st.here);
+              (heard_here (IsGone s) s h (said_by_steps i past) leads.0 st.here);
         } in
         subst (λ (u : EngineModel). InStep u (said_by_steps i past)) (sym leads.1) next_one
     stepped (Worked now act emitted) s t past leads st = record {

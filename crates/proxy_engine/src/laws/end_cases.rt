@@ -16,12 +16,13 @@ ghost use Rattle.proxy_engine.specs.ConnectionNumbers.{connection_number, connec
 ghost use Rattle.proxy_engine.specs.Due.{Breaks, Gives};
 ghost use Rattle.proxy_engine.specs.EndCases.{kept_client, kept_link, model_with_the_third_closed};
 ghost use Rattle.proxy_engine.specs.EndCases.{model_with_three_clients, model_with_two_lines, model_with_two_links};
-ghost use Rattle.proxy_engine.specs.EndCases.{model_without_the_third};
+ghost use Rattle.proxy_engine.specs.EndCases.{model_with_waiters, model_without_the_third};
 ghost use Rattle.proxy_engine.specs.Acts.{with_dropped};
 ghost use Rattle.proxy_engine.specs.EngineModel.{connection_at, link_at, model_after_happening, with_link};
+ghost use Rattle.proxy_engine.specs.EngineModel.{happening_fault};
 ghost use Rattle.proxy_engine.specs.Exhausted.{IsKeptWithFlag, connection_unknown, link_unknown, lookahead_is_unknown};
 ghost use Rattle.proxy_engine.specs.Happenings.{Ends, Fails, Shuts, happening_takes_memory, Accepts, Sends, Hears};
-ghost use Rattle.proxy_engine.specs.Happenings.{Leaves, Retires};
+ghost use Rattle.proxy_engine.specs.Happenings.{Leaves, Retires, Overdues};
 ghost use Rattle.proxy_engine.specs.Held.{connection_is_open, connection_may_send, flagged_places, has_flag};
 ghost use Rattle.proxy_engine.specs.Held.{is_kept, link_failed, link_may_send};
 ghost use Rattle.proxy_engine.specs.Lookahead.{lookahead_after_input, lookahead_is_due, lookahead_may_be_due};
@@ -34,7 +35,9 @@ ghost use Rattle.proxy_engine.specs.Pairing.{activities_after, activity_at, acti
 ghost use Rattle.proxy_engine.specs.Pairing.{owners_after};
 ghost use Rattle.proxy_engine.specs.Reading.{connection_is_open_in_model, connection_may_send_request, end_may_send};
 ghost use Rattle.proxy_engine.specs.Reading.{failed_links, line_of_link, link_has_failed, next_connection_number};
-ghost use Rattle.proxy_engine.specs.Reading.{origin_timeout_of_link};
+ghost use Rattle.proxy_engine.specs.Reading.{origin_timeout_of_link, wait_timeout_of_client};
+ghost use Rattle.proxy_engine.specs.declared.work.EngineFault.TheVariants.{NotWaiting};
+ghost use Rattle.proxy_core.specs.Leading.{ready_ids};
 ghost use Rattle.proxy_engine.specs.Reading.{open_connection_count, places_with_flag, readable_ends_of};
 ghost use Rattle.proxy_engine.specs.Room.{most_bytes_of_read};
 ghost use Rattle.proxy_engine.specs.State.{connection_load, due_request_at, engine_load, link_load, link_result_at};
@@ -76,6 +79,21 @@ pub fn worked_lines_of_links()
     ensures no_seconds { origin_timeout_of_link model_with_two_lines 6 ≡ None }
     ensures of_none { origin_timeout_of_link model_with_two_lines 4 ≡ None }
     ensures of_a_dropped_one { origin_timeout_of_link (with_link model_with_two_lines 0 with_dropped) 5 ≡ None }
+{}
+
+/// Whose request waits for the answer to another, and for how long; once its time is over it may be woken.
+pub fn worked_waits_of_clients()
+    ensures waits { wait_timeout_of_client model_with_waiters 2 ≡ Some 3 }
+    ensures at_its_origin { wait_timeout_of_client model_with_waiters 1 ≡ None }
+    ensures without_a_word { wait_timeout_of_client model_with_waiters 3 ≡ None }
+    ensures of_none { wait_timeout_of_client model_with_waiters 4 ≡ None }
+    ensures overdue { happening_fault model_with_waiters (Overdues 2) ≡ None }
+    ensures leads { happening_fault model_with_waiters (Overdues 1) ≡ Some NotWaiting }
+    ensures nobody { happening_fault model_with_waiters (Overdues 4) ≡ Some NotWaiting }
+    ensures ready { ready_ids (model_after_happening model_with_waiters (Overdues 2)).core.exchanges ≡ 2 ∷ [] }
+    ensures once { happening_fault (model_after_happening model_with_waiters (Overdues 2)) (Overdues 2)
+        ≡ Some NotWaiting }
+    ensures waits_no_more { wait_timeout_of_client (model_after_happening model_with_waiters (Overdues 2)) 2 ≡ None }
 {}
 
 /// From whom bytes may come: from links that aren't dropped, failed or shut, and from clients that are open, have no
@@ -270,12 +288,13 @@ pub fn worked_activities()
         ≡ Waiting ∷ Forwarded 7 ∷ [] }
     ensures waits { activities_after 0 7 (outcomes.Waits 1) (Free ∷ Free ∷ []) ≡ Waiting ∷ Free ∷ [] }
     ensures ended { activities_after 0 7 outcomes.Ended (Waiting ∷ []) ≡ Waiting ∷ [] }
+    ensures no_more { activities_after 0 7 outcomes.WaitsNoMore (Waiting ∷ []) ≡ Waiting ∷ [] }
     ensures opens { owners_after 3 (outcomes.Forward (over_line 1) []) (Some 1 ∷ []) ≡ Some 1 ∷ Some 3 ∷ [] }
     ensures opens_none { owners_after 3 (outcomes.Waits 1) (Some 1 ∷ []) ≡ Some 1 ∷ [] }
     ensures takes_memory { map happening_takes_memory (Accepts 1 ∷ Sends 1 [] ∷ Hears 1 [] ∷ [])
         ≡ true ∷ true ∷ true ∷ [] }
-    ensures takes_none { map happening_takes_memory (Ends 1 ∷ Leaves 1 ∷ Retires 1 ∷ Shuts 1 ∷ Fails 1 kinds.Closed
-        ∷ []) ≡ false ∷ false ∷ false ∷ false ∷ false ∷ [] }
+    ensures takes_none { map happening_takes_memory (Ends 1 ∷ Leaves 1 ∷ Retires 1 ∷ Overdues 1 ∷ Shuts 1
+        ∷ Fails 1 kinds.Closed ∷ []) ≡ false ∷ false ∷ false ∷ false ∷ false ∷ false ∷ [] }
     ensures none_is_kept { IsKeptWithFlag (λ b. b) None → ⊥ }
     ensures without_flag { IsKeptWithFlag (λ b. b) (Some false) → ⊥ }
 {}

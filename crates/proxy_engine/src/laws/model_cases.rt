@@ -9,7 +9,7 @@ ghost use Rattle.hx_allow.specs.Addresses.{address_of_numbers};
 ghost use Rattle.hx_allow.specs.Matching.{over_line};
 ghost use Rattle.proxy_core.specs.declared.outcome.Outcome.TheVariants as outcomes;
 ghost use Rattle.proxy_script.specs.declared.effect_list.Effect.TheVariants as effects;
-ghost use Rattle.proxy_engine.specs.Happenings.{Accepts, Sends, Hears, Ends, Leaves, Retires, Shuts, Fails};
+ghost use Rattle.proxy_engine.specs.Happenings.{Accepts, Sends, Hears, Ends, Leaves, Retires, Overdues, Shuts, Fails};
 ghost use Rattle.proxy_engine.specs.EngineModel.{connection_at, happening_fault, model_after_happening};
 ghost use Rattle.proxy_engine.specs.EngineModel.{happening_is_kept, link_at};
 ghost use Rattle.proxy_engine.specs.Due.{Breaks, Gives, Abandons, Finishes, Serves, Wakes, link_result_of};
@@ -24,7 +24,7 @@ ghost use Rattle.proxy_engine.specs.ModelCases.{answer_200, model_with_dropped_l
 ghost use Rattle.proxy_engine.specs.ModelCases.{model_with_connection, model_with_link, request_of_a};
 ghost use Rattle.proxy_engine.specs.ModelCases.{model_after_two_sends, table_of_two_origins};
 ghost use Rattle.proxy_engine.specs.declared.endpoints.activities.Activity.TheVariants.{Forwarded, Free, Waiting};
-ghost use Rattle.proxy_engine.specs.declared.work.EngineFault.TheVariants.{NotAccepted, WrongNumber};
+ghost use Rattle.proxy_engine.specs.declared.work.EngineFault.TheVariants.{NotAccepted, NotWaiting, WrongNumber};
 
 /// Which happenings are taken: a connection of the next number, and what comes of ends that there are.
 pub fn worked_faults_of_happenings()
@@ -38,6 +38,7 @@ pub fn worked_faults_of_happenings()
     ensures leaves { happening_fault model_with_connection (Leaves 2) ≡ Some NotAccepted }
     ensures retires { happening_fault model_with_connection (Retires 1) ≡ None }
     ensures retires_2 { happening_fault model_with_connection (Retires 2) ≡ Some NotAccepted }
+    ensures waits_not { happening_fault model_with_connection (Overdues 1) ≡ Some NotWaiting }
     ensures hears { happening_fault model_with_link (Hears 5 []) ≡ None }
     ensures hears_4 { happening_fault model_with_link (Hears 4 []) ≡ Some WrongNumber }
     ensures hears_6 { happening_fault model_with_link (Hears 6 []) ≡ Some WrongNumber }
@@ -85,6 +86,7 @@ pub fn worked_happenings()
     ensures keeps_none_of_a_dropped_link { happening_is_kept model_with_dropped_link (Hears 5 []) ≡ false }
     ensures a_mark_takes_none { happening_is_kept model_with_connection (Leaves 1) ≡ false }
     ensures nor_does_an_end { happening_is_kept model_with_connection (Retires 1) ≡ false }
+    ensures nor_does_a_wait { happening_is_kept model_with_connection (Overdues 1) ≡ false }
 {}
 
 /// What is due: a fault of an answer is its failure, an answer or a fault counts before a failure that came behind it,

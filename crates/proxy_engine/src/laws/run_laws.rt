@@ -7,7 +7,7 @@ use hx_hop::laws::a_request_is_asked_in_one_way;
 
 /// No run has effects that its step didn't tell, one more, one less or other bytes, nor an act that wasn't the first
 /// due, nor a step of the core at another moment than its act's, nor a happening that the engine doesn't take, nor more
-/// items than acts.
+/// items than acts and ends of waits.
 pub fn a_run_refuses_what_was_not_done()
     ensures effects { RunHasNoOtherEffects }
     ensures act { RunHasNoOtherAct }

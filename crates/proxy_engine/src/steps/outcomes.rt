@@ -63,6 +63,7 @@ pub(crate) fn as_alloc_error(fault: CoreFault) -> AllocError
         CoreFault::MomentTooLate => unreachable!(),
         CoreFault::NotForwarded => unreachable!(),
         CoreFault::NotReady => unreachable!(),
+        CoreFault::NotWaiting => unreachable!(),
     }
 }
 
@@ -251,6 +252,7 @@ impl Ends {
             }
             Outcome::Waits(_) => marks::mark_waiting_at(&mut self.connections, i),
             Outcome::Ended => {}
+            Outcome::WaitsNoMore => {}
         }
     }
 }

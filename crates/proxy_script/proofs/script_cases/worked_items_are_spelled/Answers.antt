@@ -38,6 +38,10 @@ pub returns-clause-retires : goal.returns-clause-retires
 unfolding digits
 returns-clause-retires c = refl
 
+pub returns-clause-overdue : goal.returns-clause-overdue
+unfolding digits
+returns-clause-overdue c = refl
+
 pub returns-clause-shuts : goal.returns-clause-shuts
 unfolding digits
 returns-clause-shuts c = refl
