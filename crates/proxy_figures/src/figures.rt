@@ -10,7 +10,7 @@ use crate::endings::Endings;
 use crate::link_timeouts::LinkTimeouts;
 use crate::not_stored::{ALL_STORING_RULES, storing_rule_name};
 use crate::origins::{FAILURE_KINDS, Origin, Origins, STATUS_CLASSES};
-use crate::page::{Kind, Page};
+use crate::page::{Kind, Page, Single};
 use crate::process::{ProcessFigures, push_process};
 use crate::reply_counts::{FIRST_STATUS, ReplyCounts, ReplyTimes, STATUSES, TIME_BOUNDS};
 use crate::sorts::{ALL_CAUSES, ALL_DETAILS, ALL_REASONS, Detail, Reason};
@@ -109,32 +109,28 @@ pub struct Figures<'a> {
     pub record: RecordState,
 }
 
-fn push_server_facts(
-    page: &mut Page<'_>,
-    about: &ProgramFacts<'_>,
-    now: u64,
-) -> Result<(), AllocError> {
-    page.family("revcache_build_info", Kind::Gauge, "The program that runs.")?;
+/// The program, and when it began.
+fn push_program(page: &mut Page<'_>, about: &ProgramFacts<'_>, now: u64) -> Result<(), AllocError> {
+    let name = "revcache_build_info";
+    page.family(name, Kind::Gauge, "The program that runs.")?;
     page.sample_with_two_labels(
-        "revcache_build_info",
+        name,
         ("version", about.version),
         ("commit", about.commit),
         1,
     )?;
-    page.family(
+    page.single_time_family(
         "revcache_start_time_seconds",
         Kind::Gauge,
         "When the server began, in Unix seconds.",
+        about.began,
     )?;
-    page.time("revcache_start_time_seconds", about.began)?;
-    page.family(
+    page.single_time_family(
         "revcache_stats_time_seconds",
         Kind::Gauge,
         "When this page was written, in Unix seconds.",
-    )?;
-    page.time("revcache_stats_time_seconds", now)?;
-    push_process(page, &about.process)?;
-    push_store(page, about)
+        now,
+    )
 }
 
 fn push_store_bounds(page: &mut Page<'_>, about: &ProgramFacts<'_>) -> Result<(), AllocError> {
@@ -155,38 +151,41 @@ fn push_store_bounds(page: &mut Page<'_>, about: &ProgramFacts<'_>) -> Result<()
     Ok(())
 }
 
-fn push_store(page: &mut Page<'_>, about: &ProgramFacts<'_>) -> Result<(), AllocError> {
-    push_store_bounds(page, about)?;
-    page.single_sample_family(
-        "revcache_store_responses",
-        Kind::Gauge,
-        "Responses that are stored.",
-        about.store.held(),
-    )?;
-    page.single_sample_family(
-        "revcache_store_bytes",
-        Kind::Gauge,
-        "Bytes that they weigh together: contents, heads, targets, and 1200 each.",
-        about.store.weight(),
-    )?;
-    page.single_sample_family(
-        "revcache_store_evictions_total",
-        Kind::Counter,
-        "Stored responses that went since the store was full.",
-        about.store.evicted(),
-    )?;
-    page.single_sample_family(
-        "revcache_store_evicted_seconds_total",
-        Kind::Counter,
-        "Seconds for which those had been stored, since they were received or freshened.",
-        about.store.evicted_seconds(),
-    )?;
-    page.single_sample_family(
-        "revcache_store_removals_total",
-        Kind::Counter,
-        "Stored responses that were replaced, invalidated, or not kept behind a 304.",
-        about.store.removed(),
-    )
+/// What the store holds, and what went of it.
+fn push_store(page: &mut Page<'_>, store: &StoreCounts) -> Result<(), AllocError> {
+    let families = [
+        Single {
+            name: "revcache_store_responses",
+            kind: Kind::Gauge,
+            help: "Responses that are stored.",
+            n: store.held(),
+        },
+        Single {
+            name: "revcache_store_bytes",
+            kind: Kind::Gauge,
+            help: "Bytes that they weigh together: contents, heads, targets, and 1200 each.",
+            n: store.weight(),
+        },
+        Single {
+            name: "revcache_store_evictions_total",
+            kind: Kind::Counter,
+            help: "Stored responses that went since the store was full.",
+            n: store.evicted(),
+        },
+        Single {
+            name: "revcache_store_evicted_seconds_total",
+            kind: Kind::Counter,
+            help: "Seconds for which those had been stored, since they were received or freshened.",
+            n: store.evicted_seconds(),
+        },
+        Single {
+            name: "revcache_store_removals_total",
+            kind: Kind::Counter,
+            help: "Stored responses that were replaced, invalidated, or not kept behind a 304.",
+            n: store.removed(),
+        },
+    ];
+    page.single_sample_families(&families)
 }
 
 fn push_reason(
@@ -217,6 +216,11 @@ fn push_reasons(page: &mut Page<'_>, replies: &ReplyCounts) -> Result<(), AllocE
     for reason in &ALL_REASONS {
         push_reason(page, replies, *reason)?;
     }
+    Ok(())
+}
+
+/// Answers that were stored, and requests that were sent them without one of their own.
+fn push_stored(page: &mut Page<'_>, replies: &ReplyCounts) -> Result<(), AllocError> {
     page.single_sample_family(
         "revcache_collapsed_requests_total",
         Kind::Counter,
@@ -228,8 +232,7 @@ fn push_reasons(page: &mut Page<'_>, replies: &ReplyCounts) -> Result<(), AllocE
         Kind::Counter,
         "Answers of origins that were stored.",
         replies.stored,
-    )?;
-    push_storing_rules(page, replies)
+    )
 }
 
 /// Answers that weren't stored, where a line tells by which rule.
@@ -248,27 +251,29 @@ fn push_storing_rules(page: &mut Page<'_>, replies: &ReplyCounts) -> Result<(), 
 }
 
 fn push_statuses(page: &mut Page<'_>, replies: &ReplyCounts) -> Result<(), AllocError> {
-    page.family(
-        "revcache_responses_total",
-        Kind::Counter,
-        "Replies to clients by status.",
-    )?;
+    let name = "revcache_responses_total";
+    page.family(name, Kind::Counter, "Replies to clients by status.")?;
     for i in 0..STATUSES {
         let status = FIRST_STATUS + i as u16;
         let n = replies.with_status(status);
         if n > 0 {
             let mut digits = Buffer::new();
-            page.sample_with_label("revcache_responses_total", "code", digits.format(status), n)?;
+            page.sample_with_label(name, "code", digits.format(status), n)?;
         }
     }
+    Ok(())
+}
+
+fn push_causes(page: &mut Page<'_>, replies: &ReplyCounts) -> Result<(), AllocError> {
+    let name = "revcache_refusals_total";
     page.family(
-        "revcache_refusals_total",
+        name,
         Kind::Counter,
         "Replies that the proxy made by itself, by cause.",
     )?;
     for cause in &ALL_CAUSES {
         let n = replies.with_cause(*cause);
-        page.sample_with_label("revcache_refusals_total", "cause", cause.name(), n)?;
+        page.sample_with_label(name, "cause", cause.name(), n)?;
     }
     Ok(())
 }
@@ -311,9 +316,7 @@ fn push_times(
     page.sample_with_label(names.count, whose.0, whose.1, sum)
 }
 
-fn push_replies(page: &mut Page<'_>, replies: &ReplyCounts) -> Result<(), AllocError> {
-    push_reasons(page, replies)?;
-    push_statuses(page, replies)?;
+fn push_request_times(page: &mut Page<'_>, replies: &ReplyCounts) -> Result<(), AllocError> {
     page.family(
         "revcache_request_duration_seconds",
         Kind::Histogram,
@@ -339,16 +342,28 @@ fn push_replies(page: &mut Page<'_>, replies: &ReplyCounts) -> Result<(), AllocE
     )
 }
 
+fn push_replies(page: &mut Page<'_>, replies: &ReplyCounts) -> Result<(), AllocError> {
+    push_reasons(page, replies)?;
+    push_stored(page, replies)?;
+    push_storing_rules(page, replies)?;
+    push_statuses(page, replies)?;
+    push_causes(page, replies)?;
+    push_request_times(page, replies)
+}
+
 fn push_endings(page: &mut Page<'_>, endings: &Endings) -> Result<(), AllocError> {
-    let name = "revcache_connections_cut_total";
-    page.family(
-        name,
+    let samples = [
+        ("room", endings.for_room),
+        ("content-limit", endings.for_content),
+        ("memory", endings.for_memory),
+    ];
+    page.labelled_family(
+        "revcache_connections_cut_total",
         Kind::Counter,
         "Connections of clients that were closed early, but for time-outs.",
-    )?;
-    page.sample_with_label(name, "cause", "room", endings.for_room)?;
-    page.sample_with_label(name, "cause", "content-limit", endings.for_content)?;
-    page.sample_with_label(name, "cause", "memory", endings.for_memory)
+        "cause",
+        &samples,
+    )
 }
 
 fn push_timeouts(
@@ -356,30 +371,36 @@ fn push_timeouts(
     endings: &Endings,
     links: &LinkTimeouts,
 ) -> Result<(), AllocError> {
-    let name = "revcache_timeouts_total";
-    page.family(
-        name,
+    let samples = [
+        ("client", endings.client_timeouts),
+        ("request", endings.request_timeouts),
+        ("abandon", endings.abandon_timeouts),
+        ("connect", links.connect),
+        ("origin", links.silence),
+        ("exchange", links.exchange),
+    ];
+    page.labelled_family(
+        "revcache_timeouts_total",
         Kind::Counter,
         "Time-outs, by the option that bounds them.",
-    )?;
-    page.sample_with_label(name, "kind", "client", endings.client_timeouts)?;
-    page.sample_with_label(name, "kind", "request", endings.request_timeouts)?;
-    page.sample_with_label(name, "kind", "abandon", endings.abandon_timeouts)?;
-    page.sample_with_label(name, "kind", "connect", links.connect)?;
-    page.sample_with_label(name, "kind", "origin", links.silence)?;
-    page.sample_with_label(name, "kind", "exchange", links.exchange)
+        "kind",
+        &samples,
+    )
 }
 
 /// Connections of clients, by where they stand.
 fn push_states(page: &mut Page<'_>, clients: &ClientFigures<'_>) -> Result<(), AllocError> {
-    let name = "revcache_connections";
-    page.family(
-        name,
+    let samples = [
+        ("open", clients.open as u64),
+        ("closing", clients.closing as u64),
+    ];
+    page.labelled_family(
+        "revcache_connections",
         Kind::Gauge,
         "Connections of clients that are open, by what they do.",
+        "state",
+        &samples,
     )?;
-    page.sample_with_label(name, "state", "open", clients.open as u64)?;
-    page.sample_with_label(name, "state", "closing", clients.closing as u64)?;
     page.single_sample_family(
         "revcache_connections_limit",
         Kind::Gauge,
@@ -389,23 +410,30 @@ fn push_states(page: &mut Page<'_>, clients: &ClientFigures<'_>) -> Result<(), A
 }
 
 /// How connections of clients were taken.
-fn push_accept_counts(page: &mut Page<'_>, accepts: &AcceptCounts) -> Result<(), AllocError> {
+fn push_accepted(page: &mut Page<'_>, accepts: &AcceptCounts) -> Result<(), AllocError> {
     page.single_sample_family(
         "revcache_connections_accepted_total",
         Kind::Counter,
         "Connections of clients that were taken.",
         accepts.accepted,
     )?;
-    let name = "revcache_connections_refused_total";
-    page.family(
-        name,
+    let samples = [
+        ("full", accepts.full),
+        ("descriptors", accepts.no_descriptor),
+        ("memory", accepts.no_memory),
+        ("other", accepts.failed),
+    ];
+    page.labelled_family(
+        "revcache_connections_refused_total",
         Kind::Counter,
         "Looks at the queue of the listener that could take nobody, by cause.",
-    )?;
-    page.sample_with_label(name, "cause", "full", accepts.full)?;
-    page.sample_with_label(name, "cause", "descriptors", accepts.no_descriptor)?;
-    page.sample_with_label(name, "cause", "memory", accepts.no_memory)?;
-    page.sample_with_label(name, "cause", "other", accepts.failed)?;
+        "cause",
+        &samples,
+    )
+}
+
+/// Links that could not be begun, for what the system lacks.
+fn push_links_not_begun(page: &mut Page<'_>, accepts: &AcceptCounts) -> Result<(), AllocError> {
     page.single_sample_family(
         "revcache_links_without_descriptor_total",
         Kind::Counter,
@@ -436,42 +464,46 @@ fn push_unanswered(page: &mut Page<'_>, unanswered: &UnansweredCounts) -> Result
 
 /// Bytes of clients.
 fn push_bytes(page: &mut Page<'_>, figures: &Figures<'_>) -> Result<(), AllocError> {
-    page.single_sample_family(
-        "revcache_client_received_bytes_total",
-        Kind::Counter,
-        "Bytes that were read from clients.",
-        figures.clients.endings.received,
-    )?;
-    page.single_sample_family(
-        "revcache_client_sent_bytes_total",
-        Kind::Counter,
-        "Bytes for clients that the system took.",
-        figures.clients.endings.written,
-    )?;
-    page.single_sample_family(
-        "revcache_client_unsent_bytes",
-        Kind::Gauge,
-        "Bytes of replies that wait for clients.",
-        figures.clients.unsent as u64,
-    )?;
-    page.single_sample_family(
-        "revcache_content_bytes",
-        Kind::Gauge,
-        "Bytes of requests and answers in progress, and of replies that wait for clients.",
-        figures.held as u64,
-    )?;
-    page.single_sample_family(
-        "revcache_content_limit_bytes",
-        Kind::Gauge,
-        "The most bytes of requests and answers in progress, and of replies that wait for clients.",
-        figures.held_limit as u64,
-    )
+    let families = [
+        Single {
+            name: "revcache_client_received_bytes_total",
+            kind: Kind::Counter,
+            help: "Bytes that were read from clients.",
+            n: figures.clients.endings.received,
+        },
+        Single {
+            name: "revcache_client_sent_bytes_total",
+            kind: Kind::Counter,
+            help: "Bytes for clients that the system took.",
+            n: figures.clients.endings.written,
+        },
+        Single {
+            name: "revcache_client_unsent_bytes",
+            kind: Kind::Gauge,
+            help: "Bytes of replies that wait for clients.",
+            n: figures.clients.unsent as u64,
+        },
+        Single {
+            name: "revcache_content_bytes",
+            kind: Kind::Gauge,
+            help: "Bytes of requests and answers in progress, and of replies that wait for clients.",
+            n: figures.held as u64,
+        },
+        Single {
+            name: "revcache_content_limit_bytes",
+            kind: Kind::Gauge,
+            help: "The most bytes of requests and answers in progress, and of replies that wait for clients.",
+            n: figures.held_limit as u64,
+        },
+    ];
+    page.single_sample_families(&families)
 }
 
 fn push_clients(page: &mut Page<'_>, figures: &Figures<'_>) -> Result<(), AllocError> {
     let clients = &figures.clients;
     push_states(page, clients)?;
-    push_accept_counts(page, clients.accepts)?;
+    push_accepted(page, clients.accepts)?;
+    push_links_not_begun(page, clients.accepts)?;
     push_endings(page, clients.endings)?;
     push_unanswered(page, clients.unanswered)?;
     push_timeouts(page, clients.endings, figures.links.timeouts)?;
@@ -485,6 +517,8 @@ enum Count {
     Open,
     Received,
     Sent,
+    /// 1 where it is asked by one request at a time.
+    Silent,
 }
 
 fn count_of(origin: &Origin, count: Count) -> u64 {
@@ -493,20 +527,67 @@ fn count_of(origin: &Origin, count: Count) -> u64 {
         Count::Open => origin.open,
         Count::Received => origin.received,
         Count::Sent => origin.written,
+        Count::Silent => u64::from(origin.is_silent()),
     }
 }
 
-fn push_count(
+/// A family that has a sample of each origin.
+#[derive(Clone, Copy)]
+struct OriginFamily<'a> {
+    name: &'a str,
+    kind: Kind,
+    help: &'a str,
+    count: Count,
+}
+
+const ORIGIN_LINKS: [OriginFamily<'static>; 2] = [
+    OriginFamily {
+        name: "revcache_origin_exchanges_total",
+        kind: Kind::Counter,
+        help: "Links to an origin that were begun.",
+        count: Count::Begun,
+    },
+    OriginFamily {
+        name: "revcache_origin_exchanges",
+        kind: Kind::Gauge,
+        help: "Links to an origin that are open.",
+        count: Count::Open,
+    },
+];
+
+const ORIGIN_SILENCE: [OriginFamily<'static>; 1] = [OriginFamily {
+    name: "revcache_origin_silent",
+    kind: Kind::Gauge,
+    help: "Whether an origin is asked by one request at a time, since it doesn't answer.",
+    count: Count::Silent,
+}];
+
+const ORIGIN_BYTES: [OriginFamily<'static>; 2] = [
+    OriginFamily {
+        name: "revcache_origin_received_bytes_total",
+        kind: Kind::Counter,
+        help: "Bytes that were read from an origin.",
+        count: Count::Received,
+    },
+    OriginFamily {
+        name: "revcache_origin_sent_bytes_total",
+        kind: Kind::Counter,
+        help: "Bytes for an origin that the system took.",
+        count: Count::Sent,
+    },
+];
+
+fn push_counts(
     page: &mut Page<'_>,
     origins: &Origins,
-    name: &str,
-    kind: Kind,
-    help: &str,
-    count: Count,
+    families: &[OriginFamily<'_>],
 ) -> Result<(), AllocError> {
-    page.family(name, kind, help)?;
-    for origin in origins.as_slice() {
-        page.sample_with_label(name, "origin", origin.name(), count_of(origin, count))?;
+    for family in families {
+        page.family(family.name, family.kind, family.help)?;
+        for origin in origins.as_slice() {
+            let n = count_of(origin, family.count);
+            page.sample_with_label(family.name, "origin", origin.name(), n)?;
+        }
     }
     Ok(())
 }
@@ -543,7 +624,7 @@ fn push_failures(page: &mut Page<'_>, origins: &Origins) -> Result<(), AllocErro
     Ok(())
 }
 
-/// Connects to an origin that were refused at once, and whether it is silent.
+/// Connects to an origin that were refused at once.
 fn push_refused_connects(page: &mut Page<'_>, origins: &Origins) -> Result<(), AllocError> {
     let name = "revcache_origin_connections_refused_total";
     page.family(
@@ -556,19 +637,11 @@ fn push_refused_connects(page: &mut Page<'_>, origins: &Origins) -> Result<(), A
         page.sample_with_two_labels(name, whose, ("cause", "limit"), origin.beyond_bound)?;
         page.sample_with_two_labels(name, whose, ("cause", "silent"), origin.while_silent)?;
     }
-    let name = "revcache_origin_silent";
-    page.family(
-        name,
-        Kind::Gauge,
-        "Whether an origin is asked by one request at a time, since it doesn't answer.",
-    )?;
-    for origin in origins.as_slice() {
-        page.sample_with_label(name, "origin", origin.name(), u64::from(origin.is_silent()))?;
-    }
     Ok(())
 }
 
-fn push_exchange_times(page: &mut Page<'_>, origins: &Origins) -> Result<(), AllocError> {
+/// Seconds of the links to an origin that have ended.
+fn push_exchange_seconds(page: &mut Page<'_>, origins: &Origins) -> Result<(), AllocError> {
     let name = "revcache_origin_exchange_seconds_total";
     page.family(
         name,
@@ -578,6 +651,10 @@ fn push_exchange_times(page: &mut Page<'_>, origins: &Origins) -> Result<(), All
     for origin in origins.as_slice() {
         page.time_with_label(name, "origin", origin.name(), origin.times.sum)?;
     }
+    Ok(())
+}
+
+fn push_exchange_times(page: &mut Page<'_>, origins: &Origins) -> Result<(), AllocError> {
     page.family(
         "revcache_origin_exchange_duration_seconds",
         Kind::Histogram,
@@ -595,48 +672,30 @@ fn push_exchange_times(page: &mut Page<'_>, origins: &Origins) -> Result<(), All
 }
 
 fn push_origins(page: &mut Page<'_>, origins: &Origins) -> Result<(), AllocError> {
-    let name = "revcache_origin_exchanges_total";
-    push_count(
-        page,
-        origins,
-        name,
-        Kind::Counter,
-        "Links to an origin that were begun.",
-        Count::Begun,
-    )?;
-    let name = "revcache_origin_exchanges";
-    push_count(
-        page,
-        origins,
-        name,
-        Kind::Gauge,
-        "Links to an origin that are open.",
-        Count::Open,
-    )?;
+    push_counts(page, origins, &ORIGIN_LINKS)?;
     push_answers(page, origins)?;
     push_failures(page, origins)?;
     push_refused_connects(page, origins)?;
+    push_counts(page, origins, &ORIGIN_SILENCE)?;
+    push_exchange_seconds(page, origins)?;
     push_exchange_times(page, origins)?;
-    let name = "revcache_origin_received_bytes_total";
-    let help = "Bytes that were read from an origin.";
-    push_count(page, origins, name, Kind::Counter, help, Count::Received)?;
-    let name = "revcache_origin_sent_bytes_total";
-    let help = "Bytes for an origin that the system took.";
-    push_count(page, origins, name, Kind::Counter, help, Count::Sent)
+    push_counts(page, origins, &ORIGIN_BYTES)
 }
 
 /// The record's state.
 fn push_record(page: &mut Page<'_>, record: RecordState) -> Result<(), AllocError> {
-    let name = "revcache_record_state";
-    page.family(name, Kind::Gauge, "Whether what happens is recorded.")?;
-    for (word, state) in [
-        ("none", RecordState::NoRecord),
-        ("writing", RecordState::Writing),
-        ("ended", RecordState::Ended),
-    ] {
-        page.sample_with_label(name, "state", word, u64::from(record == state))?;
-    }
-    Ok(())
+    let samples = [
+        ("none", u64::from(record == RecordState::NoRecord)),
+        ("writing", u64::from(record == RecordState::Writing)),
+        ("ended", u64::from(record == RecordState::Ended)),
+    ];
+    page.labelled_family(
+        "revcache_record_state",
+        Kind::Gauge,
+        "Whether what happens is recorded.",
+        "state",
+        &samples,
+    )
 }
 
 fn push_log(page: &mut Page<'_>, added: u64, lost: u64) -> Result<(), AllocError> {
@@ -661,10 +720,17 @@ fn push_turns(page: &mut Page<'_>, turns: &Turns, is_draining: bool) -> Result<(
         "Turns that were served.",
         turns.served,
     )?;
-    let name = "revcache_turns_cut_total";
-    page.family(name, Kind::Counter, "Turns that ended early, by cause.")?;
-    page.sample_with_label(name, "cause", "listener", turns.without_listener)?;
-    page.sample_with_label(name, "cause", "memory", turns.without_memory)?;
+    let samples = [
+        ("listener", turns.without_listener),
+        ("memory", turns.without_memory),
+    ];
+    page.labelled_family(
+        "revcache_turns_cut_total",
+        Kind::Counter,
+        "Turns that ended early, by cause.",
+        "cause",
+        &samples,
+    )?;
     page.single_sample_family(
         "revcache_draining",
         Kind::Gauge,
@@ -673,26 +739,39 @@ fn push_turns(page: &mut Page<'_>, turns: &Turns, is_draining: bool) -> Result<(
     )
 }
 
+/// What the program and the system tell.
+fn push_server_facts(page: &mut Page<'_>, figures: &Figures<'_>) -> Result<(), AllocError> {
+    let about = figures.about;
+    push_program(page, about, figures.now)?;
+    push_process(page, &about.process)?;
+    push_store_bounds(page, about)?;
+    push_store(page, about.store)?;
+    push_turns(page, figures.turns, figures.is_draining)
+}
+
+/// What was done for clients, and what origins did.
+fn push_served(page: &mut Page<'_>, figures: &Figures<'_>) -> Result<(), AllocError> {
+    if let Some(replies) = figures.replies {
+        push_replies(page, replies)?;
+    }
+    push_clients(page, figures)?;
+    push_origins(page, figures.links.origins)?;
+    page.single_time_family(
+        "revcache_oldest_exchange_age_seconds",
+        Kind::Gauge,
+        "For how long the oldest link to an origin is open.",
+        figures.links.oldest,
+    )?;
+    push_log(page, figures.log_lines, figures.about.lost_lines)?;
+    push_record(page, figures.record)
+}
+
 impl<'a> Figures<'a> {
     /// The page of figures. Its only error is out of memory.
     pub fn page(&self, alloc: Global) -> Result<Vec<u8>, AllocError> {
         let mut page = Page::new(alloc, self.listen);
-        push_server_facts(&mut page, self.about, self.now)?;
-        push_turns(&mut page, self.turns, self.is_draining)?;
-        if let Some(replies) = self.replies {
-            push_replies(&mut page, replies)?;
-        }
-        push_clients(&mut page, self)?;
-        push_origins(&mut page, self.links.origins)?;
-        let name = "revcache_oldest_exchange_age_seconds";
-        page.family(
-            name,
-            Kind::Gauge,
-            "For how long the oldest link to an origin is open.",
-        )?;
-        page.time(name, self.links.oldest)?;
-        push_log(&mut page, self.log_lines, self.about.lost_lines)?;
-        push_record(&mut page, self.record)?;
+        push_server_facts(&mut page, self)?;
+        push_served(&mut page, self)?;
         Ok(page.into_text())
     }
 }

@@ -1,5 +1,6 @@
 //! Which storing rule an answer names that wasn't stored: one of a line of the table that tells it.
 ghost use Rattle.std.specs.Prelude.{◌≡◌};
+ghost use Rattle.hx_status.specs.Member.{not_stored_word};
 ghost use Rattle.hx_storable.specs.StoringRuleNames.{storing_rule_word};
 ghost use Rattle.proxy_figures.specs.NotStored.{named_storing_rule};
 
@@ -54,49 +55,39 @@ pub(crate) fn storing_rule_name(rule: StoreRule) -> &'static str
     }
 }
 
+/// The detail that names a storing rule.
+fn not_stored_word(rule: StoreRule) -> &'static str
+    ensures { result.now ≡ not_stored_word rule }
+{
+    match rule {
+        StoreRule::Operator => "not-stored-operator",
+        StoreRule::Method => "not-stored-method",
+        StoreRule::Bypass => "not-stored-bypass",
+        StoreRule::Status => "not-stored-status",
+        StoreRule::MustUnderstand => "not-stored-must-understand",
+        StoreRule::ResponseNoStore => "not-stored-no-store",
+        StoreRule::RequestNoStore => "not-stored-request-no-store",
+        StoreRule::Private => "not-stored-private",
+        StoreRule::Authorization => "not-stored-authorization",
+        StoreRule::NothingAllows => "not-stored-nothing-allows",
+        StoreRule::VaryStar => "not-stored-vary-star",
+        StoreRule::ConnectionField => "not-stored-connection-field",
+        StoreRule::NothingToReuse => "not-stored-no-lifetime",
+        StoreRule::TooLarge => "not-stored-too-large",
+        StoreRule::Overtaken => "not-stored-overtaken",
+        StoreRule::Serials => "not-stored-no-serial",
+        StoreRule::SetCookie => "not-stored-set-cookie",
+        StoreRule::ErrorStatus => "not-stored-error-status",
+        StoreRule::RequestCookie => "not-stored-request-cookie",
+    }
+}
+
 /// The storing rule that a detail names, if it names one.
 pub(crate) fn named_storing_rule(detail: &[u8]) -> Option<StoreRule>
     ensures { result ≡ named_storing_rule detail.now }
 {
-    if detail == b"not-stored-operator".as_slice() {
-        Some(StoreRule::Operator)
-    } else if detail == b"not-stored-method".as_slice() {
-        Some(StoreRule::Method)
-    } else if detail == b"not-stored-bypass".as_slice() {
-        Some(StoreRule::Bypass)
-    } else if detail == b"not-stored-status".as_slice() {
-        Some(StoreRule::Status)
-    } else if detail == b"not-stored-must-understand".as_slice() {
-        Some(StoreRule::MustUnderstand)
-    } else if detail == b"not-stored-no-store".as_slice() {
-        Some(StoreRule::ResponseNoStore)
-    } else if detail == b"not-stored-request-no-store".as_slice() {
-        Some(StoreRule::RequestNoStore)
-    } else if detail == b"not-stored-private".as_slice() {
-        Some(StoreRule::Private)
-    } else if detail == b"not-stored-authorization".as_slice() {
-        Some(StoreRule::Authorization)
-    } else if detail == b"not-stored-nothing-allows".as_slice() {
-        Some(StoreRule::NothingAllows)
-    } else if detail == b"not-stored-vary-star".as_slice() {
-        Some(StoreRule::VaryStar)
-    } else if detail == b"not-stored-connection-field".as_slice() {
-        Some(StoreRule::ConnectionField)
-    } else if detail == b"not-stored-no-lifetime".as_slice() {
-        Some(StoreRule::NothingToReuse)
-    } else if detail == b"not-stored-too-large".as_slice() {
-        Some(StoreRule::TooLarge)
-    } else if detail == b"not-stored-overtaken".as_slice() {
-        Some(StoreRule::Overtaken)
-    } else if detail == b"not-stored-no-serial".as_slice() {
-        Some(StoreRule::Serials)
-    } else if detail == b"not-stored-set-cookie".as_slice() {
-        Some(StoreRule::SetCookie)
-    } else if detail == b"not-stored-error-status".as_slice() {
-        Some(StoreRule::ErrorStatus)
-    } else if detail == b"not-stored-request-cookie".as_slice() {
-        Some(StoreRule::RequestCookie)
-    } else {
-        None
-    }
+    ALL_STORING_RULES
+        .iter()
+        .copied()
+        .find(|rule| detail == not_stored_word(*rule).as_bytes())
 }

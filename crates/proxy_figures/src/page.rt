@@ -19,6 +19,15 @@ pub(crate) enum Kind {
     Histogram,
 }
 
+/// A family of one sample.
+#[derive(Clone, Copy)]
+pub(crate) struct Single<'a> {
+    pub(crate) name: &'a str,
+    pub(crate) kind: Kind,
+    pub(crate) help: &'a str,
+    pub(crate) n: u64,
+}
+
 /// The text of a page. Each sample has the label of its program in front: the files of several are read together.
 #[derive(Drop)]
 pub(crate) struct Page<'a> {
@@ -217,5 +226,49 @@ impl<'a> Page<'a> {
     {
         self.family(name, kind, help)?;
         self.sample(name, n)
+    }
+
+    /// A family of one sample of milliseconds, as seconds.
+    pub(crate) fn single_time_family(
+        &mut self,
+        name: &str,
+        kind: Kind,
+        help: &str,
+        milliseconds: u64,
+    ) -> Result<(), AllocError>
+        ensures listen { self.new.listen ≡ self.old.listen }
+        ensures text { OnOk result (self.new.text.items ≡ self.old.text.items
+            ++ (family_text name.now kind help.now
+            ++ sample_text self.old.listen.now name.now (seconds_text milliseconds))) }
+    {
+        self.family(name, kind, help)?;
+        self.time(name, milliseconds)
+    }
+
+    /// Families of one sample each.
+    pub(crate) fn single_sample_families(
+        &mut self,
+        families: &[Single<'_>],
+    ) -> Result<(), AllocError> {
+        for it in families {
+            self.single_sample_family(it.name, it.kind, it.help, it.n)?;
+        }
+        Ok(())
+    }
+
+    /// A family whose samples have one label more.
+    pub(crate) fn labelled_family(
+        &mut self,
+        name: &str,
+        kind: Kind,
+        help: &str,
+        key: &str,
+        samples: &[(&str, u64)],
+    ) -> Result<(), AllocError> {
+        self.family(name, kind, help)?;
+        for (label, n) in samples {
+            self.sample_with_label(name, key, label, *n)?;
+        }
+        Ok(())
     }
 }

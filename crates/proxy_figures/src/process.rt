@@ -37,11 +37,10 @@ fn push_time(
     help: &str,
     milliseconds: Option<u64>,
 ) -> Result<(), AllocError> {
-    let Some(milliseconds) = milliseconds else {
-        return Ok(());
-    };
-    page.family(name, kind, help)?;
-    page.time(name, milliseconds)
+    match milliseconds {
+        Some(milliseconds) => page.single_time_family(name, kind, help, milliseconds),
+        None => Ok(()),
+    }
 }
 
 /// The figures of the process. The texts of help are those of Prometheus' client in Go: node_exporter has the same

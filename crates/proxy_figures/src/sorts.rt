@@ -100,6 +100,31 @@ pub(crate) const ALL_REASONS: [Reason; 12] = [
     Reason::Purged,
 ];
 
+/// Why a request goes forward.
+const FORWARD_REASONS: [Reason; 6] = [
+    Reason::UriMiss,
+    Reason::VaryMiss,
+    Reason::Stale,
+    Reason::Request,
+    Reason::Method,
+    Reason::Bypass,
+];
+
+/// What tells rules of one reason apart.
+const DETAILS_OF_RULES: [Detail; 11] = [
+    Detail::Operator,
+    Detail::Content,
+    Detail::Range,
+    Detail::Precondition,
+    Detail::ResponseNoCache,
+    Detail::MustRevalidate,
+    Detail::NoLifetime,
+    Detail::NoCache,
+    Detail::MaxStale,
+    Detail::MaxAge,
+    Detail::MinFresh,
+];
+
 pub(crate) const ALL_DETAILS: [Detail; 18] = [
     Detail::Nothing,
     Detail::Operator,
@@ -173,21 +198,10 @@ impl Reason {
     fn of_forward(word: &[u8]) -> Option<Reason>
         ensures { result ≡ find (λ reason. bytes_eq word.now (reason_name reason)) forward_reasons }
     {
-        if word == b"uri-miss".as_slice() {
-            Some(Reason::UriMiss)
-        } else if word == b"vary-miss".as_slice() {
-            Some(Reason::VaryMiss)
-        } else if word == b"stale".as_slice() {
-            Some(Reason::Stale)
-        } else if word == b"request".as_slice() {
-            Some(Reason::Request)
-        } else if word == b"method".as_slice() {
-            Some(Reason::Method)
-        } else if word == b"bypass".as_slice() {
-            Some(Reason::Bypass)
-        } else {
-            None
-        }
+        FORWARD_REASONS
+            .iter()
+            .copied()
+            .find(|reason| word == reason.name().as_bytes())
     }
 }
 
@@ -231,31 +245,10 @@ impl Detail {
     fn of_rule(word: &[u8]) -> Option<Detail>
         ensures { result ≡ find (λ detail. bytes_eq word.now (detail_name detail)) details_of_rules }
     {
-        if word == b"operator".as_slice() {
-            Some(Detail::Operator)
-        } else if word == b"content".as_slice() {
-            Some(Detail::Content)
-        } else if word == b"range".as_slice() {
-            Some(Detail::Range)
-        } else if word == b"precondition".as_slice() {
-            Some(Detail::Precondition)
-        } else if word == b"response-no-cache".as_slice() {
-            Some(Detail::ResponseNoCache)
-        } else if word == b"must-revalidate".as_slice() {
-            Some(Detail::MustRevalidate)
-        } else if word == b"no-lifetime".as_slice() {
-            Some(Detail::NoLifetime)
-        } else if word == b"no-cache".as_slice() {
-            Some(Detail::NoCache)
-        } else if word == b"max-stale".as_slice() {
-            Some(Detail::MaxStale)
-        } else if word == b"max-age".as_slice() {
-            Some(Detail::MaxAge)
-        } else if word == b"min-fresh".as_slice() {
-            Some(Detail::MinFresh)
-        } else {
-            None
-        }
+        DETAILS_OF_RULES
+            .iter()
+            .copied()
+            .find(|detail| word == detail.name().as_bytes())
     }
 
     /// The detail of this word, where a stored response was sent after all, or while it is validated, or where a cookie
