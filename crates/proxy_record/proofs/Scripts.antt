@@ -145,6 +145,7 @@ placed_happening (happening.Hears l bytes) = refl
 placed_happening (happening.Ends n) = refl
 placed_happening (happening.Leaves n) = refl
 placed_happening (happening.Retires n) = refl
+placed_happening (happening.Overdues n) = refl
 placed_happening (happening.Shuts l) = refl
 placed_happening (happening.Fails l kind) = refl
 

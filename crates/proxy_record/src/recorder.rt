@@ -26,7 +26,6 @@ impl From<AllocError> for RecordFault {
 }
 
 /// Writes what happens behind a table. It ends by itself where one more happening would pass the limit of a script.
-#[derive(Drop)]
 pub struct Recorder<W: Write + Drop> {
     alloc: Global,
     writer: W,
@@ -35,6 +34,19 @@ pub struct Recorder<W: Write + Drop> {
     /// The moment that was written last.
     moment: u64,
     over: bool,
+}
+
+/// One call drops it, wherever that is.
+impl<W: Write + Drop> Drop for Recorder<W> {
+    fn drop(self) {
+        let Recorder {
+            alloc: _,
+            writer: _,
+            len: _,
+            moment: _,
+            over: _,
+        } = self;
+    }
 }
 
 impl<W: Write + Drop> Model for Recorder<W> {

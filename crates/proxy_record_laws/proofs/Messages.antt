@@ -9,7 +9,7 @@ use Rattle.proxy_core.specs.State.{State as CoreState}
 use Rattle.proxy_core.specs.Starts.{EachHeldAtFirst}
 use Rattle.proxy_core_laws.specs.SentMessages.{CanBeSent}
 use Rattle.hx_allow.specs.Tables.{TableWasRead}
-use Rattle.proxy_engine.specs.Happenings.{PlainHappening, Accepts, Sends, Hears, Ends, Leaves, Retires, Shuts, Fails}
+use Rattle.proxy_engine.specs.Happenings.{PlainHappening, Accepts, Sends, Hears, Ends, Leaves, Retires, Overdues, Shuts, Fails}
 use Rattle.proxy_engine.specs.EngineModel.{EngineModel, model_after_happening}
 use Rattle.proxy_engine.specs.Executions.{ExecutionStep, Took, StepsLead}
 use Rattle.proxy_engine.specs.Beginnings.{MayBeHeldAtFirst, begun_model, store_with}
@@ -26,21 +26,22 @@ use Rattle.proxy_record_laws.specs.LivesOfAServer.{ALifeIsExecuted, ServerLife, 
 use Rattle.proxy_record_laws.proofs.Replaying.{turn_of_engine}
 use Rattle.proxy_record_laws.specs.MessagesOfAServer.{EachWriteOfAServerIsOneMessage, EachWriteOfALifeIsOneMessage, RepliesOfAServerFollowRequests}
 
-core_heard : (s : EngineModel) (h : PlainHappening) → (model_after_happening s h).core ≡ s.core
-core_heard s (Accepts n) = refl
-core_heard s (Sends n bytes) = refl
-core_heard s (Hears l bytes) = refl
-core_heard s (Ends n) = refl
-core_heard s (Leaves n) = refl
-core_heard s (Retires n) = refl
-core_heard s (Shuts l) = refl
-core_heard s (Fails l kind) = refl
+table_heard : (s : EngineModel) (h : PlainHappening) → (model_after_happening s h).core.table ≡ s.core.table
+table_heard s (Accepts n) = refl
+table_heard s (Sends n bytes) = refl
+table_heard s (Hears l bytes) = refl
+table_heard s (Ends n) = refl
+table_heard s (Leaves n) = refl
+table_heard s (Retires n) = refl
+table_heard s (Overdues n) = refl
+table_heard s (Shuts l) = refl
+table_heard s (Fails l kind) = refl
 
--- what is taken leaves the core
-core_stays : (hs : List PlainHappening) (past : List ExecutionStep) (s t : EngineModel) → ((m : EngineModel) → StepsLead s past m → m.core ≡ s.core) → StepsLead s (steps_of_taking hs past) t → t.core ≡ s.core
-core_stays [] past s t before leads = before t leads
-core_stays (h ∷ hs) past s t before leads =
-    core_stays hs (Took h ∷ past) s t (λ m (took : StepsLead s (Took h ∷ past) m). ap (λ (x : EngineModel). x.core) took.2.1 ∙ (core_heard took.0 h ∙ before took.0 took.1)) leads
+-- what is taken leaves the table
+table_stays : (hs : List PlainHappening) (past : List ExecutionStep) (s t : EngineModel) → ((m : EngineModel) → StepsLead s past m → m.core.table ≡ s.core.table) → StepsLead s (steps_of_taking hs past) t → t.core.table ≡ s.core.table
+table_stays [] past s t before leads = before t leads
+table_stays (h ∷ hs) past s t before leads =
+    table_stays hs (Took h ∷ past) s t (λ m (took : StepsLead s (Took h ∷ past) m). ap (λ (x : EngineModel). x.core.table) took.2.1 ∙ (table_heard took.0 h ∙ before took.0 took.1)) leads
 
 -- it is taken behind what was lived
 taken_behind : (hs : List PlainHappening) (begin s t : EngineModel) (past other : List ExecutionStep) → ((m : EngineModel) → StepsLead s past m → StepsLead begin other m) → StepsLead s (steps_of_taking hs past) t → StepsLead begin (steps_of_taking hs other) t
@@ -55,7 +56,7 @@ writes_messages messages a b held first link steps s reported read begins execut
     let mid = served.mid.engine in
     let lost = steps_of_taking losses.lost steps in
     let same : a.engine.core.table ≡ mid.core.table =
-    ap (λ (k : CoreState). k.table) (executed.represents.core ∙ (sym (core_stays losses.lost [] s losses.after (λ m here. ap (λ (x : EngineModel). x.core) here) losses.takes) ∙ sym losses.represents.core)) in
+    ap (λ (k : CoreState). k.table) executed.represents.core ∙ (sym (table_stays losses.lost [] s losses.after (λ m here. ap (λ (x : EngineModel). x.core.table) here) losses.takes) ∙ ap (λ (k : CoreState). k.table) (sym losses.represents.core)) in
     let leads = taken_behind losses.lost (initial_model_of a.engine held first link) s losses.after [] steps (λ m here. subst (StepsLead (initial_model_of a.engine held first link) steps) (sym here) executed.executes) losses.takes in
     let lived : EngineExecuted mid held first link lost losses.after = record {
       begins = subst (λ (table : Table). MayBeHeldAtFirst table held first) same executed.begins;

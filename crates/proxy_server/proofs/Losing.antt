@@ -165,6 +165,7 @@ loss_takes_none (happened.Hears l bytes) loss is = loss
 loss_takes_none (happened.Ends n) loss is = loss
 loss_takes_none (happened.Leaves n) loss is = absurd (false≢true is)
 loss_takes_none (happened.Retires n) loss is = absurd (false≢true is)
+loss_takes_none (happened.Overdues n) loss is = absurd (false≢true is)
 loss_takes_none (happened.Shuts l) loss is = loss
 loss_takes_none (happened.Fails l kind) loss is = absurd (false≢true is)
 

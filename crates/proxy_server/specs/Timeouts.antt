@@ -4,12 +4,13 @@
 -- client_has_left: of who has sent its end           incomplete_since: since when a request has been incomplete
 -- milliseconds_since: for how long something is so, if at all
 -- client_is_silent, client_has_left_or_gone: of the client of a number; who isn't there is, and has
+-- end_of_wait, client_has_waited: until when a request waits for the answer to another
 -- age_of_link: of a link, 0 where there is none
 -- silence_of_link: for how long the origin of a link may send no byte
 -- link_time_may_be_over_at: the first moment of a link at which a time of it may be
 -- link_overtime: which time of a link is over
 -- IsIdleSince, IsIdleNumber, IsUnmarkedClient: of who may be let go
-use Rattle.std.specs.Prelude.{◌≡◌, ℕ, ◌-◌, ◌*◌, min, max, nat_lt, Bool, true, false, not, ◌&&◌, ◌||◌}
+use Rattle.std.specs.Prelude.{◌≡◌, ℕ, ◌-◌, ◌*◌, min, max, nat_lt, nat_le, Bool, true, false, not, ◌&&◌, ◌||◌}
 use Rattle.std.specs.Prelude.{Option, None, Some, is_some, cond, if◌then◌else◌, unwrap_or, option_map}
 use Rattle.std.specs.Option.{option_and_then}
 use Rattle.proxy_figures.specs.Counts.{count_plus}
@@ -88,6 +89,23 @@ client_is_silent limit now (Some client) = not (client_may_give client) && nat_l
 abbrev pub client_has_left_or_gone : {S : Type 0} → ℕ → ℕ → Option (Client S) → Bool
 client_has_left_or_gone limit now None = true
 client_has_left_or_gone limit now (Some client) = client_has_left now client.left client.peer.heard limit
+
+abbrev pub is_over_by : ℕ → Option ℕ → Bool
+is_over_by now None = false
+is_over_by now (Some moment) = nat_le moment now
+
+-- when a request that came then has waited for so many seconds
+abbrev pub end_of_wait_since : ℕ → Option ℕ → Option ℕ
+end_of_wait_since seconds None = None
+end_of_wait_since seconds (Some asked) = Some (count_plus asked (seconds * 1000))
+
+abbrev pub end_of_wait : {S : Type 0} → ℕ → Option (Client S) → Option ℕ
+end_of_wait seconds None = None
+end_of_wait seconds (Some client) = end_of_wait_since seconds client.asked
+
+-- The request of a client, of which the first byte came then, has waited for the answer to another for so many seconds.
+abbrev pub client_has_waited : {S : Type 0} → ℕ → ℕ → Option (Client S) → Bool
+client_has_waited seconds now client = is_over_by now (end_of_wait seconds client)
 
 abbrev pub age_of_link : {S : Type 0} → ℕ → Option (Link S) → ℕ
 age_of_link now None = 0

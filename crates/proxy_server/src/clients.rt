@@ -45,7 +45,6 @@ use std::alloc::Global;
 use std::collections::BTreeMap;
 use std::io;
 
-#[derive(Drop)]
 pub(crate) struct Clients<S: Stream + Drop = Socket> {
     alloc: Global,
     /// Each in memory of its own: the list keeps places for as many again.
@@ -78,6 +77,30 @@ pub(crate) struct Clients<S: Stream + Drop = Socket> {
     pub(crate) unanswered: UnansweredCounts,
     /// Lines of the log about such requests that had no memory, and weren't counted there yet.
     pub(crate) lost_lines: u64,
+}
+
+/// One call drops it, wherever that is.
+impl<S: Stream + Drop> Drop for Clients<S> {
+    fn drop(self) {
+        let Clients {
+            alloc: _,
+            streams: _,
+            open: _,
+            queues: _,
+            idle: _,
+            looks: _,
+            departed: _,
+            begun: _,
+            lost: _,
+            unsent: _,
+            handed: _,
+            limits: _,
+            more: _,
+            endings: _,
+            unanswered: _,
+            lost_lines: _,
+        } = self;
+    }
 }
 
 impl<S: Stream + Drop> Clients<S> {

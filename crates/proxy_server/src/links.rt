@@ -29,7 +29,6 @@ use std::collections::BTreeMap;
 use std::io;
 
 /// Links by their numbers.
-#[derive(Drop)]
 pub(crate) struct Links<S: Stream + Drop = Socket> {
     pub(crate) items: BTreeMap<u64, Link<S>>,
     pub(crate) origins: Origins,
@@ -39,6 +38,19 @@ pub(crate) struct Links<S: Stream + Drop = Socket> {
     held: usize,
     /// How often the time of a link was over, by which.
     pub(crate) timeouts: LinkTimeouts,
+}
+
+/// One call drops it, wherever that is.
+impl<S: Stream + Drop> Drop for Links<S> {
+    fn drop(self) {
+        let Links {
+            items: _,
+            origins: _,
+            looks: _,
+            held: _,
+            timeouts: _,
+        } = self;
+    }
 }
 
 impl Links {

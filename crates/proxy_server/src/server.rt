@@ -1,6 +1,6 @@
 //! A server: a wait, what failed or was silent since the last turn, and a turn, again and again.
 ghost use Rattle.std.specs.Prelude.{◌≡◌, ◌<◌, ◌||◌, Bool, true, false, [], length, Some, IfOk, IfSome};
-ghost use Rattle.proxy_engine.specs.Happenings.{Retires};
+ghost use Rattle.proxy_engine.specs.Happenings.{Overdues, Retires};
 ghost use Rattle.hx_allow.specs.Tables.{TableWasRead};
 ghost use Rattle.hx_fields.specs.declared.limits.TheConstants.{END_OF_TIME};
 ghost use Rattle.proxy_engine.specs.Beginnings.{MayBeHeldAtFirst, begun_model};
@@ -451,6 +451,21 @@ impl<'a, S: Shelf + Drop, R: Net, W: Write + Drop> Server<'a, S, R, W> {
         }
     }
 
+    /// The engine takes that the request of a client has waited for the answer to another as long as it is to wait, and
+    /// that is recorded.
+    fn overdue(&mut self, n: u64)
+        requires { may_take_one self.old ≡ true }
+        ensures overdue { LossIfAnyIsTaken (Some (Overdues n)) self.old self.new }
+        ensures on { ServerTakesLosses self.old self.new }
+    {
+        engines_go_on();
+        a_turn_is_served_behind_losses();
+        // It takes no memory, and the request waits.
+        if self.engine.take(self.alloc, Happening::Overdue(n)).is_ok() {
+            self.ends.note_between(Happening::Overdue(n));
+        }
+    }
+
     /// A client of which no byte waits gives the room for its next ones back.
     fn release_room(&mut self, end: End)
         ensures { ServerTakesLosses self.old self.new }
@@ -463,7 +478,7 @@ impl<'a, S: Shelf + Drop, R: Net, W: Write + Drop> Server<'a, S, R, W> {
     }
 
     /// The ends that the last turn read keep no room: who is idle costs little, and each read goes into memory that was
-    /// used just now.
+    /// used just now. Whose request waits for the answer to another is looked at once that has lasted long enough.
     fn release_rooms(&mut self)
         ensures { ServerTakesLosses self.old self.new }
     {
@@ -473,6 +488,7 @@ impl<'a, S: Shelf + Drop, R: Net, W: Write + Drop> Server<'a, S, R, W> {
                 return;
             };
             self.release_room(end);
+            let _ = self.has_waited(end);
         }
     }
 
@@ -558,7 +574,38 @@ impl<'a, S: Shelf + Drop, R: Net, W: Write + Drop> Server<'a, S, R, W> {
         }
     }
 
-    /// Hands in an end whose time is over: a link as timed out, a client as gone.
+    /// Whether the request of a client has waited for the answer to another as long as the line over which it came
+    /// says. One that hasn't is looked at once it has.
+    fn has_waited(&mut self, end: End) -> bool
+        ensures { self.new ≡ self.old }
+    {
+        let End::Client(n) = end else {
+            return false;
+        };
+        match self.engine.wait_timeout(n) {
+            Some(seconds) => {
+                let now = self.ends.sockets.now;
+                self.ends.sockets.clients.has_waited(n, seconds, now)
+            }
+            None => false,
+        }
+    }
+
+    /// Hands in that a client's request waits no longer, if it has waited for long enough.
+    fn end_wait(&mut self, end: End)
+        requires { may_take_one self.old ≡ true }
+        ensures { ServerTakesLosses self.old self.new }
+    {
+        a_turn_is_served_behind_losses();
+        if self.has_waited(end) {
+            if let End::Client(n) = end {
+                self.overdue(n);
+            }
+        }
+    }
+
+    /// Hands in an end whose time is over: a link as timed out, a client as gone, a request that waits for another's
+    /// answer as overdue.
     fn look_at(&mut self, end: End)
         requires { may_take_one self.old ≡ true }
         ensures { ServerTakesLosses self.old self.new }
@@ -569,6 +616,7 @@ impl<'a, S: Shelf + Drop, R: Net, W: Write + Drop> Server<'a, S, R, W> {
             self.release(end);
         } else {
             self.ends.sockets.look_again_at(end);
+            self.end_wait(end);
         }
     }
 

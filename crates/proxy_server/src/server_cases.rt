@@ -17,6 +17,7 @@ ghost use Rattle.proxy_server.specs.Connecting.{link_is_connecting};
 ghost use Rattle.proxy_server.specs.Losses.{AtMostOneLoss};
 ghost use Rattle.proxy_server.specs.Paces.{milliseconds_of_moment, next_turn_must_not_wait, turn_end_of};
 ghost use Rattle.proxy_server.specs.Timeouts.{age_of_link, client_has_left, client_has_left_or_gone, client_is_silent};
+ghost use Rattle.proxy_server.specs.Timeouts.{client_has_waited, end_of_wait_since, is_over_by};
 ghost use Rattle.proxy_server.specs.Timeouts.{closed_time_is_over, has_lasted_longer, incomplete_since};
 ghost use Rattle.proxy_server.specs.Timeouts.{link_overtime, link_time_is_over, link_time_may_be_over_at};
 ghost use Rattle.proxy_server.specs.Timeouts.{milliseconds_since};
@@ -58,6 +59,15 @@ pub fn worked_times_of_clients()
     ensures nobody_left { client_has_left_or_gone {S = ℕ} 5 100 None ≡ true }
     ensures is_there { (alloc : Global)
         → client_has_left_or_gone 5 900 (Some (client_heard_at_100 alloc false [] None)) ≡ false }
+{}
+
+/// Until when a request waits for the answer to another: seconds from its first byte on.
+pub fn worked_ends_of_waits()
+    ensures end { end_of_wait_since 2 (Some 100) ≡ Some 2100 }
+    ensures no_byte { end_of_wait_since 2 None ≡ None }
+    ensures no_client { client_has_waited {S = ℕ} 2 9000 None ≡ false }
+    ensures over { is_over_by 2100 (end_of_wait_since 2 (Some 100)) ≡ true }
+    ensures not_over { is_over_by 2099 (end_of_wait_since 2 (Some 100)) ≡ false }
 {}
 
 /// Of a link all of its time counts first, then that of its connection, then the origin's silence.

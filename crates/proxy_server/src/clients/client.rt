@@ -39,7 +39,6 @@ pub(crate) struct Logged {
 }
 
 /// A client's stream. Moments are milliseconds of the clock that never goes back.
-#[derive(Drop)]
 pub(crate) struct Client<S: Stream + Drop = Socket> {
     pub(crate) peer: Peer<S>,
     alloc: Global,
@@ -72,6 +71,31 @@ pub(crate) struct Client<S: Stream + Drop = Socket> {
     pub(crate) closed: u64,
     /// In memory of its own: where no log is kept, a client is smaller by it.
     logged: Option<Box<Logged>>,
+}
+
+/// One call drops it, wherever that is.
+impl<S: Stream + Drop> Drop for Client<S> {
+    fn drop(self) {
+        let Client {
+            peer: _,
+            alloc: _,
+            place: _,
+            rest: _,
+            asked: _,
+            is_begun: _,
+            handed: _,
+            left: _,
+            departed_mark: _,
+            has_asked: _,
+            is_listed: _,
+            idle_since: _,
+            idle_mark: _,
+            begun_mark: _,
+            look: _,
+            closed: _,
+            logged: _,
+        } = self;
+    }
 }
 
 impl<S: Stream + Drop> Client<S> {

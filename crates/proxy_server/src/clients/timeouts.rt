@@ -2,6 +2,7 @@
 ghost use Rattle.std.specs.Prelude.{◌≡◌, ◌<◌, ◌-◌, ◌⊎◌, true, false, [], Some, None, length, IfSome, ℕ};
 ghost use Rattle.proxy_server.specs.Timeouts.{closed_time_is_over, has_lasted_longer, incomplete_since};
 ghost use Rattle.proxy_server.specs.Timeouts.{client_is_silent, client_has_left_or_gone, IsIdleNumber};
+ghost use Rattle.proxy_server.specs.Timeouts.{client_has_waited, end_of_wait};
 ghost use Rattle.proxy_server.specs.OtherEntries.{OtherSlabKeysStay, ChangesOnlyAtNumber};
 ghost use Rattle.proxy_server.specs.Streams.{stream_at_number, client_at};
 
@@ -174,6 +175,37 @@ impl Clients {
         match self.streams.get_mut(key) {
             Some(client) => is_late(&mut **client, &limits, now),
             None => true,
+        }
+    }
+
+    /// Whether the request of a client, which waits for the answer to another, has done so for so many seconds. It is
+    /// looked at once it has. One that isn't there hasn't.
+    pub(crate) fn has_waited(&mut self, n: u64, seconds: u32, now: u64) -> bool
+        ensures { result ≡ client_has_waited seconds now (stream_at_number self.old.open self.old.streams n) }
+    {
+        let Some(key) = self.key_of(n) else {
+            return false;
+        };
+        let Some(over) = self.end_of_wait(key, seconds) else {
+            return false;
+        };
+        self.look_no_later(key, over);
+        over <= now
+    }
+
+    /// When the request of a client has waited for so many seconds, from its first byte on.
+    fn end_of_wait(&self, key: usize, seconds: u32) -> Option<u64>
+        ensures { result ≡ end_of_wait seconds (client_at self.now.streams key) }
+    {
+        let asked = self.stream(key)?.asked?;
+        Some(asked.saturating_add(u64::from(seconds) * SECOND))
+    }
+
+    /// A client is looked at next at this moment at the latest. Without memory for that, it is cut off.
+    fn look_no_later(&mut self, key: usize, moment: u64) {
+        let is_later = self.stream(key).is_some_and(|it| it.look > moment);
+        if is_later && !self.look_at(key, moment) {
+            self.cut_stream(key, CutReason::Memory);
         }
     }
 

@@ -10,7 +10,6 @@ use proxy_streams::{Peer, Socket, Stream};
 use std::io;
 
 /// A link.
-#[derive(Drop)]
 pub(crate) struct Link<S: Stream + Drop = Socket> {
     /// Its stream, until that has failed.
     pub(crate) peer: Option<Peer<S>>,
@@ -27,6 +26,21 @@ pub(crate) struct Link<S: Stream + Drop = Socket> {
     /// The seconds for which its origin may send no byte, where the line of its request says so. That is known from the
     /// first look on: no such time is shorter than what that waits.
     pub(crate) seconds: Option<u32>,
+}
+
+/// One call drops it, wherever that is.
+impl<S: Stream + Drop> Drop for Link<S> {
+    fn drop(self) {
+        let Link {
+            peer: _,
+            began: _,
+            origin: _,
+            admission: _,
+            is_listed: _,
+            look: _,
+            seconds: _,
+        } = self;
+    }
 }
 
 impl<S: Stream + Drop> Link<S> {

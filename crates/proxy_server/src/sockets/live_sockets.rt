@@ -37,7 +37,6 @@ use std::net::{Net, SocketAddr, SocketAddrV4};
 use std::time::Duration;
 
 /// A listener, its clients and the links to origins. No call waits but `wait`.
-#[derive(Drop)]
 pub struct LiveSockets<'a, R: Net> {
     pub(crate) net: &'a R,
     pub(crate) alloc: Global,
@@ -80,6 +79,40 @@ pub struct LiveSockets<'a, R: Net> {
     /// Milliseconds of the clock that never goes back, at the last wait.
     pub(crate) now: u64,
     pub(crate) calls: CallCounts,
+}
+
+/// One call drops it, wherever that is.
+impl<'a, R: Net> Drop for LiveSockets<'a, R> {
+    fn drop(self) {
+        let LiveSockets {
+            net: _,
+            alloc: _,
+            poll: _,
+            events: _,
+            listener: _,
+            address: _,
+            acceptable: _,
+            in_hand: _,
+            may_have_room: _,
+            may_give_way: _,
+            is_draining: _,
+            not_retired: _,
+            clients: _,
+            links: _,
+            ready: _,
+            lost: _,
+            departing: _,
+            limits: _,
+            log: _,
+            replies: _,
+            accept_counts: _,
+            turns: _,
+            asked: _,
+            moment: _,
+            now: _,
+            calls: _,
+        } = self;
+    }
 }
 
 /// Reads from the link of a number. After a failure its stream is dropped; of one without a stream nothing comes.
