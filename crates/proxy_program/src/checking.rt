@@ -133,7 +133,8 @@ fn print_verdict<R: Print>(
             print_names(rt, "session-cookies", config.session_cookies(line))?;
             print_names(rt, "vary", config.vary(line))?;
             print_loops(rt, config, line)?;
-            print_seconds(rt, "origin-timeout", config.origin_timeout(line))
+            print_seconds(rt, "origin-timeout", config.origin_timeout(line))?;
+            print_seconds(rt, "wait-timeout", config.wait_timeout(line))
         }
         Verdict::DeniedBy(line) if config.purges(line) => println!(rt;
             "{text} is denied by line {line}, which purges for a request that shows its key"

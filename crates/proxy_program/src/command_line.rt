@@ -101,12 +101,85 @@ fn option_with_value<'a>(alloc: Global, name: &'a str, value: &'a str, help: &'a
         .action(ArgAction::Set)
 }
 
-/// An option with a number of seconds.
-fn seconds_option<'a>(alloc: Global, name: &'a str, default: &'a str, help: &'a str) -> Arg<'a> {
-    option_with_value(alloc, name, "SECONDS", help)
-        .default_value(default)
-        .value_parser(ValueParser::unsigned(1, LONGEST_TIMEOUT))
+/// The words of an option that has a value: its name first, its help last.
+#[derive(Clone, Copy)]
+enum OptionWords {
+    /// And what stands for its text.
+    Text(&'static str, &'static str, &'static str),
+    /// And the number where it doesn't stand.
+    Seconds(&'static str, &'static str, &'static str),
+    /// A number from 1 to the greatest.
+    Number {
+        name: &'static str,
+        value: &'static str,
+        most: u64,
+        default: Option<&'static str>,
+        help: &'static str,
+    },
 }
+
+fn option_of<'a>(alloc: Global, words: &OptionWords) -> Arg<'a> {
+    match *words {
+        OptionWords::Text(name, value, help) => option_with_value(alloc, name, value, help),
+        OptionWords::Seconds(name, default, help) => {
+            option_with_value(alloc, name, "SECONDS", help)
+                .default_value(default)
+                .value_parser(ValueParser::unsigned(1, LONGEST_TIMEOUT))
+        }
+        OptionWords::Number {
+            name,
+            value,
+            most,
+            default,
+            help,
+        } => {
+            let option = option_with_value(alloc, name, value, help).value_parser(
+                ValueParser::unsigned(1, most),
+            );
+            match default {
+                Some(default) => option.default_value(default),
+                None => option,
+            }
+        }
+    }
+}
+
+/// Adds options to a command.
+fn with_options<'a>(
+    alloc: Global,
+    command: Command<'a>,
+    options: &[OptionWords],
+) -> Result<Command<'a>, Error> {
+    let mut command = command;
+    for words in options {
+        command = command.arg(option_of(alloc, words))?;
+    }
+    Ok(command)
+}
+
+static CHECK_OPTIONS: [OptionWords; 5] = [
+    OptionWords::Text(
+        "ask",
+        "REQUEST",
+        "a method, a blank and a URL: tells which line decides, and its words",
+    ),
+    OptionWords::Text(
+        "ask-file",
+        "QUESTIONS",
+        "a file of lines as 'GET http://h.example/a => line 3': tells which are answered otherwise",
+    ),
+    OptionWords::Text(
+        "answer",
+        "LINES",
+        "an origin's answer to what is asked, as 'Cache-Control: max-age=60' or '404 | Set-Cookie: a=b': tells whether it is stored",
+    ),
+    OptionWords::Text(
+        "against",
+        "OLD",
+        "another table: tells which requests of --log are decided otherwise than by that",
+    ),
+    OptionWords::Text("log", "FILE", "a log of the server, for --against"),
+];
 
 fn check<'a>(alloc: Global) -> Result<Command<'a>, Error> {
     let command = command(alloc, "check")
@@ -114,33 +187,8 @@ fn check<'a>(alloc: Global) -> Result<Command<'a>, Error> {
             "Checks an operator's table: how many lines it has, which are never reached, what a request meets",
         )
         .arg(required_word(alloc, "table", "the table"))?
-        .arg(option_with_value(
-            alloc,
-            "ask",
-            "REQUEST",
-            "a method, a blank and a URL: tells which line decides, and its words",
-        ))?
-        .arg(option_with_value(
-            alloc,
-            "ask-file",
-            "QUESTIONS",
-            "a file of lines as 'GET http://h.example/a => line 3': tells which are answered otherwise",
-        ))?
-        .arg(option_with_value(
-            alloc,
-            "answer",
-            "LINES",
-            "an origin's answer to what is asked, as 'Cache-Control: max-age=60' or '404 | Set-Cookie: a=b': tells whether it is stored",
-        ))?
-        .arg(option_with_value(
-            alloc,
-            "against",
-            "OLD",
-            "another table: tells which requests of --log are decided otherwise than by that",
-        ))?
-        .arg(option_with_value(alloc, "log", "FILE", "a log of the server, for --against"))?
         .after_help(CHECK_HELP);
-    Ok(command)
+    with_options(alloc, command, &CHECK_OPTIONS)
 }
 
 /// What stands behind the options of a command, and of the program.
@@ -190,29 +238,23 @@ fn listen_option<'a>(alloc: Global) -> Arg<'a> {
     .required(true)
 }
 
-/// How many connections of clients there may be.
-fn connections_option<'a>(alloc: Global) -> Arg<'a> {
-    option_with_value(
-        alloc,
-        "connections",
-        "N",
-        "connections of clients, 1 to 1048576; beyond them the one that is idle for the longest is closed",
-    )
-    .default_value("16384")
-    .value_parser(ValueParser::unsigned(1, MOST_CONNECTIONS))
-}
-
-/// How many links to one origin there may be.
-fn origin_connections_option<'a>(alloc: Global) -> Arg<'a> {
-    option_with_value(
-        alloc,
-        "origin-connections",
-        "N",
-        "connections to one origin, 1 to 65536; a request beyond them is refused at once, as by the origin",
-    )
-    .default_value("1024")
-    .value_parser(ValueParser::unsigned(1, MOST_ORIGIN_CONNECTIONS))
-}
+/// How many connections there may be.
+static CONNECTION_OPTIONS: [OptionWords; 2] = [
+    OptionWords::Number {
+        name: "connections",
+        value: "N",
+        most: MOST_CONNECTIONS,
+        default: Some("16384"),
+        help: "connections of clients, 1 to 1048576; beyond them the one that is idle for the longest is closed",
+    },
+    OptionWords::Number {
+        name: "origin-connections",
+        value: "N",
+        most: MOST_ORIGIN_CONNECTIONS,
+        default: Some("1024"),
+        help: "connections to one origin, 1 to 65536; a request beyond them is refused at once, as by the origin",
+    },
+];
 
 /// Whether a silent origin is asked by one request at a time.
 fn origin_probe_option<'a>(alloc: Global) -> Arg<'a> {
@@ -226,39 +268,100 @@ fn origin_probe_option<'a>(alloc: Global) -> Arg<'a> {
     .value_parser(ValueParser::Names(&ON_AND_OFF))
 }
 
-/// How much may be in progress.
-fn content_option<'a>(alloc: Global) -> Arg<'a> {
-    option_with_value(
-        alloc,
-        "content-limit",
-        "BYTES",
-        "bytes of requests and answers in progress, of all of them; beyond it the largest is cut off",
-    )
-    .default_value("1073741824")
-    .value_parser(ValueParser::unsigned(1, MOST_CONTENT))
-}
-
-/// The earlier name of the same.
-fn unsent_option<'a>(alloc: Global) -> Arg<'a> {
-    option_with_value(
-        alloc,
-        "unsent-limit",
-        "BYTES",
-        "the earlier name of --content-limit",
-    )
-    .value_parser(ValueParser::unsigned(1, MOST_CONTENT))
-}
+/// How much may be in progress, and the earlier name of that.
+static CONTENT_OPTIONS: [OptionWords; 2] = [
+    OptionWords::Number {
+        name: "content-limit",
+        value: "BYTES",
+        most: MOST_CONTENT,
+        default: Some("1073741824"),
+        help: "bytes of requests and answers in progress, of all of them; beyond it the largest is cut off",
+    },
+    OptionWords::Number {
+        name: "unsent-limit",
+        value: "BYTES",
+        most: MOST_CONTENT,
+        default: None,
+        help: "the earlier name of --content-limit",
+    },
+];
 
 /// For how long it serves.
-fn turns_option<'a>(alloc: Global) -> Arg<'a> {
-    option_with_value(
-        alloc,
-        "turns",
-        "N",
-        "ends after so many turns, 1 to 4294967295; without it the server stays until it is stopped",
-    )
-    .value_parser(ValueParser::unsigned(1, 4_294_967_295))
-}
+static TURNS: [OptionWords; 1] = [OptionWords::Number {
+    name: "turns",
+    value: "N",
+    most: 4_294_967_295,
+    default: None,
+    help: "ends after so many turns, 1 to 4294967295; without it the server stays until it is stopped",
+}];
+
+/// How long clients may take.
+static CLIENT_TIMES: [OptionWords; 3] = [
+    OptionWords::Seconds(
+        "client-timeout",
+        "60",
+        "how long a client that waits for nothing may send and take no byte",
+    ),
+    OptionWords::Seconds(
+        "request-timeout",
+        "30",
+        "how long a request may take to come whole, from its first byte on",
+    ),
+    OptionWords::Seconds(
+        "abandon-timeout",
+        "5",
+        "how long a client that has sent its end may wait for its answer",
+    ),
+];
+
+/// How long origins may take.
+static ORIGIN_TIMES: [OptionWords; 3] = [
+    OptionWords::Seconds(
+        "connect-timeout",
+        "5",
+        "how long a connection to an origin may take to be made",
+    ),
+    OptionWords::Seconds(
+        "origin-timeout",
+        "60",
+        "how long an origin may send no byte",
+    ),
+    OptionWords::Seconds(
+        "exchange-timeout",
+        "300",
+        "how long an exchange with an origin may take in all",
+    ),
+];
+
+/// The files that a server looks for or writes.
+static FILES: [OptionWords; 6] = [
+    OptionWords::Text(
+        "drain",
+        "FILE",
+        "where this file is, takes no more connections, finishes what is open, and ends",
+    ),
+    OptionWords::Seconds("drain-timeout", "30", "how long that may take"),
+    OptionWords::Text(
+        "record",
+        "FILE",
+        "writes what happens into a new file as a script, up to 16777216 bytes; %s is the moment of the start. What --store holds at first stays beside it, as FILE.store",
+    ),
+    OptionWords::Text(
+        "log",
+        "FILE",
+        "adds a line about each reply to a file; - is standard output",
+    ),
+    OptionWords::Text(
+        "stats",
+        "FILE",
+        "writes figures once a second, in Prometheus' text format",
+    ),
+    OptionWords::Text(
+        "store",
+        "FILE",
+        "keeps what is stored over a restart: written at the end of a drain, read and taken away at the start",
+    ),
+];
 
 /// What is served, and how much of it.
 fn served<'a>(alloc: Global) -> Result<Command<'a>, Error> {
@@ -267,109 +370,19 @@ fn served<'a>(alloc: Global) -> Result<Command<'a>, Error> {
         .after_help(SERVE_HELP)
         .arg(required_word(alloc, "table", "the table"))?
         .arg(listen_option(alloc))?
-        .next_help_heading("Bounds")
-        .arg(connections_option(alloc))?
-        .arg(origin_connections_option(alloc))?
-        .arg(origin_probe_option(alloc))?
-        .arg(content_option(alloc))?
-        .arg(unsent_option(alloc))?
-        .next_help_heading("For tests")
-        .arg(turns_option(alloc))?;
-    Ok(command)
-}
-
-/// How long clients may take.
-fn with_client_times<'a>(alloc: Global, command: Command<'a>) -> Result<Command<'a>, Error> {
-    let command = command
-        .next_help_heading("Times of clients")
-        .arg(seconds_option(
-            alloc,
-            "client-timeout",
-            "60",
-            "how long a client that waits for nothing may send and take no byte",
-        ))?
-        .arg(seconds_option(
-            alloc,
-            "request-timeout",
-            "30",
-            "how long a request may take to come whole, from its first byte on",
-        ))?
-        .arg(seconds_option(
-            alloc,
-            "abandon-timeout",
-            "5",
-            "how long a client that has sent its end may wait for its answer",
-        ))?;
-    Ok(command)
-}
-
-/// How long origins may take.
-fn with_origin_times<'a>(alloc: Global, command: Command<'a>) -> Result<Command<'a>, Error> {
-    let command = command
-        .next_help_heading("Times of origins")
-        .arg(seconds_option(
-            alloc,
-            "connect-timeout",
-            "5",
-            "how long a connection to an origin may take to be made",
-        ))?
-        .arg(seconds_option(
-            alloc,
-            "origin-timeout",
-            "60",
-            "how long an origin may send no byte",
-        ))?
-        .arg(seconds_option(
-            alloc,
-            "exchange-timeout",
-            "300",
-            "how long an exchange with an origin may take in all",
-        ))?;
-    Ok(command)
-}
-
-/// The files that a server looks for or writes.
-fn with_files<'a>(alloc: Global, command: Command<'a>) -> Result<Command<'a>, Error> {
-    let command = command
-        .next_help_heading("Files")
-        .arg(option_with_value(
-            alloc,
-            "drain",
-            "FILE",
-            "where this file is, takes no more connections, finishes what is open, and ends",
-        ))?
-        .arg(seconds_option(alloc, "drain-timeout", "30", "how long that may take"))?
-        .arg(option_with_value(
-            alloc,
-            "record",
-            "FILE",
-            "writes what happens into a new file as a script, up to 16777216 bytes; %s is the moment of the start. What --store holds at first stays beside it, as FILE.store",
-        ))?
-        .arg(option_with_value(
-            alloc,
-            "log",
-            "FILE",
-            "adds a line about each reply to a file; - is standard output",
-        ))?
-        .arg(option_with_value(
-            alloc,
-            "stats",
-            "FILE",
-            "writes figures once a second, in Prometheus' text format",
-        ))?
-        .arg(option_with_value(
-            alloc,
-            "store",
-            "FILE",
-            "keeps what is stored over a restart: written at the end of a drain, read and taken away at the start",
-        ))?;
-    Ok(command)
+        .next_help_heading("Bounds");
+    let command = with_options(alloc, command, &CONNECTION_OPTIONS)?;
+    let command = command.arg(origin_probe_option(alloc))?;
+    let command = with_options(alloc, command, &CONTENT_OPTIONS)?.next_help_heading("For tests");
+    with_options(alloc, command, &TURNS)
 }
 
 fn serve<'a>(alloc: Global) -> Result<Command<'a>, Error> {
-    let command = with_client_times(alloc, served(alloc)?)?;
-    let command = with_origin_times(alloc, command)?;
-    with_files(alloc, command)
+    let command = served(alloc)?.next_help_heading("Times of clients");
+    let command = with_options(alloc, command, &CLIENT_TIMES)?;
+    let command = command.next_help_heading("Times of origins");
+    let command = with_options(alloc, command, &ORIGIN_TIMES)?;
+    with_options(alloc, command.next_help_heading("Files"), &FILES)
 }
 
 /// A replay over a store, as a server that read one records.
@@ -388,18 +401,27 @@ fn replay<'a>(alloc: Global) -> Result<Command<'a>, Error> {
     Ok(command)
 }
 
+/// Adds a command to the program, once it is made.
+fn with_command<'a>(
+    program: Command<'a>,
+    command: Result<Command<'a>, Error>,
+) -> Result<Command<'a>, Error> {
+    match command {
+        Ok(command) => Ok(program.subcommand(command)?),
+        Err(e) => Err(e),
+    }
+}
+
 fn program<'a>(alloc: Global) -> Result<Command<'a>, Error> {
-    let check = check(alloc)?;
-    let command = command(alloc, "revcache")
+    let program = command(alloc, "revcache")
         .version(VERSION)
         .about(
             "A caching reverse proxy for HTTP/1.1; without a command, replays the script on standard input",
         )
-        .after_help(STATUSES)
-        .subcommand(check)?
-        .subcommand(serve(alloc)?)?
-        .subcommand(replay(alloc)?)?;
-    Ok(command)
+        .after_help(STATUSES);
+    let program = with_command(program, check(alloc))?;
+    let program = with_command(program, serve(alloc))?;
+    with_command(program, replay(alloc))
 }
 
 /// The descriptor of a socket that was handed on: `fd:` and its number, without leading zeros, 3 at least. Those below

@@ -25,7 +25,6 @@ pub(crate) struct FixedFacts {
 }
 
 /// Where the figures go, and what they say beside what the server tells.
-#[derive(Drop)]
 pub(crate) struct Figures<'a> {
     file: StatsFile<'a>,
     facts: FixedFacts,
@@ -34,6 +33,20 @@ pub(crate) struct Figures<'a> {
     /// The second in which they were written last.
     written: Option<u64>,
     warned: RareWarning,
+}
+
+/// One call drops it, wherever that is.
+impl Drop for Figures<'_> {
+    fn drop(self) {
+        let Figures {
+            file: _,
+            facts: _,
+            commit: _,
+            store: _,
+            written: _,
+            warned: _,
+        } = self;
+    }
 }
 
 impl<'a> Figures<'a> {

@@ -23,7 +23,6 @@ impl<F: Write + Drop, P: Write + Drop> Target<F, P> {
 }
 
 /// A writer of lines.
-#[derive(Drop)]
 pub(crate) struct Journal<F: Write + Drop, P: Write + Drop> {
     target: Target<F, P>,
     /// The lines that couldn't be written.
@@ -38,6 +37,21 @@ pub(crate) struct Journal<F: Write + Drop, P: Write + Drop> {
     length: Option<u64>,
     /// The file was once longer than that.
     is_shared: bool,
+}
+
+/// One call drops it, wherever that is.
+impl<F: Write + Drop, P: Write + Drop> Drop for Journal<F, P> {
+    fn drop(self) {
+        let Journal {
+            target: _,
+            lost: _,
+            torn: _,
+            is_gone: _,
+            why: _,
+            length: _,
+            is_shared: _,
+        } = self;
+    }
 }
 
 /// The file of a log, to whose end lines are added. A new one is read by its user and group alone: a query may have a

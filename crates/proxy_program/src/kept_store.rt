@@ -104,7 +104,6 @@ fn remove<R: Files + Eprint>(rt: &R, path: &str) {
 }
 
 /// The file of a store, by the names that it has.
-#[derive(Drop)]
 pub(crate) struct KeptStore<'a> {
     path: &'a str,
     /// While it is read.
@@ -115,6 +114,19 @@ pub(crate) struct KeptStore<'a> {
     part: String,
     /// Beside a record, which begins with what was read.
     recorded: Option<String>,
+}
+
+/// One call drops it, wherever that is.
+impl Drop for KeptStore<'_> {
+    fn drop(self) {
+        let KeptStore {
+            path: _,
+            taken: _,
+            refused: _,
+            part: _,
+            recorded: _,
+        } = self;
+    }
 }
 
 impl<'a> KeptStore<'a> {

@@ -56,7 +56,7 @@ pub(crate) fn most_held(limits: &Limits, has_log: bool) -> u64
 }
 
 /// Who bounds the memory of this process, and to how many bytes.
-#[derive(Clone, Copy, PartialEq, Eq)]
+#[derive(Clone, Copy)]
 pub(crate) enum Allowed {
     Machine(u64),
     Cgroup(u64),

@@ -174,32 +174,40 @@ fn store_reader<R: Files + AllocGlobal>(rt: &R, path: &str) -> Result<BufReader<
     }
 }
 
-/// Does what the words ask for; a replay tells its own exit status.
-fn do_command<R>(rt: &R, words: &[String]) -> Result<ExitCode, EndedEarly>
+/// Does what is asked for; a replay tells its own exit status.
+fn do_form<R>(rt: &R, form: &Form<'_>) -> Result<ExitCode, EndedEarly>
 where
     R: Files + Env + Input + Print + Eprint + AllocGlobal + Net + Clock + RandomSource,
     <R as Input>::Reader: IsTerminal,
 {
-    let matches = match read(rt.alloc(), words) {
-        Ok(matches) => matches,
-        Err(error) => {
-            explain(rt, &error)?;
-            return Ok(ExitCode::SUCCESS);
-        }
-    };
-    match form_of(rt.alloc(), &matches)? {
+    match form {
         Form::Replay => {
             print_what_is_awaited(rt);
             return Ok(proxy_replay::program::run(rt));
         }
         Form::ReplayOver(store) => {
             print_what_is_awaited(rt);
-            return replayed(rt, store);
+            return replayed(rt, *store);
         }
-        Form::Check(checking) => checked(rt, &checking)?,
-        Form::Serve(service) => served(rt, &service)?,
+        Form::Check(checking) => checked(rt, checking)?,
+        Form::Serve(service) => served(rt, service)?,
     }
     Ok(ExitCode::SUCCESS)
+}
+
+/// Does what the words ask for.
+fn do_command<R>(rt: &R, words: &[String]) -> Result<ExitCode, EndedEarly>
+where
+    R: Files + Env + Input + Print + Eprint + AllocGlobal + Net + Clock + RandomSource,
+    <R as Input>::Reader: IsTerminal,
+{
+    match read(rt.alloc(), words) {
+        Ok(matches) => do_form(rt, &form_of(rt.alloc(), &matches)?),
+        Err(error) => {
+            explain(rt, &error)?;
+            Ok(ExitCode::SUCCESS)
+        }
+    }
 }
 
 /// The words of the command line.

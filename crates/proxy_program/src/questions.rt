@@ -13,7 +13,7 @@ use hx_allow::Config;
 use std::alloc::Global;
 
 /// What is expected of a request.
-#[derive(Clone, Copy, PartialEq, Eq)]
+#[derive(Clone, Copy)]
 pub(crate) enum Expected {
     /// That this line allows it.
     Line(u16),
@@ -57,7 +57,7 @@ impl Expected {
 }
 
 /// What is asked for of a request, or of an answer to it.
-#[derive(Clone, Copy, PartialEq, Eq)]
+#[derive(Clone, Copy)]
 enum Wanted {
     Meets(Expected),
     /// Whether an answer to it is stored.

@@ -322,10 +322,19 @@ struct Start<'a> {
 }
 
 /// What is written about the replies and the server, where it is asked for.
-#[derive(Drop)]
 struct Reports<'a, F: Write + Drop, P: Write + Drop> {
     journal: Option<Journal<F, P>>,
     figures: Option<Figures<'a>>,
+}
+
+/// One call drops it, wherever that is.
+impl<'a, F: Write + Drop, P: Write + Drop> Drop for Reports<'a, F, P> {
+    fn drop(self) {
+        let Reports {
+            journal: _,
+            figures: _,
+        } = self;
+    }
 }
 
 /// Opens the files of the log and the figures, and has the sockets count for them.

@@ -23,7 +23,7 @@ pub(crate) struct Watch<'a> {
 }
 
 /// Whether a server goes on.
-#[derive(Clone, Copy, PartialEq, Eq)]
+#[derive(Clone, Copy)]
 pub(crate) enum ServerState {
     On,
     /// It begins to end.
