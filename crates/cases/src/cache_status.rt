@@ -5,8 +5,8 @@
 use crate::case_file::Case;
 use crate::lines::{Fault, Line};
 use crate::parts::only_line;
+use crate::text::push_shown;
 use crate::words::{fail_kind, frame_word, named, target_word};
-use case_text::push_shown;
 use hx_framing::FrameFault;
 use hx_reuse::{ErrorRule, ReuseRule};
 use hx_status::{Cause, Detail, How, Status, member, refusal};

@@ -1,6 +1,6 @@
 //! A case file as blocks: a head line at the left, and the indented lines below it.
 
-use case_text::push_bytes;
+use crate::text::push_bytes;
 use std::alloc::{AllocError, Global};
 
 /// How deep the lines below a head stand.

@@ -3,7 +3,7 @@
 use crate::case_file::Case;
 use crate::field_lines::push_field;
 use crate::lines::{Fault, Line};
-use case_text::push_shown;
+use crate::text::push_shown;
 use hx_fields::{Field, Fields, is_token};
 use std::alloc::{AllocError, Global};
 

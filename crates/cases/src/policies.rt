@@ -47,73 +47,47 @@ pub fn policy_of(text: &str) -> Option<Policy> {
     Some(policy)
 }
 
-fn write_seconds(text: &mut String, key: &str, seconds: Option<u32>) -> Result<(), AllocError> {
-    match seconds {
-        Some(seconds) => write!(text, " {key}={seconds}"),
-        None => Ok(()),
-    }
-}
-
-fn write_unless(text: &mut String, kept: bool, word: &str) -> Result<(), AllocError> {
-    if kept { Ok(()) } else { text.push_str(word) }
-}
-
-fn gives_a_lifetime(policy: Policy) -> bool {
-    policy.lifetime.is_some() || policy.error_lifetime.is_some()
-}
-
-/// Whether a line gives a lifetime, and to no request with a cookie.
-fn withholds_from_cookies(policy: Policy) -> bool {
-    gives_a_lifetime(policy) && !policy.gives_to_cookies
-}
-
-/// Whether a line gives a lifetime, and to no response with Set-Cookie.
-fn withholds_from_set_cookie(policy: Policy) -> bool {
-    gives_a_lifetime(policy) && !policy.gives_to_set_cookie
-}
-
-/// Whether a policy has a word that isn't as it is without words in versions 1 to 3.
-pub fn has_words(policy: Policy) -> bool {
-    let mut shown = policy;
-    shown.gives_to_cookies = !withholds_from_cookies(policy);
-    shown.gives_to_set_cookie = !withholds_from_set_cookie(policy);
-    shown != Policy::plain(true)
-}
-
-/// Writes each word of a policy that isn't as it is without words in versions 1 to 3, behind a space.
+/// Writes each word of a policy that isn't as it is without words in versions 1 to 3, behind a space. Whom it gives a
+/// lifetime matters where it gives one.
 pub fn write_words(text: &mut String, policy: Policy) -> Result<(), AllocError> {
-    write_unless(text, policy.caches, " cache=off")?;
-    write_seconds(text, "lifetime", policy.lifetime)?;
-    write_seconds(text, "error-lifetime", policy.error_lifetime)?;
-    write_seconds(text, "lifetime-most", policy.lifetime_most)?;
-    write_seconds(text, "stale-if-error", policy.stale_if_error)?;
-    write_seconds(
-        text,
-        "stale-while-revalidate",
-        policy.stale_while_revalidate,
-    )?;
-    write_unless(text, policy.stores_cookies, " set-cookie=not-stored")?;
-    write_unless(text, !policy.removes_cookies, " set-cookie=removed")?;
-    write_unless(
-        text,
-        !withholds_from_set_cookie(policy),
-        " set-cookie-lifetime=none",
-    )?;
-    write_unless(text, !withholds_from_cookies(policy), " cookies=private")?;
-    write_unless(text, policy.stores_errors, " errors=not-stored")?;
-    write_unless(text, policy.heeds_requests, " request-directives=ignored")?;
-    write_unless(text, !policy.waits_for_stale, " wait=missing-or-stale")?;
-    write_unless(
-        text,
-        !policy.sends_while_revalidating,
-        " while-revalidating=sent",
-    )?;
-    write_unless(text, !policy.explains_storing, " explain=storing")?;
-    write_unless(text, policy.forwards_conditions, " conditions=answered")?;
-    write_unless(text, !policy.fills_ranges, " ranges=filled")?;
-    write_unless(
-        text,
-        policy.forwards_ranges || policy.fills_ranges,
-        " ranges=served",
-    )
+    if !policy.caches {
+        text.push_str(" cache=off")?;
+    }
+    for (key, seconds) in [
+        ("lifetime", policy.lifetime),
+        ("error-lifetime", policy.error_lifetime),
+        ("lifetime-most", policy.lifetime_most),
+        ("stale-if-error", policy.stale_if_error),
+        ("stale-while-revalidate", policy.stale_while_revalidate),
+    ] {
+        if let Some(seconds) = seconds {
+            write!(text, " {key}={seconds}")?;
+        }
+    }
+    let gives = policy.lifetime.is_some() || policy.error_lifetime.is_some();
+    for (is_so, word) in [
+        (!policy.stores_cookies, " set-cookie=not-stored"),
+        (policy.removes_cookies, " set-cookie=removed"),
+        (
+            gives && !policy.gives_to_set_cookie,
+            " set-cookie-lifetime=none",
+        ),
+        (gives && !policy.gives_to_cookies, " cookies=private"),
+        (!policy.stores_errors, " errors=not-stored"),
+        (!policy.heeds_requests, " request-directives=ignored"),
+        (policy.waits_for_stale, " wait=missing-or-stale"),
+        (policy.sends_while_revalidating, " while-revalidating=sent"),
+        (policy.explains_storing, " explain=storing"),
+        (!policy.forwards_conditions, " conditions=answered"),
+        (policy.fills_ranges, " ranges=filled"),
+        (
+            !policy.forwards_ranges && !policy.fills_ranges,
+            " ranges=served",
+        ),
+    ] {
+        if is_so {
+            text.push_str(word)?;
+        }
+    }
+    Ok(())
 }

@@ -1,36 +1,13 @@
 //! Scripts: the item at the front of a text, and whole replays.
 
+use crate::text::{block_of, push_words};
 use crate::words::push_shown_in_brackets;
-use case_text::{block_of, failure_word};
 use proxy_replay::{ReplayFault, replay};
-use proxy_script::{FrontItem, Happening, Item, read_item};
+use proxy_script::{FrontItem, Item, read_item};
 use std::alloc::AllocError;
 
-/// Writes the words of what happens, without its bytes.
-fn write_happening(text: &mut String, happening: Happening<'_>) -> Result<(), AllocError> {
-    match happening {
-        Happening::Accept(client) => write!(text, "accept {client}"),
-        Happening::Client(client, _) => write!(text, "client {client}"),
-        Happening::Link(link, _) => write!(text, "link {link}"),
-        Happening::End(client) => write!(text, "end {client}"),
-        Happening::Gone(client) => write!(text, "gone {client}"),
-        Happening::Retire(client) => write!(text, "retire {client}"),
-        Happening::Shut(link) => write!(text, "shut {link}"),
-        Happening::Fail(link, kind) => write!(text, "fail {link} {}", failure_word(kind)),
-    }
-}
-
-/// Writes the words of an item, without its bytes.
-fn write_words(text: &mut String, item: Item<'_>) -> Result<(), AllocError> {
-    match item {
-        Item::Config(_) => text.push_str("config"),
-        Item::At(moment) => write!(text, "at {moment}"),
-        Item::Happens(happening) => write_happening(text, happening),
-    }
-}
-
 fn write_item(text: &mut String, item: Item<'_>) -> Result<(), AllocError> {
-    write_words(text, item)?;
+    push_words(text, item)?;
     match block_of(item) {
         Some(bytes) => {
             text.push(' ')?;

@@ -1,18 +1,19 @@
 //! Steps of the core, one after another, each with what it must give.
 //!
 //! The group's front is the operator's table. A case is a scenario: `at MOMENT, ID asks METHOD PATH`, `at MOMENT, ID is
-//! answered STATUS`, `at MOMENT, ID fails KIND`, `at MOMENT, ID is woken` or `at MOMENT, ID is abandoned`, the first
-//! two perhaps `with content TEXT` and with field lines below; then `gives forward`, by the table's first line, or
-//! `gives forward by line N`, `gives reply` with what is stored, used and removed, each with the message below, `gives
-//! a wait for ID`, `gives refusal` with the core's fault, or `gives an end`. The answer is the number of steps.
+//! answered STATUS`, `at MOMENT, ID fails KIND`, `at MOMENT, ID is woken`, `at MOMENT, ID is overdue` or `at MOMENT, ID
+//! is abandoned`, the first two perhaps `with content TEXT` and with field lines below; then `gives forward`, by the
+//! table's first line, or `gives forward by line N`, `gives reply` with what is stored, used and removed, each with the
+//! message below, `gives a wait for ID`, `gives the end of its wait`, `gives refusal` with the core's fault, or `gives
+//! an end`. The answer is the number of steps.
 
-use crate::case_file::Case;
+use crate::case_file::{Case, push_lines};
 use crate::field_lines::fields_of;
-use crate::lines::{Fault, Line, bytes_spelled, push_spelled};
+use crate::lines::{Fault, Line, bytes_spelled};
 use crate::requests::asked_of;
 use crate::tables::text_of;
+use crate::text::push_shown;
 use crate::words::fail_kind;
-use case_text::push_shown;
 use hx_allow::Config;
 use hx_fields::Bytes;
 use hx_framing::Response;
@@ -35,6 +36,8 @@ enum What<'a> {
     Woken,
     /// The client is gone.
     Abandoned,
+    /// It has waited for another's answer as long as it is to wait.
+    Overdue,
 }
 
 /// The moment, the exchange and what happens to it.
@@ -46,23 +49,12 @@ struct Happens<'a> {
 }
 
 /// A step as it is written.
+#[derive(Clone, Copy)]
 struct Step<'a> {
     happens: Line<'a>,
-    fields: Vec<Line<'a>>,
+    fields: &'a [Line<'a>],
     gives: Line<'a>,
-    message: Vec<Line<'a>>,
-}
-
-// By hand, so that a scope that ends is one call to the prover and not the drop of each part.
-impl Drop for Step<'_> {
-    fn drop(self) {
-        let Step {
-            happens: _,
-            fields: _,
-            gives: _,
-            message: _,
-        } = self;
-    }
+    message: &'a [Line<'a>],
 }
 
 /// A status, and the content behind it.
@@ -81,6 +73,7 @@ fn what_of(words: &str) -> Option<What<'_>> {
     match words {
         "is woken" => return Some(What::Woken),
         "is abandoned" => return Some(What::Abandoned),
+        "is overdue" => return Some(What::Overdue),
         _ => {}
     }
     Some(What::Fails(fail_kind(words.strip_prefix("fails ")?)?))
@@ -106,29 +99,8 @@ fn place_of(lines: &[Line<'_>], from: usize, word: &str) -> usize {
     lines.len()
 }
 
-/// The lines between two places.
-fn between<'a>(
-    alloc: Global,
-    lines: &[Line<'a>],
-    from: usize,
-    to: usize,
-) -> Result<Vec<Line<'a>>, AllocError> {
-    let mut part = Vec::new(alloc);
-    for (place, line) in lines.iter().enumerate() {
-        if from <= place && place < to {
-            part.push(*line)?;
-        }
-    }
-    Ok(part)
-}
-
 /// The step that stands from one place to another.
-fn step_of<'a>(
-    alloc: Global,
-    lines: &[Line<'a>],
-    from: usize,
-    to: usize,
-) -> Result<Step<'a>, Fault> {
+fn step_of<'a>(lines: &'a [Line<'a>], from: usize, to: usize) -> Result<Step<'a>, Fault> {
     let Some(happens) = lines.get(from).copied() else {
         return Err(Fault::At(0, "no step"));
     };
@@ -137,16 +109,16 @@ fn step_of<'a>(
     match lines.get(place).copied() {
         Some(gives) if place < to => Ok(Step {
             happens,
-            fields: between(alloc, lines, behind, place)?,
+            fields: lines.get(behind..place).unwrap_or(&[]),
             gives,
-            message: between(alloc, lines, place.saturating_add(1), to)?,
+            message: lines.get(place.saturating_add(1)..to).unwrap_or(&[]),
         }),
         _ => Err(happens.fault("a step that gives nothing")),
     }
 }
 
 fn asked_by(alloc: Global, step: &Step<'_>, request: &str) -> Result<Asked, Fault> {
-    let fields = fields_of(alloc, step.fields.as_slice())?;
+    let fields = fields_of(alloc, step.fields)?;
     asked_of(alloc, step.happens, request, &fields)
 }
 
@@ -158,28 +130,10 @@ fn response_of(
 ) -> Result<Response, Fault> {
     Ok(Response {
         status,
-        fields: fields_of(alloc, step.fields.as_slice())?,
+        fields: fields_of(alloc, step.fields)?,
         content: Bytes::from_vec(bytes_spelled(alloc, step.happens, content)?),
         announced: None,
     })
-}
-
-fn arrive(
-    alloc: Global,
-    core: &mut Core<ListShelf>,
-    happens: Happens<'_>,
-    asked: &Asked,
-) -> Result<Outcome, CoreFault> {
-    core.arrive(alloc, happens.now, happens.id, asked)
-}
-
-fn answer(
-    alloc: Global,
-    core: &mut Core<ListShelf>,
-    happens: Happens<'_>,
-    response: &Response,
-) -> Result<Outcome, CoreFault> {
-    core.answer(alloc, happens.now, happens.id, response)
 }
 
 /// What a step gives, or the core's refusal.
@@ -194,11 +148,11 @@ fn outcome_of(
     match happens.what {
         What::Asks(request) => {
             let asked = asked_by(alloc, step, request)?;
-            Ok(arrive(alloc, core, happens, &asked))
+            Ok(core.arrive(alloc, happens.now, happens.id, &asked))
         }
         What::Answered(status, content) => {
             let response = response_of(alloc, step, status, content)?;
-            Ok(answer(alloc, core, happens, &response))
+            Ok(core.answer(alloc, happens.now, happens.id, &response))
         }
         _ if !step.fields.is_empty() => Err(
             step.happens.fault("field lines where there is no message"),
@@ -206,14 +160,18 @@ fn outcome_of(
         What::Fails(kind) => Ok(core.fail(alloc, happens.now, happens.id, kind)),
         What::Woken => Ok(core.wake(alloc, happens.now, happens.id)),
         What::Abandoned => Ok(core.abandon(happens.id)),
+        What::Overdue => Ok(core.overdue(happens.id)),
     }
 }
 
 /// Writes what a reply stores, uses and removes.
 fn write_changes(text: &mut String, reply: &Reply) -> Result<(), AllocError> {
     text.push_str("gives reply")?;
-    write_serial(text, ", stored ", reply.stored)?;
-    write_serial(text, ", used ", reply.used)?;
+    for (word, serial) in [(", stored ", reply.stored), (", used ", reply.used)] {
+        if let Some(serial) = serial {
+            write!(text, "{word}{serial}")?;
+        }
+    }
     if !reply.removed.is_empty() {
         text.push_str(", removed")?;
     }
@@ -223,54 +181,42 @@ fn write_changes(text: &mut String, reply: &Reply) -> Result<(), AllocError> {
     Ok(())
 }
 
-fn write_serial(text: &mut String, word: &str, serial: Option<u64>) -> Result<(), AllocError> {
-    match serial {
-        Some(serial) => write!(text, "{word}{serial}"),
-        None => Ok(()),
-    }
-}
-
-/// Writes what a step gives.
-fn write_given(text: &mut String, given: &Result<Outcome, CoreFault>) -> Result<(), AllocError> {
+/// Writes what a step gives. Its message is handed out, empty where there is none.
+fn write_given<'a>(
+    text: &mut String,
+    given: &'a Result<Outcome, CoreFault>,
+) -> Result<&'a [u8], AllocError> {
     match given {
-        Ok(Outcome::Reply(reply)) => write_changes(text, reply),
-        Ok(Outcome::Forward(route, _)) if route.number == 1 => text.push_str("gives forward"),
-        Ok(Outcome::Forward(route, _)) => write!(text, "gives forward by line {}", route.number),
-        Ok(Outcome::Waits(leader)) => write!(text, "gives a wait for {leader}"),
-        Ok(Outcome::Ended) => text.push_str("gives an end"),
-        Err(fault) => write!(text, "gives refusal {fault:?}"),
+        Ok(Outcome::Reply(reply)) => {
+            write_changes(text, reply)?;
+            return Ok(reply.bytes.as_slice());
+        }
+        Ok(Outcome::Forward(route, bytes)) => {
+            text.push_str("gives forward")?;
+            if route.number != 1 {
+                write!(text, " by line {}", route.number)?;
+            }
+            return Ok(bytes.as_slice());
+        }
+        Ok(Outcome::Waits(leader)) => write!(text, "gives a wait for {leader}")?,
+        Ok(Outcome::Ended) => text.push_str("gives an end")?,
+        Ok(Outcome::WaitsNoMore) => text.push_str("gives the end of its wait")?,
+        Err(fault) => write!(text, "gives refusal {fault:?}")?,
     }
-}
-
-/// The message that a step gives, empty where there is none.
-fn message_in(given: &Result<Outcome, CoreFault>) -> &[u8] {
-    match given {
-        Ok(Outcome::Reply(reply)) => reply.bytes.as_slice(),
-        Ok(Outcome::Forward(_, bytes)) => bytes.as_slice(),
-        Ok(Outcome::Waits(_)) => &[],
-        Ok(Outcome::Ended) => &[],
-        Err(_) => &[],
-    }
-}
-
-/// The bytes that a message's lines spell.
-fn message_of(alloc: Global, lines: &[Line<'_>]) -> Result<Vec<u8>, Fault> {
-    let mut bytes = Vec::new(alloc);
-    for line in lines {
-        push_spelled(&mut bytes, *line, line.text)?;
-    }
-    Ok(bytes)
+    Ok(&[])
 }
 
 /// Whether a step gave what it is to give. Else it is written what that was.
 fn is_given(
     text: &mut String,
     step: &Step<'_>,
-    gives: &str,
-    message: &[u8],
+    given: &Result<Outcome, CoreFault>,
 ) -> Result<bool, Fault> {
-    let wanted = message_of(*text.allocator(), step.message.as_slice())?;
-    if gives == step.gives.text && message == wanted.as_slice() {
+    let mut wanted = Vec::new(*text.allocator());
+    push_lines(&mut wanted, step.message)?;
+    let mut gives = String::new(*text.allocator());
+    let message = write_given(&mut gives, given)?;
+    if gives.as_str() == step.gives.text && message == wanted.as_slice() {
         return Ok(true);
     }
     write!(text, "at line {}: {gives} ", step.happens.number)?;
@@ -285,9 +231,7 @@ fn step_holds(
     step: &Step<'_>,
 ) -> Result<bool, Fault> {
     let given = outcome_of(*text.allocator(), core, step)?;
-    let mut gives = String::new(*text.allocator());
-    write_given(&mut gives, &given)?;
-    is_given(text, step, gives.as_str(), message_in(&given))
+    is_given(text, step, &given)
 }
 
 fn core_of(alloc: Global, front: &[Line<'_>], case: &Case<'_>) -> Result<Core<ListShelf>, Fault> {
@@ -301,22 +245,13 @@ fn core_of(alloc: Global, front: &[Line<'_>], case: &Case<'_>) -> Result<Core<Li
     }
 }
 
-/// Does the step that stands from one place to another.
-fn step_holds_at(
+/// Does these steps, and writes their number or the first that gives something else. The core is lent: each `?` beside
+/// an owned one would let go of all that it holds.
+fn write_steps(
     text: &mut String,
     core: &mut Core<ListShelf>,
     lines: &[Line<'_>],
-    from: usize,
-    to: usize,
-) -> Result<bool, Fault> {
-    let step = step_of(*text.allocator(), lines, from, to)?;
-    step_holds(text, core, &step)
-}
-
-/// Does the steps of a case, and writes their number or the first that gives something else.
-pub fn steps(text: &mut String, front: &[Line<'_>], case: &Case<'_>) -> Result<(), Fault> {
-    let mut core = core_of(*text.allocator(), front, case)?;
-    let lines = case.input;
+) -> Result<(), Fault> {
     let mut from = 0usize;
     let mut count = 0usize;
     for _ in 0..lines.len() {
@@ -324,11 +259,17 @@ pub fn steps(text: &mut String, front: &[Line<'_>], case: &Case<'_>) -> Result<(
         if from == end {
             break;
         }
-        if !step_holds_at(text, &mut core, lines, from, end)? {
+        if !step_holds(text, core, &step_of(lines, from, end)?)? {
             return Ok(());
         }
         count = count.saturating_add(1);
         from = end;
     }
     Ok(write!(text, "{count} steps")?)
+}
+
+/// Does the steps of a case by the table of its group's front.
+pub fn steps(text: &mut String, front: &[Line<'_>], case: &Case<'_>) -> Result<(), Fault> {
+    let mut core = core_of(*text.allocator(), front, case)?;
+    write_steps(text, &mut core, case.input)
 }

@@ -5,6 +5,7 @@
 //! and `|` stands where the stream ends. A fault, or an `end` before the stream's end, has to be given again behind it
 //! and isn't written again.
 
+use crate::text::push_shown;
 use crate::words::{frame_word, push_shown_in_brackets};
 use hx_fields::{Bytes, Field};
 use hx_framing::{FrameFault, Next, Request, RequestReader, Response, ResponseReader};
@@ -31,9 +32,8 @@ enum Turn {
 trait Play: Drop {
     fn begin(alloc: Global, to_head: bool) -> Self;
 
-    fn put(&mut self, piece: &[u8]) -> Result<(), AllocError>;
-
-    fn close(&mut self);
+    /// Takes a piece, or else the end of the stream.
+    fn take(&mut self, piece: Option<&[u8]>) -> Result<(), AllocError>;
 
     /// Writes what is due.
     fn write_next(&mut self, alloc: Global, text: &mut String) -> Result<Turn, AllocError>;
@@ -44,12 +44,14 @@ impl Play for RequestReader {
         RequestReader::new(alloc, MOST_CONTENT)
     }
 
-    fn put(&mut self, piece: &[u8]) -> Result<(), AllocError> {
-        self.feed(piece)
-    }
-
-    fn close(&mut self) {
-        self.finish()
+    fn take(&mut self, piece: Option<&[u8]>) -> Result<(), AllocError> {
+        match piece {
+            Some(piece) => self.feed(piece),
+            None => {
+                self.finish();
+                Ok(())
+            }
+        }
     }
 
     fn write_next(&mut self, alloc: Global, text: &mut String) -> Result<Turn, AllocError> {
@@ -62,12 +64,14 @@ impl Play for ResponseReader {
         ResponseReader::new(alloc, MOST_CONTENT, to_head)
     }
 
-    fn put(&mut self, piece: &[u8]) -> Result<(), AllocError> {
-        self.feed(piece)
-    }
-
-    fn close(&mut self) {
-        self.finish()
+    fn take(&mut self, piece: Option<&[u8]>) -> Result<(), AllocError> {
+        match piece {
+            Some(piece) => self.feed(piece),
+            None => {
+                self.finish();
+                Ok(())
+            }
+        }
     }
 
     fn write_next(&mut self, alloc: Global, text: &mut String) -> Result<Turn, AllocError> {
@@ -157,65 +161,47 @@ fn write_due<P: Play>(
 
 /// Ends the stream, and writes what is due then.
 fn write_end<P: Play>(reader: &mut P, text: &mut String, turn: Turn) -> Result<(), AllocError> {
-    let alloc = *text.allocator();
-    reader.close();
-    let mut last = String::new(alloc);
-    write_due(alloc, reader, &mut last)?;
+    let mut last = String::new(*text.allocator());
+    reader.take(None)?;
+    write_due(*text.allocator(), reader, &mut last)?;
+    let is_again = turn == Turn::Stop && text.ends_with(last.as_str());
     write_word(text, "|")?;
-    if turn == Turn::Stop && ends_before_bar(text.as_str(), last.as_str()) {
-        return Ok(());
-    }
-    write_word(text, last.as_str())
-}
-
-/// Whether the text ends with these words and the bar.
-fn ends_before_bar(text: &str, last: &str) -> bool {
-    match text.strip_suffix(" |") {
-        Some(front) => front.ends_with(last),
-        None => false,
-    }
-}
-
-/// Feeds a piece, and writes what is due then, unless nothing else comes.
-fn write_fed<P: Play>(
-    reader: &mut P,
-    text: &mut String,
-    turn: Turn,
-    piece: &[u8],
-) -> Result<Turn, AllocError> {
-    reader.put(piece)?;
-    if turn == Turn::Stop {
-        Ok(Turn::Stop)
+    if is_again {
+        Ok(())
     } else {
-        write_due(*text.allocator(), reader, text)
+        write_word(text, last.as_str())
     }
 }
 
-/// Writes the answers to a stream that is fed in two pieces.
-fn play_cut<P: Play>(
+/// Writes the answers to a stream that is fed in pieces of this size, one byte at least. Behind a fault nothing more is
+/// asked for.
+fn play_pieces<P: Play>(
     text: &mut String,
     reader: &mut P,
-    front: &[u8],
-    back: &[u8],
+    stream: &[u8],
+    size: usize,
 ) -> Result<(), AllocError> {
-    let turn = write_fed(reader, text, Turn::Wait, front)?;
-    let turn = write_fed(reader, text, turn, back)?;
-    write_end(reader, text, turn)
-}
-
-/// Writes the answers to a stream that is fed byte by byte.
-fn play_bytes<P: Play>(text: &mut String, reader: &mut P, stream: &[u8]) -> Result<(), AllocError> {
     let mut turn = Turn::Wait;
-    for byte in stream {
-        turn = write_fed(reader, text, turn, &[*byte])?;
+    let mut rest = stream;
+    // Each turn takes a byte.
+    for _ in 0..stream.len() {
+        if rest.is_empty() {
+            break;
+        }
+        let (piece, behind) = rest.split_at(size.max(1).min(rest.len()));
+        reader.take(Some(piece))?;
+        if turn != Turn::Stop {
+            turn = write_due(*text.allocator(), reader, text)?;
+        }
+        rest = behind;
     }
     write_end(reader, text, turn)
 }
 
 /// Writes the answers to a stream that has ended before the first is asked for.
 fn play_late<P: Play>(text: &mut String, reader: &mut P, stream: &[u8]) -> Result<(), AllocError> {
-    reader.put(stream)?;
-    reader.close();
+    reader.take(Some(stream))?;
+    reader.take(None)?;
     write_due(*text.allocator(), reader, text)?;
     Ok(())
 }
@@ -227,63 +213,36 @@ fn are_same_words(one: &str, other: &str) -> bool {
     ours.eq(theirs)
 }
 
-/// Other answers take the place of the text, with the way in which the stream came.
-fn write_way(text: &mut String, way: &str, answers: &str) -> Result<(), AllocError> {
-    text.clear();
-    write!(text, "{way}: {answers}")
-}
-
-/// Plays a stream whose last byte comes by itself. Other answers take the place of the text.
-fn try_cut<P: Play>(text: &mut String, to_head: bool, stream: &[u8]) -> Result<(), AllocError> {
-    let Some((last, front)) = stream.split_last() else {
-        return Ok(());
-    };
-    let alloc = *text.allocator();
-    let mut answers = String::new(alloc);
-    play_cut(&mut answers, &mut P::begin(alloc, to_head), front, &[*last])?;
-    if answers.as_str() == text.as_str() {
-        return Ok(());
-    }
-    write_way(text, "cut before its last byte", answers.as_str())
-}
-
-/// The same byte by byte, and whether the answers are the same.
-fn try_bytes<P: Play>(text: &mut String, to_head: bool, stream: &[u8]) -> Result<bool, AllocError> {
-    let alloc = *text.allocator();
-    let mut answers = String::new(alloc);
-    play_bytes(&mut answers, &mut P::begin(alloc, to_head), stream)?;
-    if answers.as_str() == text.as_str() {
-        return Ok(true);
-    }
-    write_way(text, "byte by byte", answers.as_str())?;
-    Ok(false)
-}
-
-/// The same with a stream that has ended before the first answer is asked for.
-fn try_late<P: Play>(text: &mut String, to_head: bool, stream: &[u8]) -> Result<(), AllocError> {
-    let alloc = *text.allocator();
-    let mut answers = String::new(alloc);
-    play_late(&mut answers, &mut P::begin(alloc, to_head), stream)?;
-    if are_same_words(answers.as_str(), text.as_str()) {
-        return Ok(());
-    }
-    write_way(text, "ended first", answers.as_str())
-}
-
-/// Writes the answers to a stream that comes whole, or others where it comes in another way.
+/// Writes the answers to a stream that comes whole, or behind a word others where it comes in another way.
 fn write_answers<P: Play>(
     text: &mut String,
     to_head: bool,
     stream: &[u8],
 ) -> Result<(), AllocError> {
-    play_cut(text, &mut P::begin(*text.allocator(), to_head), stream, b"")?;
-    if stream.len() > LONG_STREAM {
-        try_cut::<P>(text, to_head, stream)
-    } else if try_bytes::<P>(text, to_head, stream)? {
-        try_late::<P>(text, to_head, stream)
+    let alloc = *text.allocator();
+    play_pieces(text, &mut P::begin(alloc, to_head), stream, stream.len())?;
+    let is_long = stream.len() > LONG_STREAM;
+    let (way, size) = if is_long {
+        ("cut before its last byte", stream.len() - 1)
     } else {
-        Ok(())
+        ("byte by byte", 1)
+    };
+    let mut answers = String::new(alloc);
+    play_pieces(&mut answers, &mut P::begin(alloc, to_head), stream, size)?;
+    if answers.as_str() != text.as_str() {
+        text.clear();
+        return write!(text, "{way}: {answers}");
     }
+    if is_long {
+        return Ok(());
+    }
+    answers.clear();
+    play_late(&mut answers, &mut P::begin(alloc, to_head), stream)?;
+    if are_same_words(answers.as_str(), text.as_str()) {
+        return Ok(());
+    }
+    text.clear();
+    write!(text, "ended first: {answers}")
 }
 
 /// Writes the answers to a stream of requests.
@@ -299,9 +258,9 @@ pub fn write_responses(text: &mut String, to_head: bool, stream: &[u8]) -> Resul
 fn write_lines(text: &mut String, lines: &[Field]) -> Result<(), AllocError> {
     text.push_str(" {")?;
     for line in lines {
-        case_text::push_shown(text, line.name.as_slice())?;
+        push_shown(text, line.name.as_slice())?;
         text.push_str(": ")?;
-        case_text::push_shown(text, line.value.as_slice())?;
+        push_shown(text, line.value.as_slice())?;
         text.push(';')?;
     }
     text.push('}')
@@ -311,7 +270,7 @@ fn write_lines(text: &mut String, lines: &[Field]) -> Result<(), AllocError> {
 fn write_request(text: &mut String, request: &Request) -> Result<(), AllocError> {
     text.push_str(request.method.as_str())?;
     text.push(' ')?;
-    case_text::push_shown(text, request.target.as_slice())?;
+    push_shown(text, request.target.as_slice())?;
     write!(text, " {}", request.minor)?;
     write_lines(text, request.fields.as_slice())?;
     write_some_content(text, &request.content)

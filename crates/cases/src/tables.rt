@@ -3,10 +3,10 @@
 use crate::case_file::Case;
 use crate::lines::{Fault, Line, bytes_spelled, push_spelled};
 use crate::parts::{lines_of, only_line};
-use crate::policies::{has_words, write_words};
+use crate::policies::write_words;
 use crate::requests::method_of;
 use crate::targets::write_refused;
-use case_text::push_shown;
+use crate::text::push_shown;
 use http::Method;
 use hx_allow::{Config, ConfigFault, MOST_LINES, Verdict};
 use hx_fields::{Bytes, Fields};
@@ -36,11 +36,6 @@ fn write_fault(text: &mut String, fault: &ConfigFault) -> Result<(), AllocError>
     }
 }
 
-/// Whether a line that has an origin refuses requests that loop.
-fn refuses_loops(config: &Config, line: u16) -> bool {
-    config.refuses_loops(line) && !config.origin(line).is_empty()
-}
-
 /// Writes the names of a word that has a list, behind its key, a space in front and with commas.
 fn write_names(text: &mut String, key: &str, names: &[Bytes]) -> Result<(), AllocError> {
     let mut front = "=";
@@ -63,15 +58,18 @@ fn write_line_words(text: &mut String, config: &Config, line: u16) -> Result<(),
     write_words(text, config.line_policy(line))?;
     write_names(text, "session-cookies", config.session_cookies(line))?;
     write_names(text, "vary", config.vary(line))?;
-    if refuses_loops(config, line) {
+    if config.refuses_loops(line) && !config.origin(line).is_empty() {
         text.push_str(" loops=refused")?;
     }
     if config.purges(line) {
         text.push_str(" purges")?;
     }
-    match config.origin_timeout(line) {
-        Some(seconds) => write!(text, " origin-timeout={seconds}"),
-        None => Ok(()),
+    if let Some(seconds) = config.origin_timeout(line) {
+        write!(text, " origin-timeout={seconds}")?;
+    }
+    match config.wait_timeout(line) {
+        None | Some(5) => Ok(()),
+        Some(seconds) => write!(text, " wait-timeout={seconds}"),
     }
 }
 
@@ -79,15 +77,12 @@ fn write_line_words(text: &mut String, config: &Config, line: u16) -> Result<(),
 fn write_read(text: &mut String, config: &Config) -> Result<(), AllocError> {
     text.push_str("read")?;
     for line in 1..=MOST_LINES {
-        let has_any = has_words(config.line_policy(line))
-            || !config.session_cookies(line).is_empty()
-            || !config.vary(line).is_empty()
-            || refuses_loops(config, line)
-            || config.purges(line)
-            || config.origin_timeout(line).is_some();
-        if usize::from(line) <= config.lines() && has_any {
-            write!(text, ", line {line}")?;
-            write_line_words(text, config, line)?;
+        let mut words = String::new(*text.allocator());
+        if usize::from(line) <= config.lines() {
+            write_line_words(&mut words, config, line)?;
+        }
+        if !words.is_empty() {
+            write!(text, ", line {line}{words}")?;
         }
     }
     Ok(())

@@ -5,8 +5,8 @@
 use crate::case_file::Case;
 use crate::lines::{Fault, Line, bytes_spelled};
 use crate::parts::{only_line, write_word_answer};
+use crate::text::push_shown;
 use crate::words::target_word;
-use case_text::push_shown;
 use hx_fields::{Bytes, Fields};
 use hx_target::{
     Target, TargetFault, has_bad_escape, has_dot_segment, names_a_dot_segment, read_target,

@@ -1,6 +1,6 @@
 //! What answers are written with: the names of faults, and bytes as a text.
 
-use case_text::push_shown;
+use crate::text::push_shown;
 use hx_framing::FrameFault;
 use hx_status::FailKind;
 use hx_target::TargetFault;

@@ -8,7 +8,6 @@ mod held;
 mod memory_sockets;
 mod records;
 mod replays;
-mod runs;
 mod streams;
 mod turns;
 mod waiting;

@@ -1,6 +1,5 @@
 //! What the tests of cores share.
 
-use case_text::table_text;
 use http::Method;
 use hx_allow::Config;
 use hx_fields::{Bytes, Fields};
@@ -12,10 +11,21 @@ use std::alloc::Global;
 use std::test::Fail;
 
 /// A table with a store of two responses of at most 10 bytes of content.
+const TABLE: &str = "version = 1
+name = \"edge\"
+capacity = 2
+max_body = 1000
+max_stored = 10
+
+[[line]]
+host = \"*\"
+methods = [\"GET\", \"POST\"]
+path = \"/\"
+origin = \"127.0.0.1:8081\"
+";
+
 fn config(alloc: Global) -> Result<Config, Fail> {
-    let line = ["*", "GET, POST", "/", "127.0.0.1:8081", ""];
-    let table = table_text(alloc, 1, 2, 10, &[line])?;
-    Ok(Config::read(alloc, table.as_bytes()).ok().ok_or("a table")?)
+    Ok(Config::read(alloc, TABLE.as_bytes()).ok().ok_or("a table")?)
 }
 
 pub(super) fn core(alloc: Global, first_serial: u64) -> Result<Core<ListShelf>, Fail> {

@@ -1,11 +1,24 @@
 //! The first run, as a script and its effects.
 
-use case_text::FIRST_TABLE;
 use hx_allow::Config;
 use hx_store::ListShelf;
 use proxy_engine::Engine;
 use std::alloc::{AllocError, Global};
 use std::test::Fail;
+
+/// Its table: room for two responses, and a line for all hosts and paths.
+pub(super) const FIRST_TABLE: &str = "version = 1
+name = \"edge\"
+capacity = 2
+max_body = 1000
+max_stored = 1000
+
+[[line]]
+host = \"*\"
+methods = [\"GET\", \"HEAD\", \"POST\"]
+path = \"/\"
+origin = \"127.0.0.1:8081\"
+";
 
 /// An engine by the table of the first run, whose first link has this number.
 pub(super) fn engine(alloc: Global, first_link: u64) -> Result<Engine<ListShelf>, Fail> {

@@ -7,7 +7,7 @@ use std::alloc::Global;
 use std::net::SocketAddrV4;
 
 /// A call, by what it names.
-#[derive(Clone, Copy, Debug, PartialEq, Eq)]
+#[derive(Clone, Copy, PartialEq, Eq)]
 pub(super) enum Call {
     Accept,
     Read(End),

@@ -2,9 +2,8 @@
 ghost use Rattle.std.specs.Prelude.{◌≡◌, ◌<◌, length, IfOk};
 ghost use Rattle.proxy_turn.specs.Received.{FitsTheBuffer};
 
-use super::first_run::engine;
+use super::first_run::{FIRST_TABLE, engine};
 use super::memory_sockets::give;
-use case_text::FIRST_TABLE;
 use hx_fields::Bytes;
 use proxy_record::{RecordFault, Recorder, Recording};
 use proxy_replay::replayed;

@@ -1,70 +1,13 @@
 //! Readers that give few bytes at a time, are interrupted or fail, and writers that take few, fail or take none.
-ghost use Rattle.std.specs.Prelude.{Some};
 
 use super::first_run::{FIRST_EFFECTS, first_script};
+use crate::failing_streams::{Sink, Source};
 use proxy_replay::{ReplayFault, replay};
 use std::alloc::Global;
 use std::io;
-use std::io::{ErrorKind, Read, Write};
+use std::io::{ErrorKind, Read};
 use std::process::Abort;
 use std::test::Fail;
-
-/// Gives at most `most` bytes at a time, and fails once `calls` calls were made.
-#[derive(Drop)]
-struct Source<'a> {
-    bytes: &'a [u8],
-    most: usize,
-    calls: u64,
-    kind: ErrorKind,
-}
-
-impl Read for Source<'_> {
-    ghost remaining = { λ r. Some r.bytes.now };
-
-    fn read(&mut self, buf: &mut [u8]) -> io::Result<usize> {
-        if self.calls == 0 {
-            // An interrupted reader goes on afterwards.
-            self.calls = u64::MAX;
-            return Err(io::Error::from(self.kind));
-        }
-        self.calls -= 1;
-        let most = buf.len().min(self.most.max(1));
-        let mut rest = self.bytes;
-        let n = rest.read(&mut buf[..most])?;
-        self.bytes = rest;
-        Ok(n)
-    }
-}
-
-/// Takes at most `most` bytes at a time, and fails once `calls` calls were made.
-#[derive(Drop)]
-struct Sink {
-    text: Vec<u8>,
-    most: usize,
-    calls: u64,
-    kind: ErrorKind,
-}
-
-impl Write for Sink {
-    ghost contents = { λ w. Some w.text.items };
-
-    fn write(&mut self, buf: &[u8]) -> io::Result<usize> {
-        if self.calls == 0 {
-            self.calls = u64::MAX;
-            return Err(io::Error::from(self.kind));
-        }
-        self.calls -= 1;
-        let most = buf.len().min(self.most);
-        match self.text.extend_from_slice(&buf[..most]) {
-            Ok(()) => Ok(most),
-            Err(_) => Err(io::Error::from(ErrorKind::OutOfMemory)),
-        }
-    }
-
-    fn flush(&mut self) -> io::Result<()> {
-        Ok(())
-    }
-}
 
 /// How a replay ends, in a word.
 fn shown(ended: &Result<(), ReplayFault>) -> &'static str {

@@ -130,8 +130,8 @@ fn each_call_fails_once(rt: HostRuntime) -> Result<(), Fail> {
         replies = replies.saturating_add(u64::from(failed == Call::Write(End::Client(1))));
         let text = sockets.written.as_slice();
         let (wanted, unwanted) = outcome(failed, contains(text, STORED));
-        assert!(rt; contains(text, wanted), "call {failing}: {failed:?}");
-        assert!(rt; !contains(text, unwanted), "call {failing}: {failed:?}");
+        assert!(rt; contains(text, wanted), "call {failing}");
+        assert!(rt; !contains(text, unwanted), "call {failing}");
     }
     panic!(rt; "each run had a failure");
 }

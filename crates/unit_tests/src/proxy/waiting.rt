@@ -2,7 +2,6 @@
 
 use super::cores::{answer, arrive, core, request, response, run_of_events};
 use http::Method;
-use hx_status::FailKind;
 use hx_store::ListShelf;
 use proxy_core::{Core, CoreFault, Event, Outcome};
 use std::alloc::Global;
@@ -23,34 +22,6 @@ fn answers(alloc: Global, events: &mut Vec<Event>, id: u64) -> Result<(), Fail> 
     let given = response(alloc, 200, b"max-age=60", b"hi")?;
     events.push(Event::Answer(101, id, given))?;
     Ok(())
-}
-
-/// The run of the two and this event stops at it.
-fn stops_at(rt: &impl Abort, alloc: Global, event: Event, fault: CoreFault) -> Result<(), Fail> {
-    let mut events = two_ask(alloc)?;
-    events.push(event)?;
-    let ran = run_of_events(alloc, &events)?;
-    assert_eq!(rt; ran.outcomes.len(), 2);
-    assert_eq!(rt; ran.stopped, Some(fault));
-    Ok(())
-}
-
-#[test]
-fn wake_faults(rt: HostRuntime) -> Result<(), Fail> {
-    let alloc = rt.alloc();
-    let given = response(alloc, 200, b"max-age=60", b"hi")?;
-    stops_at(
-        &rt,
-        alloc,
-        Event::Answer(101, 2, given),
-        CoreFault::NotForwarded,
-    )?;
-    let failure = Event::Fail(101, 2, FailKind::Closed);
-    stops_at(&rt, alloc, failure, CoreFault::NotForwarded)?;
-    for id in 1..3u64 {
-        stops_at(&rt, alloc, Event::Wake(101, id), CoreFault::NotReady)?;
-    }
-    stops_at(&rt, alloc, Event::Wake(101, 9), CoreFault::UnknownId)
 }
 
 /// Once the first has its answer the second is woken to what was stored of it, and only once.
