@@ -47,6 +47,7 @@ loops = "refused"
 vary = ["X-Forwarded-Proto"]
 origin-timeout = 5
 ranges = "served"
+wait-timeout = 5
 """
 # 4,096 lines of version 4: of hosts and the hosts below them, and two for every host, of which the last has what is asked for.
 TOP, LINE = TABLE.replace(b"version = 1", b"version = 4").partition(b"[[line]]")[::2]

@@ -1,5 +1,6 @@
 """deploy/site.toml as it stands but for its ports: each line does what its comment says, and the origins are asked as often as that needs."""
 import itertools
+import re
 import subprocess
 import threading
 import time
@@ -26,7 +27,7 @@ def of_the_visitor():
 
 
 class Site:
-    """A cache by this table, before an origin of pages, one of assets, one of the API and one that answers to PURGE."""
+    """A cache by this table, before an origin of pages, one of assets and one of the API."""
 
     def __init__(self, stand):
         bare, second = whole(200, content=b"hello"), whole(200, "Cache-Control: max-age=1", content=b"hello")
@@ -41,8 +42,7 @@ class Site:
         self.pages, self.api = stand.origin(Origin(of_pages)), stand.origin(Origin(of_api))
         of_assets = {"/assets/app.js": bare, "/assets/old.js": second, "/assets/gone.js": whole(404, content=b"none")}
         self.assets = stand.origin(Origin(of_assets))
-        self.purges = stand.origin(Origin({it: whole(204) for it in ("/news", "/assets/app.js")}))
-        words = {"127.0.0.1:8081": self.pages, "127.0.0.1:8083": self.assets, "127.0.0.1:8082": self.api, "127.0.0.1:8089": self.purges}
+        words = {"127.0.0.1:8081": self.pages, "127.0.0.1:8083": self.assets, "127.0.0.1:8082": self.api}
         sooner = {"origin-timeout = 20 ": "origin-timeout = 3 "}
         self.cache = stand.proxy(deployed("site.toml", {**sooner, **{old: it.address for old, it in words.items()}}))
 
@@ -145,12 +145,26 @@ def while_an_origin_hangs(site):
     expect_within("seconds until both", 6, 11, time.monotonic() - began)
 
 
+def key_of_site():
+    with open(f"{DEPLOY}/site.toml", encoding="utf-8") as it:
+        return re.search(r'^key = "(\w+)"$', it.read(), re.M)[1]
+
+
 def what_is_purged(site):
+    """What is stored for a target goes by the key of the line, and below a path by its scope; without the key nothing does. No origin is asked."""
+    stored, hit = (200, "edge;fwd=uri-miss;ttl=;stored"), (200, "edge;hit;ttl=")
+    purge, key = ["--request", "PURGE"], ["--header", f"Purge-Key: {key_of_site()}"]
     for origin, target in ((site.pages, "/news"), (site.assets, "/assets/app.js")):
-        stored, hit = (200, "edge;fwd=uri-miss;ttl=;stored"), (200, "edge;hit;ttl=")
         site.expect(origin, 1, target, stored, hit)
-        site.expect(site.purges, 1, target, (204, "edge;fwd=method"), words=["--request", "PURGE"])
+        site.expect(origin, 0, target, (403, "denied by line 2"), words=purge)
+        site.expect(origin, 0, target, hit)
+        answer = curl(site.cache.port, URL(target), *purge, *key)
+        expect("what a purge tells", (204, "1"), (answer.status, answer.value("Purged")))
         site.expect(origin, 1, target, stored, hit)
+    answer = curl(site.cache.port, URL("/assets"), *purge, *key, "--header", "Purge-Scope: prefix")
+    expect("what a purge of a path tells", (204, "1"), (answer.status, answer.value("Purged")))
+    site.expect(site.assets, 1, "/assets/app.js", stored)
+    site.expect(site.pages, 0, "/news", hit)
 
 
 def while_the_origins_fail(site):

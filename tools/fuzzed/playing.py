@@ -12,7 +12,7 @@ MOST_BYTES = 64 << 20
 MOST_SEED_BYTES = 4096
 ENDS = {
     0: re.compile(rb""),
-    1: re.compile(rb"(?:script fault line \d+|engine fault [1-4]|read fault|no memory)\n"),
+    1: re.compile(rb"(?:script fault line \d+|engine fault [1-5]|read fault|no memory)\n"),
     2: re.compile(rb"config fault \d+(?: (?:line|key) [!-~]+)?\n"),
 }
 

@@ -26,6 +26,7 @@ WORDS = [
     (r"client (\d+) ends", b"end %s\n"),
     (r"client (\d+) leaves", b"gone %s\n"),
     (r"client (\d+) is to end", b"retire %s\n"),
+    (r"client (\d+) has waited long enough", b"overdue %s\n"),
     (r"link (\d+) ends", b"shut %s\n"),
     (r"link (\d+) fails (\S+)", b"fail %s %s\n"),
 ]

@@ -14,6 +14,8 @@ STORED = f"{MISS};ttl=600;stored"
 STALE = "Cache-Control: max-age=0, stale-if-error=600"
 # The time-out of all other lines, and what an end comes too late at most.
 OTHERS, LATER = 5, 2.5
+# What `check --ask` shows of each line of version 4 with its cache on that doesn't say it.
+WAITS = "wait-timeout = 5"
 
 
 def expect_timed_out(client, began, seconds):
@@ -91,10 +93,10 @@ def a_check_shows_the_time_out_of_a_line(stage):
     """`check --ask` shows what a line gives its origin, with its cache on or off, and says which seconds may stand where."""
     file = f"{stage.room.name}/table.toml"
     for words, told in (
-        ({"origin-timeout": 5}, ['cache = "on"', 'conditions = "answered"', 'ranges = "served"', 'loops = "refused"', "origin-timeout = 5"]),
+        ({"origin-timeout": 5}, ['cache = "on"', 'conditions = "answered"', 'ranges = "served"', 'loops = "refused"', "origin-timeout = 5", WAITS]),
         ({"origin-timeout": 86400, "cache": "off"}, ['cache = "off"', 'loops = "refused"', "origin-timeout = 86400"]),
-        ({}, ['cache = "on"', 'conditions = "answered"', 'ranges = "served"', 'loops = "refused"']),
-        ({"ranges": "filled"}, ['cache = "on"', 'conditions = "answered"', 'ranges = "filled"', 'loops = "refused"']),
+        ({}, ['cache = "on"', 'conditions = "answered"', 'ranges = "served"', 'loops = "refused"', WAITS]),
+        ({"ranges": "filled"}, ['cache = "on"', 'conditions = "answered"', 'ranges = "filled"', 'loops = "refused"', WAITS]),
     ):
         with open(file, "w", encoding="utf-8") as it:
             it.write(table_of([("/", ["*"], "127.0.0.1:1", words)], version=4))

@@ -261,7 +261,7 @@ def a_check_shows_words_of_version_four(stage):
         names = {"session-cookies", "vary"} & set(words)
         rest = ['conditions = "answered"', 'ranges = "served"', *(told if names else [])]
         first = [] if names else told
-        expect(f"of {words}", ['cache = "on"', *first, *rest, 'loops = "refused"', "key h.example:80/"], shown)
+        expect(f"of {words}", ['cache = "on"', *first, *rest, 'loops = "refused"', "wait-timeout = 5", "key h.example:80/"], shown)
     for key, value, said in (
         ("cookies", "ignored", '"private" or "shared"'),
         ("set-cookie", "hidden", '"stored" or "not-stored", in version 4 also "removed"'),
