@@ -30,7 +30,7 @@ NEAREST, COMPUTED, ON_FEW, ON_MANY = STEPS = range(4)
 # the beginning of what is said where the prover can't read a set
 UNREAD = "the prover can't read the changed definition"
 # a module that a file of laws declares
-MOD = r"^(?:pub(?:\(crate\))? )?mod \w+;\n"
+MOD = r"^(?:pub(?:\(crate\))? )?mod (\w+);\n"
 LAYERS, FEW = 2, 1
 
 
@@ -51,6 +51,13 @@ class Mutant:
 
 def mutants_of(rt, crate):
     return [Mutant(rt, crate, it) for it in sorted(glob.glob(f"{crate.folder}/mutants/definitions/**/*.edit", recursive=True))]
+
+
+def without_modules(text):
+    """A source without the modules that it declares, and without what it hands out of them."""
+    names = "|".join(re.findall(MOD, text, flags=re.M)) or "(?!)"
+    text = re.sub(rf"^pub use (?:{names})::(?:\{{[^}}]*\}}|\w+);\n", "", text, flags=re.M)
+    return re.sub(MOD, "", text, flags=re.M)
 
 
 class Copy:
@@ -191,7 +198,7 @@ class Copy:
             for path in self.with_proofs(law):
                 to = path.replace(f"/{law}.rt", f"/{law}{mark}.rt").replace(f"proofs/{law}/", f"proofs/{law}{mark}/")
                 text = self.renamed(self.files[path], modules, laws, mark)
-                files[to] = re.sub(MOD, "", text, flags=re.M) if to.endswith(".rt") else text
+                files[to] = without_modules(text) if to.endswith(".rt") else text
         return files, [f"{law}{mark}/{name}" for law in laws for name in functions[law]]
 
     def write(self, room, sets):
