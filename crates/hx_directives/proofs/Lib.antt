@@ -1,1 +1,3 @@
 pub mod LineByLine
+pub mod ShortMembers
+pub mod TokenNames

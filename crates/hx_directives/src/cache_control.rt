@@ -11,9 +11,10 @@ ghost use Rattle.hx_directives.specs.Answers.{max_stale};
 
 use crate::answers::{MaxStale, Seconds};
 use crate::arguments::Argument;
+use crate::limits::SHORTEST_NAME;
 use crate::names::Directive;
 use crate::occurrences::{Occurrence, occurrence_of};
-use hx_fields::{Field, Fields, is_same_name, next_member};
+use hx_fields::{Field, Fields, is_same_name, next_long_member};
 use std::alloc::{AllocError, Global};
 use std::marker::Model;
 
@@ -122,7 +123,7 @@ fn push_value(alloc: Global, found: &mut Vec<Occurrence>, value: &[u8]) -> Resul
     ensures { OnOk result (found.new.items ≡ found.old.items ++ filter_map occurrence_of (members_of_value value.now)) }
 {
     let mut rest = value;
-    while let Some((member, after)) = next_member(rest) {
+    while let Some((member, after)) = next_long_member(rest, SHORTEST_NAME) {
         if let Some(occurrence) = occurrence_of(alloc, member)? {
             found.push(occurrence)?;
         }

@@ -5,7 +5,7 @@ ghost use Rattle.hx_directives.specs.Occurrences.{is_equals, member_name, member
 
 use crate::arguments::{Argument, seconds_of_argument};
 use crate::names::{Directive, directive_of};
-use hx_fields::{is_token, trim_blanks};
+use hx_fields::trim_blanks;
 use std::alloc::{AllocError, Global};
 
 /// A directive with its argument.
@@ -19,10 +19,8 @@ pub struct Occurrence {
 pub fn occurrence_of(alloc: Global, member: &[u8]) -> Result<Option<Occurrence>, AllocError>
     ensures { IfOk result (λ o. o ≡ occurrence_of member.now) }
 {
+    // What is no token spells no directive, since each directive's name is one.
     let (name, argument) = name_and_argument(member);
-    if !is_token(name) {
-        return Ok(None);
-    }
     match directive_of(name) {
         Some(directive) => Ok(Some(Occurrence {
             directive,

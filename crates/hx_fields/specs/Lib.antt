@@ -1,5 +1,7 @@
 pub mod ByteStrings
 pub mod Names
+pub mod LongMembers
+pub mod FirstBytes
 pub mod FieldLines
 pub mod Tokens
 pub mod SpelledNumbers

@@ -1,12 +1,16 @@
 //! Where a list's members stand in the bytes of a value. No function here takes memory.
-ghost use Rattle.std.specs.Prelude.{◌≡◌, ◌≤◌, ◌-◌, ◌∷◌, ◌==◌, ◌||◌, [], length, take, drop, ◌<◌, ◌+◌, MatchOption};
-ghost use Rattle.std.specs.Prelude.{IfSome};
+ghost use Rattle.std.specs.Prelude.{◌≡◌, ◌≤◌, ◌-◌, ◌∷◌, ◌==◌, ◌||◌, ◌&&◌, [], length, take, drop, ◌<◌, ◌+◌};
+ghost use Rattle.std.specs.Prelude.{IfSome, MatchOption};
 ghost use Rattle.std.specs.Option.{option_map};
 ghost use Rattle.std.specs.List.{prefix_len, suffix_len};
 ghost use Rattle.hx_fields.specs.Names.{is_same_name, pieces, is_blank, trimmed, is_separating_comma};
 ghost use Rattle.hx_fields.specs.Names.{quote_state_after, members_of_value};
 ghost use Rattle.hx_fields.specs.Names.{cut_at};
+ghost use Rattle.hx_fields.specs.LongMembers.{long_members};
+ghost use Rattle.hx_fields.specs.FirstBytes.{members_beginning_in};
 ghost use Rattle.hx_fields.specs.declared.cutting.QuoteState.{QuoteState};
+
+use crate::first_bytes::FirstBytes;
 
 /// Where a byte of a value stands.
 #[derive(Clone, Copy, Debug, PartialEq, Eq)]
@@ -160,6 +164,90 @@ pub fn next_member(value: &[u8]) -> Option<(&[u8], &[u8])>
             return Some((piece, rest));
         }
     }
+}
+
+/// A value without the pieces in front that have fewer bytes than so many. Thousands of them cost little more than
+/// their bytes.
+fn skip_short_pieces(value: &[u8], least: usize) -> &[u8]
+    ensures members { long_members least result.now ≡ long_members least value.now }
+    ensures shorter { length result.now ≤ length value.now }
+{
+    let mut start = 0;
+    let mut i = 0;
+    let mut place = QuoteState::Outside;
+    while i < value.len() && i - start < least {
+        if is_separating_comma(place, value[i]) {
+            start = i + 1;
+            place = QuoteState::Outside;
+        } else {
+            place = quote_state_after(place, value[i]);
+        }
+        i += 1;
+    }
+    &value[start..]
+}
+
+/// The first member of a value that has so many bytes at least, and what stands behind it.
+pub fn next_long_member(value: &[u8], least: usize) -> Option<(&[u8], &[u8])>
+    ensures members { MatchOption result (long_members least value.now ≡ [])
+        (λ r. long_members least value.now ≡ r.0.now ∷ long_members least r.1.now) }
+    ensures shorter { IfSome result (λ r. length r.1.now < length value.now) }
+{
+    let mut rest = value;
+    while let Some((member, behind)) = next_member(rest) {
+        if member.len() >= least {
+            return Some((member, behind));
+        }
+        rest = skip_short_pieces(behind, least);
+    }
+    None
+}
+
+/// Whether a piece begins behind this byte: behind a comma, and behind a blank in front of the piece.
+fn begins_behind(place: QuoteState, b: u8, is_in_front: bool) -> bool
+    ensures { result ≡ (is_separating_comma place b || (is_in_front && is_blank b)) }
+{
+    is_separating_comma(place, b) || (is_in_front && is_blank(b))
+}
+
+/// A value without the pieces in front that begin with none of these bytes. Thousands of them cost little more than
+/// their bytes.
+fn skip_other_pieces<'a>(value: &'a [u8], firsts: &FirstBytes) -> &'a [u8]
+    ensures members { members_beginning_in firsts.now result.now ≡ members_beginning_in firsts.now value.now }
+    ensures shorter { length result.now ≤ length value.now }
+{
+    let mut start = 0;
+    let mut i = 0;
+    let mut place = QuoteState::Outside;
+    while i < value.len() && (i > start || !firsts.has(value[i])) {
+        if begins_behind(place, value[i], i == start) {
+            start = i + 1;
+            place = QuoteState::Outside;
+        } else {
+            place = quote_state_after(place, value[i]);
+        }
+        i += 1;
+    }
+    &value[start..]
+}
+
+/// The first member of a value that begins with one of these bytes, and what stands behind it.
+pub fn next_member_beginning_in<'a>(
+    value: &'a [u8],
+    firsts: &FirstBytes,
+) -> Option<(&'a [u8], &'a [u8])>
+    ensures members { MatchOption result (members_beginning_in firsts.now value.now ≡ [])
+        (λ r. members_beginning_in firsts.now value.now ≡ r.0.now ∷ members_beginning_in firsts.now r.1.now) }
+    ensures shorter { IfSome result (λ r. length r.1.now < length value.now) }
+{
+    let mut rest = value;
+    while let Some((member, behind)) = next_member(rest) {
+        if firsts.has_first_of(member) {
+            return Some((member, behind));
+        }
+        rest = skip_other_pieces(behind, firsts);
+    }
+    None
 }
 
 /// What stands before the first of these bytes, and what stands behind it.

@@ -1,5 +1,6 @@
 //! A list of field lines, in the order in which they came.
-ghost use Rattle.std.specs.Prelude.{◌≡◌, ◌++◌, ◌∷◌, [], length, IfOk, OnOk, OnErr, slice_get, count_by, option_copied};
+ghost use Rattle.std.specs.Prelude.{◌≡◌, ◌≤◌, ◌++◌, ◌∷◌, [], length, take, IfOk, OnOk, OnErr, slice_get, count_by};
+ghost use Rattle.std.specs.Prelude.{option_copied};
 ghost use Rattle.hx_fields.specs.FieldLines.{is_named, has_field, count_of, values_of, only_value, combined_of};
 ghost use Rattle.hx_fields.specs.FieldLines.{members_of};
 ghost use Rattle.hx_fields.specs.FieldLines.{without_named};
@@ -163,6 +164,24 @@ impl Fields {
         Ok(found)
     }
 
+    /// The first members of this name, at most so many. What stands behind them isn't looked at.
+    pub fn members_up_to(
+        &self,
+        alloc: Global,
+        name: &[u8],
+        most: usize,
+    ) -> Result<Members, AllocError>
+        ensures { IfOk result (λ found. found ≡ take most (members_of self.now name.now)) }
+    {
+        let mut found = Members::new(alloc);
+        for line in &self.lines {
+            if is_same_name(line.name.as_slice(), name) {
+                push_members_up_to(alloc, &mut found, line.value.as_slice(), most)?;
+            }
+        }
+        Ok(found)
+    }
+
     /// The first member of this name. No memory is taken.
     pub fn first_member(&self, name: &[u8]) -> Option<&[u8]>
         ensures { option_copied result ≡ slice_get (members_of self.now name.now) 0 }
@@ -231,6 +250,27 @@ fn push_members(alloc: Global, found: &mut Members, value: &[u8]) -> Result<(), 
 {
     let mut rest = value;
     while let Some((member, behind)) = next_member(rest) {
+        found.push(alloc, member)?;
+        rest = behind;
+    }
+    Ok(())
+}
+
+/// Puts members of one value at the end, as long as there are fewer than so many.
+fn push_members_up_to(
+    alloc: Global,
+    found: &mut Members,
+    value: &[u8],
+    most: usize,
+) -> Result<(), AllocError>
+    requires { length found.old ≤ most }
+    ensures { OnOk result (found.new ≡ take most (found.old ++ members_of_value value.now)) }
+{
+    let mut rest = value;
+    while found.len() < most {
+        let Some((member, behind)) = next_member(rest) else {
+            return Ok(());
+        };
         found.push(alloc, member)?;
         rest = behind;
     }

@@ -11,6 +11,7 @@ mod cutting;
 mod digits;
 mod field_line;
 mod field_lines;
+mod first_bytes;
 mod folded_names;
 pub mod laws;
 mod limits;
@@ -18,10 +19,13 @@ mod member_list;
 mod tokens;
 
 pub use crate::byte_string::Bytes;
-pub use crate::cutting::{cut_at, is_same_name, next_member, trim_blanks};
+pub use crate::cutting::{
+    cut_at, is_same_name, next_long_member, next_member, next_member_beginning_in, trim_blanks,
+};
 pub use crate::digits::{digit_value, number_up_to};
 pub use crate::field_line::Field;
 pub use crate::field_lines::Fields;
+pub use crate::first_bytes::FirstBytes;
 pub use crate::folded_names::FoldedName;
 pub use crate::limits::END_OF_TIME;
 pub use crate::member_list::Members;

@@ -6,3 +6,4 @@ pub mod Forwards
 pub mod SentLines
 pub mod NamedLemmas
 mod Kept
+pub mod Passed

@@ -1,8 +1,9 @@
 -- Names of lines, and which of them members of Connection give, by folded names.
-use Rattle.std.specs.Prelude.{◌≡◌, ℕ, nat_lt, Bool, false, not, ◌||◌, ◌&&◌, if◌then◌else◌, List, length, codes}
-use Rattle.std.specs.Prelude.{bytes_eq, Option, Some, None}
+use Rattle.std.specs.Prelude.{◌≡◌, ℕ, nat_lt, Bool, true, false, not, ◌||◌, ◌&&◌, if◌then◌else◌, List, length, codes}
+use Rattle.std.specs.Prelude.{bytes_eq, is_some, Option, Some, None}
 use Rattle.std.specs.List.{list_any}
 use Rattle.std.specs.BTreeMap.{BTreeMap, get}
+use Rattle.hx_fields.specs.FirstBytes.{begins_in}
 use Rattle.hx_fields.specs.Folded.{folded, folded_cmp}
 use Rattle.hx_fields.specs.FieldLines.{count_of, is_named, members_of}
 use Rattle.hx_fields.specs.Names.{members_of_value}
@@ -49,3 +50,13 @@ is_present_and_unmarked (Some marked) = not marked
 abbrev pub is_present_and_marked : Option Bool → Bool
 is_present_and_marked None = false
 is_present_and_marked (Some marked) = marked
+
+-- a text that is a line's name but for its case begins with one of these bytes
+abbrev pub LineNamesBeginIn : List Field → List Bool → Type 0
+LineNamesBeginIn fields firsts = (text : List ℕ) → name_is_present fields (folded text) ≡ true
+    → begins_in firsts text ≡ true
+
+-- one that stands here does
+abbrev pub NamesBeginIn : List Bool → BTreeMap (List ℕ) Bool → Type 0
+NamesBeginIn firsts names = (text : List ℕ) → is_some (get folded_cmp names (folded text)) ≡ true
+    → begins_in firsts text ≡ true

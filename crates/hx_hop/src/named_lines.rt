@@ -1,6 +1,7 @@
 //! Which lines members of Connection name, where members and lines may be many.
 //!
-//! Names are looked up, so the cost grows with the bytes and not with members times lines.
+//! Names are looked up, so the cost grows with the bytes and not with members times lines. A member that begins as no
+//! line's name does isn't looked up.
 ghost use Rattle.std.specs.Prelude.{◌≡◌, ◌==◌, ◌||◌, not, ◌&&◌, codes, filter, nat_lt, length, IfOk, OnOk};
 ghost use Rattle.std.specs.List.{list_any};
 ghost use Rattle.std.specs.BTreeMap.{get};
@@ -10,10 +11,10 @@ ghost use Rattle.hx_fields.specs.Names.{members_of_value};
 ghost use Rattle.hx_hop.specs.Stripping.{is_hop_name, stripped};
 ghost use Rattle.hx_hop.specs.NamedLines.{AreUnmarkedLineNames, NamesAreMarkedBy, is_present_and_marked};
 ghost use Rattle.hx_hop.specs.NamedLines.{is_present_and_unmarked, has_many_members};
-ghost use Rattle.hx_hop.specs.NamedLines.{names_in_connection, names_in_value};
+ghost use Rattle.hx_hop.specs.NamedLines.{names_in_connection, names_in_value, LineNamesBeginIn, NamesBeginIn};
 
 use crate::stripping::is_hop_name;
-use hx_fields::{Field, Fields, FoldedName, is_same_name, next_member};
+use hx_fields::{Field, Fields, FirstBytes, FoldedName, is_same_name, next_member_beginning_in};
 use std::alloc::{AllocError, Global};
 use std::collections::BTreeMap;
 
@@ -39,7 +40,8 @@ pub(crate) fn strip_many(alloc: Global, fields: &Fields) -> Result<Fields, Alloc
     ensures { IfOk result (λ kept. kept ≡ stripped fields.now) }
 {
     let mut names = line_names(alloc, fields)?;
-    mark_members(alloc, &mut names, fields)?;
+    let firsts = first_bytes(fields);
+    mark_members(alloc, &mut names, &firsts, fields)?;
     keep_unmarked(alloc, &names, fields)
 }
 
@@ -54,18 +56,31 @@ fn line_names(alloc: Global, fields: &Fields) -> Result<BTreeMap<FoldedName, boo
     Ok(names)
 }
 
+/// What the names of the lines begin with.
+fn first_bytes(fields: &Fields) -> FirstBytes
+    ensures { LineNamesBeginIn fields.now result }
+{
+    let mut firsts = FirstBytes::none();
+    for line in fields.as_slice() {
+        firsts.add(line.name.as_slice());
+    }
+    firsts
+}
+
 /// Marks the names that members of Connection give.
 fn mark_members(
     alloc: Global,
     names: &mut BTreeMap<FoldedName, bool>,
+    firsts: &FirstBytes,
     fields: &Fields,
 ) -> Result<(), AllocError>
+    requires { NamesBeginIn firsts.now names.old }
     ensures { OnOk result (NamesAreMarkedBy (names_in_connection fields.now) names.old names.new) }
 {
     let mut name = FoldedName::new(alloc);
     for line in fields.as_slice() {
         if is_same_name(line.name.as_slice(), b"Connection") {
-            mark_value(alloc, names, &mut name, line.value.as_slice())?;
+            mark_value(alloc, names, firsts, &mut name, line.value.as_slice())?;
         }
     }
     Ok(())
@@ -75,13 +90,15 @@ fn mark_members(
 fn mark_value(
     alloc: Global,
     names: &mut BTreeMap<FoldedName, bool>,
+    firsts: &FirstBytes,
     name: &mut FoldedName,
     value: &[u8],
 ) -> Result<(), AllocError>
+    requires { NamesBeginIn firsts.now names.old }
     ensures { OnOk result (NamesAreMarkedBy (names_in_value value.now) names.old names.new) }
 {
     let mut rest = value;
-    while let Some((member, behind)) = next_member(rest) {
+    while let Some((member, behind)) = next_member_beginning_in(rest, firsts) {
         name.set(member)?;
         if is_present_and_unmarked(names, name) {
             names.insert(FoldedName::of(alloc, member)?, true)?;

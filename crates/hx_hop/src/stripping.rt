@@ -8,15 +8,15 @@ ghost use Rattle.hx_hop.specs.Stripping.{cache_names, connection_names, name_is_
 ghost use Rattle.hx_hop.specs.Stripping.{stripped};
 
 use crate::named_lines::{has_many_members, strip_many};
-use hx_fields::{Fields, Members, is_same_name, next_member};
+use hx_fields::{Fields, Members, is_same_name, next_long_member};
 use std::alloc::{AllocError, Global};
 
-/// Whether a member of this value is a name.
+/// Whether a member of this value is a name. Shorter members are passed over.
 fn value_names(value: &[u8], name: &[u8]) -> bool
     ensures { result ≡ name_is_among (members_of_value value.now) name.now }
 {
     let mut rest = value;
-    while let Some((member, behind)) = next_member(rest) {
+    while let Some((member, behind)) = next_long_member(rest, name.len()) {
         if is_same_name(member, name) {
             return true;
         }
@@ -104,12 +104,15 @@ fn is_cache_name(name: &[u8]) -> bool
         || is_same_name(name, b"Vary")
 }
 
+/// No such name is shorter, in bytes.
+const SHORTEST_CACHE_NAME: usize = 3;
+
 /// Whether a member of this value is such a name.
 fn value_lists_cache_field(value: &[u8]) -> bool
     ensures { result ≡ list_any (λ member. list_any (is_same_name member) cache_names) (members_of_value value.now) }
 {
     let mut rest = value;
-    while let Some((member, behind)) = next_member(rest) {
+    while let Some((member, behind)) = next_long_member(rest, SHORTEST_CACHE_NAME) {
         if is_cache_name(member) {
             return true;
         }

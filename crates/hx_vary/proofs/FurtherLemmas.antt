@@ -1,8 +1,9 @@
 -- Further names count as if the response's Vary had them.
-use Rattle.std.proofs.Common.{◌≡◌, ℕ, ◌++◌, Bool, true, false, cond, ◌||◌, ◌&&◌, List, [], ◌∷◌, refl, sym, ◌∙◌, ap, append_assoc, append-nil}
+use Rattle.std.proofs.Common.{◌≡◌, ◌≤◌, ◌+◌, ℕ, arith, length, ◌++◌, Bool, true, false, cond, ◌||◌, ◌&&◌, List, [], ◌∷◌, refl, sym, ◌∙◌, ap, append_assoc, append-nil}
 use Rattle.std.specs.Prelude.{map, filter, codes}
 use Rattle.std.specs.List.{list_all, list_any}
-use Rattle.std.proofs.lemmas.List.{map-append}
+use Rattle.std.proofs.lemmas.Bool.Decides.{nat_tests}
+use Rattle.std.proofs.lemmas.List.{map-append, length-append}
 use Rattle.std.proofs.lemmas.List.Elements.{filter-append}
 use Rattle.std.proofs.lemmas.List.Folds.{list_any-append, list_all-append}
 use Rattle.hx_fields.specs.FieldLines.{combined_of, is_named, values_of}
@@ -10,7 +11,8 @@ use Rattle.hx_fields.specs.Names.{members_of_value, joined_lists}
 use Rattle.hx_fields.specs.declared.field_line.Field.{Field}
 use Rattle.hx_vary.specs.declared.nominations.Nomination.{Nomination}
 use Rattle.hx_vary.specs.declared.nominations.Nomination.TheVariants.{Star, Names}
-use Rattle.hx_vary.specs.Vary.{each_once, is_same_value, is_star, is_star_member, kept_value, kept_values_with, vary_matches, vary_names, both_have_same, FurtherNamesCountAsVary, FurtherNamesAreCompared, WithoutFurtherNamesVaryDecides}
+use Rattle.hx_vary.specs.declared.limits.TheConstants.{MOST_NAMES}
+use Rattle.hx_vary.specs.Vary.{are_many, each_once, is_same_value, is_star, is_star_member, kept_value, kept_values_with, vary_matches, vary_names, both_have_same, FurtherNamesCountAsVary, FurtherNamesAreCompared, WithoutFurtherNamesVaryDecides}
 use Rattle.hx_vary.proofs.OnceLemmas.{once_all, one_value}
 
 abbrev line_of_vary : List ℕ → Field
@@ -32,17 +34,29 @@ names_more response value =
     ∙ lists_in_a_row (map members_of_value (values_of response (codes "Vary"))) (members_of_value value ∷ [])
     ∙ ap (λ z. vary_names response ++ z) (append-nil (members_of_value value))
 
+-- where names with more behind them aren't too many, they alone aren't
+few_together : (names more : List (List ℕ)) → length (names ++ more) ≤ MOST_NAMES → are_many (names ++ more) ≡ false
+few_together names more h = grind (arith, nat_tests)
+
+few_in_front : (names more : List (List ℕ)) → length (names ++ more) ≤ MOST_NAMES → are_many names ≡ false
+few_in_front names more h =
+    let all : length (names ++ more) ≡ length names + length more = length-append names more in
+    grind (arith, nat_tests)
+
+front_is_few : (names more : List (List ℕ)) → length (names ++ more) ≤ MOST_NAMES → are_many (names ++ more) ≡ are_many names
+front_is_few names more h = few_together names more h ∙ sym (few_in_front names more h)
+
 or_false : (b : Bool) → (b || false) ≡ b
 or_false true = refl
 or_false false = refl
 
 pub with_a_line_more : FurtherNamesCountAsVary
-with_a_line_more response request value none =
+with_a_line_more response request value none few =
+    let names = vary_names response in
     let same_star : is_star (response ++ line_of_vary value ∷ []) ≡ is_star response =
-    ap (list_any is_star_member) (names_more response value)
-    ∙ list_any-append is_star_member (vary_names response) (members_of_value value)
-    ∙ ap (λ b. is_star response || b) none
-    ∙ or_false (is_star response) in
+    ap (λ all. are_many all || list_any is_star_member all) (names_more response value)
+    ∙ ap (λ b. b || list_any is_star_member (names ++ members_of_value value)) (front_is_few names (members_of_value value) few)
+    ∙ ap (λ b. are_many names || b) (list_any-append is_star_member names (members_of_value value) ∙ ap (λ b. list_any is_star_member names || b) none ∙ or_false (list_any is_star_member names)) in
     let kept : List (List ℕ) → Nomination = λ names. Names (map (kept_value request) (each_once names)) in
     sym (ap (λ b. cond b Star (kept (vary_names (response ++ line_of_vary value ∷ [])))) same_star
     ∙ ap (λ names. cond (is_star response) Star (kept names)) (names_more response value))

@@ -1,5 +1,5 @@
 -- The messages that the laws of worked cases speak of.
-use Rattle.std.specs.Prelude.{ℕ, List, [], ◌∷◌, codes}
+use Rattle.std.specs.Prelude.{ℕ, zero, suc, List, [], ◌∷◌, ◌++◌, codes}
 use Rattle.hx_fields.specs.declared.field_line.Field.{Field}
 use Rattle.hx_fields.specs.Examples.{line}
 use Rattle.hx_vary.specs.declared.nominated_values.NominatedValue.{NominatedValue}
@@ -8,6 +8,11 @@ use Rattle.hx_vary.specs.Vary.{kept_values}
 -- a response with one Vary line
 abbrev pub vary_fields : List ℕ → List Field
 vary_fields value = line (codes "Vary") value ∷ []
+
+-- so many members, each of the same name
+abbrev pub members_in_a_row : ℕ → List ℕ
+members_in_a_row zero = []
+members_in_a_row (suc n) = codes "a," ++ members_in_a_row n
 
 -- a line of the field that the cases nominate
 abbrev pub accept_language : List ℕ → Field

@@ -1,17 +1,19 @@
 -- What a response's Vary says of the requests that it may answer (RFC 9111, section 4.1; RFC 9110, section 12.5.5).
 --
+-- is_star: what may answer no other request, also where its Vary has more members than a cache compares
 -- nominated_of: what is kept of the earlier request         nominates_a_field: it isn't nothing
 -- nominated_with: the same where further names count as if its Vary had them
 -- vary_matches: a later request's values are those that were kept
 -- both_select_alike: the same question, asked of the whole earlier request
-use Rattle.std.specs.Prelude.{◌≡◌, ℕ, Bool, true, false, if◌then◌else◌, ◌||◌, ◌&&◌, not, List, [], ◌∷◌, ◌++◌, map}
-use Rattle.std.specs.Prelude.{filter, codes}
+use Rattle.std.specs.Prelude.{◌≡◌, ◌≤◌, ◌<◌, ℕ, Bool, true, false, if◌then◌else◌, ◌||◌, ◌&&◌, not, List, [], ◌∷◌, ◌++◌}
+use Rattle.std.specs.Prelude.{map, filter, codes, nat_lt}
 use Rattle.std.specs.Prelude.{bytes_eq, length, ◌==◌, Option, Some, None}
 use Rattle.std.specs.List.{list_all, list_any}
 use Rattle.hx_fields.specs.FieldLines.{combined_of, members_of}
 use Rattle.hx_fields.specs.Names.{is_same_name, members_of_value}
 use Rattle.hx_fields.specs.Tokens.{is_token}
 use Rattle.hx_fields.specs.declared.field_line.Field.{Field}
+use Rattle.hx_vary.specs.declared.limits.TheConstants.{MOST_NAMES}
 use Rattle.hx_vary.specs.declared.nominated_values.NominatedValue.{NominatedValue}
 use Rattle.hx_vary.specs.declared.nominations.Nomination.{Nomination}
 use Rattle.hx_vary.specs.declared.nominations.Nomination.TheVariants.{Star, Names}
@@ -30,9 +32,18 @@ each_once (name ∷ names) = name ∷ filter (λ other. not (is_same_name name o
 abbrev pub is_star_member : List ℕ → Bool
 is_star_member name = bytes_eq name (codes "*") || not (is_token name)
 
+-- more members than a cache compares; one that stands again counts again
+-- own: whoever chooses them would choose what each request costs ("A Vary of many names counts as a star")
+abbrev pub are_many : List (List ℕ) → Bool
+are_many names = nat_lt MOST_NAMES (length names)
+
 -- the response may answer no other request (RFC 9111, section 4.1)
 abbrev pub is_star : List Field → Bool
-is_star response = list_any is_star_member (vary_names response)
+is_star response = are_many (vary_names response) || list_any is_star_member (vary_names response)
+
+-- the members by which it is told which request it may answer; none where it may answer no other
+abbrev pub compared_names : List Field → Option (List (List ℕ))
+compared_names response = if is_star response then None else Some (vary_names response)
 
 -- both are absent, or equal bytes
 abbrev pub is_same_value : Option (List ℕ) → Option (List ℕ) → Bool
@@ -102,16 +113,29 @@ abbrev pub EachNominatedNameIsKept : Type 0
 EachNominatedNameIsKept = (response request : List Field) → is_star response ≡ false
     → nominated_of response request ≡ Names (kept_values response request)
 
+-- with more members than a cache compares nothing is kept either, whatever they are
+abbrev pub ManyNamesCountAsStar : Type 0
+ManyNamesCountAsStar = (response request : List Field) → MOST_NAMES < length (vary_names response)
+    → nominated_of response request ≡ Star
+
+-- and up to so many each is compared, as the standard has it
+abbrev pub FewNamesAreCompared : Type 0
+FewNamesAreCompared = (response request : List Field) → length (vary_names response) ≤ MOST_NAMES
+    → list_any is_star_member (vary_names response) ≡ false
+    → nominated_of response request ≡ Names (kept_values response request)
+
 -- a response nominates a field exactly where its Vary has a member
 -- own: a Vary without members counts as none
 abbrev pub AMemberOfVaryNominates : Type 0
 AMemberOfVaryNominates = (response request : List Field) →
     nominates_a_field (kept_values response request) ≡ not (length (vary_names response) == 0)
 
--- Further names that are no star count as if the response had one more line of Vary with them.
+-- Further names that are no star count as if the response had one more line of Vary with them. They don't count among
+-- the members of which too many are a star, so this is said where all of them together aren't too many.
 abbrev pub FurtherNamesCountAsVary : Type 0
 FurtherNamesCountAsVary = (response request : List Field) (value : List ℕ) →
     list_any is_star_member (members_of_value value) ≡ false →
+    length (vary_names response ++ members_of_value value) ≤ MOST_NAMES →
     nominated_with (members_of_value value) response request
     ≡ nominated_of (response ++ record { name = codes "Vary"; value = value } ∷ []) request
 

@@ -1,13 +1,14 @@
 //! What the definitions say of the standard's cases and of worked ones.
 
-ghost use Rattle.std.specs.Prelude.{◌≡◌, true, false, [], ◌∷◌, codes, Some, None};
+ghost use Rattle.std.specs.Prelude.{◌≡◌, true, false, [], ◌∷◌, ◌++◌, codes, Some, None};
 ghost use Rattle.hx_vary.specs.Vary.{EachNominatedNameIsKept, NothingIsKeptForAStar, KeptValuesAreEnough};
 ghost use Rattle.hx_vary.specs.Vary.{RequestMatchesItself, AMemberOfVaryNominates, each_once, nominates_a_field};
 ghost use Rattle.hx_vary.specs.Vary.{is_star, kept_values, nominated_of, vary_matches, kept_values_with};
 ghost use Rattle.hx_vary.specs.Vary.{nominated_with};
+ghost use Rattle.hx_vary.specs.Vary.{ManyNamesCountAsStar, FewNamesAreCompared};
 ghost use Rattle.hx_vary.specs.Vary.{FurtherNamesCountAsVary, FurtherNamesAreCompared, WithoutFurtherNamesVaryDecides};
 ghost use Rattle.hx_vary.specs.Marks.{MarksMissNoMatch, NoValueIsUnmarked};
-ghost use Rattle.hx_vary.specs.Cases.{values_kept_for, accept_language, vary_fields};
+ghost use Rattle.hx_vary.specs.Cases.{values_kept_for, accept_language, vary_fields, members_in_a_row};
 
 use crate::nominations::Nomination;
 
@@ -84,4 +85,20 @@ pub fn star_nominates_everything()
     ensures star { is_star (vary_fields (codes "Accept, *")) ≡ true }
     ensures no_token { is_star (vary_fields (codes "\"Accept\"")) ≡ true }
     ensures names { is_star (vary_fields (codes "Accept, *a")) ≡ false }
+{}
+
+/// By up to 64 members of Vary a response varies. With more it counts as one with a star: over all lines together, also
+/// where one name stands again and again. Empty members don't count.
+pub fn many_names_count_as_a_star()
+    ensures many { ManyNamesCountAsStar }
+    ensures few { FewNamesAreCompared }
+    ensures at_the_bound { is_star (vary_fields (members_in_a_row 64)) ≡ false }
+    ensures beyond_it { is_star (vary_fields (members_in_a_row 65)) ≡ true }
+    ensures lines_at_the_bound { is_star (vary_fields (members_in_a_row 33) ++ vary_fields (members_in_a_row 31))
+        ≡ false }
+    ensures lines_beyond_it { is_star (vary_fields (members_in_a_row 33) ++ vary_fields (members_in_a_row 32)) ≡ true }
+    ensures kept { nominated_of (vary_fields (members_in_a_row 64)) []
+        ≡ Nomination.Names (record { name = codes "a"; value = None } ∷ []) }
+    ensures empty_ones { is_star (vary_fields (members_in_a_row 64 ++ codes ",,,")) ≡ false }
+    ensures a_star_at_the_bound { is_star (vary_fields (members_in_a_row 63 ++ codes "*")) ≡ true }
 {}

@@ -7,12 +7,14 @@
 
 mod field_names;
 pub mod laws;
+mod limits;
 mod marks;
 mod nominated_values;
 mod nominations;
 mod request_values;
 
 pub use field_names::FieldNames;
+pub use limits::MOST_NAMES;
 pub use marks::Mark;
 pub use nominated_values::NominatedValue;
 pub use nominations::{Nominated, Nomination, matches};

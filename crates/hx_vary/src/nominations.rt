@@ -3,13 +3,15 @@
 ghost use Rattle.std.specs.Prelude.{◌≡◌, ◌++◌, map, IfOk};
 ghost use Rattle.std.specs.List.{list_any};
 ghost use Rattle.hx_vary.specs.Vary.{each_once, is_star_member, kept_value, nominates_a_field, vary_matches};
+ghost use Rattle.hx_vary.specs.Vary.{compared_names};
 ghost use Rattle.hx_vary.specs.Marks.{mark_of_values};
 
 use crate::field_names::FieldNames;
+use crate::limits::MOST_NAMES;
 use crate::marks::{Mark, value_tag_at};
 use crate::nominated_values::NominatedValue;
 use crate::request_values::RequestValues;
-use hx_fields::{Bytes, Fields, FoldedName, is_token};
+use hx_fields::{Bytes, Fields, FoldedName, Members, is_token};
 use std::alloc::{AllocError, Global};
 use std::collections::BTreeSet;
 use std::marker::Model;
@@ -48,10 +50,9 @@ impl Nominated {
     pub fn of(alloc: Global, response: &Fields, request: &Fields) -> Result<Nomination, AllocError>
         ensures { IfOk result (λ nomination. nomination ≡ nominated_of response.now request.now) }
     {
-        let names = response.members(alloc, b"Vary")?;
-        if has_star(names.as_slice()) {
+        let Some(names) = compared_names(alloc, response)? else {
             return Ok(Nomination::Star);
-        }
+        };
         Ok(Nomination::Names(Nominated {
             values: kept_values(alloc, names.as_slice(), request)?,
         }))
@@ -66,10 +67,9 @@ impl Nominated {
     ) -> Result<Nomination, AllocError>
         ensures { IfOk result (λ nomination. nomination ≡ nominated_with further.now response.now request.now) }
     {
-        let names = response.members(alloc, b"Vary")?;
-        if has_star(names.as_slice()) {
+        let Some(names) = compared_names(alloc, response)? else {
             return Ok(Nomination::Star);
-        }
+        };
         let names = followed_by(alloc, names.as_slice(), further.as_slice())?;
         Ok(Nomination::Names(Nominated {
             values: kept_values(alloc, names.as_slice(), request)?,
@@ -120,6 +120,18 @@ impl Nominated {
     {
         self.values.as_slice()
     }
+}
+
+/// The members of Vary by which requests are compared; none where it counts as a star. What stands behind the first
+/// that are too many isn't looked at.
+fn compared_names(alloc: Global, response: &Fields) -> Result<Option<Members>, AllocError>
+    ensures { IfOk result (λ names. names ≡ compared_names response.now) }
+{
+    let names = response.members_up_to(alloc, b"Vary", MOST_NAMES + 1)?;
+    if names.len() > MOST_NAMES || has_star(names.as_slice()) {
+        return Ok(None);
+    }
+    Ok(Some(names))
 }
 
 /// These names and then those.
