@@ -6,7 +6,7 @@ use Rattle.std.specs.List.{All, list_all, list_any}
 use Rattle.std.proofs.lemmas.Bool.{and_parts}
 use Rattle.std.proofs.lemmas.List.Elements.{All-nil, All-cons}
 use Rattle.toml.specs.Data.{Members, get_member}
-use Rattle.hx_policy.specs.Policies.{plain}
+use Rattle.hx_policy.specs.Policies.{plain_with_tags}
 use Rattle.hx_allow.specs.LineTables.{is_good, first_bad_key}
 use Rattle.hx_allow.specs.LineWords.{key_has_text, word_of_error_lifetime, line_takes_words, removes_cookies, gives_lifetimes_to_set_cookie, gives_lifetimes_to_cookies, leaves_conditions_to_origin, leaves_ranges_to_origin, fills_ranges, policy_of_line_table}
 use Rattle.hx_allow.specs.Keys.{word_key}
@@ -59,7 +59,7 @@ and_false : (b : Bool) → (b && false) ≡ false
 and_false true = refl
 and_false false = refl
 
-pub plain_policy : (version : TableVersion) (ms : Members) → LineHasNoCachingWord ms → (has_keys_of version Four && line_takes_words ms) ≡ false → policy_of_line_table version ms ≡ plain (not (key_has_text (codes "cache") (codes "off") ms))
+pub plain_policy : (version : TableVersion) (ms : Members) → LineHasNoCachingWord ms → (has_keys_of version Four && line_takes_words ms) ≡ false → policy_of_line_table version ms ≡ plain_with_tags (has_keys_of version Four) (not (key_has_text (codes "cache") (codes "off") ms))
 plain_policy version ms none older =
     let error_lifetime : get_member (word_key (word_of_error_lifetime version)) ms ≡ None = none (word_of_error_lifetime version) (error_lifetime_is_of_caching version) in
     let lifetime : get_member (codes "lifetime") ms ≡ None = none Lifetime refl in

@@ -18,6 +18,7 @@ pub mod WordsRead
 pub mod PathTails
 pub mod Purging
 mod ScopesTold
+mod TagsNamed
 pub mod LeastUnknown
 pub mod Deciding
 pub mod TomlTables

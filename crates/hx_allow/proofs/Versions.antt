@@ -11,7 +11,7 @@ use Rattle.std.proofs.lemmas.Bool.{leb-true}
 use Rattle.std.proofs.lemmas.Slice.Eq.{bytes_eq-Decides}
 use Rattle.std.proofs.lemmas.Map.Text.{is_eq-slice_cmp}
 use Rattle.toml.specs.Data.{Data, Items, no_items, item, Members, no_members, member, get_member, as_table, as_integer}
-use Rattle.hx_policy.specs.Policies.{plain}
+use Rattle.hx_policy.specs.Policies.{plain, plain_with_tags}
 use Rattle.hx_allow.specs.TableLines.{Line as PlainLine, Table}
 use Rattle.hx_allow.specs.Keys.{word_key}
 use Rattle.hx_allow.specs.LineWords.{key_has_text, line_takes_words}
@@ -598,6 +598,12 @@ older Two ms other = refl
 older Three ms other = cc
 older Four ms other = cc
 
+none_of_four : (version : TableVersion) → has_keys_of version Three ≡ false → has_keys_of version Four ≡ false
+none_of_four One other = refl
+none_of_four Two other = refl
+none_of_four Three other = cc
+none_of_four Four other = cc
+
 is_cached_line : (n : ℕ) (ms : Members) → line_fault One n ms ≡ None → (line_read One ms).policy ≡ plain true
 unfolding line_read
 is_cached_line n ms none =
@@ -607,7 +613,9 @@ is_cached_line n ms none =
 
 is_plain_line : (version : TableVersion) (n : ℕ) (ms : Members) → has_keys_of version Three ≡ false → line_fault version n ms ≡ None → (line_read version ms).policy ≡ plain (line_read version ms).policy.caches
 unfolding line_read
-is_plain_line version n ms other none = plain_policy version ms (λ word of_caching. no_words version ms other (all_keys_known version n ms none) word) (older version ms other)
+is_plain_line version n ms other none =
+    plain_policy version ms (λ word of_caching. no_words version ms other (all_keys_known version n ms none) word) (older version ms other)
+    ∙ ap (λ hides. plain_with_tags hides (not (key_has_text (codes "cache") (codes "off") ms))) (none_of_four version other)
 
 is_line_of_three : (version : TableVersion) (n : ℕ) (ms : Members) → has_keys_of version Four ≡ false → line_fault version n ms ≡ None → LineIsOfThree (line_read version ms)
 unfolding line_read
@@ -619,7 +627,7 @@ is_line_of_three version n ms before none =
     let vary : get_member (codes "vary") ms ≡ None = not_among_known (Line version) (codes "vary") ms (unknown_word_of_four version Vary refl before) known in
     let timeout : get_member (codes "origin-timeout") ms ≡ None = not_among_known (Line version) (codes "origin-timeout") ms (unknown_word_of_four version OriginTimeout refl before) known in
     let key : get_member (codes "key") ms ≡ None = not_among_known (Line version) (codes "key") ms (unknown_word_of_four version PurgeKey refl before) known in
-    (rw before refl, rw most refl, rw before refl, rw before refl, rw before refl, rw before refl, rw before refl, rw before refl, rw stale refl, and_none (key_has_text (codes "wait") (codes "missing-or-stale") ms) before, rw before refl, rw cookies refl, rw vary refl, rw timeout refl, rw key refl, rw before refl)
+    (rw before refl, rw most refl, rw before refl, rw before refl, rw before refl, rw before refl, rw before refl, rw before refl, rw stale refl, and_none (key_has_text (codes "wait") (codes "missing-or-stale") ms) before, rw before refl, rw cookies refl, rw vary refl, rw timeout refl, rw key refl, rw before refl, before)
   where
     and_none : {b : Bool} (a : Bool) → b ≡ false → (a && b) ≡ false
     and_none true e = e

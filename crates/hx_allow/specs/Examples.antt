@@ -131,7 +131,7 @@ line_with_lists hosts paths origin = record {
 }
 
 -- what a line without words says in a table of version 4: requests with a cookie and responses with Set-Cookie are
--- given no lifetime, and the conditions of clients stay with the proxy
+-- given no lifetime, the conditions of clients stay with the proxy, and so do the tags of answers
 abbrev pub plain_of_four : Policy
 plain_of_four =
     record (plain true) {
@@ -139,6 +139,7 @@ plain_of_four =
       gives_to_cookies = false;
       forwards_conditions = false;
       forwards_ranges = false;
+      hides_tags = true;
     }
 
 -- the origin of the first run
@@ -261,3 +262,7 @@ abbrev pub line_without_cache : List Line
 line_without_cache =
     record (line_with_method None (codes "*") (codes "/live") origin_8081) { policy = plain false }
     ∷ line_with_method None (codes "GET") (codes "/") origin_8081 ∷ []
+
+-- seven tags, of one letter, of a list that goes on
+abbrev pub seven_tags_and_a_comma : List ℕ
+seven_tags_and_a_comma = codes "a,a,a,a,a,a,a,"

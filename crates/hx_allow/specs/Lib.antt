@@ -11,6 +11,7 @@ pub mod Matching
 pub mod PathTails
 pub mod Purges
 pub mod Scopes
+pub mod Tags
 pub mod NeverReached
 pub mod OneByOne
 pub mod Rows

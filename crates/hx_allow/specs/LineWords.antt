@@ -139,7 +139,8 @@ sends_while_revalidating version ms =
     says_second (word_row Wait) ms && has_keys_of version (word_row StaleWhileRevalidate).since
 
 -- own: what a line of a table of a version says of caching, by the operator's words; each key that doesn't stand is as
--- in the versions before
+-- in the versions before. From the fourth version on no answer has tags, whatever the line says
+-- ("Tags stay with the proxy")
 abbrev pub policy_of_line_table : TableVersion → Members → Policy
 policy_of_line_table version ms = record {
   caches = not (says_second (line_row Cache) ms);
@@ -160,4 +161,5 @@ policy_of_line_table version ms = record {
   forwards_conditions = leaves_conditions_to_origin version ms;
   forwards_ranges = leaves_ranges_to_origin version ms;
   fills_ranges = fills_ranges version ms;
+  hides_tags = has_keys_of version Four;
 }

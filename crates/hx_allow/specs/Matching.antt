@@ -15,7 +15,7 @@ use Rattle.std.specs.declared.net.socket_addr.SocketAddrV4.{SocketAddrV4}
 use Rattle.hx_fields.specs.declared.field_line.Field.{Field}
 use Rattle.hx_target.specs.declared.targets.Target.{Target}
 use Rattle.hx_policy.specs.declared.words.Policy.{Policy}
-use Rattle.hx_policy.specs.Policies.{plain}
+use Rattle.hx_policy.specs.Policies.{plain, plain_with_tags}
 use Rattle.hx_allow.specs.Addresses.{address_of}
 use Rattle.hx_allow.specs.LineHosts.{any_host_matches}
 use Rattle.hx_allow.specs.Cookies.{has_cookie_of}
@@ -91,9 +91,12 @@ origin_address_of lines n = option_and_then address_of (origin_of lines n)
 abbrev pub line_policy : List Line → ℕ → Policy
 line_policy lines n = unwrap_or (option_map (λ (line : Line). line.policy) (line_of_number lines n)) (plain false)
 
--- what counts for a request that goes this way; past the store it is what a line without cache says
+-- what counts for a request that goes this way; past the store it is what a line without cache says, and whether tags
+-- are hidden is as over the line
 unfoldable pub policy_of : List Line → Route → Policy
-policy_of lines route = if route.past_store then plain false else line_policy lines route.number
+policy_of lines route =
+    if route.past_store then plain_with_tags (line_policy lines route.number).hides_tags false
+    else line_policy lines route.number
 
 -- a line of this number stands and has an origin
 abbrev pub LineAllows : List Line → ℕ → Type 0

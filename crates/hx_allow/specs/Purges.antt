@@ -9,10 +9,11 @@ use Rattle.std.specs.Prelude.{bytes_eq, slice_index, Option, Some, None, is_none
 use Rattle.std.specs.List.{list_any, list_all}
 use Rattle.std.specs.Char.{is_ascii_uppercase, is_ascii_lowercase, is_ascii_digit}
 use Rattle.hx_fields.specs.declared.field_line.Field.{Field}
-use Rattle.hx_fields.specs.FieldLines.{is_named, values_of}
+use Rattle.hx_fields.specs.FieldLines.{has_field, is_named, values_of}
 use Rattle.hx_fields.specs.Names.{is_same_name, cut_at}
 use Rattle.hx_target.specs.declared.keys.Key.{Key}
 use Rattle.hx_target.specs.Keys.{same_key}
+use Rattle.hx_allow.specs.Tags.{purge_tag_of}
 use Rattle.hx_allow.specs.declared.purges.PurgeScope.{PurgeScope}
 use Rattle.hx_allow.specs.declared.purges.PurgeScope.TheVariants.{Target, Prefix, Host, All}
 
@@ -35,27 +36,34 @@ scope_of_word word =
     else if bytes_eq word (codes "all") then Some All
     else None
 
-abbrev pub scope_of_values : List (List ℕ) → Option PurgeScope
-scope_of_values [] = Some Target
-scope_of_values (word ∷ []) = scope_of_word word
-scope_of_values (word ∷ other ∷ more) = None
+-- own: without a word it is the target alone; with a tag all that names it ("A purge has a key")
+abbrev pub scope_without_word : List Field → PurgeScope
+scope_without_word fields = if has_field fields (codes "Purge-Tag") then All else Target
 
--- The targets that a request purges: those that its one line of Purge-Scope names, and without one its own target. With
--- two lines, or another word, none are named.
+abbrev pub scope_of_values : PurgeScope → List (List ℕ) → Option PurgeScope
+scope_of_values otherwise [] = Some otherwise
+scope_of_values otherwise (word ∷ []) = scope_of_word word
+scope_of_values otherwise (word ∷ other ∷ more) = None
+
+-- The targets that a request purges: those that its one line of Purge-Scope names, and without one its own target, or
+-- all where it asks for a tag. With two lines, or another word, none are named.
 abbrev pub purge_scope_of : List Field → Option PurgeScope
-purge_scope_of fields = scope_of_values (values_of fields (codes "Purge-Scope"))
+purge_scope_of fields = scope_of_values (scope_without_word fields) (values_of fields (codes "Purge-Scope"))
 
 abbrev pub begins_with_purge : List ℕ → Bool
 begins_with_purge name = nat_le 6 (length name) && is_same_name (take 6 name) (codes "Purge-")
 
 abbrev pub is_unknown_purge_field : Field → Bool
 is_unknown_purge_field field =
-    begins_with_purge field.name && not (is_named (codes "Purge-Key") field || is_named (codes "Purge-Scope") field)
+    begins_with_purge field.name
+    && not (is_named (codes "Purge-Key") field || is_named (codes "Purge-Scope") field
+    || is_named (codes "Purge-Tag") field)
 
--- own: a field whose name begins with `Purge-` is an order; one that isn't known could ask for less than all of the
--- scope, so nothing goes ("A purge has a key")
+-- own: a field whose name begins with `Purge-` is an order; one that isn't known, or names what isn't, could ask for
+-- less than all of the scope, so nothing goes ("A purge has a key")
 abbrev pub asks_for_more : List Field → Bool
-asks_for_more fields = list_any is_unknown_purge_field fields || is_none (purge_scope_of fields)
+asks_for_more fields =
+    list_any is_unknown_purge_field fields || is_none (purge_scope_of fields) || is_none (purge_tag_of fields)
 
 abbrev pub asks_to_purge : List ℕ → List Field → Bool
 asks_to_purge key fields = shows_key key fields && not (asks_for_more fields)

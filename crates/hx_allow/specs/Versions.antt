@@ -2,7 +2,7 @@
 use Rattle.std.specs.Prelude.{◌≡◌, ◌⊎◌, true, false, [], None, is_some, codes, length, IfSome}
 use Rattle.std.specs.List.{list_any}
 use Rattle.toml.specs.Data.{Members, get_member}
-use Rattle.hx_policy.specs.Policies.{plain}
+use Rattle.hx_policy.specs.Policies.{plain_with_tags}
 use Rattle.hx_allow.specs.Keys.{word_key}
 use Rattle.hx_allow.specs.LineHosts.{begins_with_star_dot, is_for_hosts_below}
 use Rattle.hx_allow.specs.LineWords.{key_has_text}
@@ -48,7 +48,7 @@ LineHasNoCachingWord ms = (word : LineWord) → (word_row word).place ≡ Cachin
 -- cookies aren't removed, responses and requests with a cookie are given the lifetimes of all others, the conditions of
 -- clients are the origin's to judge and their ranges the origin's to answer, nothing stale is sent while it is
 -- validated, requests that loop go on, no request goes past the store for its cookies, Vary alone nominates, no origin
--- has a time-out of its own, no line purges, and who waits does so until he may be sent an answer
+-- has a time-out of its own, no line purges, who waits does so until he may be sent an answer, and tags are seen
 abbrev pub LineIsOfThree : Line → Type 0
 LineIsOfThree line =
     (line.policy.error_lifetime ≡ line.policy.lifetime) × (line.policy.lifetime_most ≡ None)
@@ -58,11 +58,14 @@ LineIsOfThree line =
     × (line.policy.stale_while_revalidate ≡ None) × (line.policy.sends_while_revalidating ≡ false)
     × (line.refuses_loops ≡ false) × (line.session_cookies ≡ []) × (line.vary ≡ [])
     × (line.origin_timeout ≡ None) × (line.purge_key ≡ None) × (line.wait_timeout ≡ None)
+    × (line.policy.hides_tags ≡ false)
 
--- a line says nothing of caching but whether it caches, or it allows and has its cache on
+-- a line says nothing of caching but whether it caches, or it allows and has its cache on; whether tags are hidden is
+-- said by no word
 abbrev pub LineTakesItsWords : Line → Type 0
 LineTakesItsWords line =
-    (line.policy ≡ plain line.policy.caches) ⊎ ((is_some line.origin ≡ true) × (line.policy.caches ≡ true))
+    (line.policy ≡ plain_with_tags line.policy.hides_tags line.policy.caches)
+    ⊎ ((is_some line.origin ≡ true) × (line.policy.caches ≡ true))
 
 -- a line that has a key purges: it has no origin, and its key is one
 abbrev pub LinePurgesByItsKey : Line → Type 0

@@ -185,15 +185,20 @@ impl Config {
         }
     }
 
-    /// What counts for a request that goes this way: past the store it is what a line without cache says.
+    /// What counts for a request that goes this way: past the store it is what a line without cache says, but that tags
+    /// are hidden as over the line.
     #[tactic(auto, unfolding(crate::specs::Matching::policy_of))]
     pub fn policy(&self, route: Route) -> Policy
         ensures { result ≡ policy_of self.now.lines route }
     {
+        let policy = self.line_policy(route.number);
         if route.past_store {
-            Policy::plain(false)
+            Policy {
+                hides_tags: policy.hides_tags,
+                ..Policy::plain(false)
+            }
         } else {
-            self.line_policy(route.number)
+            policy
         }
     }
 

@@ -13,7 +13,7 @@ ghost use Rattle.hx_allow.specs.TableLines.{Line, Table};
 ghost use Rattle.hx_allow.specs.LineTables.{line_fault, line_read, lines_fault, array_of_tables};
 ghost use Rattle.hx_allow.specs.LineWords.{key_has_text, line_takes_words};
 ghost use Rattle.hx_allow.specs.LineTables.{names_small_method, names_path_with_star};
-ghost use Rattle.hx_allow.specs.Matching.{matches_line, verdict_of, line_number};
+ghost use Rattle.hx_allow.specs.Matching.{matches_line, verdict_of, line_number, line_policy, policy_of};
 ghost use Rattle.hx_allow.specs.NeverReached.{first_line_taking};
 ghost use Rattle.hx_allow.specs.Rows.{has_keys_of, word_row};
 ghost use Rattle.hx_allow.specs.Tables.{version_of, judge_table, BytesReadAs};
@@ -221,6 +221,16 @@ pub fn a_cookie_is_given_no_lifetime_in_version_four()
     ensures removed { (members : Members) → (line_read Four members).policy.removes_cookies
         ≡ key_has_text (codes "set-cookie") (codes "removed") members }
     ensures before { (members : Members) → (line_read Three members).policy.removes_cookies ≡ false }
+{}
+
+/// Each line of version 4 hides the tags of answers, also on the way past the store, and no line of an earlier version
+/// does (`version_three_reads_as_before`).
+#[tactic(auto, unfolding(crate::specs::LineTables::line_read, crate::specs::Matching::policy_of))]
+pub fn tags_are_hidden_in_version_four()
+    ensures hidden { (members : Members) → (line_read Four members).policy.hides_tags ≡ true }
+    ensures before { (members : Members) → (line_read Three members).policy.hides_tags ≡ false }
+    ensures past_the_store { (lines : List Line) (n : ℕ)
+        → (policy_of lines (record { number = n; past_store = true })).hides_tags ≡ (line_policy lines n).hides_tags }
 {}
 
 /// Where a table bounds the bytes of its store, the bound is in its range, and no content that may be

@@ -3,7 +3,7 @@
 ghost use Rattle.std.specs.Prelude.{◌≡◌, ◌∷◌, [], Some, None, Ok, true, false, codes, option_map, negsuc};
 ghost use Rattle.toml.specs.Data.{boolean, integer};
 ghost use Rattle.toml.specs.Parse.{parse_document};
-ghost use Rattle.hx_policy.specs.Policies.{plain};
+ghost use Rattle.hx_policy.specs.Policies.{plain, plain_with_tags};
 ghost use Rattle.hx_allow.specs.Examples.{denying_line_table_with, key_with_number, line_with_method, origin_8081};
 ghost use Rattle.hx_allow.specs.Examples.{key_with_text, line_table_with_keys, line_of_four, plain_of_four};
 ghost use Rattle.hx_allow.specs.Keys.{word_key};
@@ -330,8 +330,8 @@ pub fn worked_conditions_of_versions()
     ensures forwarded { (line_read Four (line_table_with_keys (key_with_text (codes "conditions") (codes "forwarded") ∷ []))).policy
         ≡ record plain_of_four { forwards_conditions = true } }
     ensures off { (line_read Four (line_table_with_keys (key_with_text (codes "cache") (codes "off") ∷ []))).policy
-        ≡ plain false }
-    ensures denying { (line_read Four (denying_line_table_with [])).policy ≡ plain true }
+        ≡ plain_with_tags true false }
+    ensures denying { (line_read Four (denying_line_table_with [])).policy ≡ plain_with_tags true true }
 {}
 
 /// In the fourth version a line gives its lifetimes to no request with a cookie, unless it says else, denies or has its
@@ -347,8 +347,8 @@ pub fn worked_cookies_of_versions()
     ensures shared { (line_read Four (line_table_with_keys (key_with_text (codes "cookies") (codes "shared") ∷ []))).policy
         ≡ record plain_of_four { gives_to_cookies = true } }
     ensures off { (line_read Four (line_table_with_keys (key_with_text (codes "cache") (codes "off") ∷ []))).policy
-        ≡ plain false }
-    ensures denying { (line_read Four (denying_line_table_with [])).policy ≡ plain true }
+        ≡ plain_with_tags true false }
+    ensures denying { (line_read Four (denying_line_table_with [])).policy ≡ plain_with_tags true true }
 {}
 
 /// In the fourth version a line gives its lifetimes to no response with Set-Cookie, unless it says what becomes of
@@ -368,8 +368,8 @@ pub fn worked_cookies_of_responses_in_versions()
     ensures removed_in_three { (line_read Three
         (line_table_with_keys (key_with_text (codes "set-cookie") (codes "removed") ∷ []))).policy ≡ plain true }
     ensures off { (line_read Four (line_table_with_keys (key_with_text (codes "cache") (codes "off") ∷ []))).policy
-        ≡ plain false }
-    ensures denying { (line_read Four (denying_line_table_with [])).policy ≡ plain true }
+        ≡ plain_with_tags true false }
+    ensures denying { (line_read Four (denying_line_table_with [])).policy ≡ plain_with_tags true true }
 {}
 
 /// In the fourth version a line that lets others wait for what is stale sends it while it is validated, for as long as
@@ -425,6 +425,7 @@ pub fn a_table_with_words_is_read()
           forwards_conditions = true;
           forwards_ranges = true;
           fills_ranges = false;
+          hides_tags = false;
         };
       } ∷ [];
     })) }

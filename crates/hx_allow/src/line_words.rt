@@ -231,6 +231,7 @@ pub fn policy_of_line_table(version: TableVersion, table: &Table) -> Policy
         forwards_conditions: leaves_conditions_to_origin(version, table),
         forwards_ranges: leaves_ranges_to_origin(version, table),
         fills_ranges: fills_ranges(version, table),
+        hides_tags: version.has_keys_of(Four),
     };
     with_seconds_of_line(words, version, table)
 }

@@ -3,7 +3,7 @@
 ghost use Rattle.std.specs.Prelude.{◌≡◌, ◌∷◌, ◌++◌, [], Some, None, Ok, true, false, codes, option_map, pos};
 ghost use Rattle.toml.specs.Data.{array, integer, string, no_items};
 ghost use Rattle.toml.specs.Parse.{parse_document};
-ghost use Rattle.hx_policy.specs.Policies.{plain};
+ghost use Rattle.hx_policy.specs.Policies.{plain_with_tags};
 ghost use Rattle.hx_allow.specs.Examples.{line_table_of, list_of_texts, lines_with_lists, line_with_lists};
 ghost use Rattle.hx_allow.specs.Examples.{line_with_method, origin_8081};
 ghost use Rattle.hx_allow.specs.Examples.{repeated_value, array_of_values, target_for_path};
@@ -113,7 +113,7 @@ pub fn worked_lines_with_lists()
           methods = codes "GET" ∷ [];
           paths = codes "/a" ∷ codes "/" ∷ [];
           origin = None;
-          policy = plain true;
+          policy = plain_with_tags true true;
           refuses_loops = true;
           session_cookies = [];
           vary = [];
@@ -122,9 +122,15 @@ pub fn worked_lines_with_lists()
           wait_timeout = None;
         } }
     ensures alone { line_read Four (line_table_of (string (codes "a")) (string (codes "/")))
-        ≡ record (line_with_method (Some (codes "a")) (codes "GET") (codes "/") None) { refuses_loops = true } }
+        ≡ record (line_with_method (Some (codes "a")) (codes "GET") (codes "/") None) {
+          policy = plain_with_tags true true;
+          refuses_loops = true;
+        } }
     ensures of_one { line_read Four (line_table_of (list_of_texts (codes "a" ∷ [])) (list_of_texts (codes "/" ∷ [])))
-        ≡ record (line_with_method (Some (codes "a")) (codes "GET") (codes "/") None) { refuses_loops = true } }
+        ≡ record (line_with_method (Some (codes "a")) (codes "GET") (codes "/") None) {
+          policy = plain_with_tags true true;
+          refuses_loops = true;
+        } }
 {}
 
 /// A line decides where one of its hosts and one of its paths match, and the first such line does.

@@ -53,7 +53,17 @@ pub fn worked_requests_with_keys()
         (codes "all") ∷ []) ≡ true }
     ensures listed_scopes { asks_for_more (line (codes "Purge-Scope") (codes "host, all") ∷ []) ≡ true }
     ensures a_longer_scope { asks_for_more (line (codes "Purge-Scopes") (codes "all") ∷ []) ≡ true }
-    ensures a_tag { asks_for_more (line (codes "purge-tag") (codes "news") ∷ []) ≡ true }
+    ensures a_tag { asks_for_more (line (codes "purge-tag") (codes "news") ∷ []) ≡ false }
+    ensures a_longer_tag { asks_for_more (line (codes "Purge-Tags") (codes "news") ∷ []) ≡ true }
+    ensures an_empty_tag { asks_for_more (line (codes "Purge-Tag") [] ∷ []) ≡ true }
+    ensures two_tags { asks_for_more (line (codes "Purge-Tag") (codes "news") ∷ line (codes "Purge-Tag")
+        (codes "news") ∷ []) ≡ true }
+    ensures listed_tags { asks_for_more (line (codes "Purge-Tag") (codes "news,sport") ∷ []) ≡ true }
+    ensures a_tag_with_a_blank { asks_for_more (line (codes "Purge-Tag") (codes "old news") ∷ []) ≡ true }
+    ensures a_tag_and_a_scope { asks_for_more (line (codes "Purge-Tag") (codes "news") ∷ line (codes "Purge-Scope")
+        (codes "host") ∷ []) ≡ false }
+    ensures a_tag_and_an_unknown_scope { asks_for_more (line (codes "Purge-Tag") (codes "news")
+        ∷ line (codes "Purge-Scope") (codes "site") ∷ []) ≡ true }
     ensures a_mode { asks_for_more (line (codes "PURGE-MODE") (codes "stale") ∷ []) ≡ true }
     ensures any { asks_for_more (line (codes "Host") (codes "h") ∷ line (codes "Purge-") [] ∷ []) ≡ true }
     ensures a_longer_key { asks_for_more (line (codes "Purge-Keys") purge_key ∷ []) ≡ true }
@@ -63,6 +73,9 @@ pub fn worked_requests_with_keys()
 /// Which targets are within the scope of a purge.
 pub fn worked_scopes()
     ensures by_default { scope_to_purge [] ≡ Target }
+    ensures of_a_tag { scope_to_purge (line (codes "Purge-Tag") (codes "news") ∷ []) ≡ All }
+    ensures of_a_tag_of_a_host { scope_to_purge (line (codes "Purge-Scope") (codes "host")
+        ∷ line (codes "Purge-Tag") (codes "news") ∷ []) ≡ Host }
     ensures of_a_prefix { scope_to_purge (line (codes "Purge-Scope") (codes "prefix") ∷ []) ≡ Prefix }
     ensures of_a_host { scope_to_purge (line (codes "Purge-Scope") (codes "host") ∷ []) ≡ Host }
     ensures of_all { scope_to_purge (line (codes "Purge-Scope") (codes "all") ∷ []) ≡ All }
@@ -119,7 +132,12 @@ pub fn worked_requests_that_purge()
         (target_for_path (codes "x") (codes "/a")) (line (codes "Purge-Key") purge_key
         ∷ line (codes "Purge-Scope") (codes "prefix/") ∷ []) ≡ DeniedBy 1 }
     ensures with_a_tag { verdict_of_request purging_table (codes "PURGE") (target_for_path (codes "x") (codes "/a"))
-        (line (codes "Purge-Key") purge_key ∷ line (codes "Purge-Tag") (codes "news") ∷ []) ≡ DeniedBy 1 }
+        (line (codes "Purge-Key") purge_key ∷ line (codes "Purge-Tag") (codes "news") ∷ []) ≡ Purged 1 }
+    ensures with_two_tags { verdict_of_request purging_table (codes "PURGE") (target_for_path (codes "x") (codes "/a"))
+        (line (codes "Purge-Key") purge_key ∷ line (codes "Purge-Tag") (codes "news")
+        ∷ line (codes "Purge-Tag") (codes "sport") ∷ []) ≡ DeniedBy 1 }
+    ensures with_a_mode { verdict_of_request purging_table (codes "PURGE") (target_for_path (codes "x") (codes "/a"))
+        (line (codes "Purge-Key") purge_key ∷ line (codes "Purge-Mode") (codes "stale") ∷ []) ≡ DeniedBy 1 }
     ensures another_path { verdict_of_request purging_table (codes "PURGE") (target_for_path (codes "x") (codes "/b"))
         (line (codes "Purge-Key") purge_key ∷ []) ≡ NoLine }
     ensures with_the_key_of_another_line { verdict_of_request purging_table (codes "PURGE")

@@ -3,10 +3,11 @@ ghost use Rattle.std.specs.Prelude.{◌≡◌, ◌==◌, ◌≤◌, bytes_eq, le
 ghost use Rattle.std.specs.List.{list_any, list_all};
 ghost use Rattle.hx_allow.specs.Purges.{is_letter_or_digit, is_purge_key, shows_key, begins_with_purge};
 ghost use Rattle.hx_allow.specs.Purges.{is_unknown_purge_field, asks_for_more, asks_to_purge};
-ghost use Rattle.hx_allow.specs.Purges.{scope_of_word, purge_scope_of, scope_to_purge};
+ghost use Rattle.hx_allow.specs.Purges.{scope_of_word, scope_without_word, purge_scope_of, scope_to_purge};
 ghost use Rattle.hx_allow.specs.Purges.{path_before_query, ends_with_slash, begins_with, goes_on_with_slash};
 ghost use Rattle.hx_allow.specs.Purges.{is_at_or_below, is_within_scope};
 
+use crate::tags::asks_for_a_tag_or_none;
 use hx_fields::{Field, Fields, cut_at, is_same_name};
 use hx_target::Key;
 
@@ -85,12 +86,23 @@ fn scope_of_word(word: &[u8]) -> Option<PurgeScope>
     }
 }
 
+/// Those that it purges without a word.
+fn scope_without_word(fields: &Fields) -> PurgeScope
+    ensures { result ≡ scope_without_word fields.now }
+{
+    if fields.has(b"Purge-Tag") {
+        PurgeScope::All
+    } else {
+        PurgeScope::Target
+    }
+}
+
 /// The targets that a request purges, unless two lines name them or another word.
 fn purge_scope_of(fields: &Fields) -> Option<PurgeScope>
     ensures { result ≡ purge_scope_of fields.now }
 {
     match fields.value(b"Purge-Scope") {
-        None => Some(PurgeScope::Target),
+        None => Some(scope_without_word(fields)),
         Some(_) => match fields.only_value(b"Purge-Scope") {
             None => None,
             Some(word) => scope_of_word(word),
@@ -98,7 +110,7 @@ fn purge_scope_of(fields: &Fields) -> Option<PurgeScope>
     }
 }
 
-/// The targets that a request purges; its own, where none are named.
+/// The targets that a request purges; its own, where none are named, or all where it asks for a tag.
 pub fn scope_to_purge(fields: &Fields) -> PurgeScope
     ensures { result ≡ scope_to_purge fields.now }
 {
@@ -119,7 +131,9 @@ fn is_unknown_purge_field(field: &Field) -> bool
 {
     let name = field.name.as_slice();
     begins_with_purge(name)
-        && !(is_same_name(name, b"Purge-Key") || is_same_name(name, b"Purge-Scope"))
+        && !(is_same_name(name, b"Purge-Key")
+            || is_same_name(name, b"Purge-Scope")
+            || is_same_name(name, b"Purge-Tag"))
 }
 
 fn has_unknown_purge_field(fields: &[Field]) -> bool
@@ -132,7 +146,9 @@ fn has_unknown_purge_field(fields: &[Field]) -> bool
 fn asks_for_more(fields: &Fields) -> bool
     ensures { result ≡ asks_for_more fields.now }
 {
-    has_unknown_purge_field(fields.as_slice()) || purge_scope_of(fields).is_none()
+    has_unknown_purge_field(fields.as_slice())
+        || purge_scope_of(fields).is_none()
+        || !asks_for_a_tag_or_none(fields)
 }
 
 /// Whether a request with these lines purges over a line with this key.

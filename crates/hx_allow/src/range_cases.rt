@@ -1,7 +1,7 @@
 //! Worked cases of the word on ranges, and its law: each function's contract says them, and its body is empty.
 ghost use Rattle.std.specs.Prelude.{◌≡◌, ◌&&◌, ◌∷◌, [], true, false, codes, None, Some};
 ghost use Rattle.toml.specs.Data.{Members, boolean};
-ghost use Rattle.hx_policy.specs.Policies.{plain};
+ghost use Rattle.hx_policy.specs.Policies.{plain, plain_with_tags};
 ghost use Rattle.hx_allow.specs.Examples.{key_with_text, line_table_with_keys, denying_line_table_with};
 ghost use Rattle.hx_allow.specs.Examples.{plain_of_four};
 ghost use Rattle.hx_allow.specs.LineTables.{line_fault, line_read};
@@ -73,6 +73,6 @@ pub fn worked_ranges_of_versions()
     ensures filled_of_three { (line_read Three (line_table_with_keys (key_with_text (codes "ranges") (codes "filled") ∷ []))).policy
         ≡ plain true }
     ensures off { (line_read Four (line_table_with_keys (key_with_text (codes "cache") (codes "off") ∷ []))).policy
-        ≡ plain false }
-    ensures denying { (line_read Four (denying_line_table_with [])).policy ≡ plain true }
+        ≡ plain_with_tags true false }
+    ensures denying { (line_read Four (denying_line_table_with [])).policy ≡ plain_with_tags true true }
 {}

@@ -1,6 +1,7 @@
 -- The words of a line, and the statuses that a cache may give a lifetime.
 --
--- plain: a line without words of versions 3 and 4     is_heuristic, is_error: statuses
+-- plain: a line without words of versions 3 and 4     plain_with_tags: the same, in version 4 or before it
+-- is_heuristic, is_error: statuses
 -- given_lifetime: what the operator gives
 use Rattle.std.specs.Prelude.{ℕ, ◌==◌, nat_le, if◌then◌else◌, Bool, true, false, List, [], ◌∷◌, Option, None}
 use Rattle.std.specs.List.{list_any}
@@ -27,7 +28,13 @@ plain caches = record {
   forwards_conditions = true;
   forwards_ranges = true;
   fills_ranges = false;
+  hides_tags = false;
 }
+
+-- the same in a table of version 4 or before it: in one of version 4 the tags of an answer stay with the proxy
+-- ("Tags stay with the proxy")
+abbrev pub plain_with_tags : Bool → Bool → Policy
+plain_with_tags hides caches = record (plain caches) { hides_tags = hides }
 
 -- the statuses that are heuristically cacheable (RFC 9110, section 15.1)
 abbrev pub heuristic_statuses : List ℕ

@@ -6,7 +6,7 @@ ghost use Rattle.hx_policy.specs.declared.words.Policy.{Policy as Words};
 
 /// A line that has no word gives no lifetime and no stale-if-error, takes each stated lifetime as it is, stores and
 /// heeds what the written rules say, lets nobody wait for what is stale nor be sent it meanwhile, tells no storing
-/// rule, and leaves the conditions of clients and their ranges to the origin.
+/// rule, leaves the conditions of clients and their ranges to the origin, and lets each tag of an answer be seen.
 pub fn a_plain_policy_has_no_words()
     ensures caches { (caches : Bool) → (plain caches).caches ≡ caches }
     ensures lifetime { (caches : Bool) (status : ℕ) → given_lifetime (plain caches) status ≡ None }
@@ -25,6 +25,7 @@ pub fn a_plain_policy_has_no_words()
     ensures conditions { (caches : Bool) → (plain caches).forwards_conditions ≡ true }
     ensures ranges { (caches : Bool) → (plain caches).forwards_ranges ≡ true }
     ensures filled_ranges { (caches : Bool) → (plain caches).fills_ranges ≡ false }
+    ensures tags { (caches : Bool) → (plain caches).hides_tags ≡ false }
 {}
 
 /// A lifetime is given to a status that is heuristically cacheable, and to no other (RFC 9111, section 4.2.2): that of

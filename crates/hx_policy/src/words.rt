@@ -6,7 +6,7 @@ use crate::heuristics::{is_error, is_heuristic};
 
 /// What a line says of caching. Each word but the first needs version 3 of the table, those of errors, of the most
 /// seconds, of cookies that stay with one, of conditions, of ranges, and of what is sent while it is validated
-/// version 4.
+/// version 4. That tags are hidden has no word: each line of a table of version 4 does it, and no other.
 #[derive(Clone, Copy, Debug, PartialEq, Eq)]
 pub struct Policy {
     /// Requests may be answered from the store, and their responses stored.
@@ -60,6 +60,9 @@ pub struct Policy {
     /// without Range and If-Range. What comes is stored where it may be, and the range is cut from it for this client
     /// (RFC 9110, section 14.2).
     pub fills_ranges: bool,
+    /// No answer has a line of Cache-Tag, which stays between the origin and the store: by what it names the operator
+    /// purges.
+    pub hides_tags: bool,
 }
 
 impl Policy {
@@ -86,6 +89,7 @@ impl Policy {
             forwards_conditions: true,
             forwards_ranges: true,
             fills_ranges: false,
+            hides_tags: false,
         }
     }
 
