@@ -1,15 +1,14 @@
 -- Who asks for a key, among exchanges that were changed: the indexes still tell just them. And the first that leads.
-use Rattle.std.proofs.Common.{◌≡◌, ◌<◌, ℕ, Bool, true, false, cond, ◌&&◌, ◌||◌, eqb, None, Some, List, [], ◌∷◌, ◌++◌, refl, sym, ◌∙◌, ap, arith, inl, inr, not}
+use Rattle.std.proofs.Common.{◌≡◌, ◌<◌, ◌==◌, ℕ, Bool, true, false, cond, ◌&&◌, ◌||◌, eqb, Option, None, Some, List, [], ◌∷◌, ◌++◌, refl, sym, ◌∙◌, ap, inl, inr, not}
 use Rattle.std.specs.Ordering.{nat_cmp}
 use Rattle.std.specs.BTreeMap.{is_at}
-use Rattle.std.specs.List.{All, AllByRecursion, list_any}
+use Rattle.std.specs.List.{All, list_any}
 use Rattle.std.specs.List.Sorted.{IsStrictlySortedBy}
-use Rattle.std.specs.declared.cmp.Ordering.TheVariants.{Less}
 use Rattle.std.specs.Map.{lookup, remove_entry, set_value, keys_of, values_of}
-use Rattle.std.proofs.lemmas.Map.Keys.{sorted_head, sorted_tail}
 use Rattle.std.proofs.lemmas.Bool.{cases_Bool, eqb-true, eq-eqb, false≢true}
-use Rattle.std.proofs.lemmas.Bool.Decides.{nat_tests}
 use Rattle.std.proofs.lemmas.Option.{same_Some}
+use Rattle.std.specs.Prelude.{option_map}
+use Rattle.hx_allow.specs.TableLines.{Table}
 use Rattle.hx_policy.specs.declared.words.Policy.{Policy}
 use Rattle.hx_target.specs.declared.keys.Key.{Key}
 use Rattle.hx_target.specs.Keys.{same_key}
@@ -23,10 +22,12 @@ use Rattle.proxy_core.specs.Leading.{is_get, is_forwarded, waits_for, asks_for, 
 use Rattle.proxy_core.specs.declared.open.awaited.Awaited.{Awaited}
 use Rattle.proxy_core.specs.Scopes.{Scope, is_in_scope}
 use Rattle.proxy_core.specs.State.{released_exchange, overtaken_exchange}
-use Rattle.proxy_core.specs.Arrivals.{HaveDistinctArrivalsAndIds, SelectedArrivalsPass, IsExactIndexOfSelected, map_exchanges}
+use Rattle.proxy_core.specs.Arrivals.{HaveDistinctArrivalsAndIds, SelectedArrivalsPass, WaitingArrivalsPass, IsExactIndexOfSelected, map_exchanges}
 use Rattle.proxy_core.specs.ByKey.{is_get_at_origin_for_key, is_get_not_at_origin_for_key, is_other_for_key, ArrivalIsMovedToOrigin, is_in_key_index, GetArrivalsPass, ArrivalIsPutWhere, ArrivalIsTakenOutWhere, AreSameKeyIndex, IsNotInKeyIndex, ArrivalIsEntered, ArrivalHasLeft, AreSameArrivals, IsInNeitherIndex, TellsAllByKey}
 use Rattle.proxy_core.proofs.Indexed.{lookup-removed, not_indexed, indexes-entered, indexes-left, indexes-written, indexes-on_all}
-use Rattle.proxy_core.proofs.Waiters.{pass-but, none_has, none_behind, not_at, at_is, overtake-stage}
+use Rattle.proxy_core.specs.LeadingOn.{may_lead_on, leading_on, next_leader, exchanges_without}
+use Rattle.proxy_core.proofs.FirstOf.{first_of, FirstIsLeft, none_passes, none_left, not_there, not_passing, it_is_first}
+use Rattle.proxy_core.proofs.Waiters.{none_has, overtake-stage}
 
 abbrev Numbered : Type 0
 Numbered = List (ℕ × Exchange)
@@ -226,7 +227,13 @@ written_again n x (e ∷ es) h = elim (cases_Bool (at n e.0)) [
 
 -- those that lead have numbers that are still to come, and these ascend
 abbrev pub LeadersLeft : Policy → Awaited → Asked → List ℕ → Numbered → Type 0
-LeadersLeft policy awaited asked ns es = SelectedArrivalsPass (leads_waiters policy awaited asked) (λ k. list_any (λ n. at k n) ns) es × IsStrictlySortedBy nat_cmp ns
+LeadersLeft policy awaited asked ns es = FirstIsLeft (leads_waiters policy awaited asked) ns es
+
+leader_is : (policy : Policy) (awaited : Awaited) (asked : Asked) (xs : List Exchange) → leader policy awaited asked xs ≡ option_map (λ (x : Exchange). x.id) (first_of (leads_waiters policy awaited asked) xs)
+leader_is policy awaited asked [] = refl
+leader_is policy awaited asked (x ∷ xs) =
+    ap (λ (o : Option ℕ). cond (leads_waiters policy awaited asked x) (Some x.id) o) (leader_is policy awaited asked xs)
+    ∙ (elim (leads_waiters policy awaited asked x) as (λ b. cond b (Some x.id) (option_map (λ (x : Exchange). x.id) (first_of (leads_waiters policy awaited asked) xs)) ≡ option_map (λ (x : Exchange). x.id) (cond b (Some x) (first_of (leads_waiters policy awaited asked) xs))) [ true ↦ refl | false ↦ refl ])
 
 parts : (a b c d : Bool) → (a && (b && (c && d))) ≡ true → (a && (b && c)) ≡ true
 parts true true true d h = refl
@@ -242,88 +249,61 @@ gets_lead policy awaited asked p (e ∷ es) h =
 pub leaders : (policy : Policy) (awaited : Awaited) (asked : Asked) (ns : List ℕ) (es : Numbered) → IsStrictlySortedBy nat_cmp ns → GetArrivalsPass asked.target.key (λ k. list_any (λ n. at k n) ns) es → LeadersLeft policy awaited asked ns es
 leaders policy awaited asked ns es s h = (gets_lead policy awaited asked (λ k. list_any (λ n. at k n) ns) es h, s)
 
-nobody : (policy : Policy) (awaited : Awaited) (asked : Asked) (es : Numbered) → SelectedArrivalsPass (leads_waiters policy awaited asked) (λ k. false) es → leader policy awaited asked (values_of es) ≡ None
-nobody policy awaited asked [] h = refl
-nobody policy awaited asked (e ∷ es) h = elim (cases_Bool (leads_waiters policy awaited asked e.1)) [
-  | inl t ↦ absurd (false≢true (h.0 t))
-  | inr f ↦ ap (λ b. cond b (Some e.1.id) (leader policy awaited asked (values_of es))) f ∙ nobody policy awaited asked es h.1
-]
-
 pub none_leads : (policy : Policy) (awaited : Awaited) (asked : Asked) (es : Numbered) → LeadersLeft policy awaited asked [] es → leader policy awaited asked (values_of es) ≡ None
-none_leads policy awaited asked es h = nobody policy awaited asked es h.0
+none_leads policy awaited asked es h = leader_is policy awaited asked (values_of es) ∙ ap (option_map (λ (x : Exchange). x.id)) (none_left (leads_waiters policy awaited asked) es h)
 
 pub none_asks : (policy : Policy) (awaited : Awaited) (asked : Asked) (es : Numbered) → GetArrivalsPass asked.target.key (λ k. false) es → leader policy awaited asked (values_of es) ≡ None
-none_asks policy awaited asked es h = nobody policy awaited asked es (gets_lead policy awaited asked (λ k. false) es h)
-
-rest_of : (n m : ℕ) (ns : List ℕ) → eqb n m ≡ false → list_any (λ k. at m k) (n ∷ ns) ≡ true → list_any (λ k. at m k) ns ≡ true
-rest_of n m ns o t = sym (ap (λ b. b || list_any (λ k. at m k) ns) (not_at n m o)) ∙ t
+none_asks policy awaited asked es h =
+    leader_is policy awaited asked (values_of es)
+    ∙ ap (option_map (λ (x : Exchange). x.id)) (none_passes (leads_waiters policy awaited asked) es (gets_lead policy awaited asked (λ k. false) es h))
 
 -- one that isn't open
 pub not_open : (policy : Policy) (awaited : Awaited) (asked : Asked) (n : ℕ) (ns : List ℕ) (es : Numbered) → None ≡ lookup (at n) es → LeadersLeft policy awaited asked (n ∷ ns) es → LeadersLeft policy awaited asked ns es
-not_open policy awaited asked n ns es none h = (
-  pass-but (leads_waiters policy awaited asked) n (λ k. list_any (λ m. at k m) (n ∷ ns)) (λ k. list_any (λ m. at k m) ns) es (sym none) (λ m o t. rest_of n m ns o t) h.0,
-  sorted_tail nat_cmp n ns h.1,
-)
+not_open policy awaited asked n ns es none h = not_there (leads_waiters policy awaited asked) n ns es none h
 
 -- one that doesn't lead
 pub not_leading : (policy : Policy) (awaited : Awaited) (asked : Asked) (n : ℕ) (x : Exchange) (ns : List ℕ) (es : Numbered) → IsStrictlySortedBy nat_cmp (keys_of es) → Some x ≡ lookup (at n) es → leads_waiters policy awaited asked x ≡ false →
     LeadersLeft policy awaited asked (n ∷ ns) es → LeadersLeft policy awaited asked ns es
-not_leading policy awaited asked n x ns es s there idle h = (go es s there h.0, sorted_tail nat_cmp n ns h.1)
-  where
-    go : (es : Numbered) → IsStrictlySortedBy nat_cmp (keys_of es) → Some x ≡ lookup (at n) es → SelectedArrivalsPass (leads_waiters policy awaited asked) (λ k. list_any (λ m. at k m) (n ∷ ns)) es → SelectedArrivalsPass (leads_waiters policy awaited asked) (λ k. list_any (λ m. at k m) ns) es
-    go [] s there h = tt
-    go (e ∷ es) s there h = elim (cases_Bool (at n e.0)) [
-      | inl t ↦ (
-          let is : x ≡ e.1 = same_Some x e.1 (there ∙ ap (λ b. cond b (Some e.1) (lookup (at n) es)) t) in
-          let k : n ≡ e.0 = eqb-true n e.0 (sym (at_is n e.0) ∙ t) in
-          let none : lookup (at n) es ≡ None = ap (λ i. lookup (at i) es) k ∙ none_behind e.0 es (sorted_head nat_cmp e.0 (keys_of es) s) in (
-            λ w. absurd (false≢true (sym idle ∙ ap (leads_waiters policy awaited asked) is ∙ w)),
-            pass-but (leads_waiters policy awaited asked) n (λ k. list_any (λ m. at k m) (n ∷ ns)) (λ k. list_any (λ m. at k m) ns) es none (λ m o t. rest_of n m ns o t) h.1,
-          )
-          )
-      | inr f ↦ ((
-        λ w. rest_of n e.0 ns (sym (at_is n e.0) ∙ f) (h.0 w),
-        go es (sorted_tail nat_cmp e.0 (keys_of es) s) (there ∙ ap (λ b. cond b (Some e.1) (lookup (at n) es)) f) h.1,
-      )
-          )
-    ]
+not_leading policy awaited asked n x ns es s there idle h = not_passing (leads_waiters policy awaited asked) n x ns es s there idle h
 
 -- one that does
 pub it_leads : (policy : Policy) (awaited : Awaited) (asked : Asked) (n : ℕ) (x : Exchange) (ns : List ℕ) (es : Numbered) → IsStrictlySortedBy nat_cmp (keys_of es) → Some x ≡ lookup (at n) es → leads_waiters policy awaited asked x ≡ true →
     LeadersLeft policy awaited asked (n ∷ ns) es → Some x.id ≡ leader policy awaited asked (values_of es)
-it_leads policy awaited asked n x ns es s there active h = go (sorted_head nat_cmp n ns h.1) es s there h.0
+it_leads policy awaited asked n x ns es s there active h =
+    ap (option_map (λ (x : Exchange). x.id)) (it_is_first (leads_waiters policy awaited asked) n x ns es s there active h) ∙ sym (leader_is policy awaited asked (values_of es))
+
+-- ---- the first that leads on
+
+-- of those that wait for an id the first that may lead on, but for the one of that id
+abbrev pub leads_on_for : Table → ℕ → Exchange → Bool
+leads_on_for table id x = not (x.id == id) && (waits_for id x.stage && may_lead_on table x)
+
+pub next_leader_is : (table : Table) (id : ℕ) (xs : List Exchange) → next_leader table id (exchanges_without id xs) ≡ option_map leading_on (first_of (leads_on_for table id) xs)
+next_leader_is table id [] = refl
+next_leader_is table id (x ∷ xs) = by_id (next_leader_is table id xs) (x.id == id)
   where
-    later : (m : ℕ) (ms : List ℕ) → AllByRecursion (λ k. nat_cmp n k ≡ Less) ms → list_any (λ k. at m k) ms ≡ true → nat_cmp n m ≡ Less
-    later m [] a t = absurd (false≢true t)
-    later m (k ∷ ms) a t = elim (cases_Bool (at m k)) [
-      | inl e ↦ ap (nat_cmp n) (eqb-true m k (sym (at_is m k) ∙ e)) ∙ a.0
-      | inr o ↦ later m ms a.1 (sym (ap (λ b. b || list_any (λ j. at m j) ms) o) ∙ t)
-    ]
+    by_test : next_leader table id (exchanges_without id xs) ≡ option_map leading_on (first_of (leads_on_for table id) xs) → (b : Bool) →
+        cond b (Some (leading_on x)) (next_leader table id (exchanges_without id xs)) ≡ option_map leading_on (cond b (Some x) (first_of (leads_on_for table id) xs))
+    by_test rest true = refl
+    by_test rest false = rest
 
-    before : (m : ℕ) (ks : List (ℕ × Exchange)) → nat_cmp n m ≡ Less → AllByRecursion (λ k. nat_cmp m k ≡ Less) (keys_of ks) → AllByRecursion (λ k. nat_cmp n k ≡ Less) (keys_of ks)
-    before m [] l a = tt
-    before m (e ∷ ks) l a = (through m e.0 l a.0, before m ks l a.1)
-      where
-        through : (m k : ℕ) → nat_cmp n m ≡ Less → nat_cmp m k ≡ Less → nat_cmp n k ≡ Less
-        through m k a b = grind (arith, nat_tests, a, b)
+    by_id : next_leader table id (exchanges_without id xs) ≡ option_map leading_on (first_of (leads_on_for table id) xs) → (b : Bool) →
+        next_leader table id (cond (not b) (x ∷ exchanges_without id xs) (exchanges_without id xs)) ≡ option_map leading_on (cond (not b && (waits_for id x.stage && may_lead_on table x)) (Some x) (first_of (leads_on_for table id) xs))
+    by_id rest true = rest
+    by_id rest false = by_test rest (waits_for id x.stage && may_lead_on table x)
 
-    go : AllByRecursion (λ k. nat_cmp n k ≡ Less) ns → (es : Numbered) → IsStrictlySortedBy nat_cmp (keys_of es) → Some x ≡ lookup (at n) es → SelectedArrivalsPass (leads_waiters policy awaited asked) (λ k. list_any (λ m. at k m) (n ∷ ns)) es → Some x.id ≡ leader policy awaited asked (values_of es)
-    go a [] s there h = absurd (cc)
-    go a (e ∷ es) s there h = elim (cases_Bool (at n e.0)) [
-      | inl t ↦ (
-          let is : x ≡ e.1 = same_Some x e.1 (there ∙ ap (λ b. cond b (Some e.1) (lookup (at n) es)) t) in
-          ap (λ (y : Exchange). Some y.id) is ∙ sym (ap (λ b. cond b (Some e.1.id) (leader policy awaited asked (values_of es))) (sym (ap (leads_waiters policy awaited asked) is) ∙ active))
-          )
-      | inr f ↦ (
-          let rest : Some x ≡ lookup (at n) es = there ∙ ap (λ b. cond b (Some e.1) (lookup (at n) es)) f in
-          elim (cases_Bool (leads_waiters policy awaited asked e.1)) [
-            | inl t ↦ (
-                let l : nat_cmp n e.0 ≡ Less = later e.0 ns a (rest_of n e.0 ns (sym (at_is n e.0) ∙ f) (h.0 t)) in
-                let none : lookup (at n) es ≡ None = none_behind n es (before e.0 es l (sorted_head nat_cmp e.0 (keys_of es) s)) in
-                let wrong : Some x ≡ None = rest ∙ none in
-                absurd (cc)
-                )
-            | inr o ↦ go a es (sorted_tail nat_cmp e.0 (keys_of es) s) rest h.1 ∙ sym (ap (λ b. cond b (Some e.1.id) (leader policy awaited asked (values_of es))) o)
-          ]
-          )
-    ]
+waiters_lead_on : (table : Table) (id : ℕ) (p : ℕ → Bool) (es : Numbered) → WaitingArrivalsPass id p es → SelectedArrivalsPass (leads_on_for table id) p es
+waiters_lead_on table id p [] h = tt
+waiters_lead_on table id p (e ∷ es) h = (λ w. h.0 (middle (not (e.1.id == id)) (waits_for id e.1.stage) (may_lead_on table e.1) w), waiters_lead_on table id p es h.1)
+  where
+    middle : (a b c : Bool) → (a && (b && c)) ≡ true → b ≡ true
+    middle true true c h = refl
+    middle true false c h = absurd (false≢true h)
+    middle false b c h = absurd (false≢true h)
+
+pub next_leaders : (table : Table) (id : ℕ) (ns : List ℕ) (es : Numbered) → IsStrictlySortedBy nat_cmp ns → WaitingArrivalsPass id (λ k. list_any (λ n. at k n) ns) es → FirstIsLeft (leads_on_for table id) ns es
+next_leaders table id ns es s h = (waiters_lead_on table id (λ k. list_any (λ n. at k n) ns) es h, s)
+
+pub none_waits : (table : Table) (id : ℕ) (es : Numbered) → WaitingArrivalsPass id (λ k. false) es → next_leader table id (exchanges_without id (values_of es)) ≡ None
+none_waits table id es h =
+    next_leader_is table id (values_of es) ∙ ap (option_map leading_on) (none_passes (leads_on_for table id) es (waiters_lead_on table id (λ k. false) es h))

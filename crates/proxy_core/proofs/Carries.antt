@@ -42,7 +42,9 @@ use Rattle.proxy_core.specs.Promises.{outcome_goes_forward, count_of_outcomes}
 use Rattle.proxy_core.specs.Carrying.{judges_a_request, second_forward_item, WentForwardOnce, WentForwardASecondTime, HasWaitedSinceItsArrival, ExchangeWasJudged, RuleWasLeastWhenJudged, OpenExchangeCarriesItsArrival}
 use Rattle.proxy_core.proofs.SentBeside.{led_over, sent_over, unless_sent}
 use Rattle.proxy_core.proofs.ExchangeLists.{overtaken_by, released_by, changed_by, find-map, find-push, find-gone_out, sent_out-id, found-id, find-purged, none_overtaken}
-use Rattle.proxy_core.proofs.Moves.{Move, apart, opens, queues, passes, again, wakes, closes, lapses, out_again, woken_form, asked_of, ended_by, move_of, and_none, failed_back, key_taken_by_step}
+use Rattle.proxy_core.specs.LeadingOn.{wait_has_an_end, exchanges_after_abandon}
+use Rattle.proxy_core.proofs.LedOn.{waits_waiting, turned_has_an_end}
+use Rattle.proxy_core.proofs.Moves.{Move, apart, opens, queues, passes, again, wakes, closes, turns, lapses, out_again, woken_form, asked_of, ended_by, move_of, and_none, failed_back, key_taken_by_step}
 use Rattle.proxy_core.proofs.Tracing.{same_table}
 use Rattle.proxy_core.proofs.HeldLaw.{good_plain, entries_are_held, exchanges_are_open}
 
@@ -267,7 +269,38 @@ module _ (table : Table) (start : StoreAtStart) where
       by_going (inr (inr w)) = inr (inr (record {
         leader = w.leader;
         outcome_is = w.outcome_is;
-        stage = inr refl;
+        stage = inr (inl refl);
+        since_then = w.since_then;
+        against = w.against;
+        names = w.names;
+        condition = w.condition;
+      }))
+
+  -- or waits for another
+  turned : (z : Exchange) (leader : ℕ) (past : List Item) → is_forwarded z.stage ≡ false → wait_has_an_end table z ≡ true → ExchangeWasJudged table start z past → ExchangeWasJudged table start (record z { stage = Waiting leader }) past
+  turned z leader past waits ends h = record {
+    since = h.since;
+    before = h.before;
+    item = h.item;
+    now = h.now;
+    past_is = h.past_is;
+    judged = h.judged;
+    none_since = h.none_since;
+    line_allows = h.line_allows;
+    rule_is_least = h.rule_is_least;
+    went = by_going h.went;
+  }
+    where
+      not_out : z.stage ≡ Forwarded → ⊥
+      not_out s = false≢true (sym waits ∙ ap is_forwarded s)
+
+      by_going : Went z h.since h.before h.now h.item.outcome → Went (record z { stage = Waiting leader }) h.since h.before h.now h.item.outcome
+      by_going (inl w) = absurd (not_out w.stage)
+      by_going (inr (inl w)) = absurd (not_out w.stage)
+      by_going (inr (inr w)) = inr (inr (record {
+        leader = w.leader;
+        outcome_is = w.outcome_is;
+        stage = inr (inr (refl, ends));
         since_then = w.since_then;
         against = w.against;
         names = w.names;
@@ -339,6 +372,18 @@ module _ (table : Table) (start : StoreAtStart) where
       let judges_not : (eqb (exchange_id_of_event i.event) z.id && judges_a_request i.event) ≡ false = ap (λ (v : Event). eqb (exchange_id_of_event v) z.id && judges_a_request v) e ∙ and_none (eqb id z.id) in
       let stays : (eqb (exchange_id_of_event i.event) z.id && outcome_goes_forward i.outcome) ≡ false = ap (λ (o : Outcome). eqb (exchange_id_of_event i.event) z.id && outcome_goes_forward o) o ∙ and_none (eqb (exchange_id_of_event i.event) z.id) in
       (further i (exchange_past_its_wait z) past judges_not stays (freed z past (not_out z.stage s) c.0), c.1)
+    where
+      not_out : (s : Stage) → is_waiting s ≡ true → is_forwarded s ≡ false
+      not_out Forwarded w = absurd (false≢true w)
+      not_out (Waiting l) w = refl
+      not_out Released w = absurd (false≢true w)
+
+  -- it waits for the next leader
+  carried_turned : (id : ℕ) (i : Item) (past : List Item) (z : Exchange) (j leader : ℕ) → i.event ≡ Abandon j → i.outcome ≡ Ended → is_waiting z.stage ≡ true → wait_has_an_end table z ≡ true → Carried id past z → Carried id (i ∷ past) (record z { stage = Waiting leader })
+  carried_turned id i past z j leader e o s ends c =
+      let judges_not : (eqb (exchange_id_of_event i.event) z.id && judges_a_request i.event) ≡ false = ap (λ (v : Event). eqb (exchange_id_of_event v) z.id && judges_a_request v) e ∙ and_none (eqb j z.id) in
+      let stays : (eqb (exchange_id_of_event i.event) z.id && outcome_goes_forward i.outcome) ≡ false = ap (λ (o : Outcome). eqb (exchange_id_of_event i.event) z.id && outcome_goes_forward o) o ∙ and_none (eqb (exchange_id_of_event i.event) z.id) in
+      (further i (record z { stage = Waiting leader }) past judges_not stays (turned z leader past (not_out z.stage s) ends c.0), c.1)
     where
       not_out : (s : Stage) → is_waiting s ≡ true → is_forwarded s ≡ false
       not_out Forwarded w = absurd (false≢true w)
@@ -600,6 +645,12 @@ module _ (table : Table) (start : StoreAtStart) (first : ℕ) where
           (g.0.outcome_is ∙ (ap (λ (v : Event). outcome_of table s.entries s.exchanges (find_exchange (exchange_id_of_event v) s.exchanges) s.next v) e ∙ ap (λ (w : Option Exchange). outcome_of table s.entries s.exchanges w s.next (Wake now id)) z_is)) f
           (ap (λ (v : Event). find_exchange id (open_exchanges_after table s.entries s.exchanges v i.outcome)) (sym e) ∙ at_table ∙ k ∙ h))
       by_move was y (closes z t e x_is f q) h k = absurd (none_some y x q h)
+      by_move was y (turns z j m e n z_is r f q) h k =
+          let same : record z { stage = Waiting m } ≡ x = same_Some (record z { stage = Waiting m }) x (sym q ∙ h) in
+          let there : find_exchange id (exchanges_after_abandon table j s.exchanges) ≡ Some (record z { stage = Waiting m }) =
+          ap (λ (v : Event). find_exchange id (open_exchanges_after table s.entries s.exchanges v i.outcome)) (sym e) ∙ at_table ∙ k ∙ q in
+          let ends = turned_has_an_end table j id m s.exchanges z z_is n r there in
+          subst (Carried table start id (i ∷ past)) same (carried_turned table start id i past z j m e f (waits_waiting j z.stage r) ends (was z z_is))
       by_move was y (lapses z e z_is s f q) h k =
           let same : exchange_past_its_wait z ≡ x = same_Some (exchange_past_its_wait z) x (sym q ∙ h) in
           subst (Carried table start id (i ∷ past)) same (carried_past table start id i past z e f s (was z z_is))

@@ -1,10 +1,11 @@
--- Where no cookie stands, or none is removed, all lines stay.
+-- Where no cookie stands, or none is removed, all lines stay; so where no tag stands, or none is hidden.
 use Rattle.std.proofs.Common.{◌≡◌, ℕ, ◌&&◌, ◌||◌, Bool, true, false, not, cond, List, [], ◌∷◌, refl, sym, ap}
 use Rattle.std.specs.Prelude.{codes}
 use Rattle.hx_fields.specs.declared.field_line.Field.{Field}
 use Rattle.hx_fields.specs.FieldLines.{has_field, is_named, without_named}
 use Rattle.hx_store.specs.Stored.{Stored}
 use Rattle.proxy_core.specs.declared.open.exchange.Exchange.{Exchange}
+use Rattle.proxy_core.specs.Replies.{without_tags}
 use Rattle.proxy_core.specs.Validating.{stored_without_cookies, without_cookies}
 
 others_stay : (name : List ℕ) (fields : List Field) → has_field fields name ≡ false → without_named fields name ≡ fields
@@ -19,6 +20,11 @@ others_stay name (f ∷ fields) none = by_test (is_named name f) (others_stay na
 pub none_removed : (removes : Bool) (fields : List Field) → (removes && has_field fields (codes "Set-Cookie")) ≡ false → without_cookies removes fields ≡ fields
 none_removed true fields none = others_stay (codes "Set-Cookie") fields none
 none_removed false fields none = refl
+
+-- the same of tags
+pub none_hidden : (hides : Bool) (fields : List Field) → (hides && has_field fields (codes "Cache-Tag")) ≡ false → without_tags hides fields ≡ fields
+none_hidden true fields none = others_stay (codes "Cache-Tag") fields none
+none_hidden false fields none = refl
 
 pub stays_whole : (x : Exchange) (e : Stored) → (x.removes_cookies && has_field e.fields (codes "Set-Cookie")) ≡ false → e ≡ stored_without_cookies x e
 stays_whole x e none = ap (λ (fields : List Field). record e { fields = fields }) (sym (none_removed x.removes_cookies e.fields none))

@@ -8,7 +8,10 @@ use Rattle.std.specs.Prelude.{filter}
 use Rattle.hx_reuse.specs.declared.rule.ReuseRule.{ReuseRule}
 use Rattle.proxy_core.specs.declared.steps.condition.Condition.{Condition}
 use Rattle.proxy_core.specs.declared.open.stage.Stage.TheVariants.{Released}
+use Rattle.hx_allow.specs.TableLines.{Table}
+use Rattle.proxy_core.specs.declared.open.leading_on.NextLeader.{NextLeader}
 use Rattle.proxy_core.specs.Leading.{waits_for, is_waiting}
+use Rattle.proxy_core.specs.LeadingOn.{next_leader, stage_behind, led_on_exchange, exchanges_without, exchanges_after_abandon}
 use Rattle.proxy_core.specs.Scopes.{Scope, is_in_scope}
 use Rattle.proxy_core.specs.State.{exchanges_after_close, released_exchange, overtaken_exchange, exchanges_after_end, exchanges_after_purge, exchange_gone_forward, exchange_forwarded_again, exchange_sent_forward, exchange_past_its_wait, overdue_exchange}
 
@@ -36,6 +39,12 @@ sent_out-id i now rule named condition x = elim (eqb x.id i) as (λ b. (cond b (
 
 pub release-id : (i : ℕ) (x : Exchange) → (released_exchange i x).id ≡ x.id
 release-id i x = elim (waits_for i x.stage) as (λ b. (cond b (record x { stage = Released }) x).id ≡ x.id) [
+  | true ↦ refl
+  | false ↦ refl
+]
+
+pub led_on-id : (table : Table) (next : Option NextLeader) (i : ℕ) (x : Exchange) → (led_on_exchange table next i x).id ≡ x.id
+led_on-id table next i x = elim (waits_for i x.stage) as (λ b. (cond b (record x { stage = stage_behind table next x }) x).id ≡ x.id) [
   | true ↦ refl
   | false ↦ refl
 ]
@@ -122,6 +131,23 @@ find-closed i id xs =
       | true ↦ refl
       | false ↦ refl
     ]
+
+pub find-without : (i id : ℕ) (xs : List Exchange) → find_exchange id (exchanges_without i xs) ≡ cond (eqb i id) None (find_exchange id xs)
+find-without i id xs = find-but i id xs
+
+-- the client of another went away
+pub find-abandoned : (table : Table) (i id : ℕ) (xs : List Exchange) →
+    find_exchange id (exchanges_after_abandon table i xs) ≡ cond (eqb i id) None (option_map (led_on_exchange table (next_leader table i (exchanges_without i xs)) i) (find_exchange id xs))
+find-abandoned table i id xs = by_next (next_leader table i (exchanges_without i xs))
+  where
+    by_next : (next : Option NextLeader) → find_exchange id (map (led_on_exchange table next i) (but i xs)) ≡ cond (eqb i id) None (option_map (led_on_exchange table next i) (find_exchange id xs))
+    by_next next =
+        find-map (led_on_exchange table next i) (led_on-id table next i) id (but i xs)
+        ∙ ap (option_map (led_on_exchange table next i)) (find-but i id xs)
+        ∙ elim (eqb i id) as (λ b. option_map (led_on_exchange table next i) (cond b None (find_exchange id xs)) ≡ cond b None (option_map (led_on_exchange table next i) (find_exchange id xs))) [
+          | true ↦ refl
+          | false ↦ refl
+        ]
 
 -- an end, by which others may be overtaken
 pub find-left_open : (key : Option Scope) (i id : ℕ) (xs : List Exchange) →

@@ -22,7 +22,8 @@ use Rattle.proxy_core.specs.Starts.{StoreAtStart}
 use Rattle.proxy_core.specs.Traces.{Item, initial_state, state_after_trace, IsGood}
 use Rattle.proxy_core.specs.Promises.{is_arrival_event, NoRequestArrives}
 use Rattle.proxy_core.specs.Carrying.{ArrivesBefore, IdsAreInOrderOfArrival, exchange_ids, ExchangesAreOpenInOrderOfArrival}
-use Rattle.proxy_core.proofs.ExchangeLists.{gone_out-id, sent_out-id, release-id, overtake-id, overdue-id}
+use Rattle.proxy_core.specs.LeadingOn.{next_leader, led_on_exchange, exchanges_after_abandon}
+use Rattle.proxy_core.proofs.ExchangeLists.{gone_out-id, sent_out-id, release-id, led_on-id, overtake-id, overdue-id}
 use Rattle.proxy_core.proofs.Moves.{and_none}
 use Rattle.proxy_core.proofs.HeldLaw.{good_plain, exchanges_are_open}
 
@@ -48,6 +49,9 @@ ids-left id (x ∷ xs) = by_id (eqb x.id id) (ids-left id xs)
 
 ids-closed : (id : ℕ) (xs : List Exchange) → exchange_ids (exchanges_after_close id xs) ≡ but id (exchange_ids xs)
 ids-closed id xs = ids-map (released_exchange id) (release-id id) (left_by id xs) ∙ ids-left id xs
+
+ids-abandoned : (table : Table) (id : ℕ) (xs : List Exchange) → exchange_ids (exchanges_after_abandon table id xs) ≡ but id (exchange_ids xs)
+ids-abandoned table id xs = ids-map (led_on_exchange table (next_leader table id (left_by id xs)) id) (led_on-id table (next_leader table id (left_by id xs)) id) (left_by id xs) ∙ ids-left id xs
 
 ids-purged : (key : Option Scope) (xs : List Exchange) → exchange_ids (exchanges_after_purge key xs) ≡ exchange_ids xs
 ids-purged None xs = refl
@@ -275,7 +279,7 @@ in_order_step table es xs past (Overdue id) o free h =
     same_ids (ids-map (overdue_exchange id) (overdue-id id) xs) (further i past (exchange_ids xs) (late_apart i (exchange_ids xs) refl) h)
 in_order_step table es xs past (Abandon id) o free h =
     let i : Item = record { event = Abandon id; outcome = o } in
-    same_ids (ids-closed id xs) (without_one id (exchange_ids xs) (i ∷ past) (further i past (exchange_ids xs) (late_apart i (exchange_ids xs) refl) h))
+    same_ids (ids-abandoned table id xs) (without_one id (exchange_ids xs) (i ∷ past) (further i past (exchange_ids xs) (late_apart i (exchange_ids xs) refl) h))
 
 in_order_all : (table : Table) (start : StoreAtStart) (first : ℕ) (past : List Item) → IsGood (initial_state table start first) past → InOrder (exchange_ids (state_after_trace (initial_state table start first) past).exchanges) past
 in_order_all table start first [] g = record { arrived = tt; order = tt }

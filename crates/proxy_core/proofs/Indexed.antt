@@ -79,7 +79,7 @@ lookup-set m n x y (e ∷ es) h = elim (cases_Bool (at n e.0)) [
     twice true o = refl
     twice false o = refl
 
-lookup-on_all : (f : Exchange → Exchange) (m : ℕ) (es : Numbered) → lookup (at m) (map_exchanges f es) ≡ option_map f (lookup (at m) es)
+pub lookup-on_all : (f : Exchange → Exchange) (m : ℕ) (es : Numbered) → lookup (at m) (map_exchanges f es) ≡ option_map f (lookup (at m) es)
 lookup-on_all f m [] = refl
 lookup-on_all f m (e ∷ es) =
     ap (λ (o : Option Exchange). cond (at m e.0) (Some (f e.1)) o) (lookup-on_all f m es)

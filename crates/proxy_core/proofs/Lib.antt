@@ -22,6 +22,8 @@ pub mod Carries
 pub mod InOrder
 pub mod FirstRules
 pub mod Leads
+pub mod LedOn
+mod LedIndex
 pub mod Awaits
 pub mod Beside
 pub mod InVain
@@ -39,11 +41,14 @@ pub mod Purged
 mod Refusals
 pub mod Driven
 pub mod Waits
+mod WaitsUntil
+mod NextLeaders
 pub mod Overdue
 pub mod Indexed
 pub mod Waiters
 pub mod Releases
 pub mod KeyIndices
+mod FirstOf
 pub mod AskedArrivals
 pub mod Overtaking
 pub mod OverdueArrivals
@@ -53,6 +58,8 @@ pub mod HeldWithin
 pub mod Restarts
 pub mod ConditionsKept
 pub mod Cookies
+pub mod HiddenTags
+pub mod PurgedTags
 pub mod RangeReplies
 pub mod AnswerParts
 pub mod FilledRanges

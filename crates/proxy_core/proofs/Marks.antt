@@ -16,13 +16,13 @@ use Rattle.proxy_core.specs.Carrying.{ExchangeWasJudged}
 use Rattle.proxy_core.specs.Scopes.{Scope, is_in_scope, target_alone}
 use Rattle.proxy_core.specs.State.{overtaken_exchange}
 use Rattle.proxy_core.specs.Traces.{Item, initial_state, state_after_trace, IsGood}
-use Rattle.proxy_core.specs.Promises.{outcome_goes_forward, is_arrival_event, count_of_outcomes, request_after_event, latest_request_of, scope_invalidated_by_event, is_invalidated_key, invalidates_key, NoItemInvalidates, some_item_invalidates}
+use Rattle.proxy_core.specs.Promises.{outcome_goes_forward, is_arrival_event, count_of_outcomes, request_after_event, latest_request_of, scope_invalidated_by_event, is_overtaken_key, overtakes_key, NoItemOvertakes, some_item_overtakes}
 use Rattle.proxy_core.specs.declared.open.stage.Stage.TheVariants.{Forwarded, Waiting, Released}
 use Rattle.proxy_core.specs.Leading.{waits_for}
 use Rattle.proxy_core.specs.State.{released_exchange}
 use Rattle.proxy_core.specs.Starts.{StoreAtStart}
 use Rattle.proxy_core.proofs.ExchangeLists.{overtaken_by, released_by}
-use Rattle.proxy_core.proofs.Moves.{Move, apart, opens, queues, passes, again, wakes, closes, lapses, asked_of, ended_by, move_of, key_taken_by_answer, key_taken_by_step}
+use Rattle.proxy_core.proofs.Moves.{Move, apart, opens, queues, passes, again, wakes, closes, turns, lapses, asked_of, ended_by, move_of, key_taken_by_answer, key_taken_by_step}
 use Rattle.proxy_core.proofs.Carries.{carries}
 use Rattle.proxy_core.proofs.UnsafeAnswers.{status_is_shown}
 use Rattle.proxy_core.proofs.Tracing.{same_table}
@@ -83,6 +83,7 @@ asked_more id w event o x y b a (passes t e x_is k h) f g = absurd (none_asked y
 asked_more id w event o x y b a (again z now t e q c k h j s) f g = asked_late id event b e ∙ f a (ap asked_of q ∙ sym (ap asked_of h) ∙ g)
 asked_more id w event o x y b a (wakes table es z now e q s k h) f g = ap (λ v. request_after_event id v b) e ∙ f a (ap asked_of q ∙ sym (ap asked_of h) ∙ g)
 asked_more id w event o x y b a (closes z t e q k h) f g = absurd (none_asked y a h g)
+asked_more id w event o x y b a (turns z i m e n q s k h) f g = ap (λ v. request_after_event id v b) e ∙ f a (ap asked_of q ∙ sym (ap asked_of h) ∙ g)
 asked_more id w event o x y b a (lapses z e q s k h) f g = ap (λ v. request_after_event id v b) e ∙ f a (ap asked_of q ∙ sym (ap asked_of h) ∙ g)
 
 pub asked_is : (table : Table) (start : StoreAtStart) (first : ℕ) (past : List Item) → IsGood (initial_state table start first) past → (id : ℕ) (a : Asked) →
@@ -137,7 +138,7 @@ record Unmarked (key : Option Scope) (x : Option Exchange) (z : Exchange) : Type
   was : Exchange
   x_is : x ≡ Some was
   asked : z.asked ≡ was.asked
-  overtaken : z.overtaken ≡ (was.overtaken || is_invalidated_key key was.asked.target.key)
+  overtaken : z.overtaken ≡ (was.overtaken || is_overtaken_key key was.asked.target.key)
   stage : z.stage ≡ was.stage
 
 or_none : (b : Bool) → b ≡ (b || false)
@@ -203,6 +204,7 @@ out_now id w event o x y z (passes u e x_is q h) t f g = absurd (none_some y z h
 out_now id w event o x y z (again v now u e q c p h j s) t f g = ap (λ (z : Exchange). z.overtaken) (same_Some z _ (sym g ∙ h))
 out_now id w event o x y z (wakes table es v now e q s p h) t f g = ap (λ (z : Exchange). z.overtaken) (same_Some z _ (sym g ∙ h))
 out_now id w event o x y z (closes v u e q p h) t f g = absurd (none_some y z h g)
+out_now id w event o x y z (turns v i m e n q s p h) t f g = absurd (false≢true (sym (ap outcome_goes_forward p) ∙ f))
 out_now id w event o x y z (lapses v e q s p h) t f g = absurd (false≢true (sym (ap outcome_goes_forward p) ∙ f))
 
 or_swap : (a b : Bool) → (a || b) ≡ (b || a)
@@ -211,10 +213,10 @@ or_swap true false = refl
 or_swap false true = refl
 or_swap false false = refl
 
-pub none_of_some : (key : Key) (items past : List Item) → some_item_invalidates key items past ≡ false → NoItemInvalidates key items past
+pub none_of_some : (key : Key) (items past : List Item) → some_item_overtakes key items past ≡ false → NoItemOvertakes key items past
 none_of_some key [] past h = tt
 none_of_some key (i ∷ items) past h =
-    let p = or_parts (invalidates_key key i (items ++ past)) (some_item_invalidates key items past) h in (p.0, none_of_some key items past p.1)
+    let p = or_parts (overtakes_key key i (items ++ past)) (some_item_overtakes key items past) h in (p.0, none_of_some key items past p.1)
 
 module _ (table : Table) (start : StoreAtStart) (first : ℕ) (f : Item) (before : List Item) (id : ℕ) where
   abbrev exchange : List Item → Option Exchange
@@ -223,12 +225,12 @@ module _ (table : Table) (start : StoreAtStart) (first : ℕ) (f : Item) (before
   -- the exchange, where its request is at the origin: that request, and its mark
   abbrev IsOut : List Item → Type 0
   IsOut items = (z : Exchange) → exchange items ≡ Some z → z.stage ≡ Forwarded →
-      (latest_request_of id (f ∷ before) ≡ Some z.asked) × (z.overtaken ≡ some_item_invalidates z.asked.target.key items (f ∷ before))
+      (latest_request_of id (f ∷ before) ≡ Some z.asked) × (z.overtaken ≡ some_item_overtakes z.asked.target.key items (f ∷ before))
 
   out_step : (i : Item) (items : List Item) → IsGood (initial_state table start first) (i ∷ (items ++ f ∷ before)) → (eqb (exchange_id_of_event i.event) id && outcome_goes_forward i.outcome) ≡ false →
       IsOut items → (y : Option Exchange) →
       Move id (find_exchange (exchange_id_of_event i.event) (state_after_trace (initial_state table start first) (items ++ f ∷ before)).exchanges) i.event i.outcome (exchange items) y →
-      (z : Exchange) → y ≡ Some z → z.stage ≡ Forwarded → (latest_request_of id (f ∷ before) ≡ Some z.asked) × (z.overtaken ≡ some_item_invalidates z.asked.target.key (i ∷ items) (f ∷ before))
+      (z : Exchange) → y ≡ Some z → z.stage ≡ Forwarded → (latest_request_of id (f ∷ before) ≡ Some z.asked) × (z.overtaken ≡ some_item_overtakes z.asked.target.key (i ∷ items) (f ∷ before))
   out_step i items g n out y (apart a e) z q stage =
       let key = key_taken_by_step (asked_of (find_exchange (exchange_id_of_event i.event) (state_after_trace (initial_state table start first) (items ++ f ∷ before)).exchanges)) i.event i.outcome in
       let u = unmarked key (released_by (ended_by i.event i.outcome) (exchange items)) z (sym e ∙ q) in
@@ -236,10 +238,10 @@ module _ (table : Table) (start : StoreAtStart) (first : ℕ) (f : Item) (before
       let was = out u.was (unreleased (ended_by i.event i.outcome) (exchange items) u.was u.x_is stays) stays in (
         was.0 ∙ ap (λ r. Some r) (sym u.asked),
         u.overtaken
-            ∙ ap (λ b. b || is_invalidated_key key u.was.asked.target.key) was.1
-            ∙ or_swap (some_item_invalidates u.was.asked.target.key items (f ∷ before)) (is_invalidated_key key u.was.asked.target.key)
-            ∙ ap (λ o. is_invalidated_key o u.was.asked.target.key || some_item_invalidates u.was.asked.target.key items (f ∷ before)) (sym (same_key_of_step table start first i (items ++ f ∷ before) g))
-            ∙ ap (λ (r : Asked). some_item_invalidates r.target.key (i ∷ items) (f ∷ before)) (sym u.asked),
+            ∙ ap (λ b. b || is_overtaken_key key u.was.asked.target.key) was.1
+            ∙ or_swap (some_item_overtakes u.was.asked.target.key items (f ∷ before)) (is_overtaken_key key u.was.asked.target.key)
+            ∙ ap (λ o. is_overtaken_key o u.was.asked.target.key || some_item_overtakes u.was.asked.target.key items (f ∷ before)) (sym (same_key_of_step table start first i (items ++ f ∷ before) g))
+            ∙ ap (λ (r : Asked). some_item_overtakes r.target.key (i ∷ items) (f ∷ before)) (sym u.asked),
       )
   out_step i items g n out y (queues table es now asked line leader e x_is q l p) z r stage =
       let no : Waiting leader ≡ Forwarded = ap (λ (z : Exchange). z.stage) (same_Some _ z (sym p ∙ r)) ∙ stage in
@@ -257,6 +259,9 @@ module _ (table : Table) (start : StoreAtStart) (first : ℕ) (f : Item) (before
       let t : (eqb (exchange_id_of_event i.event) id && outcome_goes_forward i.outcome) ≡ true = ap (λ b. eqb (exchange_id_of_event i.event) id && b) p ∙ ap (λ b. b && true) u in
       absurd (false≢true (sym n ∙ t))
   out_step i items g n out y (closes v u e q p t) z r stage = absurd (none_some y z t r)
+  out_step i items g n out y (turns v j m e a q s p t) z r stage =
+      let no : Waiting m ≡ Forwarded = ap (λ (z : Exchange). z.stage) (same_Some _ z (sym t ∙ r)) ∙ stage in
+      absurd (cc)
   out_step i items g n out y (lapses v e q s p t) z r stage =
       let no : Released ≡ Forwarded = ap (λ (z : Exchange). z.stage) (same_Some _ z (sym t ∙ r)) ∙ stage in
       absurd (cc)
@@ -264,7 +269,7 @@ module _ (table : Table) (start : StoreAtStart) (first : ℕ) (f : Item) (before
   -- since f, by which the exchange went forward last
   pub out_since : (items : List Item) → IsGood (initial_state table start first) (items ++ f ∷ before) → outcome_goes_forward f.outcome ≡ true → exchange_id_of_event f.event ≡ id →
       count_of_outcomes outcome_goes_forward id items ≡ 0 → (z : Exchange) → exchange items ≡ Some z → z.stage ≡ Forwarded →
-      (latest_request_of id (f ∷ before) ≡ Some z.asked) × (z.overtaken ≡ some_item_invalidates z.asked.target.key items (f ∷ before))
+      (latest_request_of id (f ∷ before) ≡ Some z.asked) × (z.overtaken ≡ some_item_overtakes z.asked.target.key items (f ∷ before))
   out_since [] g o e n = λ z q stage. (
     asked_is table start first (f ∷ before) g id z.asked (ap asked_of q),
     out_now id _ f.event f.outcome _ _ z (move_of table (state_after_trace (initial_state table start first) before) f id (same_table (initial_state table start first) before) g.0) (eq-eqb (exchange_id_of_event f.event) id e) o q,

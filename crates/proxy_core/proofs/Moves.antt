@@ -1,5 +1,5 @@
 -- What an accepted step does to the exchange of an id.
-use Rattle.std.proofs.Common.{◌≡◌, ℕ, Bool, true, false, not, cond, ◌&&◌, ◌==◌, eqb, Option, None, Some, is_some, List, map, refl, sym, ◌∙◌, ap, subst, arith, inl, inr}
+use Rattle.std.proofs.Common.{◌≡◌, ◌⊎◌, ℕ, Bool, true, false, not, cond, ◌&&◌, ◌==◌, eqb, Option, None, Some, is_some, List, map, refl, sym, ◌∙◌, ap, subst, arith, inl, inr}
 use Rattle.std.specs.Prelude.{option_map, nat_le}
 use Rattle.std.proofs.lemmas.Bool.{cases_Bool, eqb-true, false≢true}
 use Rattle.std.proofs.lemmas.Bool.Decides.{nat_tests}
@@ -24,7 +24,10 @@ use Rattle.proxy_core.specs.declared.open.stage.Stage.{Stage}
 use Rattle.proxy_core.specs.declared.open.exchange.Exchange.{Exchange}
 use Rattle.proxy_core.specs.declared.core_fault.CoreFault.{CoreFault}
 use Rattle.proxy_core.specs.Moments.{moment_too_late_fault}
-use Rattle.proxy_core.specs.Leading.{is_forwarded, is_waiting, is_released}
+use Rattle.proxy_core.specs.declared.open.stage.Stage.TheVariants.{Waiting, Released}
+use Rattle.proxy_core.specs.declared.open.leading_on.NextLeader.{NextLeader}
+use Rattle.proxy_core.specs.Leading.{is_forwarded, is_waiting, is_released, waits_for}
+use Rattle.proxy_core.specs.LeadingOn.{wait_has_an_end, next_leader, stage_behind, led_on_exchange, exchanges_without, exchanges_after_abandon}
 use Rattle.proxy_core.specs.declared.steps.fallback.Fallback.{Fallback}
 use Rattle.proxy_core.specs.declared.steps.fallback.Fallback.TheVariants.{Sends, Refuses}
 use Rattle.proxy_core.specs.declared.outcome.Outcome.{Outcome}
@@ -41,7 +44,8 @@ use Rattle.proxy_core.specs.Promises.{outcome_goes_forward, outcome_is_reply, ou
 use Rattle.proxy_core.specs.Carrying.{judges_a_request}
 use Rattle.proxy_core.specs.TraceMeaning.{opens_an_exchange}
 use Rattle.proxy_core.proofs.UnsafeRequests.{unsafe_refuses}
-use Rattle.proxy_core.proofs.ExchangeLists.{find-map, find-closed, find-push, find-gone_out, find-left_open, find-purged, none_overtaken, found-id, sent_out-id, overdue-id, overtaken_by, changed_by}
+use Rattle.proxy_core.proofs.LedOn.{behind_is}
+use Rattle.proxy_core.proofs.ExchangeLists.{find-map, find-closed, find-abandoned, find-push, find-gone_out, find-left_open, find-purged, none_overtaken, found-id, sent_out-id, overdue-id, overtaken_by, changed_by}
 
 abbrev pub asked_of : Option Exchange → Option Asked
 asked_of None = None
@@ -101,6 +105,7 @@ pub data Move (id : ℕ) (w : Option Exchange) (event : Event) (o : Outcome) (x 
   wakes : (table : Table) (es : List Stored) (z : Exchange) (now : ℕ) → event ≡ Wake now id → x ≡ Some z → is_released z.stage ≡ true → outcome_goes_forward o ≡ true →
       y ≡ Some (woken_form table es now z) → Move id w event o x y
   closes : (z : Exchange) → eqb (exchange_id_of_event event) id ≡ true → is_arrival_event event ≡ false → x ≡ Some z → outcome_ends_exchange o ≡ true → y ≡ None → Move id w event o x y
+  turns : (z : Exchange) (i next : ℕ) → event ≡ Abandon i → eqb i id ≡ false → x ≡ Some z → waits_for i z.stage ≡ true → o ≡ Ended → y ≡ Some (record z { stage = Waiting next }) → Move id w event o x y
   lapses : (z : Exchange) → event ≡ Overdue id → x ≡ Some z → is_waiting z.stage ≡ true → o ≡ WaitsNoMore → y ≡ Some (exchange_past_its_wait z) → Move id w event o x y
 
 -- ---- what an answer gives
@@ -404,6 +409,29 @@ module _ (table : Table) (es : List Stored) (xs : List Exchange) (next : Option 
         | inr off ↦ apart off (p ∙ other_sent i now q n c id (find_exchange id xs) off (λ y g. found-id id xs y g))
       ]
 
+  -- whose client went away: another that waited for it may wait for the next leader
+  abandons_another : (i : ℕ) (w : Exchange) (next : Option NextLeader) (x : Option Exchange) → eqb i id ≡ false → (y : Option Exchange) → y ≡ option_map (led_on_exchange table next i) x → Move id (Some w) (Abandon i) Ended x y
+  abandons_another i w next None n y h = apart n h
+  abandons_another i w next (Some z) n y h = by_wait (waits_for i z.stage) refl
+    where
+      by_stage : (stage_behind table next z ≡ Released) ⊎ ((l : ℕ) × (stage_behind table next z ≡ Waiting l) × (wait_has_an_end table z ≡ true)) → waits_for i z.stage ≡ true → Move id (Some w) (Abandon i) Ended (Some z) y
+      by_stage (inl r) e = apart n (h ∙ ap (λ b. Some (cond b (record z { stage = stage_behind table next z }) z)) e ∙ ap (λ (s : Stage). Some (record z { stage = s })) r ∙ sym (ap (λ b. Some (cond b (record z { stage = Released }) z)) e))
+      by_stage (inr w) e = turns z i w.0 refl n refl e refl (h ∙ ap (λ b. Some (cond b (record z { stage = stage_behind table next z }) z)) e ∙ ap (λ (s : Stage). Some (record z { stage = s })) w.1)
+
+      by_wait : (b : Bool) → waits_for i z.stage ≡ b → Move id (Some w) (Abandon i) Ended (Some z) y
+      by_wait true e = by_stage (behind_is table next z) e
+      by_wait false e = apart n (h ∙ ap (λ b. Some (cond b (record z { stage = stage_behind table next z }) z)) e ∙ sym (ap (λ b. Some (cond b (record z { stage = Released }) z)) e))
+
+  abandons : (i : ℕ) (w : Exchange) (o : Outcome) → find_exchange i xs ≡ Some w → o ≡ Ended → Move id (Some w) (Abandon i) o (find_exchange id xs) (find_exchange id (exchanges_after_abandon table i xs))
+  abandons i w o f h =
+      let next = next_leader table i (exchanges_without i xs) in
+      let p = find-abandoned table i id xs in
+      subst (λ (o : Outcome). Move id (Some w) (Abandon i) o (find_exchange id xs) (find_exchange id (exchanges_after_abandon table i xs))) (sym h)
+      (elim (cases_Bool (eqb i id)) [
+        | inl t ↦ closes w t refl (ap (λ n. find_exchange n xs) (sym (eqb-true i id t)) ∙ f) refl (p ∙ ap (λ b. cond b None (option_map (led_on_exchange table next i) (find_exchange id xs))) t)
+        | inr n ↦ abandons_another i w next (find_exchange id xs) n _ (p ∙ ap (λ b. cond b None (option_map (led_on_exchange table next i) (find_exchange id xs))) n)
+      ])
+
   -- who has waited as long as it is to wait
   goes_over : (i : ℕ) (z : Exchange) (o : Outcome) → find_exchange i xs ≡ Some z → is_waiting z.stage ≡ true → o ≡ WaitsNoMore →
       Move id (Some z) (Overdue i) o (find_exchange id xs) (find_exchange id (map (overdue_exchange i) xs))
@@ -434,7 +462,7 @@ module _ (table : Table) (es : List Stored) (xs : List Exchange) (next : Option 
       wakes_up now i w o (decision_of (policy_of table.lines w.line) es w.asked now) refl f (released_from (moment_too_late_fault now) w.stage a) h
   step (Abandon i) o None f a h = absurd (cc)
   step (Overdue i) o None f a h = absurd (cc)
-  step (Abandon i) o (Some w) f a h = gone w (Abandon i) o f refl (ap outcome_ends_exchange h) _ (find-closed i id xs)
+  step (Abandon i) o (Some w) f a h = abandons i w o f h
   step (Overdue i) o (Some w) f a h = goes_over i w o f (waiting_from w.stage a) h
 
 pub move_of : (table : Table) (s : State) (i : Item) (id : ℕ) → s.table ≡ table → ItemIsAccepted table s.entries s.exchanges s.next i →

@@ -26,7 +26,7 @@ use Rattle.proxy_core.specs.Promises.{outcome_goes_forward, outcome_ends_exchang
 use Rattle.proxy_core.specs.Carrying.{judges_a_request, NoRequestIsJudged}
 use Rattle.proxy_core.specs.TraceMeaning.{exchange_has_ended, opens_an_exchange, ExchangeIsOpenFromArrivalToEnd, ExchangeOpensByArrivalAlone, OpenExchangeHasItsRequest, OpenExchangeKeepsItsRule, ExchangeIsOvertakenWhereInvalidated}
 use Rattle.proxy_core.proofs.ExchangeLists.{overtaken_by, released_by, changed_by, find-push, find-purged, none_overtaken}
-use Rattle.proxy_core.proofs.Moves.{Move, apart, opens, queues, passes, again, wakes, closes, lapses, asked_of, ended_by, forward_goes_on, move_of, and_none, key_taken_by_step}
+use Rattle.proxy_core.proofs.Moves.{Move, apart, opens, queues, passes, again, wakes, closes, turns, lapses, asked_of, ended_by, forward_goes_on, move_of, and_none, key_taken_by_step}
 use Rattle.proxy_core.proofs.Tracing.{same_table}
 use Rattle.proxy_core.proofs.TwiceForward.{not_both, fresh_arrival, part}
 use Rattle.proxy_core.proofs.HeldLaw.{good_plain, entries_are_held, exchanges_are_open}
@@ -62,6 +62,9 @@ open_step id w event o x y b e (wakes table es z now ev x_is s f h) a i =
     ∙ sym (ap (λ c. b && not (c || e)) (ap (λ c. eqb (exchange_id_of_event event) id && c) (forward_goes_on o f) ∙ and_none (eqb (exchange_id_of_event event) id)))
 open_step id w event o x y b e (closes z t ev x_is f h) a i =
     ap is_some h ∙ sym (ap (λ c. b && not (c || e)) (ap (λ c. c && outcome_ends_exchange o) t ∙ f) ∙ and_none b)
+open_step id w event o x y b e (turns z j m ev n x_is s f h) a i =
+    ap is_some h ∙ sym (ap is_some x_is) ∙ i
+    ∙ sym (ap (λ c. b && not (c || e)) (ap (λ v. eqb (exchange_id_of_event v) id && outcome_ends_exchange o) ev ∙ ap (λ c. c && outcome_ends_exchange o) n))
 open_step id w event o x y b e (lapses z ev x_is s f h) a i =
     ap is_some h ∙ sym (ap is_some x_is) ∙ i
     ∙ sym (ap (λ c. b && not (c || e)) (ap (λ (o : Outcome). eqb (exchange_id_of_event event) id && outcome_ends_exchange o) f ∙ and_none (eqb (exchange_id_of_event event) id)))
@@ -82,6 +85,7 @@ open_first id w event o x y (passes u ev x_is f h) t a = ap is_some h ∙ sym (a
 open_first id w event o x y (again z now u ev x_is c f h j s) t a = absurd (false≢true (sym ev ∙ a))
 open_first id w event o x y (wakes table es z now ev x_is s f h) t a = absurd (false≢true (sym (ap is_arrival_event ev) ∙ a))
 open_first id w event o x y (closes z u ev x_is f h) t a = absurd (false≢true (sym ev ∙ a))
+open_first id w event o x y (turns z j m ev n x_is s f h) t a = absurd (false≢true (sym (ap is_arrival_event ev) ∙ a))
 open_first id w event o x y (lapses z ev x_is s f h) t a = absurd (false≢true (sym (ap is_arrival_event ev) ∙ a))
 
 module _ (start : State) (before : List Item) (arrival : Item) where
@@ -115,6 +119,7 @@ none_step id w event o x y (passes t ev x_is f h) a i = h
 none_step id w event o x y (wakes table es z now ev x_is s f h) a i = absurd (false≢true (ap is_some (sym i ∙ x_is)))
 none_step id w event o x y (again z now t ev x_is c f h j s) a i = absurd (false≢true (ap is_some (sym i ∙ x_is)))
 none_step id w event o x y (closes z t ev x_is f h) a i = h
+none_step id w event o x y (turns z j m ev n x_is s f h) a i = absurd (false≢true (ap is_some (sym i ∙ x_is)))
 none_step id w event o x y (lapses z ev x_is s f h) a i = absurd (false≢true (ap is_some (sym i ∙ x_is)))
 
 none_plain : (table : Table) (start : StoreAtStart) (first id : ℕ) (trace : List Item) → IsGood (initial_state table start first) trace → NoRequestArrives id trace →
@@ -190,6 +195,9 @@ rule_step rule id w event o x y (again z now t ev x_is c f h j s) a i =
     let was : HasRule rule (Some z) = subst (HasRule rule) x_is i in
     subst (HasRule rule) (sym h) was
 rule_step rule id w event o x y (closes z t ev x_is f h) a i = subst (HasRule rule) (sym h) tt
+rule_step rule id w event o x y (turns z j m ev n x_is s f h) a i =
+    let was : HasRule rule (Some z) = subst (HasRule rule) x_is i in
+    subst (HasRule rule) (sym h) was
 rule_step rule id w event o x y (lapses z ev x_is s f h) a i =
     let was : HasRule rule (Some z) = subst (HasRule rule) x_is i in
     subst (HasRule rule) (sym h) was

@@ -17,13 +17,12 @@ use Rattle.proxy_core.specs.declared.open.exchange.Exchange.{Exchange}
 use Rattle.hx_reuse.specs.declared.rule.ReuseRule.{ReuseRule}
 use Rattle.proxy_core.specs.declared.steps.condition.Condition.{Condition}
 use Rattle.proxy_core.specs.declared.open.released.Released.{Released}
-use Rattle.proxy_core.specs.declared.open.stage.Stage.TheVariants.{Released as StageReleased}
 use Rattle.proxy_core.specs.Scopes.{Scope, is_in_scope}
 use Rattle.proxy_core.specs.State.{released_exchange, overtaken_exchange, exchange_gone_forward, exchange_forwarded_again, exchange_sent_forward}
 use Rattle.proxy_core.specs.Leading.{is_released, ready_ids, waits_for}
 use Rattle.proxy_core.specs.Arrivals.{HaveDistinctArrivalsAndIds, WaitingArrivalsPass, map_exchanges}
 use Rattle.proxy_core.specs.Releases.{first_released_arrival, is_between_arrivals, may_be_released, CoversOldRange, ReleasedArrivalsPass}
-use Rattle.proxy_core.proofs.Waiters.{pass-more, pass-opened, pass-removed, pass-on_all}
+use Rattle.proxy_core.proofs.Waiters.{TurnsAway, released_away, pass-more, pass-opened, pass-removed, pass-on_all}
 
 abbrev Numbered : Type 0
 Numbered = List (ℕ × Exchange)
@@ -209,15 +208,19 @@ pub pass-entered : (n : ℕ) (x : Exchange) (old new : Released) (es : Numbered)
 pass-entered n x old new es w k h =
     pass-opened (λ y. is_released y.stage) n x (may_be_released new) es k (pass-more (λ y. is_released y.stage) (may_be_released old) (may_be_released new) es w h)
 
--- whom a release frees waited for that exchange
-freed : (q : ℕ) (x : Exchange) → is_released (released_exchange q x).stage ≡ true → (is_released x.stage ≡ true) ⊎ (waits_for q x.stage ≡ true)
-freed q x h = elim (cases_Bool (waits_for q x.stage)) [
-  | inl t ↦ inr t
-  | inr f ↦ inl (sym (ap (λ b. is_released (cond b (record x { stage = StageReleased }) x).stage) f) ∙ h)
-]
+-- whom a change of those alone that wait for an id releases waited for that
+pub pass-turned : (q : ℕ) (f : Exchange → Exchange) → TurnsAway q f → (ns : ℕ → Bool) (old new : Released) (es : Numbered) → CoversOldRange old new → ((n : ℕ) → ns n ≡ true → may_be_released new n ≡ true) →
+    WaitingArrivalsPass q ns es → ReleasedArrivalsPass (may_be_released old) es → ReleasedArrivalsPass (may_be_released new) (map_exchanges f es)
+pass-turned q f t ns old new [] w k g h = tt
+pass-turned q f t ns old new (e ∷ es) w k g h =
+    (λ r. elim (freed e.1 r) [ inl s ↦ w e.0 (h.0 s) | inr a ↦ k e.0 (g.0 a) ], pass-turned q f t ns old new es w k g.1 h.1)
+  where
+    freed : (x : Exchange) → is_released (f x).stage ≡ true → (is_released x.stage ≡ true) ⊎ (waits_for q x.stage ≡ true)
+    freed x r = elim (cases_Bool (waits_for q x.stage)) [
+      | inl a ↦ inr a
+      | inr o ↦ inl (ap (λ (y : Exchange). is_released y.stage) (sym (t.others x o)) ∙ r)
+    ]
 
 pub pass-freed : (q : ℕ) (ns : ℕ → Bool) (old new : Released) (es : Numbered) → CoversOldRange old new → ((n : ℕ) → ns n ≡ true → may_be_released new n ≡ true) →
     WaitingArrivalsPass q ns es → ReleasedArrivalsPass (may_be_released old) es → ReleasedArrivalsPass (may_be_released new) (map_exchanges (released_exchange q) es)
-pass-freed q ns old new [] w k g h = tt
-pass-freed q ns old new (e ∷ es) w k g h =
-    (λ r. elim (freed q e.1 r) [ inl s ↦ w e.0 (h.0 s) | inr t ↦ k e.0 (g.0 t) ], pass-freed q ns old new es w k g.1 h.1)
+pass-freed q ns old new es w k g h = pass-turned q (released_exchange q) (released_away q) ns old new es w k g h

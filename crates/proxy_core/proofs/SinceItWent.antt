@@ -10,10 +10,13 @@ use Rattle.proxy_core.specs.declared.event.Event.{Event}
 use Rattle.proxy_core.specs.declared.event.Event.TheVariants.{Answer}
 use Rattle.proxy_core.specs.declared.core_fault.CoreFault.{CoreFault}
 use Rattle.proxy_core.specs.Moments.{moment_too_late_fault}
+use Rattle.proxy_core.specs.Leading.{is_waiting}
+use Rattle.proxy_core.specs.LeadingOn.{wait_has_an_end}
+use Rattle.std.proofs.lemmas.Bool.{false≢true}
 use Rattle.proxy_core.specs.Outcomes.{find_exchange, exchange_id_of_event, fault_at_exchange, fault_if_not_forwarded, or_fault}
 use Rattle.proxy_core.specs.Traces.{Item}
 use Rattle.proxy_core.specs.Histories.{open_exchanges, IsGoodHistory}
-use Rattle.proxy_core.specs.Promises.{outcome_goes_forward, count_of_outcomes, some_item_invalidates, NoItemInvalidates}
+use Rattle.proxy_core.specs.Promises.{outcome_goes_forward, count_of_outcomes, some_item_overtakes, NoItemOvertakes}
 use Rattle.proxy_core.specs.Carrying.{ExchangeWasJudged, IsEventThatJudges, WentForwardOnce, WentForwardASecondTime, HasWaitedSinceItsArrival, second_forward_item}
 use Rattle.proxy_core.specs.StoredAnswers.{KeyStaysValidSinceItWent}
 use Rattle.proxy_core.proofs.Marks.{none_of_some}
@@ -75,19 +78,20 @@ went_last table start x past out judged = by_way judged.went
     }
     by_way (inr (inr waits)) = absurd (never_waits waits.stage)
       where
-        never_waits : (x.stage ≡ Waiting waits.leader) ⊎ (x.stage ≡ Released) → ⊥
+        never_waits : (x.stage ≡ Waiting waits.leader) ⊎ ((x.stage ≡ Released) ⊎ ((is_waiting x.stage ≡ true) × (wait_has_an_end table x ≡ true))) → ⊥
         never_waits (inl h) = let no : Waiting waits.leader ≡ Forwarded = sym h ∙ out in cc
-        never_waits (inr h) = let no : Released ≡ Forwarded = sym h ∙ out in cc
+        never_waits (inr (inl h)) = let no : Released ≡ Forwarded = sym h ∙ out in cc
+        never_waits (inr (inr h)) = false≢true (sym (ap is_waiting out) ∙ h.0)
 
 -- ---- its mark, in words and back
 
-some_of_none : (key : Key) (items past : List Item) → NoItemInvalidates key items past → some_item_invalidates key items past ≡ false
+some_of_none : (key : Key) (items past : List Item) → NoItemOvertakes key items past → some_item_overtakes key items past ≡ false
 some_of_none key [] past h = refl
-some_of_none key (i ∷ items) past h = ap (λ b. b || some_item_invalidates key items past) h.0 ∙ some_of_none key items past h.1
+some_of_none key (i ∷ items) past h = ap (λ b. b || some_item_overtakes key items past) h.0 ∙ some_of_none key items past h.1
 
 module _ (table : Table) (start : StoreAtStart) (first : ℕ) (past : List Item) (good : IsGoodHistory table start first past) (x : Exchange) (found : find_exchange x.id (open_exchanges table start past) ≡ Some x) (out : x.stage ≡ Forwarded) where
   mark_is : (since before : List Item) (went : Item) → past ≡ since ++ went ∷ before → exchange_id_of_event went.event ≡ x.id → outcome_goes_forward went.outcome ≡ true → count_of_outcomes outcome_goes_forward x.id since ≡ 0 →
-      x.overtaken ≡ some_item_invalidates x.asked.target.key since (went ∷ before)
+      x.overtaken ≡ some_item_overtakes x.asked.target.key since (went ∷ before)
   mark_is since before went is id goes last =
       overtaken_where_invalidated table start first since before went x (subst (IsGoodHistory table start first) is good) goes
       (ap (λ n. count_of_outcomes outcome_goes_forward n since) id ∙ last)
@@ -97,7 +101,7 @@ module _ (table : Table) (start : StoreAtStart) (first : ℕ) (past : List Item)
   pub unmarked : KeyStaysValidSinceItWent past x → x.overtaken ≡ false
   unmarked stays =
       mark_is stays.since stays.before stays.went stays.past_is stays.is_of_exchange stays.goes_forward stays.is_the_last
-      ∙ some_of_none x.asked.target.key stays.since (stays.went ∷ stays.before) stays.nothing_invalidates
+      ∙ some_of_none x.asked.target.key stays.since (stays.went ∷ stays.before) stays.nothing_overtakes
 
   pub stays_valid : ExchangeWasJudged table start x past → x.overtaken ≡ false → KeyStaysValidSinceItWent past x
   stays_valid judged plain =
@@ -110,7 +114,7 @@ module _ (table : Table) (start : StoreAtStart) (first : ℕ) (past : List Item)
         is_of_exchange = last.is_of_exchange;
         goes_forward = last.goes_forward;
         is_the_last = last.is_the_last;
-        nothing_invalidates =
+        nothing_overtakes =
             none_of_some x.asked.target.key last.since (last.went ∷ last.before)
             (sym (mark_is last.since last.before last.went last.past_is last.is_of_exchange last.goes_forward last.is_the_last) ∙ plain);
       }

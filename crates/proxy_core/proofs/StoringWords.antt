@@ -1,5 +1,5 @@
 -- The facts that the storing rules are handed, and what they say in words.
-use Rattle.std.proofs.Common.{◌≡◌, inl, inr, ◌⊎◌, ℕ, ◌≤◌, Bool, true, false, not, ◌||◌, cond, List, [], ◌∷◌, refl, arith}
+use Rattle.std.proofs.Common.{◌≡◌, inl, inr, ◌⊎◌, ℕ, ◌≤◌, Bool, true, false, not, ◌||◌, cond, List, [], ◌∷◌, length, refl, ap, ◌∙◌, arith}
 use Rattle.std.specs.Prelude.{All, Option, Some, None, IfSome, bytes_eq, codes, is_none, is_some, nat_lt}
 use Rattle.std.specs.List.{list_any}
 use Rattle.std.proofs.lemmas.Bool.Decides.{nat_tests}
@@ -12,7 +12,8 @@ use Rattle.hx_directives.specs.Answers.{directive_occurs, seconds_of_directive}
 use Rattle.hx_directives.specs.declared.names.Directive.TheVariants.{MaxAge, SMaxage}
 use Rattle.hx_age.specs.declared.lifetimes.Lifetime.{Lifetime}
 use Rattle.hx_age.specs.Lifetime.{explicit_lifetime, lifetime_of, stated_seconds, until_expires}
-use Rattle.hx_vary.specs.Vary.{is_star, is_star_member, vary_names}
+use Rattle.hx_vary.specs.declared.limits.TheConstants.{MOST_NAMES}
+use Rattle.hx_vary.specs.Vary.{are_many, is_star, is_star_member, vary_names}
 use Rattle.hx_hop.specs.Stripping.{cache_names, connection_names, lists_cache_field}
 use Rattle.hx_policy.specs.Policies.{given_lifetime}
 use Rattle.hx_policy.specs.declared.words.Policy.{Policy}
@@ -48,11 +49,19 @@ names_each (n ∷ names) h =
     let first = neither (bytes_eq n (codes "*")) (not (is_token n)) parts.0 in
     All-cons (λ name. (bytes_eq name (codes "*") ≡ false) × (is_token name ≡ true)) n names (first.0, not_false (is_token n) first.1) (names_each names parts.1)
 
+few_names : (names : List (List ℕ)) → length names ≤ MOST_NAMES → are_many names ≡ false
+few_names names h = grind (arith, nat_tests)
+
+not_many : (names : List (List ℕ)) → are_many names ≡ false → length names ≤ MOST_NAMES
+not_many names h = grind (arith, nat_tests)
+
 pub star_absent : (fields : List Field) → VaryNamesFields fields → is_star fields ≡ false
-star_absent fields all = no_star (vary_names fields) all
+star_absent fields all = ap (λ b. b || list_any is_star_member (vary_names fields)) (few_names (vary_names fields) all.0) ∙ no_star (vary_names fields) all.1
 
 pub fields_named : (fields : List Field) → is_star fields ≡ false → VaryNamesFields fields
-fields_named fields h = names_each (vary_names fields) h
+fields_named fields h =
+    let parts = neither (are_many (vary_names fields)) (list_any is_star_member (vary_names fields)) h in
+    (not_many (vary_names fields) parts.0, names_each (vary_names fields) parts.1)
 
 -- ---- Connection
 

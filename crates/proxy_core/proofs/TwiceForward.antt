@@ -16,7 +16,8 @@ use Rattle.proxy_core.specs.State.{State, released_exchange, overtaken_exchange,
 use Rattle.proxy_core.specs.Traces.{Item, state_after_trace, IsGood}
 use Rattle.proxy_core.specs.Promises.{outcome_goes_forward, outcome_is_reply, is_arrival_event, count_of_outcomes, NoRequestArrives, TwiceForwardOneReply}
 use Rattle.proxy_core.proofs.ExchangeLists.{overtaken_by, released_by}
-use Rattle.proxy_core.proofs.Moves.{Move, apart, opens, queues, passes, again, wakes, closes, lapses, woken_form, asked_of, ended_by, ends_back, move_of, and_none, key_taken_by_step}
+use Rattle.proxy_core.proofs.LedOn.{waits_waiting}
+use Rattle.proxy_core.proofs.Moves.{Move, apart, opens, queues, passes, again, wakes, closes, turns, lapses, woken_form, asked_of, ended_by, ends_back, move_of, and_none, key_taken_by_step}
 use Rattle.proxy_core.proofs.Tracing.{same_table}
 
 -- a part of a good trace
@@ -151,6 +152,14 @@ budget id w event o x y (wakes table es z now e f s k h) a =
     let r1 : replies_left y ≡ 1 = ap replies_left h in
     let r2 : replies_left x ≡ 1 = ap replies_left f in
     record { forwards = omega arith; replies = omega arith }
+budget id w event o x y (turns z i m e n f s k h) a =
+    let f0 : one (eqb (exchange_id_of_event event) id && outcome_goes_forward o) ≡ 0 = ap (λ (o : Outcome). one (eqb (exchange_id_of_event event) id && outcome_goes_forward o)) k ∙ ap one (and_none (eqb (exchange_id_of_event event) id)) in
+    let r0 : one (eqb (exchange_id_of_event event) id && outcome_is_reply o) ≡ 0 = ap (λ (o : Outcome). one (eqb (exchange_id_of_event event) id && outcome_is_reply o)) k ∙ ap one (and_none (eqb (exchange_id_of_event event) id)) in
+    let f1 : forwards_left y ≡ 2 = ap forwards_left h in
+    let f2 : forwards_left x ≡ 2 = ap forwards_left f ∙ waiting_left z.stage (cond (is_some z.condition) 1 0) (waits_waiting i z.stage s) in
+    let r1 : replies_left y ≡ 1 = ap replies_left h in
+    let r2 : replies_left x ≡ 1 = ap replies_left f in
+    record { forwards = omega arith; replies = omega arith }
 budget id w event o x y (lapses z e f s k h) a =
     let f0 : one (eqb (exchange_id_of_event event) id && outcome_goes_forward o) ≡ 0 = ap (λ (o : Outcome). one (eqb (exchange_id_of_event event) id && outcome_goes_forward o)) k ∙ ap one (and_none (eqb (exchange_id_of_event event) id)) in
     let r0 : one (eqb (exchange_id_of_event event) id && outcome_is_reply o) ≡ 0 = ap (λ (o : Outcome). one (eqb (exchange_id_of_event event) id && outcome_is_reply o)) k ∙ ap one (and_none (eqb (exchange_id_of_event event) id)) in
@@ -198,6 +207,7 @@ opening id w event o x y (passes u e x_is g h) t a =
 opening id w event o x y (wakes table es z now e f s k h) t a = absurd (false≢true (sym (ap is_arrival_event e) ∙ a))
 opening id w event o x y (again z now u e f c k h j s) t a = absurd (false≢true (sym e ∙ a))
 opening id w event o x y (closes z u e f g h) t a = absurd (false≢true (sym e ∙ a))
+opening id w event o x y (turns z i m e n f s k h) t a = absurd (false≢true (sym (ap is_arrival_event e) ∙ a))
 opening id w event o x y (lapses z e f s k h) t a = absurd (false≢true (sym (ap is_arrival_event e) ∙ a))
 
 one_more : (b : Bool) (n : ℕ) → cond b (n + 1) n ≡ one b + n

@@ -42,12 +42,12 @@ use Rattle.proxy_core.specs.Validating.{condition_about_serial, is_304_to_own_co
 use Rattle.proxy_core.specs.Storing.{storing_rule_to_explain, storing_facts_of_answer, is_storable, is_304_without_condition, answer_invalidates, key_invalidated}
 use Rattle.proxy_core.specs.Leading.{is_forwarded}
 use Rattle.proxy_core.specs.Outcomes.{find_exchange, exchange_id_of_event, outcome_of_arrival, outcome_of_allowed_request, outcome_of_waiting_or_forwarding, outcome_without_stored_response, outcome_of_wake, fault_at_exchange, is_only_if_cached, fallback_for, outcome_of_failure, is_error_status, outcome_of_passing_on, outcome_of_passing_on_or_stale, serials_removed_by_answer, serial_of_stored_answer, outcome_of_304, outcome_of_answer, outcome_of}
-use Rattle.proxy_core.specs.Scopes.{Scope, is_in_scope, target_alone, scope_of_purge, serials_purged, serials_within}
+use Rattle.proxy_core.specs.Scopes.{Scope, scope_takes, target_alone, scope_of_purge, serials_purged, serials_within}
 use Rattle.proxy_core.specs.State.{State, outcome_purges, scope_purged, serial_stored_by_outcome, serial_used_by_outcome, serials_removed_by_outcome, next_serial_after, serial_after_this, stored_response_by_answer, stored_response_as_used, bounds_of, NoSerialIsHeldFrom}
 use Rattle.proxy_core.specs.Starts.{StoreAtStart, StartStands}
 use Rattle.proxy_core.specs.Traces.{Item, initial_state, state_after_trace, IsGood}
-use Rattle.proxy_core.specs.Histories.{held_serials, held_entry, store_change_of, exchanges_and_responses_after}
-use Rattle.proxy_core.specs.Promises.{reply_uses_no_stored_response, is_invalidated_key, invalidates_key, NoItemInvalidates, NothingInvalidatedIsSent, NothingInvalidatedSinceTheStartIsSent}
+use Rattle.proxy_core.specs.Histories.{held_serials, held_entry, lines_held, lines_if_any, store_change_of, exchanges_and_responses_after}
+use Rattle.proxy_core.specs.Promises.{reply_uses_no_stored_response, is_overtaken_key, overtakes_key, NoItemOvertakes, is_invalidated_response, invalidates_response, NoItemInvalidates, NothingInvalidatedIsSent, NothingInvalidatedSinceTheStartIsSent}
 use Rattle.proxy_core.proofs.SentBeside.{led_over, sent_over, unless_sent}
 use Rattle.proxy_core.proofs.Storable.{none_of}
 use Rattle.proxy_core.proofs.Leaving.{key_stays}
@@ -372,10 +372,10 @@ key_kept x event st us look s n =
 -- ---- from the storing to the sending
 
 module _ (table : Table) (start : StoreAtStart) (first : ℕ) where
-  -- an item that a stored and held serial lives through: it was held before, and the item doesn't invalidate its key
+  -- an item that a stored and held serial lives through: it was held before, and the item doesn't invalidate it
   record Executes (s : ℕ) (k : Key) (i : Item) (past : List Item) : Type 0 where
     held_before : serial_is_in s (held_serials table start past) ≡ true
-    clean : invalidates_key k i past ≡ false
+    clean : invalidates_response table start s k i past ≡ false
 
   executes : (s : ℕ) (k : Key) (i : Item) (past : List Item) → IsGood (initial_state table start first) (i ∷ past) → Below s (state_after_trace (initial_state table start first) past).next →
       key_of (held_entry table start past s) ≡ Some k → serial_is_in s (held_serials table start (i ∷ past)) ≡ true → Executes s k i past
@@ -400,25 +400,27 @@ module _ (table : Table) (start : StoreAtStart) (first : ℕ) where
       ]
       in
       let f = held_found s es (ap (serial_is_in s) p.serials_are ∙ was) in
-      let its_key : f.0.key ≡ k = same_Some f.0.key k (ap key_of (sym (EachIs-find (held_entry table start past) s es f.0 f.1 p.entries_are)) ∙ q) in
+      let held_is : held_entry table start past s ≡ Some f.0 = EachIs-find (held_entry table start past) s es f.0 f.1 p.entries_are in
+      let its_key : f.0.key ≡ k = same_Some f.0.key k (ap key_of (sym held_is) ∙ q) in
       record {
         held_before = was;
-        clean = ap (λ o. is_invalidated_key o k) (same_key_of_step table start first i past g)
+        clean = ap (λ o. is_invalidated_response o k (lines_held table start past s)) (same_key_of_step table start first i past g)
             ∙ false_from_ne_true _ (λ t.
             let named = gone_key (key_taken_by_step (asked_of w) i.event i.outcome) t in
             let r : serials_removed_by_outcome i.outcome ≡ serials_within named.0 es = removes_scope table es st.exchanges w st.next i.event i.outcome named.0 g.0.outcome_is named.1 in
-            let there = some_passing (λ (e : Stored). is_in_scope named.0 e.key) s es f.0 f.1 (ap (is_in_scope named.0) its_key ∙ named.2) in
+            let there = some_passing (λ (e : Stored). scope_takes named.0 e.key e.fields) s es f.0 f.1
+            (ap (λ key. scope_takes named.0 key f.0.fields) its_key ∙ (ap (λ (o : Option Stored). scope_takes named.0 k (lines_if_any o)) (sym held_is) ∙ named.2)) in
             false≢true (sym (ap not (ap (serial_is_in s) r ∙ there)) ∙ stays));
       }
     where
-      gone_key : (o : Option Scope) → is_invalidated_key o k ≡ true → (gone : Scope) × (o ≡ Some gone) × (is_in_scope gone k ≡ true)
+      gone_key : (o : Option Scope) → is_invalidated_response o k (lines_held table start past s) ≡ true → (gone : Scope) × (o ≡ Some gone) × (scope_takes gone k (lines_held table start past s) ≡ true)
       gone_key None t = absurd (false≢true t)
       gone_key (Some gone) t = (gone, refl, t)
 
   record Since (s : ℕ) (k : Key) (storing : Item) (past items : List Item) : Type 0 where
     below : Below s (state_after_trace (initial_state table start first) (items ++ storing ∷ past)).next
     key : key_of (held_entry table start (items ++ storing ∷ past) s) ≡ Some k
-    clean : serial_is_in s (held_serials table start (items ++ storing ∷ past)) ≡ true → NoItemInvalidates k items (storing ∷ past)
+    clean : serial_is_in s (held_serials table start (items ++ storing ∷ past)) ≡ true → NoItemInvalidates table start s k items (storing ∷ past)
 
   since : (s : ℕ) (k : Key) (storing : Item) (past : List Item) (items : List Item) → IsGood (initial_state table start first) (items ++ storing ∷ past) →
       Since s k storing past [] → Since s k storing past items
@@ -443,7 +445,7 @@ module _ (table : Table) (start : StoreAtStart) (first : ℕ) where
   record SinceStart (s : ℕ) (k : Key) (items : List Item) : Type 0 where
     below : Below s (state_after_trace (initial_state table start first) items).next
     key : key_of (held_entry table start items s) ≡ Some k
-    clean : serial_is_in s (held_serials table start items) ≡ true → NoItemInvalidates k items []
+    clean : serial_is_in s (held_serials table start items) ≡ true → NoItemInvalidates table start s k items []
 
   since_start : (s : ℕ) (k : Key) (items : List Item) → IsGood (initial_state table start first) items → SinceStart s k [] → SinceStart s k items
   since_start s k [] g b = b
@@ -459,7 +461,7 @@ module _ (table : Table) (start : StoreAtStart) (first : ℕ) where
         key = key_kept v i.event (serial_stored_by_outcome i.outcome) (serial_used_by_outcome i.outcome) (held_entry table start items) s d.not_stored ∙ so.key;
         clean = λ m.
             let r = executes s k i items g so.below so.key m in
-            (subst (λ zs. invalidates_key k i zs ≡ false) (sym (append-nil items)) r.clean, so.clean r.held_before);
+            (subst (λ zs. invalidates_response table start s k i zs ≡ false) (sym (append-nil items)) r.clean, so.clean r.held_before);
       }
 
   -- what is held at first has a serial below the first that is given
@@ -478,7 +480,7 @@ module _ (table : Table) (start : StoreAtStart) (first : ℕ) where
     stage : z.stage ≡ Forwarded
     in_time : z.overtaken ≡ false
     since_then : Since s z.asked.target.key storing past []
-    clean : (k : Key) → invalidates_key k storing past ≡ false
+    clean : (k : Key) → overtakes_key k storing past ≡ false
 
   stored_is : (s : ℕ) (storing : Item) (past : List Item) → IsGood (initial_state table start first) (storing ∷ past) → serial_stored_by_outcome storing.outcome ≡ Some s → Known s storing past
   unfolding key_of
@@ -507,7 +509,7 @@ module _ (table : Table) (start : StoreAtStart) (first : ℕ) where
               ∙ ap (λ v. stored_response_by_answer (Some z) v s) d.event_is);
           clean = λ m. tt;
         };
-        clean = λ k. ap (λ o. is_invalidated_key o k) (same_key_of_step table start first storing past g
+        clean = λ k. ap (λ o. is_overtaken_key o k) (same_key_of_step table start first storing past g
             ∙ ap (λ x. key_taken_by_step (asked_of x) storing.event storing.outcome) d.w_is
             ∙ ap (λ v. key_taken_by_step (Some z.asked) v storing.outcome) d.event_is
             ∙ ap (option_map target_alone) (no_key z.asked.target.key (not (is_among safe_methods z.asked.method)) ((nat_le 200 d.r.status && nat_le d.r.status 399) && reply_uses_no_stored_response storing.outcome) safe));
@@ -529,7 +531,7 @@ sent_held es x event next st us rm s (uses t e a b f) h =
     ap (λ z. holds_serial z es) (sym (find-serial t es e f ∙ same)) ∙ find_holds t es e f
 sent_held es x event next st us rm s (stores t e a b q f k off) h = absurd (cc)
 
-pub nothing_invalidated_is_sent : (table : Table) (start : StoreAtStart) (first : ℕ) (trace : List Item) → IsGood (initial_state table start first) trace → NothingInvalidatedIsSent trace
+pub nothing_invalidated_is_sent : (table : Table) (start : StoreAtStart) (first : ℕ) (trace : List Item) → IsGood (initial_state table start first) trace → NothingInvalidatedIsSent table start trace
 nothing_invalidated_is_sent table start first trace g later middle between before sending storing f s asked e used stored forward same none ask =
     let base = between ++ f ∷ before in
     let at_sending : IsGood (initial_state table start first) (sending ∷ (middle ++ (storing ∷ base))) =
@@ -545,7 +547,7 @@ nothing_invalidated_is_sent table start first trace g later middle between befor
     sym (ap (serial_is_in s) p.serials_are)
     ∙ sent_held st.entries _ sending.event st.next _ _ _ s (kind_in table st sending p.fresh at_sending.0) used
     in
-    subst (λ (r : Asked). NoItemInvalidates r.target.key middle (storing ∷ base) × NoItemInvalidates r.target.key (storing ∷ between) (f ∷ before))
+    subst (λ (r : Asked). NoItemInvalidates table start s r.target.key middle (storing ∷ base) × NoItemOvertakes r.target.key (storing ∷ between) (f ∷ before))
     (same_Some d.z.asked asked (sym o.0 ∙ ask))
     (i.clean held, (d.clean d.z.asked.target.key, none_of_some d.z.asked.target.key between (f ∷ before) (sym o.1 ∙ d.in_time)))
 
@@ -556,7 +558,7 @@ begun start [] g = g
 begun start (i ∷ past) g = begun start past g.1
 
 pub nothing_invalidated_since : (table : Table) (start : StoreAtStart) (first : ℕ) (trace : List Item) → IsGood (initial_state table start first) trace →
-    NothingInvalidatedSinceTheStartIsSent start.entries trace
+    NothingInvalidatedSinceTheStartIsSent table start trace
 nothing_invalidated_since table start first trace g later before sending s e is used found =
     let at_sending : IsGood (initial_state table start first) (sending ∷ before) =
     part (initial_state table start first) later (sending ∷ before) (subst (IsGood (initial_state table start first)) (sym is) g)

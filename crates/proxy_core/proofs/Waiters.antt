@@ -100,44 +100,55 @@ waits_on q id x h = elim (cases_Bool (waits_for q x.stage)) [
     other true e w f = absurd (false≢true (sym f ∙ ap (λ i. waits_for i x.stage) (eqb-true q id e) ∙ w))
     other false e w f = refl
 
--- where none waits a release changes nothing
-pub none_released : (q : ℕ) (es : Numbered) → WaitingArrivalsPass q (λ n. false) es → map_exchanges (released_exchange q) es ≡ es
-none_released q [] h = refl
-none_released q (e ∷ es) h = elim (cases_Bool (waits_for q e.1.stage)) [
+-- a change of those alone that wait for an id, behind which they don't
+pub record TurnsAway (q : ℕ) (f : Exchange → Exchange) : Type 0 where
+  pub others : (x : Exchange) → waits_for q x.stage ≡ false → f x ≡ x
+  pub no_more : (x : Exchange) → waits_for q (f x).stage ≡ false
+
+pub released_away : (q : ℕ) → TurnsAway q (released_exchange q)
+released_away q = record {
+  others = λ x f. ap (λ b. cond b (record x { stage = Released }) x) f;
+  no_more = λ x. elim (cases_Bool (waits_for q (released_exchange q x).stage)) [
+    | inl t ↦ absurd (false≢true (sym (waits_on q q x t).1 ∙ eq-eqb q q refl))
+    | inr f ↦ f
+  ];
+}
+
+-- where none waits it changes nothing
+pub none_turned : (q : ℕ) (f : Exchange → Exchange) → TurnsAway q f → (es : Numbered) → WaitingArrivalsPass q (λ n. false) es → map_exchanges f es ≡ es
+none_turned q f k [] h = refl
+none_turned q f k (e ∷ es) h = elim (cases_Bool (waits_for q e.1.stage)) [
   | inl t ↦ absurd (false≢true (h.0 t))
-  | inr f ↦ (
-      ap (λ b. (e.0, cond b (record e.1 { stage = Released }) e.1) ∷ map_exchanges (released_exchange q) es) f
-      ∙ ap (λ (zs : Numbered). e ∷ zs) (none_released q es h.1)
+  | inr o ↦ (
+      ap (λ (x : Exchange). (e.0, x) ∷ map_exchanges f es) (k.others e.1 o)
+      ∙ ap (λ (zs : Numbered). e ∷ zs) (none_turned q f k es h.1)
       )
 ]
+
+pub none_released : (q : ℕ) (es : Numbered) → WaitingArrivalsPass q (λ n. false) es → map_exchanges (released_exchange q) es ≡ es
+none_released q es h = none_turned q (released_exchange q) (released_away q) es h
 
 -- those whose numbers are still to come
 abbrev pub TheRest : ℕ → List ℕ → Numbered → Type 0
 TheRest q ns es = WaitingArrivalsPass q (λ k. list_any (λ n. at k n) ns) es
 
-released_twice : (q : ℕ) (x : Exchange) → released_exchange q (released_exchange q x) ≡ released_exchange q x
-released_twice q x = elim (cases_Bool (waits_for q x.stage)) [
-  | inl t ↦ (
-      ap (λ b. released_exchange q (cond b (record x { stage = Released }) x)) t
-      ∙ sym (ap (λ b. cond b (record x { stage = Released }) x) t)
-      )
-  | inr f ↦ ap (λ b. released_exchange q (cond b (record x { stage = Released }) x)) f
-]
-
--- one was released at its number
-pub released_at : (q n : ℕ) (x : Exchange) (es : Numbered) → lookup (at n) es ≡ Some x → map_exchanges (released_exchange q) (set_value (at n) es (released_exchange q x)) ≡ map_exchanges (released_exchange q) es
-released_at q n x [] h = absurd (cc)
-released_at q n x (e ∷ es) h = elim (cases_Bool (at n e.0)) [
+-- one was turned away at its number
+pub turned_at : (q : ℕ) (f : Exchange → Exchange) → TurnsAway q f → (n : ℕ) (x : Exchange) (es : Numbered) → lookup (at n) es ≡ Some x → map_exchanges f (set_value (at n) es (f x)) ≡ map_exchanges f es
+turned_at q f k n x [] h = absurd (cc)
+turned_at q f k n x (e ∷ es) h = elim (cases_Bool (at n e.0)) [
   | inl t ↦ (
       let is : e.1 ≡ x = same_Some e.1 x (sym (ap (λ b. cond b (Some e.1) (lookup (at n) es)) t) ∙ h) in
-      ap (λ b. map_exchanges (released_exchange q) (cond b ((e.0, released_exchange q x) ∷ es) (e ∷ set_value (at n) es (released_exchange q x)))) t
-      ∙ ap (λ (y : Exchange). (e.0, y) ∷ map_exchanges (released_exchange q) es) (released_twice q x ∙ ap (released_exchange q) (sym is))
+      ap (λ b. map_exchanges f (cond b ((e.0, f x) ∷ es) (e ∷ set_value (at n) es (f x)))) t
+      ∙ ap (λ (y : Exchange). (e.0, y) ∷ map_exchanges f es) (k.others (f x) (k.no_more x) ∙ ap f (sym is))
       )
-  | inr f ↦ (
-      ap (λ b. map_exchanges (released_exchange q) (cond b ((e.0, released_exchange q x) ∷ es) (e ∷ set_value (at n) es (released_exchange q x)))) f
-      ∙ ap (λ (zs : Numbered). (e.0, released_exchange q e.1) ∷ zs) (released_at q n x es (sym (ap (λ b. cond b (Some e.1) (lookup (at n) es)) f) ∙ h))
+  | inr o ↦ (
+      ap (λ b. map_exchanges f (cond b ((e.0, f x) ∷ es) (e ∷ set_value (at n) es (f x)))) o
+      ∙ ap (λ (zs : Numbered). (e.0, f e.1) ∷ zs) (turned_at q f k n x es (sym (ap (λ b. cond b (Some e.1) (lookup (at n) es)) o) ∙ h))
       )
 ]
+
+pub released_at : (q n : ℕ) (x : Exchange) (es : Numbered) → lookup (at n) es ≡ Some x → map_exchanges (released_exchange q) (set_value (at n) es (released_exchange q x)) ≡ map_exchanges (released_exchange q) es
+released_at q n x es h = turned_at q (released_exchange q) (released_away q) n x es h
 
 pub not_at : (n m : ℕ) → eqb n m ≡ false → at m n ≡ false
 not_at n m o = grind (arith, nat_tests, o)
@@ -158,23 +169,27 @@ none_behind n (e ∷ es) h =
     let other : at n e.0 ≡ false = ap is_eq h.0 in
     ap (λ b. cond b (Some e.1) (lookup (at n) es)) other ∙ none_behind n es h.1
 
-pub rest-released : (q n : ℕ) (x : Exchange) (ns : List ℕ) (es : Numbered) → IsStrictlySortedBy nat_cmp (keys_of es) → lookup (at n) es ≡ Some x →
-    TheRest q (n ∷ ns) es → TheRest q ns (set_value (at n) es (released_exchange q x))
-rest-released q n x ns [] s there h = absurd (cc)
-rest-released q n x ns (e ∷ es) s there h = elim (cases_Bool (at n e.0)) [
+pub rest-turned : (q : ℕ) (f : Exchange → Exchange) → TurnsAway q f → (n : ℕ) (x : Exchange) (ns : List ℕ) (es : Numbered) → IsStrictlySortedBy nat_cmp (keys_of es) → lookup (at n) es ≡ Some x →
+    TheRest q (n ∷ ns) es → TheRest q ns (set_value (at n) es (f x))
+rest-turned q f k n x ns [] s there h = absurd (cc)
+rest-turned q f k n x ns (e ∷ es) s there h = elim (cases_Bool (at n e.0)) [
   | inl t ↦ (
-      let k : n ≡ e.0 = eqb-true n e.0 (sym (at_is n e.0) ∙ t) in
-      let none : lookup (at n) es ≡ None = ap (λ i. lookup (at i) es) k ∙ none_behind e.0 es (sorted_head nat_cmp e.0 (keys_of es) s) in
-      subst (λ b. TheRest q ns (cond b ((e.0, released_exchange q x) ∷ es) (e ∷ set_value (at n) es (released_exchange q x)))) (sym t)
-      (λ w. absurd (false≢true (sym (waits_on q q x w).1 ∙ eq-eqb q q refl)), rest-none q n ns es none h.1)
+      let i : n ≡ e.0 = eqb-true n e.0 (sym (at_is n e.0) ∙ t) in
+      let none : lookup (at n) es ≡ None = ap (λ i. lookup (at i) es) i ∙ none_behind e.0 es (sorted_head nat_cmp e.0 (keys_of es) s) in
+      subst (λ b. TheRest q ns (cond b ((e.0, f x) ∷ es) (e ∷ set_value (at n) es (f x)))) (sym t)
+      (λ w. absurd (false≢true (sym (k.no_more x) ∙ w)), rest-none q n ns es none h.1)
       )
-  | inr f ↦ (
-      subst (λ b. TheRest q ns (cond b ((e.0, released_exchange q x) ∷ es) (e ∷ set_value (at n) es (released_exchange q x)))) (sym f) (
-        λ w. sym (ap (λ b. b || list_any (λ m. at e.0 m) ns) (not_at n e.0 (sym (at_is n e.0) ∙ f))) ∙ h.0 w,
-        rest-released q n x ns es (sorted_tail nat_cmp e.0 (keys_of es) s) (sym (ap (λ b. cond b (Some e.1) (lookup (at n) es)) f) ∙ there) h.1,
+  | inr o ↦ (
+      subst (λ b. TheRest q ns (cond b ((e.0, f x) ∷ es) (e ∷ set_value (at n) es (f x)))) (sym o) (
+        λ w. sym (ap (λ b. b || list_any (λ m. at e.0 m) ns) (not_at n e.0 (sym (at_is n e.0) ∙ o))) ∙ h.0 w,
+        rest-turned q f k n x ns es (sorted_tail nat_cmp e.0 (keys_of es) s) (sym (ap (λ b. cond b (Some e.1) (lookup (at n) es)) o) ∙ there) h.1,
       )
       )
 ]
+
+pub rest-released : (q n : ℕ) (x : Exchange) (ns : List ℕ) (es : Numbered) → IsStrictlySortedBy nat_cmp (keys_of es) → lookup (at n) es ≡ Some x →
+    TheRest q (n ∷ ns) es → TheRest q ns (set_value (at n) es (released_exchange q x))
+rest-released q n x ns es s there h = rest-turned q (released_exchange q) (released_away q) n x ns es s there h
 
 -- ---- the index
 

@@ -1,8 +1,8 @@
 -- Who waits, for whom, until when, and what a woken request gets.
 use Rattle.std.proofs.Common.{arith, ◌≡◌, ◌⊎◌, inl, inr, ℕ, Bool, true, false, not, cond, ◌&&◌, ◌||◌, eqb, Option, None, Some, List, [], ◌∷◌, ◌++◌, refl, sym, ◌∙◌, ap, subst}
-use Rattle.std.specs.Prelude.{option_map, IfSome}
+use Rattle.std.specs.Prelude.{IfSome}
 use Rattle.std.specs.List.{AllByRecursion}
-use Rattle.std.proofs.lemmas.Bool.{eqb-true, eq-eqb, false≢true, false_from_ne_true}
+use Rattle.std.proofs.lemmas.Bool.{eqb-true, eq-eqb, false≢true}
 use Rattle.std.proofs.lemmas.Option.{same_Some}
 use Rattle.hx_policy.specs.declared.words.Policy.{Policy}
 use Rattle.hx_target.specs.Keys.{same_key}
@@ -49,21 +49,20 @@ use Rattle.proxy_core.specs.declared.open.awaited.Awaited.TheVariants.{Missing, 
 use Rattle.proxy_core.specs.Validating.{condition_about_serial}
 use Rattle.proxy_core.specs.Outcomes.{find_exchange, exchange_id_of_event, outcome_of_arrival, outcome_of_allowed_request, outcome_of_waiting_or_forwarding, revalidating_status_info, outcome_unless_sent_beside, outcome_without_stored_response, is_only_if_cached, fallback_for, outcome_of_failure, outcome_of_wake, outcome_of, outcome_of_event, or_fault, fault_if_not_released, fault_at_exchange, step_fault, forward_text}
 use Rattle.proxy_core.specs.Scopes.{Scope, is_in_scope}
-use Rattle.proxy_core.specs.State.{State, overtaken_exchange, released_exchange, forwarded_exchange, waiting_exchange, rule_of_decision, serial_named_by_decision, open_exchanges_after, serial_used_by_outcome, exchange_past_its_wait}
+use Rattle.proxy_core.specs.State.{State, overtaken_exchange, released_exchange, forwarded_exchange, rule_of_decision, serial_named_by_decision, open_exchanges_after, serial_used_by_outcome}
 use Rattle.proxy_core.specs.Starts.{StoreAtStart}
 use Rattle.proxy_core.specs.Traces.{Item, initial_state, state_after_trace, IsGood}
 use Rattle.proxy_core.specs.Histories.{held_entries, open_exchanges, next_serial, IsGoodHistory}
-use Rattle.proxy_core.specs.Promises.{outcome_goes_forward, outcome_ends_exchange, is_arrival_event, NoRequestArrives}
-use Rattle.proxy_core.specs.TraceMeaning.{opens_an_exchange}
+use Rattle.proxy_core.specs.Promises.{outcome_ends_exchange, is_arrival_event}
 use Rattle.proxy_core.specs.Carrying.{ArrivesBefore, IdsAreInOrderOfArrival, exchange_ids}
 use Rattle.proxy_core.specs.Sending.{StoredResponseIsReusable, MayBeSentBesideLeader}
-use Rattle.proxy_core.specs.Waiting.{RequestCouldWait, RequestWaitsWhereOneLeads, RequestIsToWait, RequestWaitsNowhereElse, exchange_has_closed, went_for, OnlyOneGoesForwardForKey, PlainLinesWaitForMisses, is_wake_event, was_woken, is_overdue_event, was_overdue, NothingButItsTimeHappened, stage_of_exchange, ExchangeMayBeWoken, RequestWaitsUntilItsLeaderEndsOrItsTime, RequestIsWokenOnceBehindItsLeaderOrItsTime, ReleasedAreInOrderOfArrival, WakeIsAcceptedExactlyWhereReady, WokenRequestIsJudgedAnew}
+use Rattle.proxy_core.specs.Waiting.{RequestCouldWait, RequestWaitsWhereOneLeads, RequestIsToWait, RequestWaitsNowhereElse, exchange_has_closed, went_for, OnlyOneGoesForwardForKey, PlainLinesWaitForMisses, ExchangeMayBeWoken, ReleasedAreInOrderOfArrival, WakeIsAcceptedExactlyWhereReady, WokenRequestIsJudgedAnew}
 use Rattle.proxy_core.proofs.Awaits.{one_named}
 use Rattle.proxy_core.proofs.Leads.{led_by, led_for, first_leads, is_led, no_leader}
 use Rattle.proxy_core.proofs.ExchangeLists.{changed_by, find-push}
-use Rattle.proxy_core.proofs.Moves.{Move, apart, opens, queues, passes, again, wakes, closes, lapses, asked_of, ended_by, move_of, and_none, is_either, answer_either, released_from, key_taken_by_step}
+use Rattle.proxy_core.proofs.Moves.{Move, apart, opens, queues, passes, again, wakes, closes, turns, lapses, asked_of, ended_by, move_of, is_either, answer_either, released_from, key_taken_by_step}
 use Rattle.proxy_core.proofs.Tracing.{same_table}
-use Rattle.proxy_core.proofs.TwiceForward.{part, not_both, fresh_arrival}
+use Rattle.proxy_core.proofs.TwiceForward.{part, not_both}
 use Rattle.proxy_core.proofs.HeldLaw.{good_plain, entries_are_held, exchanges_are_open}
 use Rattle.proxy_core.proofs.InOrder.{open_in_order_of_arrival}
 use Rattle.proxy_core.proofs.SendLaws.{arrival_is, forwards_nothing_else}
@@ -213,234 +212,9 @@ waits_nowhere_else table start first l item past g h = by_event item.event refl
     by_event (Abandon id) e = late (ap is_arrival_event e)
     by_event (Overdue id) e = late (ap is_arrival_event e)
 
--- ---- what a step of another id does to a stage
-
-abbrev stage_by : Option ℕ → Stage → Stage
-stage_by None s = s
-stage_by (Some i) s = cond (waits_for i s) Released s
-
-overtaken_stage : (key : Scope) (x : Exchange) → (overtaken_exchange key x).stage ≡ x.stage
-overtaken_stage key x = elim (is_in_scope key x.asked.target.key) as (λ b. (cond b (record x { overtaken = true }) x).stage ≡ x.stage) [
-  | true ↦ refl
-  | false ↦ refl
-]
-
-released_stage : (i : ℕ) (x : Exchange) → (released_exchange i x).stage ≡ cond (waits_for i x.stage) Released x.stage
-released_stage i x = elim (waits_for i x.stage) as (λ b. (cond b (record x { stage = Released }) x).stage ≡ cond b Released x.stage) [
-  | true ↦ refl
-  | false ↦ refl
-]
-
-stage_changed : (key : Option Scope) (gone : Option ℕ) (x : Exchange) (o : Option Exchange) → o ≡ Some x → (z : Exchange) × (changed_by key gone o ≡ Some z) × (z.stage ≡ stage_by gone x.stage)
-stage_changed None None x o h = (x, h, refl)
-stage_changed None (Some i) x o h = (released_exchange i x, ap (option_map (released_exchange i)) h, released_stage i x)
-stage_changed (Some key) None x o h = (overtaken_exchange key x, ap (option_map (overtaken_exchange key)) h, overtaken_stage key x)
-stage_changed (Some key) (Some i) x o h =
-    (overtaken_exchange key (released_exchange i x), ap (λ (o : Option Exchange). option_map (overtaken_exchange key) (option_map (released_exchange i) o)) h, overtaken_stage key (released_exchange i x) ∙ released_stage i x)
-
 or_true : (a : Bool) → true ≡ (a || true)
 or_true true = refl
 or_true false = refl
-
--- one that waits for this leader, or whose leader has ended
-abbrev waiting_stage : ℕ → Bool → Stage
-waiting_stage l closed = cond closed Released (Waiting l)
-
-other_way : (a b : ℕ) → eqb a b ≡ eqb b a
-other_way a b = by_test (eqb a b) refl
-  where
-    by_test : (c : Bool) → eqb a b ≡ c → c ≡ eqb b a
-    by_test true h = sym (eq-eqb b a (sym (eqb-true a b h)))
-    by_test false h = sym (false_from_ne_true _ (λ q. false≢true (sym h ∙ eq-eqb a b (sym (eqb-true b a q)))))
-
-stage_more : (l : ℕ) (event : Event) (o : Outcome) (closed : Bool) →
-    stage_by (ended_by event o) (waiting_stage l closed) ≡ waiting_stage l ((eqb (exchange_id_of_event event) l && (not (is_arrival_event event) && outcome_ends_exchange o)) || closed)
-stage_more l event o closed = by_end (not (is_arrival_event event) && outcome_ends_exchange o) closed
-  where
-    none : (closed : Bool) → stage_by (cond false (Some (exchange_id_of_event event)) None) (waiting_stage l closed) ≡ waiting_stage l ((eqb (exchange_id_of_event event) l && false) || closed)
-    none closed = ap (λ b. waiting_stage l (b || closed)) (sym (and_none (eqb (exchange_id_of_event event) l)))
-
-    and_true : (a : Bool) → a ≡ ((a && true) || false)
-    and_true true = refl
-    and_true false = refl
-
-    by_end : (c closed : Bool) → stage_by (cond c (Some (exchange_id_of_event event)) None) (waiting_stage l closed) ≡ waiting_stage l ((eqb (exchange_id_of_event event) l && c) || closed)
-    by_end false closed = none closed
-    by_end true true = ap (waiting_stage l) (or_true (eqb (exchange_id_of_event event) l && true))
-    by_end true false = ap (λ b. cond b Released (Waiting l)) (other_way l (exchange_id_of_event event) ∙ and_true (eqb (exchange_id_of_event event) l))
-
--- ---- until when it waits
-
-arrives_not_overdue : (event : Event) → is_arrival_event event ≡ true → is_overdue_event event ≡ false
-arrives_not_overdue (Arrive now id asked) h = refl
-arrives_not_overdue (Answer now id r) h = refl
-arrives_not_overdue (Fail now id kind) h = refl
-arrives_not_overdue (Wake now id) h = refl
-arrives_not_overdue (Abandon id) h = refl
-arrives_not_overdue (Overdue id) h = absurd (false≢true h)
-
-overdue_gives : (table : Table) (es : List Stored) (xs : List Exchange) (next : Option ℕ) (event : Event) → is_overdue_event event ≡ true → outcome_of_event table es xs next event ≡ WaitsNoMore
-overdue_gives table es xs next (Arrive now id asked) h = absurd (false≢true h)
-overdue_gives table es xs next (Answer now id r) h = absurd (false≢true h)
-overdue_gives table es xs next (Fail now id kind) h = absurd (false≢true h)
-overdue_gives table es xs next (Wake now id) h = absurd (false≢true h)
-overdue_gives table es xs next (Abandon id) h = absurd (false≢true h)
-overdue_gives table es xs next (Overdue id) h = refl
-
--- it waits still, or may be woken since its leader has ended or its time is over
-record StandsBy (id l : ℕ) (items : List Item) (y : Option Exchange) : Type 0 where
-  x : Exchange
-  y_is : y ≡ Some x
-  stage : x.stage ≡ waiting_stage l (exchange_has_closed l items || was_overdue id items)
-  unwoken : was_woken id items ≡ false
-
-stands_apart : (id l : ℕ) (i : Item) (items : List Item) (key : Option Scope) (x y : Option Exchange) → eqb (exchange_id_of_event i.event) id ≡ false → y ≡ changed_by key (ended_by i.event i.outcome) x →
-    StandsBy id l items x → StandsBy id l (i ∷ items) y
-stands_apart id l i items key x y n h s =
-    let c = stage_changed key (ended_by i.event i.outcome) s.x x s.y_is in
-    record {
-      x = c.0;
-      y_is = h ∙ c.1;
-      stage = c.2 ∙ (ap (stage_by (ended_by i.event i.outcome)) s.stage
-          ∙ (stage_more l i.event i.outcome (exchange_has_closed l items || was_overdue id items)
-          ∙ ap (waiting_stage l) (both_ways (eqb (exchange_id_of_event i.event) l && (not (is_arrival_event i.event) && outcome_ends_exchange i.outcome)) (exchange_has_closed l items) (was_overdue id items)
-          ∙ ap (λ b. exchange_has_closed l (i ∷ items) || cond (b && is_overdue_event i.event) true (was_overdue id items)) (sym n))));
-      unwoken = ap (λ b. cond (b && is_wake_event i.event) true (was_woken id items)) n ∙ s.unwoken;
-    }
-  where
-    both_ways : (a b c : Bool) → (a || (b || c)) ≡ ((a || b) || c)
-    both_ways true b c = refl
-    both_ways false b c = refl
-
--- its time to wait is over
-stands_past : (id l : ℕ) (i : Item) (items : List Item) (z : Exchange) (y : Option Exchange) → i.event ≡ Overdue id → y ≡ Some (exchange_past_its_wait z) → was_woken id items ≡ false → StandsBy id l (i ∷ items) y
-stands_past id l i items z y e h unwoken =
-    let over : was_overdue id (i ∷ items) ≡ true = ap (λ (v : Event). cond (eqb (exchange_id_of_event v) id && is_overdue_event v) true (was_overdue id items)) e ∙ ap (λ b. cond (b && true) true (was_overdue id items)) (eq-eqb id id refl) in
-    record {
-      x = exchange_past_its_wait z;
-      y_is = h;
-      stage = sym (ap (λ b. waiting_stage l (exchange_has_closed l (i ∷ items) || b)) over ∙ ap (waiting_stage l) (sym (or_true (exchange_has_closed l (i ∷ items)))));
-      unwoken = ap (λ (v : Event). cond (eqb (exchange_id_of_event v) id && is_wake_event v) true (was_woken id items)) e ∙ (ap (λ b. cond b true (was_woken id items)) (and_none (eqb id id)) ∙ unwoken);
-    }
-
-module _ (table : Table) (start : StoreAtStart) (first l : ℕ) (before : List Item) (arrival : Item) where
-  abbrev begun : State
-  begun = initial_state table start first
-
-  abbrev id : ℕ
-  id = exchange_id_of_event arrival.event
-
-  abbrev exchange : List Item → Option Exchange
-  exchange items = find_exchange id (state_after_trace begun (items ++ arrival ∷ before)).exchanges
-
-  -- it waits, went forward, or is over
-  data Fate (items : List Item) (y : Option Exchange) : Type 0 where
-    stands_by : StandsBy id l items y → Fate items y
-    out : (x : Exchange) → y ≡ Some x → x.stage ≡ Forwarded → Fate items y
-    over : y ≡ None → Fate items y
-
-  at_first : IsGood begun (arrival ∷ before) → arrival.outcome ≡ Waits l → StandsBy id l [] (exchange [])
-  at_first g w = by_move (exchange []) (move_of table (state_after_trace begun before) arrival id (same_table begun before) g.0)
-    where
-      here : eqb (exchange_id_of_event arrival.event) (exchange_id_of_event arrival.event) ≡ true
-      here = eq-eqb (exchange_id_of_event arrival.event) (exchange_id_of_event arrival.event) refl
-
-      no_end : outcome_ends_exchange arrival.outcome ≡ true → ⊥
-      no_end h = false≢true (sym (ap outcome_ends_exchange w) ∙ h)
-
-      no_forward : outcome_goes_forward arrival.outcome ≡ true → ⊥
-      no_forward h = false≢true (sym (ap outcome_goes_forward w) ∙ h)
-
-      by_move : (y : Option Exchange) → Move id (find_exchange (exchange_id_of_event arrival.event) (state_after_trace begun before).exchanges) arrival.event arrival.outcome (find_exchange id (state_after_trace begun before).exchanges) y → StandsBy id l [] y
-      by_move y (apart n h) = absurd (false≢true (sym n ∙ here))
-      by_move y (opens at es now asked line e x_is f h) = absurd (no_forward f)
-      by_move y (queues at es now asked line m e x_is f k h) =
-          let same : m ≡ l = same_wait m l (sym f ∙ w) in
-          record { x = waiting_exchange at es now id asked line m; y_is = h; stage = ap (λ n. Waiting n) same; unwoken = refl }
-        where
-          same_wait : (a b : ℕ) → Waits a ≡ Waits b → a ≡ b
-          same_wait a b q = cc
-      by_move y (passes t e x_is f h) = absurd (false≢true (sym f ∙ ap opens_an_exchange w))
-      by_move y (again z now t e x_is c f h j s) = absurd (no_forward f)
-      by_move y (wakes at es z now e x_is s f h) = absurd (no_forward f)
-      by_move y (closes z t e x_is f h) = absurd (no_end f)
-      by_move y (lapses z e x_is s f h) = absurd (false≢true (sym (ap is_wait f) ∙ ap is_wait w))
-
-  fate_more : (i : Item) (items : List Item) (x y : Option Exchange) (w : Option Exchange) → (eqb (exchange_id_of_event i.event) id && is_arrival_event i.event) ≡ false → Move id w i.event i.outcome x y → Fate items x → Fate (i ∷ items) y
-  fate_more i items x y w a (apart n h) (stands_by s) = stands_by (stands_apart id l i items (key_taken_by_step (asked_of w) i.event i.outcome) x y n h s)
-  fate_more i items x y w a (apart n h) (out z x_is s) =
-      let c = stage_changed (key_taken_by_step (asked_of w) i.event i.outcome) (ended_by i.event i.outcome) z x x_is in
-      out c.0 (h ∙ c.1) (c.2 ∙ (ap (stage_by (ended_by i.event i.outcome)) s ∙ stays (ended_by i.event i.outcome)))
-    where
-      stays : (gone : Option ℕ) → stage_by gone Forwarded ≡ Forwarded
-      stays None = refl
-      stays (Some j) = refl
-  fate_more i items x y w a (apart n h) (over x_is) =
-      over (h ∙ (ap (changed_by (key_taken_by_step (asked_of w) i.event i.outcome) (ended_by i.event i.outcome)) x_is ∙ none_changed (key_taken_by_step (asked_of w) i.event i.outcome) (ended_by i.event i.outcome)))
-    where
-      none_changed : (key : Option Scope) (gone : Option ℕ) → changed_by key gone None ≡ None
-      none_changed None None = refl
-      none_changed None (Some j) = refl
-      none_changed (Some key) None = refl
-      none_changed (Some key) (Some j) = refl
-  fate_more i items x y w a (opens at es now asked line e x_is f h) s = absurd (fresh_arrival id now asked i.event e a)
-  fate_more i items x y w a (queues at es now asked line m e x_is f k h) s = absurd (fresh_arrival id now asked i.event e a)
-  fate_more i items x y w a (passes t e x_is f h) s = absurd (not_both _ _ t e a)
-  fate_more i items x y w a (again z now t e x_is c f h j r) s = out _ h (out_is z.stage r)
-    where
-      out_is : (t : Stage) → is_forwarded t ≡ true → Forwarded ≡ Forwarded
-      out_is t r = refl
-  fate_more i items x y w a (wakes at es z now e x_is r f h) s = out _ h refl
-  fate_more i items x y w a (closes z t e x_is f h) s = over h
-  fate_more i items x y w a (lapses z e x_is s f h) (stands_by b) = stands_by (stands_past id l i items z y e h b.unwoken)
-  fate_more i items x y w a (lapses z e x_is s f h) (out v y_is stage) =
-      let at : z.stage ≡ Forwarded = ap (λ (u : Exchange). u.stage) (same_Some z v (sym x_is ∙ y_is)) ∙ stage in
-      absurd (false≢true (sym (ap is_waiting at) ∙ s))
-  fate_more i items x y w a (lapses z e x_is s f h) (over none) =
-      let no : None ≡ Some z = sym none ∙ x_is in
-      absurd (cc)
-
-  fate : (items : List Item) → IsGood begun (items ++ arrival ∷ before) → arrival.outcome ≡ Waits l → NoRequestArrives id items → Fate items (exchange items)
-  fate [] g w n = stands_by (at_first g w)
-  fate (i ∷ items) g w n =
-      fate_more i items (exchange items) (exchange (i ∷ items)) _ n.0 (move_of table (state_after_trace begun (items ++ arrival ∷ before)) i id (same_table begun (items ++ arrival ∷ before)) g.0) (fate items g.1 w n.1)
-
-  -- while nothing but the end of its time happens to it
-  applies : (items : List Item) → IsGood begun (items ++ arrival ∷ before) → arrival.outcome ≡ Waits l → NothingButItsTimeHappened id items → StandsBy id l items (exchange items)
-  applies [] g w n = at_first g w
-  applies (i ∷ items) g w n =
-      by_move (applies items g.1 w n.1) (exchange (i ∷ items)) (move_of table (state_after_trace begun (items ++ arrival ∷ before)) i id (same_table begun (items ++ arrival ∷ before)) g.0)
-    where
-      not_it : (e : Event) → i.event ≡ e → exchange_id_of_event e ≡ id → is_overdue_event e ≡ false → ⊥
-      not_it e q same other =
-          false≢true (sym n.0 ∙ (ap (λ b. b && not (is_overdue_event i.event)) (eq-eqb (exchange_id_of_event i.event) id (ap exchange_id_of_event q ∙ same)) ∙ ap not (ap is_overdue_event q ∙ other)))
-
-      no_lapse : (test : Outcome → Bool) → test WaitsNoMore ≡ false → test i.outcome ≡ true → is_overdue_event i.event ≡ false
-      no_lapse test fails holds = by_kind (is_overdue_event i.event) refl
-        where
-          by_kind : (b : Bool) → is_overdue_event i.event ≡ b → is_overdue_event i.event ≡ false
-          by_kind true k = absurd (false≢true (sym fails ∙ (sym (ap test (g.0.outcome_is ∙ overdue_gives _ _ _ _ i.event k)) ∙ holds)))
-          by_kind false k = k
-
-      not_its : eqb (exchange_id_of_event i.event) id ≡ true → is_overdue_event i.event ≡ false → ⊥
-      not_its t other = false≢true (sym n.0 ∙ (ap (λ b. b && not (is_overdue_event i.event)) t ∙ ap not other))
-
-      by_move : StandsBy id l items (exchange items) → (y : Option Exchange) → Move id (find_exchange (exchange_id_of_event i.event) (state_after_trace begun (items ++ arrival ∷ before)).exchanges) i.event i.outcome (exchange items) y → StandsBy id l (i ∷ items) y
-      by_move was y (apart k h) = stands_apart id l i items _ (exchange items) y k h was
-      by_move was y (opens at es now asked line e x_is f h) = absurd (not_it (Arrive now id asked) e refl refl)
-      by_move was y (queues at es now asked line m e x_is f k h) = absurd (not_it (Arrive now id asked) e refl refl)
-      by_move was y (passes t e x_is f h) = absurd (not_its t (arrives_not_overdue i.event e))
-      by_move was y (again z now t e x_is c f h j s) = absurd (not_its t (no_lapse outcome_goes_forward refl f))
-      by_move was y (wakes at es z now e x_is s f h) = absurd (not_it (Wake now id) e refl refl)
-      by_move was y (closes z t e x_is f h) = absurd (not_its t (no_lapse outcome_ends_exchange refl f))
-      by_move was y (lapses z e x_is s f h) = stands_past id l i items z y e h was.unwoken
-
-pub waits_until_its_leader_ends : RequestWaitsUntilItsLeaderEndsOrItsTime
-waits_until_its_leader_ends table start first l items before arrival g w n =
-    let p = good_plain table start first (items ++ arrival ∷ before) g in
-    let s = applies table start first l before arrival items p w n in
-    ap (λ xs. stage_of_exchange (find_exchange (exchange_id_of_event arrival.event) xs)) (sym (exchanges_are_open table start first (items ++ arrival ∷ before) p))
-    ∙ (ap stage_of_exchange s.y_is ∙ ap (λ (t : Stage). Some t) s.stage)
 
 -- ---- the wake
 
@@ -450,33 +224,6 @@ ready_by xs now id h = by_open (find_exchange id xs) refl h
     by_open : (w : Option Exchange) → find_exchange id xs ≡ w → fault_at_exchange w (Wake now id) ≡ None → ExchangeMayBeWoken id xs
     by_open None e h = absurd (cc)
     by_open (Some x) e h = record { x = x; is_open = e; stage = released_from (moment_too_late_fault now) x.stage h }
-
-closed_by : (l : ℕ) (closed : Bool) → is_released (waiting_stage l closed) ≡ true → closed ≡ true
-closed_by l true h = refl
-closed_by l false h = absurd (false≢true h)
-
-pub woken_once_behind_its_leader : RequestIsWokenOnceBehindItsLeaderOrItsTime
-woken_once_behind_its_leader table start first now l items before wake arrival g w e n =
-    let p = good_plain table start first (wake ∷ (items ++ arrival ∷ before)) g in
-    let id = exchange_id_of_event arrival.event in
-    let xs = (state_after_trace (initial_state table start first) (items ++ arrival ∷ before)).exchanges in
-    let r = ready_by xs now id (ap (step_fault xs) (sym e) ∙ p.0.allowed) in
-    by_fate r (fate table start first l before arrival items p.1 w n)
-  where
-    same_stage : (y : Option Exchange) (a b : Exchange) → y ≡ Some a → y ≡ Some b → a.stage ≡ b.stage
-    same_stage y a b h k = ap (λ (z : Exchange). z.stage) (same_Some a b (sym h ∙ k))
-
-    by_fate : ExchangeMayBeWoken (exchange_id_of_event arrival.event) (state_after_trace (initial_state table start first) (items ++ arrival ∷ before)).exchanges →
-        Fate table start first l before arrival items (find_exchange (exchange_id_of_event arrival.event) (state_after_trace (initial_state table start first) (items ++ arrival ∷ before)).exchanges) →
-        ((exchange_has_closed l items || was_overdue (exchange_id_of_event arrival.event) items) ≡ true) × (was_woken (exchange_id_of_event arrival.event) items ≡ false)
-    by_fate r (stands_by s) =
-        let over : Bool = exchange_has_closed l items || was_overdue (exchange_id_of_event arrival.event) items in
-        let same : r.x.stage ≡ waiting_stage l over = same_stage _ r.x s.x r.is_open s.y_is ∙ s.stage in
-        (closed_by l over (ap is_released (sym same) ∙ r.stage), s.unwoken)
-    by_fate r (out x y_is s) = absurd (false≢true (ap is_released (sym s ∙ sym (same_stage _ r.x x r.is_open y_is)) ∙ r.stage))
-    by_fate r (over y_is) =
-        let none : None ≡ Some r.x = sym y_is ∙ r.is_open in
-        absurd (cc)
 
 -- ---- those that may be woken
 
@@ -647,6 +394,9 @@ module _ (table : Table) (start : StoreAtStart) (first now id : ℕ) (rule : Reu
   origin_more i items w x y (wakes at es z t e x_is s f h) a =
       let same : z.stage ≡ Forwarded = ap (λ (v : Exchange). v.stage) (same_Some z a.x (sym x_is ∙ a.y_is)) ∙ a.stage in
       absurd (false≢true (ap is_released (sym same) ∙ s))
+  origin_more i items w x y (turns z j m e n x_is r f h) a =
+      let same : z.stage ≡ Forwarded = ap (λ (v : Exchange). v.stage) (same_Some z a.x (sym x_is ∙ a.y_is)) ∙ a.stage in
+      absurd (false≢true (sym (ap (waits_for j) same) ∙ r))
   origin_more i items w x y (lapses z e x_is s f h) a =
       let same : z.stage ≡ Forwarded = ap (λ (v : Exchange). v.stage) (same_Some z a.x (sym x_is ∙ a.y_is)) ∙ a.stage in
       absurd (false≢true (sym (ap is_waiting same) ∙ s))

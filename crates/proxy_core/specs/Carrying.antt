@@ -22,6 +22,8 @@ use Rattle.proxy_core.specs.declared.outcome.Outcome.TheVariants.{Forward, Waits
 use Rattle.proxy_core.specs.declared.event.Event.{Event}
 use Rattle.proxy_core.specs.declared.event.Event.TheVariants.{Arrive, Answer, Fail, Wake, Abandon, Overdue}
 use Rattle.proxy_core.specs.Validating.{condition_about_serial}
+use Rattle.proxy_core.specs.Leading.{is_waiting}
+use Rattle.proxy_core.specs.LeadingOn.{wait_has_an_end}
 use Rattle.proxy_core.specs.Outcomes.{find_exchange, exchange_id_of_event, forward_text}
 use Rattle.proxy_core.specs.Traces.{Item}
 use Rattle.proxy_core.specs.Histories.{held_entries, open_exchanges, IsGoodHistory}
@@ -76,12 +78,14 @@ pub record WentForwardASecondTime (table : Table) (x : Exchange) (since : List I
   pub request_time : x.request_time ≡ now
   pub condition : x.condition ≡ None
 
--- it has waited since it arrived, for the one of this id, and may be released by that one's end
+-- It has waited since it arrived: for the one of this id, until it was released, or, where it waits for a limited time,
+-- for the one that led on behind that.
 pub record HasWaitedSinceItsArrival (table : Table) (start : StoreAtStart) (x : Exchange) (since before : List Item)
     (outcome : Outcome) : Type 0 where
   pub leader : ℕ
   pub outcome_is : outcome ≡ Waits leader
-  pub stage : (x.stage ≡ Waiting leader) ⊎ (x.stage ≡ Released)
+  pub stage : (x.stage ≡ Waiting leader)
+      ⊎ ((x.stage ≡ Released) ⊎ ((is_waiting x.stage ≡ true) × (wait_has_an_end table x ≡ true)))
   pub since_then : count_of_outcomes outcome_goes_forward x.id since ≡ 0
   pub against : Option ℕ
   pub names : RuleNamesTheResponse (held_entries table start before) x.asked x.rule against

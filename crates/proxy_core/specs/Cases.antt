@@ -1,5 +1,5 @@
 -- The messages, stored responses and exchanges that the laws of worked cases speak of.
-use Rattle.std.specs.Prelude.{ℕ, true, false, List, [], ◌∷◌, codes, Some, None}
+use Rattle.std.specs.Prelude.{ℕ, true, false, List, [], ◌∷◌, map, codes, Some, None}
 use Rattle.hx_policy.specs.declared.words.Policy.{Policy}
 use Rattle.hx_policy.specs.Policies.{plain}
 use Rattle.hx_fields.specs.declared.field_line.Field.{Field}
@@ -14,6 +14,7 @@ use Rattle.hx_allow.specs.Matching.{over_line}
 use Rattle.hx_store.specs.Stored.{Stored}
 use Rattle.hx_reuse.specs.declared.rule.ReuseRule.TheVariants.{UriMiss, NoLifetime, NoMaxStale}
 use Rattle.proxy_core.specs.Leading.{has_no_store}
+use Rattle.proxy_core.specs.declared.open.stage.Stage.{Stage}
 use Rattle.proxy_core.specs.declared.open.stage.Stage.TheVariants.{Forwarded, Waiting}
 use Rattle.proxy_core.specs.declared.open.exchange.Exchange.{Exchange}
 use Rattle.proxy_core.specs.declared.outcome.Outcome.{Outcome}
@@ -73,6 +74,12 @@ varying_table = record table { lines = record line_with_no_cache { vary = codes 
 abbrev pub table_with_policy : Policy → Table
 table_with_policy policy = record table { lines = record line_with_no_cache { policy = policy } ∷ [] }
 
+-- the same with the words of its one line, over which a request waits for five seconds at most
+abbrev pub table_with_waits : Policy → Table
+table_with_waits policy = record table {
+  lines = record line_with_no_cache { policy = policy; wait_timeout = Some 5 } ∷ [];
+}
+
 abbrev pub serves_ranges_policy : Policy
 serves_ranges_policy = record (plain true) { forwards_ranges = false }
 
@@ -126,6 +133,10 @@ varied_by_scheme x = record x { vary = codes "X-Forwarded-Proto" ∷ [] }
 abbrev pub removing_cookies : Exchange → Exchange
 removing_cookies x = record x { removes_cookies = true }
 
+-- a line of a table of version 4 hides tags
+abbrev pub hiding_policy : Policy
+hiding_policy = record (plain true) { hides_tags = true }
+
 abbrev pub removing_policy : Policy
 removing_policy = record (plain true) { removes_cookies = true }
 
@@ -162,6 +173,19 @@ forwarded_over_line_2 = record (forwarded_on_miss (get_a_with [])) { line = over
 abbrev pub waiting : Exchange
 waiting = record (forwarded_on_miss (get_a_with [])) { id = 2; stage = Waiting 1 }
 
+-- the exchange of this id, which waits for this one, and the stages in which some stand
+abbrev pub waits_behind : ℕ → ℕ → Asked → Exchange
+waits_behind leader id asked = record (forwarded_on_miss asked) { id = id; stage = Waiting leader }
+
+abbrev pub stages_of : List Exchange → List Stage
+stages_of xs = map (λ (x : Exchange). x.stage) xs
+
+-- the first leads, two wait for it behind the one of this request, and one waits for another
+abbrev pub crowd_behind : Asked → List Exchange
+crowd_behind asked =
+    forwarded_on_miss (get_a_with []) ∷ waits_behind 1 2 asked ∷ waits_behind 1 3 (get_a_with [])
+    ∷ waits_behind 7 4 (get_a_with []) ∷ waits_behind 1 5 (get_a_with []) ∷ []
+
 -- one that asked about the stored response of serial 1, which states no lifetime, by its tag
 abbrev pub revalidates_e : Asked → Exchange
 revalidates_e asked =
@@ -181,6 +205,9 @@ response_with status fields = record { status = status; fields = fields; content
 
 abbrev pub cache_control : List ℕ → Field
 cache_control value = line (codes "Cache-Control") value
+
+abbrev pub cache_tag : List ℕ → Field
+cache_tag value = line (codes "Cache-Tag") value
 
 abbrev pub etag_field : List ℕ → Field
 etag_field value = line (codes "ETag") value
@@ -218,6 +245,17 @@ stored_with serial fields = record {
 
 abbrev pub first_stored : Stored
 first_stored = stored_with 1 first_answer_fields
+
+-- one of /a with these tags
+abbrev pub stored_with_tags : ℕ → List ℕ → Stored
+stored_with_tags serial tags = stored_with serial (cache_tag tags ∷ first_answer_fields)
+
+-- four that are held: one of another host, and three of /a, of which one has no tag
+abbrev pub tagged_held : List Stored
+tagged_held =
+    record (stored_with_tags 4 (codes "news")) { key = record (key_of_path (codes "/c")) { host = codes "g" } }
+    ∷ stored_with_tags 3 (codes "sport, old-news") ∷ stored_with 2 first_answer_fields
+    ∷ stored_with_tags 1 (codes "front,news") ∷ []
 
 -- one that was asked for in this language
 abbrev pub stored_in_language : ℕ → List ℕ → Stored

@@ -144,8 +144,8 @@ pub record Headline (table : Table) (start : StoreAtStart) (first : ℕ) (trace 
   pub stores_where_it_may : HoldsAtEachItem (AnswerIsStoredExactlyWhereItMayBe table start first) trace
   pub removes_what_goes : HoldsAtEachItem (StoredResponsesAreRemovedExactlyWhereTheyMustBe table start) trace
   pub closes_as_asked : HoldsAtEachItem ConnectionClosesAsAsked trace
-  pub nothing_invalidated_is_sent : NothingInvalidatedIsSent trace
-  pub nothing_invalidated_since : NothingInvalidatedSinceTheStartIsSent start.entries trace
+  pub nothing_invalidated_is_sent : NothingInvalidatedIsSent table start trace
+  pub nothing_invalidated_since : NothingInvalidatedSinceTheStartIsSent table start trace
   pub twice_forward_one_reply : TwiceForwardOneReply trace
   pub denied_leave_no_trace : DeniedRequestsLeaveNoTrace table trace
 

@@ -2,11 +2,13 @@
 -- its latest item first.
 --
 -- held_serials: what is held          held_entry: the response of a serial     held_entries: those held
+-- lines_held: its lines
 -- store_changes: what was done to the store, with weights
 -- open_exchanges: the open exchanges  next_serial: the next serial
 -- IsGoodHistory: each item is what its case gives over these                   HistoryStopsAt: why a run stopped
 use Rattle.std.specs.Prelude.{◌≡◌, ◌⊎◌, ℕ, List, [], ◌∷◌, Option, Some, None, option_map, cond}
 use Rattle.std.specs.List.{filter_map}
+use Rattle.hx_fields.specs.declared.field_line.Field.{Field}
 use Rattle.hx_allow.specs.TableLines.{Table}
 use Rattle.hx_store.specs.Stored.{Stored}
 use Rattle.hx_store.specs.Shelf.{find_entry}
@@ -82,6 +84,14 @@ open_exchanges table start past = (exchanges_and_responses_after table start pas
 
 abbrev pub held_entry : Table → StoreAtStart → List Item → ℕ → Option Stored
 held_entry table start past s = (exchanges_and_responses_after table start past).entry s
+
+abbrev pub lines_if_any : Option Stored → List Field
+lines_if_any None = []
+lines_if_any (Some e) = e.fields
+
+-- its lines
+abbrev pub lines_held : Table → StoreAtStart → List Item → ℕ → List Field
+lines_held table start past s = lines_if_any (held_entry table start past s)
 
 -- the responses that are held after a trace, the latest stored or used first
 abbrev pub held_entries : Table → StoreAtStart → List Item → List Stored

@@ -2,6 +2,7 @@ pub mod Moments
 pub mod Replies
 pub mod Storing
 pub mod Leading
+pub mod LeadingOn
 pub mod Allowing
 pub mod Awaiting
 pub mod Revalidating

@@ -2,10 +2,13 @@
 --
 -- count_of_outcomes: how many items of an exchange's id have such an outcome
 -- latest_request_of: the request of an exchange
--- invalidates_key: an item that invalidates what is held for a key
+-- overtakes_key: an item that overtakes what is on its way for a key
+-- invalidates_response: one that invalidates what is held for it
 -- TwiceForwardOneReply, NothingInvalidatedIsSent, NothingInvalidatedSinceTheStartIsSent: the promises
 use Rattle.std.specs.Prelude.{◌≡◌, ℕ, ◌+◌, ◌≤◌, ◌==◌, ◌&&◌, ◌||◌, Bool, true, false, List, [], ◌∷◌, ◌++◌}
 use Rattle.std.specs.Prelude.{Option, Some, None, is_none, cond, option_map}
+use Rattle.hx_fields.specs.declared.field_line.Field.{Field}
+use Rattle.hx_allow.specs.TableLines.{Table}
 use Rattle.hx_store.specs.Stored.{Stored}
 use Rattle.hx_store.specs.Shelf.{find_entry}
 use Rattle.hx_framing.specs.declared.messages.Response.{Response}
@@ -17,9 +20,11 @@ use Rattle.proxy_core.specs.declared.event.Event.{Event}
 use Rattle.proxy_core.specs.declared.event.Event.TheVariants.{Arrive, Answer, Fail, Wake, Abandon, Overdue}
 use Rattle.proxy_core.specs.Storing.{status_invalidates}
 use Rattle.proxy_core.specs.Outcomes.{exchange_id_of_event}
-use Rattle.proxy_core.specs.Scopes.{Scope, is_in_scope, target_alone}
+use Rattle.proxy_core.specs.Scopes.{Scope, is_in_scope, scope_takes, target_alone}
 use Rattle.proxy_core.specs.State.{serial_stored_by_outcome, serial_used_by_outcome, scope_purged}
+use Rattle.proxy_core.specs.Starts.{StoreAtStart}
 use Rattle.proxy_core.specs.Traces.{Item}
+use Rattle.proxy_core.specs.Histories.{lines_held}
 
 abbrev pub outcome_goes_forward : Outcome → Bool
 outcome_goes_forward (Forward line bytes) = true
@@ -103,7 +108,8 @@ abbrev pub key_invalidated_by_answer : Asked → Response → Option Key
 key_invalidated_by_answer asked r = cond (status_invalidates asked r.status) (Some asked.target.key) None
 
 -- What an event with its outcome invalidates: where it is an answer, the target of an exchange with this request.
--- own: a request that purges invalidates what is within its scope ("A purge has a key")
+-- own: a request that purges invalidates what is within its scope, of that with a tag what names the tag ("A purge has
+-- a key")
 abbrev pub scope_invalidated_by_event : Option Asked → Event → Outcome → Option Scope
 scope_invalidated_by_event (Some asked) (Answer now id r) outcome =
     option_map target_alone (key_invalidated_by_answer asked r)
@@ -114,32 +120,51 @@ scope_invalidated_by_event asked (Wake now id) outcome = None
 scope_invalidated_by_event asked (Abandon id) outcome = None
 scope_invalidated_by_event asked (Overdue id) outcome = None
 
-abbrev pub is_invalidated_key : Option Scope → Key → Bool
-is_invalidated_key None key = false
-is_invalidated_key (Some scope) key = is_in_scope scope key
+abbrev pub is_overtaken_key : Option Scope → Key → Bool
+is_overtaken_key None key = false
+is_overtaken_key (Some scope) key = is_in_scope scope key
 
--- this item, after this past, invalidates the key
-abbrev pub invalidates_key : Key → Item → List Item → Bool
-invalidates_key key i past = is_invalidated_key
+-- this item, after this past, overtakes what was asked for under the key before it: that isn't stored, whatever tags it
+-- will name
+abbrev pub overtakes_key : Key → Item → List Item → Bool
+overtakes_key key i past = is_overtaken_key
     (scope_invalidated_by_event (latest_request_of (exchange_id_of_event i.event) past) i.event i.outcome) key
 
--- none of these items, after this past, invalidates the key
-abbrev pub NoItemInvalidates : Key → List Item → List Item → Type 0
-NoItemInvalidates key [] past = Unit {0}
-NoItemInvalidates key (i ∷ items) past = (invalidates_key key i (items ++ past) ≡ false)
-    × NoItemInvalidates key items past
+-- none of these items, after this past, does
+abbrev pub NoItemOvertakes : Key → List Item → List Item → Type 0
+NoItemOvertakes key [] past = Unit {0}
+NoItemOvertakes key (i ∷ items) past = (overtakes_key key i (items ++ past) ≡ false)
+    × NoItemOvertakes key items past
 
 -- some of them does
-abbrev pub some_item_invalidates : Key → List Item → List Item → Bool
-some_item_invalidates key [] past = false
-some_item_invalidates key (i ∷ items) past = invalidates_key key i (items ++ past)
-    || some_item_invalidates key items past
+abbrev pub some_item_overtakes : Key → List Item → List Item → Bool
+some_item_overtakes key [] past = false
+some_item_overtakes key (i ∷ items) past = overtakes_key key i (items ++ past)
+    || some_item_overtakes key items past
+
+abbrev pub is_invalidated_response : Option Scope → Key → List Field → Bool
+is_invalidated_response None key fields = false
+is_invalidated_response (Some scope) key fields = scope_takes scope key fields
+
+-- this item, after this past, invalidates the response of a serial that is held for the key: without a tag by the key
+-- alone; by a purge with a tag where the lines that the response has then name it, too
+abbrev pub invalidates_response : Table → StoreAtStart → ℕ → Key → Item → List Item → Bool
+invalidates_response table start s key i past = is_invalidated_response
+    (scope_invalidated_by_event (latest_request_of (exchange_id_of_event i.event) past) i.event i.outcome) key
+    (lines_held table start past s)
+
+-- none of these items, after this past, does
+abbrev pub NoItemInvalidates : Table → StoreAtStart → ℕ → Key → List Item → List Item → Type 0
+NoItemInvalidates table start s key [] past = Unit {0}
+NoItemInvalidates table start s key (i ∷ items) past =
+    (invalidates_response table start s key i (items ++ past) ≡ false)
+    × NoItemInvalidates table start s key items past
 
 -- Let an item send the stored response s, and let f be the last going forward, before s was stored,
--- of the exchange that stored s. No item after f and before the sending item invalidates the key of
--- s, which is that of the exchange's request.
-abbrev pub NothingInvalidatedIsSent : List Item → Type 0
-NothingInvalidatedIsSent trace =
+-- of the exchange that stored s. No item between storing and sending invalidates that response, and none
+-- between f and the storing overtakes its key, which is that of the exchange's request.
+abbrev pub NothingInvalidatedIsSent : Table → StoreAtStart → List Item → Type 0
+NothingInvalidatedIsSent table start trace =
     (later middle between before : List Item) (sending storing f : Item) (s : ℕ) (asked : Asked) →
     later ++ (sending ∷ (middle ++ (storing ∷ (between ++ f ∷ before)))) ≡ trace →
     serial_used_by_outcome sending.outcome ≡ Some s →
@@ -148,13 +173,12 @@ NothingInvalidatedIsSent trace =
     exchange_id_of_event f.event ≡ exchange_id_of_event storing.event →
     count_of_outcomes outcome_goes_forward (exchange_id_of_event storing.event) between ≡ 0 →
     latest_request_of (exchange_id_of_event storing.event) (f ∷ before) ≡ Some asked →
-    NoItemInvalidates asked.target.key middle (storing ∷ (between ++ f ∷ before))
-    × NoItemInvalidates asked.target.key (storing ∷ between) (f ∷ before)
+    NoItemInvalidates table start s asked.target.key middle (storing ∷ (between ++ f ∷ before))
+    × NoItemOvertakes asked.target.key (storing ∷ between) (f ∷ before)
 
--- What was held at first was stored by no item. Let an item send such a response: no item before it invalidates its
--- key.
-abbrev pub NothingInvalidatedSinceTheStartIsSent : List Stored → List Item → Type 0
-NothingInvalidatedSinceTheStartIsSent entries trace =
+-- What was held at first was stored by no item. Let an item send such a response: no item before it invalidates it.
+abbrev pub NothingInvalidatedSinceTheStartIsSent : Table → StoreAtStart → List Item → Type 0
+NothingInvalidatedSinceTheStartIsSent table start trace =
     (later before : List Item) (sending : Item) (s : ℕ) (response : Stored) →
     later ++ sending ∷ before ≡ trace → serial_used_by_outcome sending.outcome ≡ Some s →
-    find_entry s entries ≡ Some response → NoItemInvalidates response.key before []
+    find_entry s start.entries ≡ Some response → NoItemInvalidates table start s response.key before []

@@ -2,13 +2,14 @@
 --
 -- stored_text: a stored response, whole, in part or as a 304
 -- passed_answer_text: an answer of the origin, whole, in part or as a 304
--- refusal_reply_text: the proxy's own
+-- refusal_reply_text: the proxy's own          without_tags: what is left where tags are hidden
 use Rattle.std.specs.Prelude.{ℕ, ℤ, ◌+◌, ◌==◌, ◌&&◌, ◌||◌, List, [], ◌∷◌, ◌++◌, length, slice_range, codes, bytes_eq}
 use Rattle.std.specs.Prelude.{decimal, Bool, true}
 use Rattle.std.specs.Prelude.{false, Option}
 use Rattle.std.specs.Prelude.{Some, None, cond}
 use Rattle.std.specs.Fmt.{decimal}
 use Rattle.hx_fields.specs.declared.field_line.Field.{Field}
+use Rattle.hx_fields.specs.FieldLines.{without_named}
 use Rattle.hx_framing.specs.Text.{response_text}
 use Rattle.hx_framing.specs.declared.messages.Response.{Response}
 use Rattle.hx_age.specs.Age.{times_of, age_of, ttl_of}
@@ -67,11 +68,20 @@ cache_status_of_sent status e now info = record {
   not_stored = None;
 }
 
--- with this status: these of the stored lines, then Age (RFC 9111, section 5.1) and Cache-Status
-abbrev pub fields_of_sent_response : List ℕ → ℕ → List Field → Stored → ℕ → CacheStatusInfo → List Field
-fields_of_sent_response name status fields e now info =
+-- own: over a line of a table of version 4 the tags of an answer stay with the proxy ("Tags stay with the proxy")
+abbrev pub without_tags : Bool → List Field → List Field
+without_tags hides fields = cond hides (without_named fields (codes "Cache-Tag")) fields
+
+-- with this status: these lines, then Age (RFC 9111, section 5.1) and Cache-Status
+abbrev pub fields_with_age_and_status : List ℕ → ℕ → List Field → Stored → ℕ → CacheStatusInfo → List Field
+fields_with_age_and_status name status fields e now info =
     (fields ++ line (codes "Age") (decimal (age_of e.times now)) ∷ [])
     ++ line (codes "Cache-Status") (member_text name (cache_status_of_sent status e now info)) ∷ []
+
+-- these of the stored lines, without tags where those are hidden, and both
+abbrev pub fields_of_sent_response : List ℕ → ℕ → List Field → Stored → ℕ → CacheStatusInfo → List Field
+fields_of_sent_response name status fields e now info =
+    fields_with_age_and_status name status (without_tags info.policy.hides_tags fields) e now info
 
 -- no length where the status has none (RFC 9110, section 8.6)
 abbrev pub length_unless_forbidden : ℕ → Option ℕ → Option ℕ
@@ -87,10 +97,10 @@ whole_stored_text name e now info asked =
     (length_unless_forbidden e.status (Some (length e.content))) asked.close
     (content_unless_head (is_head asked) e.content)
 
--- the client has it already (RFC 9110, section 15.4.5)
+-- the client has it already (RFC 9110, section 15.4.5); a 304 carries few lines, and no tags
 abbrev pub not_modified_text : List ℕ → Stored → ℕ → CacheStatusInfo → Asked → List ℕ
 not_modified_text name e now info asked =
-    response_text 304 (fields_of_sent_response name 304 (fields_of_304 e.fields) e now info) None asked.close []
+    response_text 304 (fields_with_age_and_status name 304 (fields_of_304 e.fields) e now info) None asked.close []
 
 -- the form in which a stored response is sent: over a line that doesn't forward ranges the part of it that the request
 -- asks for, or that none is there (RFC 9110, sections 14.2, 15.3.7 and 15.5.17)
@@ -138,11 +148,11 @@ cache_status_of_passed_answer policy x status fields now stored rule = record {
   not_stored = rule;
 }
 
--- the answer's lines as rules see them, then Cache-Status
+-- the answer's lines as rules see them, without tags where those are hidden, then Cache-Status
 abbrev pub fields_of_passed_answer : Policy → List ℕ → Exchange → ℕ → List Field → ℕ → Bool → Option StoreRule
     → List Field
 fields_of_passed_answer policy name x status fields now stored rule =
-    fields ++ line (codes "Cache-Status")
+    without_tags policy.hides_tags fields ++ line (codes "Cache-Status")
     (member_text name (cache_status_of_passed_answer policy x status fields now stored rule)) ∷ []
 
 -- an answer of the origin, whole: it says whether it was stored, and perhaps why not
@@ -162,11 +172,11 @@ abbrev pub cache_status_in_place_of_answer : Policy → Exchange → ℕ → Lis
 cache_status_in_place_of_answer policy x status fields now stored rule =
     record (cache_status_of_passed_answer policy x status fields now stored rule) { fwd_status = Some status }
 
--- behind these lines of its own
+-- behind these lines of its own, without tags where those are hidden
 abbrev pub fields_in_place_of_answer : Policy → List ℕ → Exchange → ℕ → List Field → ℕ → Bool → Option StoreRule
     → List Field → List Field
 fields_in_place_of_answer policy name x status fields now stored rule own =
-    own ++ line (codes "Cache-Status")
+    without_tags policy.hides_tags own ++ line (codes "Cache-Status")
     (member_text name (cache_status_in_place_of_answer policy x status fields now stored rule)) ∷ []
 
 -- so a 304 is sent (RFC 9110, section 15.4.5)

@@ -33,6 +33,7 @@ use Rattle.proxy_core.specs.declared.event.Event.TheVariants.{Arrive, Answer, Fa
 use Rattle.proxy_core.specs.declared.core_fault.CoreFault.{CoreFault}
 use Rattle.proxy_core.specs.declared.core_fault.CoreFault.TheVariants.{OutOfMemory}
 use Rattle.proxy_core.specs.Leading.{waits_for, is_waiting, has_no_store}
+use Rattle.proxy_core.specs.LeadingOn.{exchanges_after_abandon}
 use Rattle.proxy_core.specs.Outcomes.{find_exchange, exchange_id_of_event, outcome_of_event, step_fault}
 use Rattle.proxy_core.specs.Storing.{stored_response_made, key_invalidated}
 use Rattle.proxy_core.specs.Scopes.{Scope, is_in_scope, target_alone, scope_of_purge}
@@ -276,7 +277,7 @@ open_exchanges_after table es xs (Wake now id) (Reply r) = exchanges_after_close
 open_exchanges_after table es xs (Wake now id) (Waits leader) = exchanges_after_close id xs
 open_exchanges_after table es xs (Wake now id) Ended = exchanges_after_close id xs
 open_exchanges_after table es xs (Wake now id) WaitsNoMore = exchanges_after_close id xs
-open_exchanges_after table es xs (Abandon id) outcome = exchanges_after_close id xs
+open_exchanges_after table es xs (Abandon id) outcome = exchanges_after_abandon table id xs
 open_exchanges_after table es xs (Overdue id) outcome = map (overdue_exchange id) xs
 
 -- the serial after this one, if one is left

@@ -3,7 +3,7 @@
 -- said here in the field's terms. And what is then held no longer.
 --
 -- VaryNamesFields, ConnectionTookNoCacheField, ResponseCanBeReused: what the answer's fields have to say
--- KeyStaysValidSinceItWent: nothing of its key was invalidated meanwhile
+-- KeyStaysValidSinceItWent: nothing that was asked for under its key was overtaken meanwhile
 -- AnswerMayBeStored: all that is asked             IsAnswerThatMayBeStored: an item that stores it
 -- FreshenedMayBeKept: what is asked of a response that a 304 freshens
 -- ThoseAreRemoved: what an item takes away
@@ -17,6 +17,7 @@ use Rattle.hx_directives.specs.Occurrences.{occurrences_of}
 use Rattle.hx_directives.specs.Answers.{directive_occurs}
 use Rattle.hx_directives.specs.declared.names.Directive.TheVariants.{MaxAge, SMaxage, Private, NoStore}
 use Rattle.hx_target.specs.declared.keys.Key.{Key}
+use Rattle.hx_vary.specs.declared.limits.TheConstants.{MOST_NAMES}
 use Rattle.hx_vary.specs.Vary.{vary_names}
 use Rattle.hx_hop.specs.Answering.{answered_of}
 use Rattle.hx_hop.specs.Bypass.{request_has_content, has_precondition}
@@ -51,13 +52,16 @@ use Rattle.proxy_core.specs.Starts.{StoreAtStart}
 use Rattle.proxy_core.specs.Traces.{Item}
 use Rattle.proxy_core.specs.Histories.{IsGoodHistory, held_entries, next_serial, open_exchanges}
 use Rattle.proxy_core.specs.Promises.{key_invalidated_by_answer, outcome_goes_forward, count_of_outcomes}
-use Rattle.proxy_core.specs.Promises.{NoItemInvalidates}
+use Rattle.proxy_core.specs.Promises.{NoItemOvertakes}
 
 -- each member of Vary is a field name: none is a star, by which no later request would ever match
 -- (RFC 9111, section 4.1)
--- own: what no request would match isn't stored, and a member that is no name counts as a star
+-- own: what no request would match isn't stored, and a member that is no name counts as a star; so do more members than
+-- a cache compares ("A Vary of many names counts as a star")
 abbrev pub VaryNamesFields : List Field → Type 0
-VaryNamesFields fields = All (λ name. (bytes_eq name (codes "*") ≡ false) × (is_token name ≡ true)) (vary_names fields)
+VaryNamesFields fields =
+    (length (vary_names fields) ≤ MOST_NAMES)
+    × All (λ name. (bytes_eq name (codes "*") ≡ false) × (is_token name ≡ true)) (vary_names fields)
 
 -- Connection took away no field by which a cache decides (RFC 9110, section 7.6.1)
 -- own: without it the response says less than its origin said ("Less is stored than the standard allows")
@@ -76,10 +80,11 @@ ResponseCanBeReused policy status fields =
     ⊎ ((is_some (modified_value fields) ≡ true)
     ⊎ (is_some (given_lifetime policy status) ≡ true)))))
 
--- No item since the request of an exchange last went forward invalidates its key; went is the item
+-- No item since the request of an exchange last went forward overtakes its key; went is the item
 -- by which it did, and since are those that came after.
 -- own: RFC 9111, section 4.4 drops what is held, and says nothing of an answer that is still on its
--- way; one that was asked for before may be what was to be dropped ("An overtaken answer is not stored")
+-- way; one that was asked for before may be what was to be dropped. So may one within the scope of a purge with a
+-- tag, whatever its lines will name ("An overtaken answer is not stored")
 pub record KeyStaysValidSinceItWent (past : List Item) (x : Exchange) : Type 0 where
   pub since : List Item
   pub before : List Item
@@ -88,7 +93,7 @@ pub record KeyStaysValidSinceItWent (past : List Item) (x : Exchange) : Type 0 w
   pub is_of_exchange : exchange_id_of_event went.event ≡ x.id
   pub goes_forward : outcome_goes_forward went.outcome ≡ true
   pub is_the_last : count_of_outcomes outcome_goes_forward x.id since ≡ 0
-  pub nothing_invalidates : NoItemInvalidates x.asked.target.key since (went ∷ before)
+  pub nothing_overtakes : NoItemOvertakes x.asked.target.key since (went ∷ before)
 
 -- The answer to an exchange may be stored: by the standard's list.
 -- own: and by what this cache asks besides. The operator's line lets it, a GET of the whole asked for

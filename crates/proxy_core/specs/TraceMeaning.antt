@@ -23,7 +23,7 @@ use Rattle.proxy_core.specs.declared.open.stage.Stage.TheVariants.{Forwarded}
 use Rattle.proxy_core.specs.declared.outcome.Outcome.{Outcome}
 use Rattle.proxy_core.specs.declared.outcome.Outcome.TheVariants.{Reply, Forward, Waits, Ended, WaitsNoMore}
 use Rattle.proxy_core.specs.Promises.{outcome_goes_forward, outcome_ends_exchange, is_arrival_event, count_of_outcomes}
-use Rattle.proxy_core.specs.Promises.{NoRequestArrives, latest_request_of, some_item_invalidates}
+use Rattle.proxy_core.specs.Promises.{NoRequestArrives, latest_request_of, some_item_overtakes}
 
 -- some item of this id is a reply, or the client went away
 abbrev pub exchange_has_ended : ℕ → List Item → Bool
@@ -95,7 +95,7 @@ ExchangeIsOvertakenWhereInvalidated = (table : Table) (start : StoreAtStart) (fi
     count_of_outcomes outcome_goes_forward (exchange_id_of_event f.event) items ≡ 0 →
     find_exchange (exchange_id_of_event f.event) (open_exchanges table start (items ++ f ∷ before)) ≡ Some x →
     x.stage ≡ Forwarded →
-    x.overtaken ≡ some_item_invalidates x.asked.target.key items (f ∷ before)
+    x.overtaken ≡ some_item_overtakes x.asked.target.key items (f ∷ before)
 
 -- The next serial is the first plus the number stored, while there is such a serial.
 abbrev pub NextSerialIsCounted : Type 0

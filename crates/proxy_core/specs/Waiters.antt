@@ -43,6 +43,11 @@ SetHoldsAllWaiters set id index = (m : ℕ) → set_contains set m ≡ is_in_wai
 abbrev pub WaitersAreTakenOut : ℕ → WaitIndex → WaitIndex → Type 0
 WaitersAreTakenOut id old new = (q m : ℕ) → is_in_wait_index new q m ≡ (not (id == q) && is_in_wait_index old q m)
 
+-- these arrivals were entered as of those that wait for the exchange of this id
+abbrev pub WaitersAreEntered : ℕ → BTreeSet ℕ → WaitIndex → WaitIndex → Type 0
+WaitersAreEntered id set old new = (q m : ℕ) → is_in_wait_index new q m ≡ ((id == q && contains nat_cmp set m)
+    || is_in_wait_index old q m)
+
 -- the arrival isn't in the index
 abbrev pub IsNotInWaitIndex : ℕ → WaitIndex → Type 0
 IsNotInWaitIndex n index = (id : ℕ) → is_in_wait_index index id n ≡ false

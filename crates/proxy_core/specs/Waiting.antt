@@ -3,19 +3,23 @@
 -- RequestCouldWait: a request that could be sent one (`Awaiting.antt`), for the first that leads (`Leading.antt`)
 -- RequestWaitsWhereOneLeads, RequestWaitsNowhereElse, OnlyOneGoesForwardForKey: who waits, and what for
 -- ExchangeMayBeWoken: an exchange that may be woken
+-- leader_of_waiter: for whom a request waits, of those that lead one behind the other
 -- RequestWaitsUntilItsLeaderEndsOrItsTime, RequestIsWokenOnceBehindItsLeaderOrItsTime, ReleasedAreInOrderOfArrival,
 -- TimeIsOverExactlyOfWhoWaits, OverdueRequestMayBeWoken, WakeIsAcceptedExactlyWhereReady, WokenRequestIsJudgedAnew:
 -- how it ends
+-- FirstThatWaitsLeadsOn, NobodyLeadsOnWhereNoneMay: what the end of a leader's client leaves
+-- OneLeadsAloneWhereWaitsHaveNoEnd: the same over a table of an earlier version
 --
 -- The laws of `src/laws.rt` prove the statements.
 use Rattle.std.specs.Prelude.{◌≡◌, ◌⊎◌, ℕ, ◌==◌, ◌&&◌, ◌||◌, not, Bool, true, false, List, [], ◌∷◌, ◌++◌, Option, Some}
-use Rattle.std.specs.Prelude.{None, IfSome, option_map, cond}
+use Rattle.std.specs.Prelude.{None, IfSome, option_map, is_some, cond}
+use Rattle.std.specs.Option.{option_and_then}
 use Rattle.std.specs.List.{AllByRecursion}
 use Rattle.hx_target.specs.Keys.{same_key}
 use Rattle.hx_hop.specs.declared.request_view.Asked.{Asked}
 use Rattle.hx_hop.specs.Bypass.{asks_for_range}
 use Rattle.hx_allow.specs.TableLines.{Table}
-use Rattle.hx_allow.specs.Matching.{policy_of}
+use Rattle.hx_allow.specs.Matching.{policy_of, wait_timeout_of}
 use Rattle.proxy_core.specs.Allowing.{verdict_of_asked, came_back, exchanges_to_wait_for}
 use Rattle.hx_allow.specs.declared.verdicts.Verdict.TheVariants.{Allowed}
 use Rattle.hx_allow.specs.declared.verdicts.Route.{Route}
@@ -26,7 +30,7 @@ use Rattle.hx_reuse.specs.FilledRanges.{forwards_range}
 use Rattle.hx_reuse.specs.declared.rule.ReuseRule.{ReuseRule}
 use Rattle.hx_reuse.specs.declared.rule.ReuseRule.TheVariants.{UriMiss}
 use Rattle.proxy_core.specs.declared.open.stage.Stage.{Stage}
-use Rattle.proxy_core.specs.declared.open.stage.Stage.TheVariants.{Waiting, Released}
+use Rattle.proxy_core.specs.declared.open.stage.Stage.TheVariants.{Forwarded, Waiting, Released}
 use Rattle.proxy_core.specs.declared.open.awaited.Awaited.{Awaited}
 use Rattle.proxy_core.specs.declared.open.awaited.Awaited.TheVariants.{Missing, Expired}
 use Rattle.proxy_core.specs.declared.open.exchange.Exchange.{Exchange}
@@ -36,10 +40,12 @@ use Rattle.proxy_core.specs.declared.event.Event.TheVariants.{Arrive, Answer, Fa
 use Rattle.proxy_core.specs.Moments.{moment_too_late_fault}
 use Rattle.hx_policy.specs.declared.words.Policy.{Policy}
 use Rattle.proxy_core.specs.Leading.{is_forwarded, is_released, is_get, is_uri_miss, names_serial, may_serve}
-use Rattle.proxy_core.specs.Leading.{is_waiting, leads_waiters, ready_ids, IsFirstLeader}
+use Rattle.proxy_core.specs.Leading.{is_waiting, waits_for, leads_waiters, ready_ids, IsFirstLeader}
+use Rattle.proxy_core.specs.LeadingOn.{stage_behind, next_leader, exchanges_without, exchanges_after_abandon}
+use Rattle.proxy_core.specs.LeadingOn.{IsNextLeader, CouldBeSentItsAnswer}
 use Rattle.proxy_core.specs.Awaiting.{RequestAwaits}
 use Rattle.proxy_core.specs.Outcomes.{find_exchange, exchange_id_of_event, step_fault, is_only_if_cached}
-use Rattle.proxy_core.specs.State.{serial_used_by_outcome}
+use Rattle.proxy_core.specs.State.{serial_used_by_outcome, exchanges_after_close}
 use Rattle.proxy_core.specs.Starts.{StoreAtStart}
 use Rattle.proxy_core.specs.Traces.{Item}
 use Rattle.proxy_core.specs.Histories.{held_entries, open_exchanges, IsGoodHistory}
@@ -205,8 +211,50 @@ pub record ExchangeIsWaiting (id : ℕ) (xs : List Exchange) : Type 0 where
   pub is_open : find_exchange id xs ≡ Some x
   pub stage : is_waiting x.stage ≡ true
 
--- Who waits does so until its leader has ended, by a reply or since the client went away, or until
--- its time to wait is over, and may be woken from then on.
+-- the exchange that an exchange of this stage waits for
+abbrev pub leader_of_stage : Stage → Option ℕ
+leader_of_stage Forwarded = None
+leader_of_stage (Waiting leader) = Some leader
+leader_of_stage Released = None
+
+-- one that waits for this leader, or may be woken
+abbrev pub stage_of_waiter : Option ℕ → Stage
+stage_of_waiter None = Released
+stage_of_waiter (Some leader) = Waiting leader
+
+-- for whom the exchange of an id waits once the client of its leader has gone away
+abbrev pub leader_followed : Table → List Exchange → ℕ → ℕ → Option ℕ
+leader_followed table xs id leader =
+    option_and_then (λ (x : Exchange). leader_of_stage
+    (stage_behind table (next_leader table leader (exchanges_without leader xs)) x))
+    (find_exchange id (exchanges_without leader xs))
+
+abbrev pub leader_after_end : Table → List Exchange → ℕ → ℕ → Event → Option ℕ
+leader_after_end table xs id leader (Arrive now i asked) = None
+leader_after_end table xs id leader (Answer now i r) = None
+leader_after_end table xs id leader (Fail now i kind) = None
+leader_after_end table xs id leader (Wake now i) = None
+leader_after_end table xs id leader (Abandon i) = leader_followed table xs id leader
+leader_after_end table xs id leader (Overdue i) = None
+
+-- One that waits for a leader does so until that has ended, by a reply or since the client went away, or until its own
+-- time to wait is over. Where the leader's client went away it waits for the next leader, if it follows one.
+abbrev pub leader_after_item : Table → List Exchange → ℕ → ℕ → Item → Option ℕ
+leader_after_item table xs id leader i =
+    cond (exchange_id_of_event i.event == id && is_overdue_event i.event) None
+    (cond (exchange_id_of_event i.event == leader
+    && (not (is_arrival_event i.event) && outcome_ends_exchange i.outcome))
+    (leader_after_end table xs id leader i.event) (Some leader))
+
+-- for whom the exchange of an id waits behind these items, where it began to wait for this leader: nobody, where it may
+-- be woken
+abbrev pub leader_of_waiter : Table → StoreAtStart → ℕ → ℕ → List Item → List Item → Option ℕ
+leader_of_waiter table start id leader [] past = Some leader
+leader_of_waiter table start id leader (i ∷ items) past =
+    option_and_then (λ l. leader_after_item table (open_exchanges table start (items ++ past)) id l i)
+    (leader_of_waiter table start id leader items past)
+
+-- Who waits does so for one leader behind the other, each for as long as said above, and may be woken from then on.
 abbrev pub RequestWaitsUntilItsLeaderEndsOrItsTime : Type 0
 RequestWaitsUntilItsLeaderEndsOrItsTime =
     (table : Table) (start : StoreAtStart) (first leader : ℕ) (items before : List Item) (arrival : Item) →
@@ -214,18 +262,60 @@ RequestWaitsUntilItsLeaderEndsOrItsTime =
     → NothingButItsTimeHappened (exchange_id_of_event arrival.event) items →
     stage_of_exchange (find_exchange (exchange_id_of_event arrival.event)
     (open_exchanges table start (items ++ arrival ∷ before)))
-    ≡ Some (cond (exchange_has_closed leader items || was_overdue (exchange_id_of_event arrival.event) items) Released
-    (Waiting leader))
+    ≡ Some (stage_of_waiter
+    (leader_of_waiter table start (exchange_id_of_event arrival.event) leader items (arrival ∷ before)))
 
--- It is woken behind the end of its leader or of its time, and once.
+-- It is woken where it waits for nobody any more, behind the end of its last leader or of its time, and once.
 abbrev pub RequestIsWokenOnceBehindItsLeaderOrItsTime : Type 0
 RequestIsWokenOnceBehindItsLeaderOrItsTime =
     (table : Table) (start : StoreAtStart) (first now leader : ℕ) (items before : List Item) (wake arrival : Item) →
     IsGoodHistory table start first (wake ∷ (items ++ arrival ∷ before)) → arrival.outcome ≡ Waits leader →
     wake.event ≡ Wake now (exchange_id_of_event arrival.event) → NoRequestArrives
     (exchange_id_of_event arrival.event) items →
-    ((exchange_has_closed leader items || was_overdue (exchange_id_of_event arrival.event) items) ≡ true)
+    (leader_of_waiter table start (exchange_id_of_event arrival.event) leader items (arrival ∷ before) ≡ None)
     × (was_woken (exchange_id_of_event arrival.event) items ≡ false)
+
+-- The client of an exchange goes away, and another leads on. What becomes of the one of this id that waited for the
+-- exchange that ends: it waits for the next leader exactly where it could be sent the answer to that. All others may be
+-- woken, and so may the next leader.
+pub record FollowsTheNextLeader (table : Table) (start : StoreAtStart) (next : Exchange) (id : ℕ) (x : Exchange)
+    (items : List Item) : Type 0 where
+  pub it_leads : (x.id == next.id) ≡ true
+      → stage_of_exchange (find_exchange id (open_exchanges table start items)) ≡ Some Released
+  pub follows : CouldBeSentItsAnswer table next x
+      → stage_of_exchange (find_exchange id (open_exchanges table start items)) ≡ Some (Waiting next.id)
+  pub goes_by_itself : (CouldBeSentItsAnswer table next x → ⊥)
+      → stage_of_exchange (find_exchange id (open_exchanges table start items)) ≡ Some Released
+
+-- the first of those that wait leads on, whose answer others could be sent
+abbrev pub FirstThatWaitsLeadsOn : Type 0
+FirstThatWaitsLeadsOn = (table : Table) (start : StoreAtStart) (first leader id : ℕ) (item : Item) (past : List Item)
+    (next x : Exchange) →
+    IsGoodHistory table start first (item ∷ past) → item.event ≡ Abandon leader
+    → IsNextLeader table leader (open_exchanges table start past) next
+    → find_exchange id (open_exchanges table start past) ≡ Some x → (leader == id) ≡ false
+    → waits_for leader x.stage ≡ true → FollowsTheNextLeader table start next id x (item ∷ past)
+
+-- where none may, all may be woken; and who doesn't wait for the exchange that ends stays as it is
+abbrev pub NobodyLeadsOnWhereNoneMay : Type 0
+NobodyLeadsOnWhereNoneMay = (table : Table) (start : StoreAtStart) (first leader id : ℕ) (item : Item)
+    (past : List Item) (x : Exchange) →
+    IsGoodHistory table start first (item ∷ past) → item.event ≡ Abandon leader
+    → find_exchange id (open_exchanges table start past) ≡ Some x → (leader == id) ≡ false →
+    (((next : Exchange) → IsNextLeader table leader (open_exchanges table start past) next → ⊥)
+    → waits_for leader x.stage ≡ true
+    → stage_of_exchange (find_exchange id (open_exchanges table start (item ∷ past))) ≡ Some Released)
+    × (waits_for leader x.stage ≡ false → find_exchange id (open_exchanges table start (item ∷ past)) ≡ Some x)
+
+-- Over a table whose waits have no end, as those of the versions before the fourth, nobody leads on: who waits does so
+-- for one leader, until that has ended or, if it comes, its time.
+abbrev pub OneLeadsAloneWhereWaitsHaveNoEnd : Type 0
+OneLeadsAloneWhereWaitsHaveNoEnd = (table : Table) →
+    ((line : ℕ) → is_some (wait_timeout_of table.lines line) ≡ false) →
+    ((id : ℕ) (xs : List Exchange) → exchanges_after_abandon table id xs ≡ exchanges_after_close id xs)
+    × ((start : StoreAtStart) (id leader : ℕ) (items past : List Item) →
+    leader_of_waiter table start id leader items past
+    ≡ cond (exchange_has_closed leader items || was_overdue id items) None (Some leader))
 
 -- the time is over of one that waits for the answer to another, and of no other
 abbrev pub TimeIsOverExactlyOfWhoWaits : Type 0

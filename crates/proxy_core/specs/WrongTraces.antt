@@ -4,7 +4,7 @@
 -- edge_table: an operator's table
 -- trace_of_good_events: these events, latest first, each with the outcome of its case
 -- trace_with_wrong_item: another outcome of the last event     HeadlineRefuses: no headline
-use Rattle.std.specs.Prelude.{ℕ, false, List, [], ◌∷◌, codes, Option, Some, None}
+use Rattle.std.specs.Prelude.{ℕ, true, false, List, [], ◌∷◌, codes, Option, Some, None}
 use Rattle.hx_policy.specs.Policies.{plain}
 use Rattle.hx_fields.specs.declared.field_line.Field.{Field}
 use Rattle.hx_fields.specs.Examples.{line}
@@ -23,8 +23,8 @@ use Rattle.proxy_core.specs.Starts.{empty_store}
 use Rattle.proxy_core.specs.Traces.{Item}
 use Rattle.proxy_core.specs.Histories.{held_entries, open_exchanges, next_serial}
 use Rattle.proxy_core.specs.Headline.{RequestGoesForwardWhereAllowed, Headline}
-use Rattle.proxy_core.specs.Cases.{request_for, response_with, cache_control, etag_field, vary_field, accept_language}
-use Rattle.proxy_core.specs.Cases.{line_with_no_cache}
+use Rattle.proxy_core.specs.Cases.{request_for, response_with, cache_control, cache_tag, etag_field, vary_field}
+use Rattle.proxy_core.specs.Cases.{accept_language, line_with_no_cache}
 
 -- line 1 denies /admin, but purges it by a key, line 2 has no cache, line 3 lets all others through; two responses are
 -- held at most
@@ -218,3 +218,38 @@ trace_sends_of_the_start =
     item_of (Arrive 120 3 get_a) (reply_that_sends_stored 1 [])
     ∷ item_of (Answer 111 2 (response_with 200 [])) (reply_without_store []) ∷ item_of
     (Arrive 110 2 post_a) forward_over_line_3 ∷ []
+
+-- ---- purges with a tag
+
+-- PURGE /admin with the key of its line and a tag: all that is held and names it goes
+abbrev pub purge_of_tag : List ℕ → Asked
+purge_of_tag tag = get_or_other_request (codes "PURGE") (codes "/admin") (line (codes "Purge-Key") purge_key
+    ∷ line (codes "Purge-Tag") tag ∷ [])
+
+-- its reply, which takes nothing away
+abbrev pub purge_item : List ℕ → Item
+purge_item tag = item_of (Arrive 110 2 (purge_of_tag tag))
+    (Reply (record { bytes = []; close = false; stored = None; used = None; removed = []; purged = true }))
+
+-- GET /a was stored as 1, and names two tags
+abbrev pub trace_stores_tagged : List Item
+trace_stores_tagged =
+    item_of (Answer 101 1 (response_with 200 (cache_control (codes "max-age=60") ∷ cache_tag (codes "blog, news") ∷ [])))
+    (reply_that_stores [] (Some 1) []) ∷ item_of (Arrive 100 1 get_a) forward_over_line_3 ∷ []
+
+-- a tag was purged, and it is sent
+abbrev pub trace_sends_behind_a_purge : List ℕ → List Item
+trace_sends_behind_a_purge tag =
+    item_of (Arrive 120 3 get_a) (reply_that_sends_stored 1 []) ∷ purge_item tag ∷ trace_stores_tagged
+
+-- a tag was purged while it was on its way, and it is stored and sent
+abbrev pub trace_stores_behind_a_purge : List ℕ → List Item
+trace_stores_behind_a_purge tag =
+    item_of (Arrive 120 3 get_a) (reply_that_sends_stored 1 [])
+    ∷ item_of (Answer 112 1 fresh_for_a_minute) (reply_that_stores [] (Some 1) []) ∷ purge_item tag
+    ∷ item_of (Arrive 100 1 get_a) forward_over_line_3 ∷ []
+
+-- /a is held at first as 1, a tag was purged, and it is sent
+abbrev pub trace_sends_of_the_start_behind_a_purge : List ℕ → List Item
+trace_sends_of_the_start_behind_a_purge tag =
+    item_of (Arrive 120 3 get_a) (reply_that_sends_stored 1 []) ∷ purge_item tag ∷ []

@@ -251,16 +251,17 @@ impl<S: Shelf> Core<S> {
         }
     }
 
-    /// The client went away: its exchange ends without an answer. No memory is taken.
+    /// The client went away: its exchange ends without an answer. The first of those that wait for it leads on, if one
+    /// may, and memory is taken for that alone.
     pub fn abandon(&mut self, id: u64) -> Result<Outcome, CoreFault>
         ensures ok { IfOk result (λ outcome. StepIsAccepted self.old (Abandon id) outcome self.new) }
-        ensures err { IfErr result (λ fault. step_fault self.old.exchanges (Abandon id) ≡ Some fault) }
+        ensures err { IfErr result (λ fault. StepIsRefusedWith self.old (Abandon id) fault) }
         ensures unchanged { OnErr result (self.new ≡ self.old) }
     {
         match self.exchanges.find(id) {
             None => Err(CoreFault::UnknownId),
             Some(_) => {
-                self.exchanges.close(id);
+                self.exchanges.abandon(&self.config, id)?;
                 Ok(Outcome::Ended)
             }
         }

@@ -32,7 +32,8 @@ ghost use Rattle.proxy_core.specs.Waiting.{RequestWaitsWhereOneLeads, RequestWai
 ghost use Rattle.proxy_core.specs.Waiting.{OnlyOneGoesForwardForKey};
 ghost use Rattle.proxy_core.specs.Waiting.{RequestWaitsUntilItsLeaderEndsOrItsTime};
 ghost use Rattle.proxy_core.specs.Waiting.{RequestIsWokenOnceBehindItsLeaderOrItsTime, TimeIsOverExactlyOfWhoWaits};
-ghost use Rattle.proxy_core.specs.Waiting.{OverdueRequestMayBeWoken};
+ghost use Rattle.proxy_core.specs.Waiting.{OverdueRequestMayBeWoken, FirstThatWaitsLeadsOn};
+ghost use Rattle.proxy_core.specs.Waiting.{NobodyLeadsOnWhereNoneMay, OneLeadsAloneWhereWaitsHaveNoEnd};
 ghost use Rattle.proxy_core.specs.Waiting.{ReleasedAreInOrderOfArrival};
 ghost use Rattle.proxy_core.specs.Waiting.{WakeIsAcceptedExactlyWhereReady, WokenRequestIsJudgedAnew};
 ghost use Rattle.proxy_core.specs.Waiting.{PlainLinesWaitForMisses};
@@ -48,9 +49,11 @@ mod bound_cases;
 mod cookie_cases;
 mod event_cases;
 mod headline_cases;
+mod leader_cases;
 mod promise_cases;
 mod purge_cases;
 mod range_cases;
+mod tag_cases;
 mod worked_cases;
 
 pub use bound_cases::{
@@ -65,13 +68,17 @@ pub use headline_cases::{
     the_headline_refuses_what_the_table_forbids, the_headline_refuses_wrong_purges,
     the_headline_refuses_wrong_storing,
 };
+pub use leader_cases::{who_follows_the_next_leader, who_leads_on};
 pub use promise_cases::{
     a_denied_request_leaves_no_trace, an_exchange_goes_twice_and_replies_once,
     no_run_stops_without_a_fault, sending_what_is_invalidated_is_refused,
-    what_goes_forward_is_the_request,
+    what_a_purge_with_a_tag_invalidates, what_goes_forward_is_the_request,
 };
-pub use purge_cases::{a_purge_takes_what_is_within_its_scope, what_a_purge_takes};
+pub use purge_cases::{
+    a_purge_takes_what_is_within_its_scope, what_a_purge_takes, what_a_purge_with_a_tag_takes,
+};
 pub use range_cases::{worked_parts_of_answers, worked_ranges_that_lead};
+pub use tag_cases::{tags_stay_with_the_proxy, worked_tags_of_parts, worked_tags_that_are_hidden};
 pub use worked_cases::{
     faults_and_serials_in_order, statuses_of_errors, what_a_304_leaves, what_a_step_leaves_open,
     what_a_step_leaves_stored, what_an_answer_gives, what_an_arrival_gives, what_invalidates,
@@ -210,8 +217,9 @@ pub fn who_waited_is_kept_back_by_the_answer_alone()
     ensures { WhoWaitedIsKeptBackByTheAnswerAlone }
 {}
 
-/// In a good trace a request that waits does so until the exchange that it waits for has ended, or its time to wait is
-/// over, and may be woken from then on, once; those that may be woken stand in the order of arrival. What a
+/// In a good trace a request that waits does so for one exchange that leads, and where the client of that one goes away
+/// for the next that leads on, if it could be sent the answer to it; until the last of them has ended, or its own time
+/// to wait is over. From then on it may be woken, once; those that may be woken stand in the order of arrival. What a
 /// woken one gets is decided anew, and it doesn't wait again.
 pub fn a_waiting_request_is_woken_once_behind_its_leader()
     ensures waits { RequestWaitsUntilItsLeaderEndsOrItsTime }
@@ -219,6 +227,16 @@ pub fn a_waiting_request_is_woken_once_behind_its_leader()
     ensures order { ReleasedAreInOrderOfArrival }
     ensures ready { WakeIsAcceptedExactlyWhereReady }
     ensures anew { WokenRequestIsJudgedAnew }
+{}
+
+/// In a good trace the client of an exchange goes away before its answer. The first of those that wait for it, for a
+/// limited time, and whose answer others could be sent, leads on: it may be woken. Each other waits for that one
+/// exactly where it could be sent its answer, and else may be woken, too. Where none may lead on all may be woken, and
+/// who waited for another exchange, or for none, stays as it was. Over a table whose waits have no end nobody leads on.
+pub fn the_first_that_waits_leads_on()
+    ensures leads { FirstThatWaitsLeadsOn }
+    ensures nobody { NobodyLeadsOnWhereNoneMay }
+    ensures alone { OneLeadsAloneWhereWaitsHaveNoEnd }
 {}
 
 /// In a good trace the time to wait is over of a request that waits for the answer to another, and of no other. Then it

@@ -6,6 +6,8 @@
 //!         a GET, nothing held for its key, and one such is FORWARDED
 //!                -> WAITING -- the reply or end of that one --> RELEASED
 //!                           -- overdue: it waited as long as it is to --> RELEASED
+//!                           -- that one is abandoned: the first that may lead on --> RELEASED,
+//!                              and those that follow it --> WAITING, for it
 //!         RELEASED -- wake --> the stored response, or FORWARDED
 //!         abandon -> nothing                                     the id is free again
 //! ```

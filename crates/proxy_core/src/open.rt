@@ -7,6 +7,7 @@ pub(crate) mod exchanges;
 pub(crate) mod ids;
 pub(crate) mod key_index;
 pub(crate) mod leading;
+pub(crate) mod leading_on;
 pub(crate) mod released;
 pub(crate) mod serial_numbers;
 pub(crate) mod stage;

@@ -3,6 +3,7 @@ pub mod OtherLines
 pub mod ClientConditions
 pub mod ReplyValues
 pub mod OneResponse
+pub mod HiddenTags
 pub mod StoredReplies
 pub mod RangeForms
 pub mod HeldReplies
@@ -20,3 +21,4 @@ pub mod ComingBack
 pub mod PastStore
 pub mod Varied
 pub mod RemovedCookies
+pub mod TagsSent

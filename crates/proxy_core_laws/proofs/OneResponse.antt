@@ -32,21 +32,22 @@ use Rattle.hx_status.specs.Refusals.{frame_status, origin_status, refusal_status
 use Rattle.hx_hop_laws.specs.OneMessage.{IsFieldValue}
 use Rattle.hx_hop_laws.proofs.DateValues.{date_value}
 use Rattle.hx_hop_laws.proofs.SentRequests.{line_of}
-use Rattle.hx_hop_laws.specs.OneResponse.{LinesMayBeAdded, ResponseFitsAReader, response_passed_on}
+use Rattle.hx_hop_laws.specs.OneResponse.{LinesMayBeAdded, ResponseFitsAReader}
 use Rattle.hx_hop_laws.proofs.SentResponses.{clean, dated_fit, dated_without, sent_without, stripped_without}
 use Rattle.hx_hop.proofs.Lines.{list_any_fewer}
 use Rattle.hx_policy.specs.declared.words.Policy.{Policy}
 use Rattle.hx_storable.specs.declared.rule.StoreRule.{StoreRule}
 use Rattle.hx_validate.specs.NotModified.{is_carried_to_asker}
 use Rattle.proxy_core.specs.declared.open.exchange.Exchange.{Exchange}
-use Rattle.proxy_core.specs.Replies.{content_unless_head, is_head, line, cache_status_of_passed_answer, cache_status_in_place_of_answer, client_has_answer, not_modified_answer_text, whole_answer_text, answer_in_range_text, fields_of_answer_416, fields_of_answer_part, range_of_answer, text_in_place_of_answer}
+use Rattle.proxy_core.specs.Replies.{without_tags, content_unless_head, is_head, line, cache_status_of_passed_answer, cache_status_in_place_of_answer, client_has_answer, not_modified_answer_text, whole_answer_text, answer_in_range_text, fields_of_answer_416, fields_of_answer_part, range_of_answer, text_in_place_of_answer}
 use Rattle.hx_validate.specs.Ranges.{is_carried_by_416_to_asker, part_text, unsatisfied_text}
 use Rattle.hx_validate.specs.Room.{head_leaves_room}
 use Rattle.hx_validate.specs.declared.ranges.RangeAnswer.{RangeAnswer}
 use Rattle.hx_validate.specs.declared.ranges.RangeAnswer.TheVariants.{Whole, Part, Unsatisfiable}
 use Rattle.proxy_core.proofs.FilledRanges.{to_get}
 use Rattle.proxy_core_laws.proofs.RangeForms.{line_fits, without as none_beside}
-use Rattle.proxy_core_laws.specs.OneResponse.{answer_in_range_sent, in_place_of_answer_sent, PassedAnswerIsOneResponse, ProxysAnswerIsOneResponse, PurgeAnswerIsOneResponse, not_modified_answer_sent, proxys_answer_sent, purge_answer_sent, whole_answer_sent}
+use Rattle.proxy_core_laws.proofs.HiddenTags.{hidden_fit, hidden_without}
+use Rattle.proxy_core_laws.specs.OneResponse.{answer_passed_on, answer_in_range_sent, in_place_of_answer_sent, PassedAnswerIsOneResponse, ProxysAnswerIsOneResponse, PurgeAnswerIsOneResponse, not_modified_answer_sent, proxys_answer_sent, purge_answer_sent, whole_answer_sent}
 use Rattle.proxy_core_laws.proofs.StoredReplies.{widened}
 use Rattle.proxy_core_laws.proofs.ReplyValues.{decimal_value, member_value, part_value, plain_value, text_value, unsatisfied_value}
 
@@ -70,17 +71,17 @@ plain_text : IsFieldValue (codes "text/plain")
 plain_text = plain_value
 
 -- An answer that was read, of a HEAD or not, is one response where it goes on to a HEAD or not (h: it was read so, g: it goes on so).
-module _ (h g ended close : Bool) (max_body most now : ℕ) (bytes rest : List ℕ) (r : Response) (added : List Field) (are : LinesMayBeAdded added) where
-  goes_on : Reads max_body h ended bytes (Spelled r rest) → now < END_OF_TIME → most < 2 ^ 64 → ResponseFitsAReader most (response_passed_on g r now added close) → (over : Bool) (behind : List ℕ)
-      → Reads most g over (sent_response_text (response_passed_on g r now added close) ++ behind) (Spelled (response_as_read_back g (response_passed_on g r now added close)) behind)
+module _ (hides h g ended close : Bool) (max_body most now : ℕ) (bytes rest : List ℕ) (r : Response) (added : List Field) (are : LinesMayBeAdded added) where
+  goes_on : Reads max_body h ended bytes (Spelled r rest) → now < END_OF_TIME → most < 2 ^ 64 → ResponseFitsAReader most (answer_passed_on hides g r now added close) → (over : Bool) (behind : List ℕ)
+      → Reads most g over (sent_response_text (answer_passed_on hides g r now added close) ++ behind) (Spelled (response_as_read_back g (answer_passed_on hides g r now added close)) behind)
   goes_on reads early small limits over behind =
       let is = clean max_body h ended bytes r rest reads in
-      response_is_read_back g (response_passed_on g r now added close) most over behind (record {
+      response_is_read_back g (answer_passed_on hides g r now added close) most over behind (record {
         status = is.status;
-        fields = All-append FieldIsWritable (dated_of (stripped r.fields) now) added
-            (dated_fit (stripped r.fields) now early (All-filter (λ f. not (is_hop_line r.fields f)) FieldIsWritable r.fields is.fields)) are.fields;
-        lengths = sent_without r.fields added now (codes "content-length") is.lengths are.lengths refl;
-        codings = sent_without r.fields added now (codes "transfer-encoding") is.codings are.codings refl;
+        fields = All-append FieldIsWritable (without_tags hides (dated_of (stripped r.fields) now)) added
+            (hidden_fit hides (dated_of (stripped r.fields) now) (dated_fit (stripped r.fields) now early (All-filter (λ f. not (is_hop_line r.fields f)) FieldIsWritable r.fields is.fields))) are.fields;
+        lengths = beside (codes "content-length") is.lengths are.lengths refl;
+        codings = beside (codes "transfer-encoding") is.codings are.codings refl;
         small = shown_small g is.announced limits.content;
         without = none_sent g is.without;
         behind = shown g;
@@ -88,6 +89,14 @@ module _ (h g ended close : Bool) (max_body most now : ℕ) (bytes rest : List �
         short = limits.short;
       }) limits.content
     where
+      beside : (field : List ℕ) → has_field r.fields field ≡ false → has_field added field ≡ false → is_named field (line (codes "Date") (date_text_of now)) ≡ false
+          → has_field (without_tags hides (dated_of (stripped r.fields) now) ++ added) field ≡ false
+      beside field none other date =
+          let left : has_field (without_tags hides (dated_of (stripped r.fields) now)) field ≡ false =
+          hidden_without hides (dated_of (stripped r.fields) now) field (dated_without (stripped r.fields) now field (stripped_without r.fields field none) date)
+          in
+          list_any-append (is_named field) (without_tags hides (dated_of (stripped r.fields) now)) added ∙ (ap (λ b. b || has_field added field) left ∙ other)
+
       shown_small : (g : Bool) → IfSome r.announced (λ n. n < 2 ^ 64) → length (cond g [] r.content) ≤ most
           → IfSome (cond ((r.status == 204) || (r.status == 304)) None (cond g r.announced (Some (length r.content)))) (λ n. n < 2 ^ 64)
       shown_small g announced within = by_status ((r.status == 204) || (r.status == 304)) g announced within
@@ -121,7 +130,7 @@ module _ (max_body most now : ℕ) (to_head ended stored : Bool) (bytes rest nam
   whole_response reads early token small limits over behind =
       let shown : List ℕ = member_text name (cache_status_of_passed_answer policy x r.status (answered_of r now).fields now stored rule) in
       let value : IsFieldValue shown = member_value name (cache_status_of_passed_answer policy x r.status (answered_of r now).fields now stored rule) token in
-      goes_on to_head (is_head x.asked) ended x.asked.close max_body most now bytes rest r (line (codes "Cache-Status") shown ∷ []) (record {
+      goes_on policy.hides_tags to_head (is_head x.asked) ended x.asked.close max_body most now bytes rest r (line (codes "Cache-Status") shown ∷ []) (record {
         fields = All-cons FieldIsWritable (line (codes "Cache-Status") shown) [] (line_of (codes "Cache-Status") shown shown_name (omega arith) value) (All-nil FieldIsWritable);
         lengths = refl;
         codings = refl;
@@ -138,8 +147,8 @@ module _ (max_body most now : ℕ) (to_head ended stored : Bool) (bytes rest nam
       let stripped_fit = All-filter (λ f. not (is_hop_line r.fields f)) FieldIsWritable r.fields is.fields in
       response_is_read_back (is_head x.asked) (not_modified_answer_sent policy name x r now stored rule) most over behind (record {
         status = (omega arith, omega arith);
-        fields = All-append FieldIsWritable (filter carried lines) (line (codes "Cache-Status") shown ∷ [])
-            (All-filter carried FieldIsWritable lines (dated_fit (stripped r.fields) now early stripped_fit))
+        fields = All-append FieldIsWritable (without_tags policy.hides_tags (filter carried lines)) (line (codes "Cache-Status") shown ∷ [])
+            (hidden_fit policy.hides_tags (filter carried lines) (All-filter carried FieldIsWritable lines (dated_fit (stripped r.fields) now early stripped_fit)))
             (All-cons FieldIsWritable (line (codes "Cache-Status") shown) [] (line_of (codes "Cache-Status") shown shown_name (omega arith) value) (All-nil FieldIsWritable));
         lengths = without (codes "content-length") shown is.lengths refl refl;
         codings = without (codes "transfer-encoding") shown is.codings refl refl;
@@ -157,10 +166,12 @@ module _ (max_body most now : ℕ) (to_head ended stored : Bool) (bytes rest nam
       carried = is_carried_to_asker (has_field lines (codes "ETag"))
 
       without : (field shown : List ℕ) → has_field r.fields field ≡ false → is_named field (line (codes "Date") (date_text_of now)) ≡ false → is_named field (line (codes "Cache-Status") shown) ≡ false
-          → has_field (filter carried lines ++ line (codes "Cache-Status") shown ∷ []) field ≡ false
+          → has_field (without_tags policy.hides_tags (filter carried lines) ++ line (codes "Cache-Status") shown ∷ []) field ≡ false
       without field shown none date status =
-          let left : has_field (filter carried lines) field ≡ false = list_any_fewer carried (is_named field) lines (dated_without (stripped r.fields) now field (stripped_without r.fields field none) date) in
-          rw (list_any-append (is_named field) (filter carried lines) (line (codes "Cache-Status") shown ∷ []), left, status) refl
+          let left : has_field (without_tags policy.hides_tags (filter carried lines)) field ≡ false =
+          hidden_without policy.hides_tags (filter carried lines) field (list_any_fewer carried (is_named field) lines (dated_without (stripped r.fields) now field (stripped_without r.fields field none) date))
+          in
+          rw (list_any-append (is_named field) (without_tags policy.hides_tags (filter carried lines)) (line (codes "Cache-Status") shown ∷ []), left, status) refl
 
       never : (h : Bool) → response_has_no_content h 304 ≡ false → ⊥
       never true some = cc
@@ -190,7 +201,7 @@ module _ (max_body most now : ℕ) (to_head ended stored : Bool) (bytes rest nam
       let within : length content ≤ most = subst (λ h. length (content_unless_head h content) ≤ most) get limits.content in
       response_is_read_back (is_head x.asked) (in_place_of_answer_sent policy name x r now stored rule status own content) most over behind (record {
         status = (low, high);
-        fields = All-append FieldIsWritable own (line (codes "Cache-Status") shown ∷ []) fit
+        fields = All-append FieldIsWritable (without_tags policy.hides_tags own) (line (codes "Cache-Status") shown ∷ []) (hidden_fit policy.hides_tags own fit)
             (All-cons FieldIsWritable (line (codes "Cache-Status") shown) [] (line_of (codes "Cache-Status") shown shown_name (omega arith) value) (All-nil FieldIsWritable));
         lengths = beside (codes "content-length") shown no_length refl;
         codings = beside (codes "transfer-encoding") shown no_coding refl;
@@ -201,8 +212,11 @@ module _ (max_body most now : ℕ) (to_head ended stored : Bool) (bytes rest nam
         short = limits.short;
       }) limits.content
     where
-      beside : (field shown : List ℕ) → has_field own field ≡ false → is_named field (line (codes "Cache-Status") shown) ≡ false → has_field (own ++ line (codes "Cache-Status") shown ∷ []) field ≡ false
-      beside field shown none status = rw (list_any-append (is_named field) own (line (codes "Cache-Status") shown ∷ []), none, status) refl
+      beside : (field shown : List ℕ) → has_field own field ≡ false → is_named field (line (codes "Cache-Status") shown) ≡ false
+          → has_field (without_tags policy.hides_tags own ++ line (codes "Cache-Status") shown ∷ []) field ≡ false
+      beside field shown none status =
+          let left : has_field (without_tags policy.hides_tags own) field ≡ false = hidden_without policy.hides_tags own field none in
+          rw (list_any-append (is_named field) (without_tags policy.hides_tags own) (line (codes "Cache-Status") shown ∷ []), left, status) refl
 
   whole_one : is_read_back (whole_answer_sent policy name x r now stored rule) (whole_answer_text policy name x r now stored rule)
   whole_one limits = whole_response max_body most now to_head ended stored bytes rest name policy rule x r reads early token small limits over behind

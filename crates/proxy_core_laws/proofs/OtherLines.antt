@@ -1,5 +1,5 @@
 -- A line of Set-Cookie is of no other name, so the others stay where those are taken out.
-use Rattle.std.proofs.Common.{◌≡◌, ℕ, Bool, true, false, not, List, refl, ap, ◌∙◌}
+use Rattle.std.proofs.Common.{◌≡◌, ℕ, Bool, true, false, not, ◌||◌, List, refl, ap, ◌∙◌}
 use Rattle.std.specs.Prelude.{bytes_eq, codes, filter, map}
 use Rattle.std.specs.List.{list_any}
 use Rattle.std.specs.Str.{str_to_ascii_lowercase}
@@ -7,14 +7,17 @@ use Rattle.hx_fields.specs.declared.field_line.Field.{Field}
 use Rattle.hx_fields.specs.FieldLines.{is_named, values_of}
 use Rattle.hx_fields.specs.Names.{is_same_name, joined_lists, members_of_value}
 use Rattle.hx_hop.proofs.Lines.{filter_keeps, same_lower}
-use Rattle.hx_vary.specs.Vary.{is_star, is_star_member}
+use Rattle.hx_vary.specs.Vary.{are_many, is_star, is_star_member}
 use Rattle.proxy_core.specs.Validating.{without_cookies}
 
 abbrev pub cookie : List ℕ
 cookie = codes "Set-Cookie"
 
+pub other_than : (own name : List ℕ) (f : Field) → is_same_name own name ≡ false → is_named own f ≡ true → is_named name f ≡ false
+other_than own name f isnt is = ap (λ low. bytes_eq low (str_to_ascii_lowercase name)) (same_lower f.name own is) ∙ isnt
+
 pub other_name : (name : List ℕ) (f : Field) → is_same_name cookie name ≡ false → is_named cookie f ≡ true → is_named name f ≡ false
-other_name name f isnt is = ap (λ low. bytes_eq low (str_to_ascii_lowercase name)) (same_lower f.name cookie is) ∙ isnt
+other_name name f isnt is = other_than cookie name f isnt is
 
 -- nor the other way round
 stays_there : (name : List ℕ) (f : Field) → is_same_name name cookie ≡ false → is_named name f ≡ true → not (is_named cookie f) ≡ true
@@ -25,4 +28,5 @@ values_stay true fields = ap (map (λ (f : Field). f.value)) (filter_keeps (λ f
 values_stay false fields = refl
 
 pub star_stays : (removes : Bool) (fields : List Field) → is_star (without_cookies removes fields) ≡ is_star fields
-star_stays removes fields = ap (λ (values : List (List ℕ)). list_any is_star_member (joined_lists (map members_of_value values))) (values_stay removes fields)
+star_stays removes fields =
+    ap (λ (values : List (List ℕ)). are_many (joined_lists (map members_of_value values)) || list_any is_star_member (joined_lists (map members_of_value values))) (values_stay removes fields)

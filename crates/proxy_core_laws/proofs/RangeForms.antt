@@ -26,8 +26,7 @@ use Rattle.hx_validate.specs.declared.ranges.RangeAnswer.{RangeAnswer}
 use Rattle.hx_validate.specs.declared.ranges.RangeAnswer.TheVariants.{Whole, Part, Unsatisfiable}
 use Rattle.hx_fields.proofs.JoinedTests.{never}
 use Rattle.proxy_core.specs.Replies.{cache_status_of_sent, content_unless_head, form_sent, is_head, length_unless_forbidden, line, text_in_form}
-use Rattle.proxy_core.specs.Validating.{without_cookies}
-use Rattle.proxy_core_laws.specs.StoredReplies.{StoredIsSendable, stored_sent_whole}
+use Rattle.proxy_core_laws.specs.StoredReplies.{StoredIsSendable, fields_seen, stored_sent_whole}
 use Rattle.proxy_core_laws.proofs.ReplyValues.{part_value, unsatisfied_value}
 
 range_name : list_all is_token_byte (codes "Content-Range") ≡ true
@@ -137,9 +136,9 @@ form_roomy policy asked e room = by_word policy.forwards_ranges
 
 pub text_of_form : (name : List ℕ) (e : Stored) (now : ℕ) (info : _) (asked : Asked) →
     text_in_form name (form_sent info.policy asked e) e now info asked
-    ≡ sent_response_text (stored_sent_whole info.policy.removes_cookies name (form_sent info.policy asked e) now (cache_status_of_sent (form_sent info.policy asked e).status e now info) asked)
+    ≡ sent_response_text (stored_sent_whole info.policy name (form_sent info.policy asked e) now (cache_status_of_sent (form_sent info.policy asked e).status e now info) asked)
 text_of_form name e now info asked =
     let form : Stored = form_sent info.policy asked e in
-    ap (λ (t : Times). response_text form.status ((without_cookies info.policy.removes_cookies form.fields ++ line (codes "Age") (decimal (age_of t now)) ∷ []) ++ line (codes "Cache-Status") (member_text name (cache_status_of_sent form.status e now info)) ∷ [])
+    ap (λ (t : Times). response_text form.status ((fields_seen info.policy form.fields ++ line (codes "Age") (decimal (age_of t now)) ∷ []) ++ line (codes "Cache-Status") (member_text name (cache_status_of_sent form.status e now info)) ∷ [])
     (length_unless_forbidden form.status (Some (length form.content))) asked.close (content_unless_head (is_head asked) form.content))
     (sym (same_times info.policy asked e))

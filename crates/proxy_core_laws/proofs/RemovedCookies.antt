@@ -32,7 +32,7 @@ use Rattle.proxy_core.specs.declared.outcome.Outcome.TheVariants.{Reply as Repli
 use Rattle.proxy_core.specs.declared.outcome.Reply.{Reply}
 use Rattle.proxy_core.specs.Histories.{held_entries, held_entry, open_exchanges}
 use Rattle.proxy_core.specs.Outcomes.{find_exchange, exchange_id_of_event}
-use Rattle.proxy_core.specs.Replies.{fields_of_answer_416, fields_of_answer_part, range_of_answer, cache_status_of_sent, client_has_answer, form_sent, not_modified_text, stored_text, text_in_form}
+use Rattle.proxy_core.specs.Replies.{fields_of_answer_416, fields_of_answer_part, range_of_answer, cache_status_of_sent, client_has_answer, form_sent, not_modified_text, stored_text, text_in_form, without_tags}
 use Rattle.proxy_core.specs.Sending.{ReplyIsThatStoredResponse}
 use Rattle.proxy_core.specs.Starts.{StoreAtStart}
 use Rattle.proxy_core.specs.State.{serial_stored_by_outcome, serial_used_by_outcome, stored_response_as_used, stored_response_by_answer}
@@ -44,8 +44,9 @@ use Rattle.proxy_core.proofs.SentResponses.{sends_what_is_held}
 use Rattle.hx_hop.proofs.Lines.{list_any_fewer}
 use Rattle.proxy_core_laws.specs.OneResponse.{answer_in_range_sent, in_place_of_answer_sent, not_modified_answer_sent, passed_answer_sent, whole_answer_sent}
 use Rattle.proxy_core_laws.specs.RemovedCookies.{IsResponseWithoutCookies, NoCookieIsLeftInTheStore, NoCookieIsSentOutOfTheStore, WhoAskedGetsTheCookies}
-use Rattle.proxy_core_laws.specs.StoredReplies.{stored_sent_as_304, stored_sent_whole}
+use Rattle.proxy_core_laws.specs.StoredReplies.{fields_seen, stored_sent_as_304, stored_sent_whole}
 use Rattle.proxy_core_laws.specs.Varied.{exchange_left_by, exchange_that_left, is_answered_by}
+use Rattle.proxy_core_laws.proofs.HiddenTags.{hidden_without}
 use Rattle.proxy_core_laws.proofs.RangeForms.{text_of_form}
 use Rattle.proxy_core_laws.proofs.OtherLines.{cookie, other_name}
 use Rattle.proxy_core_laws.proofs.StoredReplies.{lines_without}
@@ -61,7 +62,7 @@ removed_none false fields h = absurd (false≢true h)
 
 -- ---- a 304 out of the store
 
-none_of : (a b c d e f l t : Bool) → a ≡ false → b ≡ false → c ≡ false → d ≡ false → e ≡ false → f ≡ false → l ≡ false → (a || b || c || d || e || f || (not t && l)) ≡ false
+pub none_of : (a b c d e f l t : Bool) → a ≡ false → b ≡ false → c ≡ false → d ≡ false → e ≡ false → f ≡ false → l ≡ false → (a || b || c || d || e || f || (not t && l)) ≡ false
 none_of a b c d e f l true ha hb hc hd he hf hl = rw ha (rw hb (rw hc (rw hd (rw he (rw hf refl)))))
 none_of a b c d e f l false ha hb hc hd he hf hl = rw ha (rw hb (rw hc (rw hd (rw he (rw hf (rw hl refl))))))
 
@@ -85,11 +86,11 @@ carries_none fields = list_any_none_left (is_carried_by_304 tagged) (is_named co
 same_line : (m n : Route) → verdict.Allowed m ≡ verdict.Allowed n → m ≡ n
 same_line m n h = cc
 
-same_reply : (a b : Reply) → Replied a ≡ Replied b → a ≡ b
+pub same_reply : (a b : Reply) → Replied a ≡ Replied b → a ≡ b
 same_reply a b h = cc
 
 -- what is told is told by the policy of the line
-policy_shown : (table : Table) (held : List Stored) (x : Option Exchange) (event : Event) (outcome : Outcome) (s : ℕ) (line : Route) (is : ReplyIsThatStoredResponse table held x event outcome s)
+pub policy_shown : (table : Table) (held : List Stored) (x : Option Exchange) (event : Event) (outcome : Outcome) (s : ℕ) (line : Route) (is : ReplyIsThatStoredResponse table held x event outcome s)
     → EventGoesOverLine table x event line → is.info.policy ≡ policy_of table.lines line
 policy_shown table held x (Arrive now id asked) outcome s line is over =
     rw is.shows_how.2.1 (ap (policy_of table.lines) (same_line is.shows_how.0 line (sym is.shows_how.1 ∙ over)))
@@ -120,10 +121,10 @@ module _ (table : Table) (held : List Stored) (x : Option Exchange) (event : Eve
         has_none = lines_without table.name (fields_of_304 form.fields) form is.now (cache_status_of_sent 304 form is.now is.info) cookie (carries_none form.fields) refl refl;
       }
       by_test false = record {
-        sent = stored_sent_whole is.info.policy.removes_cookies table.name as_sent is.now (cache_status_of_sent as_sent.status form is.now is.info) is.asked;
+        sent = stored_sent_whole is.info.policy table.name as_sent is.now (cache_status_of_sent as_sent.status form is.now is.info) is.asked;
         text_is = text_of_form table.name form is.now is.info is.asked;
-        has_none = lines_without table.name (without_cookies is.info.policy.removes_cookies as_sent.fields) as_sent is.now (cache_status_of_sent as_sent.status form is.now is.info) cookie
-            (removed_none is.info.policy.removes_cookies as_sent.fields removes) refl refl;
+        has_none = lines_without table.name (fields_seen is.info.policy as_sent.fields) as_sent is.now (cache_status_of_sent as_sent.status form is.now is.info) cookie
+            (hidden_without is.info.policy.hides_tags (without_cookies is.info.policy.removes_cookies as_sent.fields) cookie (removed_none is.info.policy.removes_cookies as_sent.fields removes)) refl refl;
       }
 
 pub sends_no_cookie : NoCookieIsSentOutOfTheStore
@@ -247,22 +248,32 @@ kept_in_a_416 fields total =
     carried : (f : Field) → is_named cookie f ≡ true → is_carried_by_416_to_asker f ≡ true
     carried f is = ap (λ t. is_carried_by_416 f || (is_named (codes "Age") f || t)) is ∙ last (is_carried_by_416 f) (is_named (codes "Age") f)
 
+-- a tag is no cookie
+kept_where_hidden : (hides : Bool) (fields : List Field) → values_of (without_tags hides fields) cookie ≡ values_of fields cookie
+kept_where_hidden true fields = ap (map (λ (f : Field). f.value)) (filter_keeps (λ f. not (is_named (codes "Cache-Tag") f)) (is_named cookie) (λ f is. ap not (other_name (codes "Cache-Tag") f refl is)) fields)
+kept_where_hidden false fields = refl
+
 pub asker_gets_them : WhoAskedGetsTheCookies
 asker_gets_them policy name x r now stored rule = by_test (client_has_answer policy x r now)
   where
     fields : List Field
     fields = (answered_of r now).fields
 
+    whole : values_of (whole_answer_sent policy name x r now stored rule).fields cookie ≡ values_of fields cookie
+    whole = named_after (without_tags policy.hides_tags fields) _ refl ∙ kept_where_hidden policy.hides_tags fields
+
     by_room : (t : Bool) (status : ℕ) (own : List Field) (content : List ℕ) → values_of own cookie ≡ values_of fields cookie
         → values_of (cond t (in_place_of_answer_sent policy name x r now stored rule status own content) (whole_answer_sent policy name x r now stored rule)).fields cookie ≡ values_of fields cookie
-    by_room true status own content kept = named_after own _ refl ∙ kept
-    by_room false status own content kept = named_after fields _ refl
+    by_room true status own content kept = named_after (without_tags policy.hides_tags own) _ refl ∙ (kept_where_hidden policy.hides_tags own ∙ kept)
+    by_room false status own content kept = whole
 
     by_answer : (answer : RangeAnswer) → values_of (answer_in_range_sent policy name x r now stored rule answer).fields cookie ≡ values_of fields cookie
-    by_answer Whole = named_after fields _ refl
+    by_answer Whole = whole
     by_answer (Part first last) = by_room (head_leaves_room (fields_of_answer_part r now first last)) 206 (fields_of_answer_part r now first last) (slice_range r.content first (last + 1)) (kept_in_a_part fields first last (length r.content))
     by_answer Unsatisfiable = by_room (head_leaves_room (fields_of_answer_416 r now)) 416 (fields_of_answer_416 r now) [] (kept_in_a_416 fields (length r.content))
 
     by_test : (has : Bool) → values_of (cond has (not_modified_answer_sent policy name x r now stored rule) (answer_in_range_sent policy name x r now stored rule (range_of_answer policy x r now))).fields cookie ≡ values_of fields cookie
-    by_test true = named_after (filter (is_carried_to_asker (has_field fields (codes "ETag"))) fields) _ refl ∙ kept_for_asker fields
+    by_test true =
+        named_after (without_tags policy.hides_tags (filter (is_carried_to_asker (has_field fields (codes "ETag"))) fields)) _ refl
+        ∙ (kept_where_hidden policy.hides_tags (filter (is_carried_to_asker (has_field fields (codes "ETag"))) fields) ∙ kept_for_asker fields)
     by_test false = by_answer (range_of_answer policy x r now)

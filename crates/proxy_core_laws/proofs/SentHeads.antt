@@ -24,10 +24,11 @@ use Rattle.hx_status.specs.Member.{detail_of_step_or_rule, detail_parameter_text
 use Rattle.hx_store.specs.Stored.{Stored}
 use Rattle.hx_validate.specs.NotModified.{is_carried_by_304, fields_of_304}
 use Rattle.hx_validate.specs.Room.{head_leaves_room}
-use Rattle.proxy_core.specs.Replies.{line}
+use Rattle.hx_policy.specs.declared.words.Policy.{Policy}
+use Rattle.proxy_core.specs.Replies.{line, without_tags}
 use Rattle.proxy_core.specs.Validating.{without_cookies}
 use Rattle.proxy_core_laws.specs.HeldHeads.{FitsAReaderAs304WithRoom, FitsAReaderWithRoom, SecondsAreInRange, StatusIsInRange}
-use Rattle.proxy_core_laws.specs.StoredReplies.{fields_as_sent}
+use Rattle.proxy_core_laws.specs.StoredReplies.{fields_as_sent, fields_seen}
 use Rattle.proxy_core_laws.proofs.ReadHeads.{AreWithin, within_fewer}
 
 -- ---- the member of Cache-Status
@@ -209,10 +210,18 @@ others_within : (removes : Bool) (fields : List Field) → AreWithin 96 32512 fi
 others_within true fields are = within_fewer 96 32512 (λ f. not (is_named (codes "Set-Cookie") f)) fields are
 others_within false fields are = are
 
+-- and so may tags
+seen_within : (policy : Policy) (fields : List Field) → AreWithin 96 32512 fields → AreWithin 96 32512 (fields_seen policy fields)
+seen_within policy fields are = by_test policy.hides_tags (others_within policy.removes_cookies fields are)
+  where
+    by_test : (hides : Bool) → AreWithin 96 32512 (without_cookies policy.removes_cookies fields) → AreWithin 96 32512 (without_tags hides (without_cookies policy.removes_cookies fields))
+    by_test true left = within_fewer 96 32512 (λ f. not (is_named (codes "Cache-Tag") f)) (without_cookies policy.removes_cookies fields) left
+    by_test false left = left
+
 pub fits_where_room_is_left : FitsAReaderWithRoom
-fits_where_room_is_left removes most now name e shown asked room named is final small within = record {
-  few = lines_fit name (without_cookies removes e.fields) e now shown named is (others_within removes e.fields (room_left e.fields room)) (cond ((e.status == 204) || (e.status == 304)) None (Some (length e.content))) asked.close;
-  short = bytes_fit name (without_cookies removes e.fields) e now shown named is (others_within removes e.fields (room_left e.fields room)) (cond ((e.status == 204) || (e.status == 304)) None (Some (length e.content))) asked.close e.status (omega (arith, final)) (shown_small ((e.status == 204) || (e.status == 304)));
+fits_where_room_is_left policy most now name e shown asked room named is final small within = record {
+  few = lines_fit name (fields_seen policy e.fields) e now shown named is (seen_within policy e.fields (room_left e.fields room)) (cond ((e.status == 204) || (e.status == 304)) None (Some (length e.content))) asked.close;
+  short = bytes_fit name (fields_seen policy e.fields) e now shown named is (seen_within policy e.fields (room_left e.fields room)) (cond ((e.status == 204) || (e.status == 304)) None (Some (length e.content))) asked.close e.status (omega (arith, final)) (shown_small ((e.status == 204) || (e.status == 304)));
   content = within;
 }
   where

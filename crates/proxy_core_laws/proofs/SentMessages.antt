@@ -291,12 +291,12 @@ module _ (table : Table) (held : List Stored) (x : Option Exchange) (event : Eve
         alone = λ most little limits over behind. sends_a_304_as_one most is.now table.name form (cache_status_of_sent 304 form is.now is.info) is.asked sendable token limits over behind;
       }
       by_test false = record {
-        sent = stored_sent_whole is.info.policy.removes_cookies table.name (form_sent is.info.policy is.asked form) is.now (cache_status_of_sent (form_sent is.info.policy is.asked form).status form is.now is.info) is.asked;
+        sent = stored_sent_whole is.info.policy table.name (form_sent is.info.policy is.asked form) is.now (cache_status_of_sent (form_sent is.info.policy is.asked form).status form is.now is.info) is.asked;
         text_is = text_of_form table.name form is.now is.info is.asked;
         alone = λ most little limits over behind.
-            subst (λ (bytes : List ℕ). ReadsResponse most (is_head is.asked) over (bytes ++ behind) (Spelled (response_as_read_back (is_head is.asked) (stored_sent_whole is.info.policy.removes_cookies table.name (form_sent is.info.policy is.asked form) is.now (cache_status_of_sent (form_sent is.info.policy is.asked form).status form is.now is.info) is.asked)) behind))
+            subst (λ (bytes : List ℕ). ReadsResponse most (is_head is.asked) over (bytes ++ behind) (Spelled (response_as_read_back (is_head is.asked) (stored_sent_whole is.info.policy table.name (form_sent is.info.policy is.asked form) is.now (cache_status_of_sent (form_sent is.info.policy is.asked form).status form is.now is.info) is.asked)) behind))
             (sym (text_of_form table.name form is.now is.info is.asked))
-            (sends_whole_as_one is.info.policy.removes_cookies most is.now table.name (form_sent is.info.policy is.asked form) (cache_status_of_sent (form_sent is.info.policy is.asked form).status form is.now is.info) is.asked
+            (sends_whole_as_one is.info.policy most is.now table.name (form_sent is.info.policy is.asked form) (cache_status_of_sent (form_sent is.info.policy is.asked form).status form is.now is.info) is.asked
             (form_sendable is.info.policy is.asked form sendable) token (form_small is.info.policy is.asked form small) limits over behind);
       }
 

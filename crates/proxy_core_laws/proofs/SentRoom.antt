@@ -133,7 +133,7 @@ module _ (table : Table) (held : List Stored) (x : Option Exchange) (event : Eve
   as_sent = form_sent is.info.policy is.asked form
 
   abbrev whole_form : SentResponse
-  whole_form = stored_sent_whole is.info.policy.removes_cookies table.name as_sent is.now (cache_status_of_sent as_sent.status form is.now is.info) is.asked
+  whole_form = stored_sent_whole is.info.policy table.name as_sent is.now (cache_status_of_sent as_sent.status form is.now is.info) is.asked
 
   one_anyway : StoredIsSendable form → length form.content < 2 ^ 64 → head_leaves_room form.fields ≡ true → IsOneSentResponse (is_head is.asked) (stored_text table.name form is.now is.info is.asked)
   one_anyway sendable small room = by_test (gets_304 is.asked form)
@@ -158,8 +158,8 @@ module _ (table : Table) (held : List Stored) (x : Option Exchange) (event : Eve
         alone = λ most little within over behind.
             subst (λ (bytes : List ℕ). Reads most (is_head is.asked) over (bytes ++ behind) (Spelled (response_as_read_back (is_head is.asked) whole_form) behind))
             (sym (text_of_form table.name form is.now is.info is.asked))
-            (sends_whole_as_one is.info.policy.removes_cookies most is.now table.name as_sent (cache_status_of_sent as_sent.status form is.now is.info) is.asked as_one token little_enough
-            (fits_where_room_is_left is.info.policy.removes_cookies most is.now table.name as_sent (cache_status_of_sent as_sent.status form is.now is.info) is.asked (form_roomy is.info.policy is.asked form room) short (shown_of table held x event outcome s is read as_sent.status form) as_one.status.1 little_enough within) over behind);
+            (sends_whole_as_one is.info.policy most is.now table.name as_sent (cache_status_of_sent as_sent.status form is.now is.info) is.asked as_one token little_enough
+            (fits_where_room_is_left is.info.policy most is.now table.name as_sent (cache_status_of_sent as_sent.status form is.now is.info) is.asked (form_roomy is.info.policy is.asked form room) short (shown_of table held x event outcome s is read as_sent.status form) as_one.status.1 little_enough within) over behind);
       }
 
 same_reply : (a b : Reply) → Replied a ≡ Replied b → a ≡ b

@@ -24,9 +24,11 @@ use Rattle.hx_validate.specs.Answering.{freshened_of, is_line_of_304, is_replace
 use Rattle.hx_validate.specs.NotModified.{is_carried_by_304, fields_of_304}
 use Rattle.hx_hop_laws.proofs.SentRequests.{line_of}
 use Rattle.hx_hop_laws.proofs.SentResponses.{IsCleanAnswer, clean, dated_fit, dated_without, stripped_without}
+use Rattle.hx_policy.specs.declared.words.Policy.{Policy}
 use Rattle.proxy_core.specs.Replies.{content_unless_head, is_head, line}
 use Rattle.proxy_core.specs.Validating.{without_cookies}
-use Rattle.proxy_core_laws.specs.StoredReplies.{FreshenedIsSendable, A304IsSentAsOneResponse, WholeIsSentAsOneResponse, StoredAnswerIsSendable, fields_as_sent, stored_sent_as_304, stored_sent_whole}
+use Rattle.proxy_core_laws.specs.StoredReplies.{FreshenedIsSendable, A304IsSentAsOneResponse, WholeIsSentAsOneResponse, StoredAnswerIsSendable, fields_as_sent, fields_seen, stored_sent_as_304, stored_sent_whole}
+use Rattle.proxy_core_laws.proofs.HiddenTags.{hidden_fit, hidden_without}
 use Rattle.proxy_core_laws.proofs.ReplyValues.{decimal_value, member_value}
 
 -- ---- what is stored
@@ -50,6 +52,13 @@ others_fit false fields all = all
 others_without : (removes : Bool) (fields : List Field) (name : List ℕ) → has_field fields name ≡ false → has_field (without_cookies removes fields) name ≡ false
 others_without true fields name none = list_any_fewer (λ f. not (is_named (codes "Set-Cookie") f)) (is_named name) fields none
 others_without false fields name none = none
+
+-- and so may tags
+seen_fit : (policy : Policy) (fields : List Field) → All FieldIsWritable fields → All FieldIsWritable (fields_seen policy fields)
+seen_fit policy fields all = hidden_fit policy.hides_tags (without_cookies policy.removes_cookies fields) (others_fit policy.removes_cookies fields all)
+
+seen_without : (policy : Policy) (fields : List Field) (name : List ℕ) → has_field fields name ≡ false → has_field (fields_seen policy fields) name ≡ false
+seen_without policy fields name none = hidden_without policy.hides_tags (without_cookies policy.removes_cookies fields) name (others_without policy.removes_cookies fields name none)
 
 pub stores_sendable : StoredAnswerIsSendable
 stores_sendable max_body serial now h ended bytes rest x r reads early =
@@ -116,12 +125,12 @@ module _ (name : List ℕ) (fields : List Field) (e : Stored) (now : ℕ) (shown
       ∙ or_from _ _ (list_any-append (is_named other) fields (line (codes "Age") (decimal (age_of e.times now)) ∷ []) ∙ or_from _ _ none (or_from _ _ no_age refl)) (or_from _ _ no_status refl)
 
 pub sends_whole_as_one : WholeIsSentAsOneResponse
-sends_whole_as_one removes most now name e shown asked sendable token small limits over behind =
-    response_is_read_back (is_head asked) (stored_sent_whole removes name e now shown asked) most over behind (record {
+sends_whole_as_one policy most now name e shown asked sendable token small limits over behind =
+    response_is_read_back (is_head asked) (stored_sent_whole policy name e now shown asked) most over behind (record {
       status = sendable.status;
-      fields = lines_fit name (without_cookies removes e.fields) e now shown token (others_fit removes e.fields sendable.fields);
-      lengths = lines_without name (without_cookies removes e.fields) e now shown (codes "content-length") (others_without removes e.fields (codes "content-length") sendable.lengths) refl refl;
-      codings = lines_without name (without_cookies removes e.fields) e now shown (codes "transfer-encoding") (others_without removes e.fields (codes "transfer-encoding") sendable.codings) refl refl;
+      fields = lines_fit name (fields_seen policy e.fields) e now shown token (seen_fit policy e.fields sendable.fields);
+      lengths = lines_without name (fields_seen policy e.fields) e now shown (codes "content-length") (seen_without policy e.fields (codes "content-length") sendable.lengths) refl refl;
+      codings = lines_without name (fields_seen policy e.fields) e now shown (codes "transfer-encoding") (seen_without policy e.fields (codes "transfer-encoding") sendable.codings) refl refl;
       small = shown_small ((e.status == 204) || (e.status == 304));
       without = none_sent (is_head asked);
       behind = announced (is_head asked);

@@ -38,6 +38,7 @@ use Rattle.proxy_core.specs.Outcomes.{find_exchange, exchange_id_of_event, outco
 use Rattle.proxy_core.specs.Sending.{IsStoredFallback, ReplyIsThatStoredResponse, StoredResponseIsReusable, StoredResponseMayBeSent, StoredResponseMayBeSentAt, StoredResponseMayBeSentBeside}
 use Rattle.proxy_core.specs.Starts.{StoreAtStart}
 use Rattle.proxy_core.specs.Scopes.{Scope, is_in_scope}
+use Rattle.proxy_core.specs.LeadingOn.{next_leader, stage_behind, led_on_exchange, exchanges_without, exchanges_after_abandon}
 use Rattle.proxy_core.specs.State.{exchanges_after_close, exchanges_after_end, exchanges_after_purge, scope_purged, exchange_forwarded_again, open_exchanges_after, forwarded_exchange, overtaken_exchange, waiting_exchange, released_exchange, exchange_gone_forward, exchange_sent_forward, exchanges_after_wake, scope_invalidated_by_response, serial_stored_by_outcome, serial_used_by_outcome, serials_removed_by_outcome, stored_response_as_used, stored_response_by_answer, overdue_exchange, exchange_past_its_wait}
 use Rattle.proxy_core.specs.Storing.{stored_response_made}
 use Rattle.proxy_core.specs.Traces.{Item}
@@ -81,6 +82,9 @@ gone_out-names id now x = elim (eqb x.id id) as (λ b. names_and_line (cond b (e
 release-names : (q : ℕ) (x : Exchange) → names_and_line (released_exchange q x) ≡ names_and_line x
 release-names q x = elim (waits_for q x.stage) as (λ b. names_and_line (cond b (record x { stage = Released }) x) ≡ names_and_line x) [ true ↦ refl | false ↦ refl ]
 
+led_on-names : (table : Table) (ys : List Exchange) (q : ℕ) (x : Exchange) → names_and_line (led_on_exchange table (next_leader table q ys) q x) ≡ names_and_line x
+led_on-names table ys q x = elim (waits_for q x.stage) as (λ b. names_and_line (cond b (record x { stage = stage_behind table (next_leader table q ys) x }) x) ≡ names_and_line x) [ true ↦ refl | false ↦ refl ]
+
 overdue-names : (q : ℕ) (x : Exchange) → names_and_line (overdue_exchange q x) ≡ names_and_line x
 overdue-names q x = elim (x.id == q && is_waiting x.stage) as (λ b. names_and_line (cond b (exchange_past_its_wait x) x) ≡ names_and_line x) [ true ↦ refl | false ↦ refl ]
 
@@ -94,6 +98,11 @@ module _ (table : Table) where
 
   closed_so : (id : ℕ) (xs : List Exchange) → All (HasNames table) xs → All (HasNames table) (exchanges_after_close id xs)
   closed_so id xs all = mapped (released_exchange id) (release-names id) (filter (λ (x : Exchange). not (x.id == id)) xs) (All-filter (λ (x : Exchange). not (x.id == id)) (HasNames table) xs all)
+
+  abandoned_so : (id : ℕ) (xs : List Exchange) → All (HasNames table) xs → All (HasNames table) (exchanges_after_abandon table id xs)
+  abandoned_so id xs all =
+      mapped (led_on_exchange table (next_leader table id (exchanges_without id xs)) id) (led_on-names table (exchanges_without id xs) id) (exchanges_without id xs)
+      (All-filter (λ (x : Exchange). not (x.id == id)) (HasNames table) xs all)
 
   left_so : (key : Option Scope) (id : ℕ) (xs : List Exchange) → All (HasNames table) xs → All (HasNames table) (exchanges_after_end key id xs)
   left_so None id xs all = closed_so id xs all
@@ -127,7 +136,7 @@ module _ (table : Table) where
   after_so es xs (Wake now id) (Waits leader) all = closed_so id xs all
   after_so es xs (Wake now id) Ended all = closed_so id xs all
   after_so es xs (Wake now id) WaitsNoMore all = closed_so id xs all
-  after_so es xs (Abandon id) outcome all = closed_so id xs all
+  after_so es xs (Abandon id) outcome all = abandoned_so id xs all
   after_so es xs (Overdue id) outcome all = mapped (overdue_exchange id) (overdue-names id) xs all
 
   open_so : (start : StoreAtStart) (trace : List Item) → All (HasNames table) (open_exchanges table start trace)

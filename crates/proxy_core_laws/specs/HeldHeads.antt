@@ -17,6 +17,7 @@ use Rattle.hx_framing.specs.ResponseReading.{Reads}
 use Rattle.hx_framing.specs.Text.{field_lines_text}
 use Rattle.hx_framing.specs.WrittenResponse.{SentResponse, response_as_read_back, sent_response_text}
 use Rattle.hx_hop.specs.declared.request_view.Asked.{Asked}
+use Rattle.hx_policy.specs.declared.words.Policy.{Policy}
 use Rattle.hx_status.specs.declared.status.Status.{Status}
 use Rattle.hx_store.specs.Serials.{serial_is_in}
 use Rattle.hx_store.specs.Shelf.{find_entry}
@@ -124,11 +125,11 @@ HeldHeadIsBounded = (table : Table) (start : StoreAtStart) (first : ℕ) (trace 
 -- has at most 32 bytes.
 abbrev pub FitsAReaderWithRoom : Type 0
 FitsAReaderWithRoom =
-    (removes : Bool) (most now : ℕ) (name : List ℕ) (e : Stored) (shown : Status) (asked : Asked)
+    (policy : Policy) (most now : ℕ) (name : List ℕ) (e : Stored) (shown : Status) (asked : Asked)
     → head_leaves_room e.fields ≡ true → length name ≤ 32
     → StatusIsInRange shown → e.status ≤ 599 → length e.content < 2 ^ 64
-    → length (stored_sent_whole removes name e now shown asked).content ≤ most
-    → ResponseFitsAReader most (stored_sent_whole removes name e now shown asked)
+    → length (stored_sent_whole policy name e now shown asked).content ≤ most
+    → ResponseFitsAReader most (stored_sent_whole policy name e now shown asked)
 
 abbrev pub FitsAReaderAs304WithRoom : Type 0
 FitsAReaderAs304WithRoom =

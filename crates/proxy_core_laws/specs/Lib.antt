@@ -8,3 +8,4 @@ pub mod ComingBack
 pub mod PastStore
 pub mod Varied
 pub mod RemovedCookies
+pub mod HiddenTags

@@ -25,12 +25,19 @@ use Rattle.proxy_core.specs.Replies.{content_unless_head, is_head, line, fields_
 use Rattle.proxy_core.specs.Replies.{refusal_reply_text, fields_of_purge, purge_reply_text}
 use Rattle.proxy_core.specs.Replies.{cache_status_of_passed_answer, client_has_answer, fields_of_304_sent}
 use Rattle.proxy_core.specs.Replies.{fields_in_place_of_answer, fields_of_answer_416, fields_of_answer_part}
-use Rattle.proxy_core.specs.Replies.{range_of_answer}
+use Rattle.proxy_core.specs.Replies.{range_of_answer, without_tags}
+
+-- an answer as it is passed on, to a HEAD or not: its lines, without tags where those are hidden, and these behind them
+abbrev pub answer_passed_on : Bool → Bool → Response → ℕ → List Field → Bool → SentResponse
+answer_passed_on hides head r now added close =
+    record (response_passed_on head r now added close) {
+      fields = without_tags hides (answered_of r now).fields ++ added;
+    }
 
 -- an answer whole, with the line of Cache-Status behind its own
 abbrev pub whole_answer_sent : Policy → List ℕ → Exchange → Response → ℕ → Bool → Option StoreRule → SentResponse
 whole_answer_sent policy name x r now stored rule =
-    response_passed_on (is_head x.asked) r now
+    answer_passed_on policy.hides_tags (is_head x.asked) r now
     (line (codes "Cache-Status") (member_text name
     (cache_status_of_passed_answer policy x r.status (answered_of r now).fields now stored rule)) ∷ []) x.asked.close
 

@@ -30,7 +30,8 @@ use Rattle.hx_hop_laws.specs.OneResponse.{ResponseFitsAReader}
 use Rattle.proxy_core.specs.declared.open.exchange.Exchange.{Exchange}
 use Rattle.proxy_core.specs.Histories.{IsGoodHistory, held_entry}
 use Rattle.proxy_core.specs.ReadAnswers.{EventIsReadFromAStream}
-use Rattle.proxy_core.specs.Replies.{content_unless_head, is_head, length_unless_forbidden, line}
+use Rattle.hx_policy.specs.declared.words.Policy.{Policy}
+use Rattle.proxy_core.specs.Replies.{content_unless_head, is_head, length_unless_forbidden, line, without_tags}
 use Rattle.proxy_core.specs.Storing.{stored_response_made}
 use Rattle.proxy_core.specs.Validating.{stored_without_cookies, without_cookies}
 use Rattle.proxy_core.specs.Traces.{Item}
@@ -45,19 +46,22 @@ pub record StoredIsSendable (e : Stored) : Type 0 where
   pub codings : has_field e.fields (codes "transfer-encoding") ≡ false
   pub without : response_has_no_content false e.status ≡ true → e.content ≡ []
 
--- its lines as they are sent: these of them, Age, and what Cache-Status tells (`fields_of_sent_response` of the core,
--- whatever is shown)
+-- its lines as they are sent: these of them, Age, and what Cache-Status tells (`fields_with_age_and_status` of the
+-- core, whatever is shown)
 abbrev pub fields_as_sent : List ℕ → List Field → Stored → ℕ → Status → List Field
 fields_as_sent name fields e now shown =
     (fields ++ line (codes "Age") (decimal (age_of e.times now)) ∷ [])
     ++ line (codes "Cache-Status") (member_text name shown) ∷ []
 
--- it as it is sent whole (`whole_stored_text` of the core), over a line that removes cookies or another, and as a 304
--- (`not_modified_text`)
-abbrev pub stored_sent_whole : Bool → List ℕ → Stored → ℕ → Status → Asked → SentResponse
-stored_sent_whole removes name e now shown asked = record {
+-- those that a line lets be seen of these: without cookies where it removes them, and without tags where it hides them
+abbrev pub fields_seen : Policy → List Field → List Field
+fields_seen policy fields = without_tags policy.hides_tags (without_cookies policy.removes_cookies fields)
+
+-- it as it is sent whole (`whole_stored_text` of the core) over a line, and as a 304 (`not_modified_text`)
+abbrev pub stored_sent_whole : Policy → List ℕ → Stored → ℕ → Status → Asked → SentResponse
+stored_sent_whole policy name e now shown asked = record {
   status = e.status;
-  fields = fields_as_sent name (without_cookies removes e.fields) e now shown;
+  fields = fields_as_sent name (fields_seen policy e.fields) e now shown;
   shown = length_unless_forbidden e.status (Some (length e.content));
   close = asked.close;
   content = content_unless_head (is_head asked) e.content;
@@ -97,12 +101,12 @@ HeldIsSendable = (table : Table) (start : StoreAtStart) (first : ℕ) (trace : L
     → held_entry table start trace serial ≡ Some e → StoredIsSendable e
 
 abbrev pub WholeIsSentAsOneResponse : Type 0
-WholeIsSentAsOneResponse = (removes : Bool) (most now : ℕ) (name : List ℕ) (e : Stored) (shown : Status) (asked : Asked)
-    → StoredIsSendable e → IsToken name → length e.content < 2 ^ 64 → ResponseFitsAReader most
-    (stored_sent_whole removes name e now shown asked)
+WholeIsSentAsOneResponse = (policy : Policy) (most now : ℕ) (name : List ℕ) (e : Stored) (shown : Status)
+    (asked : Asked) → StoredIsSendable e → IsToken name → length e.content < 2 ^ 64 → ResponseFitsAReader most
+    (stored_sent_whole policy name e now shown asked)
     → (over : Bool) (behind : List ℕ)
-    → Reads most (is_head asked) over (sent_response_text (stored_sent_whole removes name e now shown asked) ++ behind)
-    (Spelled (response_as_read_back (is_head asked) (stored_sent_whole removes name e now shown asked)) behind)
+    → Reads most (is_head asked) over (sent_response_text (stored_sent_whole policy name e now shown asked) ++ behind)
+    (Spelled (response_as_read_back (is_head asked) (stored_sent_whole policy name e now shown asked)) behind)
 
 abbrev pub A304IsSentAsOneResponse : Type 0
 A304IsSentAsOneResponse = (most now : ℕ) (name : List ℕ) (e : Stored) (shown : Status) (asked : Asked)

@@ -6,6 +6,7 @@ mod answer_laws;
 mod cookie_laws;
 mod loop_laws;
 mod message_laws;
+mod tag_laws;
 mod vary_laws;
 
 pub use crate::answer_laws::{
@@ -18,4 +19,5 @@ pub use crate::cookie_laws::{
 };
 pub use crate::loop_laws::a_request_that_comes_back_is_known;
 pub use crate::message_laws::{a_core_sends_one_message_each_time, what_was_read_can_be_sent};
+pub use crate::tag_laws::no_tag_comes_to_a_client;
 pub use crate::vary_laws::nothing_of_another_value_is_sent;

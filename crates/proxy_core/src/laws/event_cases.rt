@@ -8,7 +8,7 @@ ghost use Rattle.proxy_core.specs.declared.outcome.Outcome.TheVariants.{Forward,
 ghost use Rattle.proxy_core.specs.Traces.{trace_of};
 ghost use Rattle.proxy_core.specs.Promises.{latest_request_of, outcome_ends_exchange, outcome_goes_forward};
 ghost use Rattle.proxy_core.specs.Promises.{is_arrival_event, outcome_is_reply, reply_uses_no_stored_response};
-ghost use Rattle.proxy_core.specs.Promises.{some_item_invalidates, count_of_outcomes};
+ghost use Rattle.proxy_core.specs.Promises.{some_item_overtakes, count_of_outcomes};
 ghost use Rattle.proxy_core.specs.TraceMeaning.{exchange_has_ended, count_of_stored, opens_an_exchange};
 ghost use Rattle.proxy_core.specs.Carrying.{judges_a_request};
 ghost use Rattle.proxy_core.specs.Waiting.{exchange_has_closed, is_wake_event, was_overdue, was_woken};
@@ -92,11 +92,11 @@ pub fn worked_counts_of_traces()
     ensures woken_is_not_overdue { was_overdue 2 (item_of (Wake 5 2) forward_over_line_3 ∷ trace_with_two_replies)
         ≡ false }
     ensures not_woken { was_woken 2 (item_of (Abandon 2) Ended ∷ trace_with_two_replies) ≡ false }
-    ensures invalidated { some_item_invalidates (key_of_path (codes "/a")) trace_sends_invalidated [] ≡ true }
-    ensures another_key { some_item_invalidates (key_of_path (codes "/b")) trace_sends_invalidated [] ≡ false }
-    ensures by_a_304 { some_item_invalidates (key_of_path (codes "/a")) (trace_sends_behind (response_with 304 [])) []
+    ensures invalidated { some_item_overtakes (key_of_path (codes "/a")) trace_sends_invalidated [] ≡ true }
+    ensures another_key { some_item_overtakes (key_of_path (codes "/b")) trace_sends_invalidated [] ≡ false }
+    ensures by_a_304 { some_item_overtakes (key_of_path (codes "/a")) (trace_sends_behind (response_with 304 [])) []
         ≡ true }
-    ensures by_no_error { some_item_invalidates (key_of_path (codes "/a"))
+    ensures by_no_error { some_item_overtakes (key_of_path (codes "/a"))
         (trace_sends_behind (response_with 404 [])) []
         ≡ false }
 {}

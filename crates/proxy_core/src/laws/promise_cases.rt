@@ -10,14 +10,18 @@ ghost use Rattle.proxy_core.specs.Outcomes.{forward_text};
 ghost use Rattle.proxy_core.specs.Traces.{DeniedRequestsLeaveNoTrace};
 ghost use Rattle.proxy_core.specs.Histories.{HistoryStopsAt};
 ghost use Rattle.proxy_core.specs.Promises.{NothingInvalidatedIsSent, TwiceForwardOneReply};
-ghost use Rattle.proxy_core.specs.Promises.{NothingInvalidatedSinceTheStartIsSent};
+ghost use Rattle.proxy_core.specs.Promises.{NothingInvalidatedSinceTheStartIsSent, invalidates_response};
+ghost use Rattle.proxy_core.specs.Promises.{overtakes_key};
+ghost use Rattle.proxy_core.specs.Starts.{empty_store};
 ghost use Rattle.proxy_core.specs.Headline.{RequestGoesForwardWhereAllowed};
-ghost use Rattle.proxy_core.specs.Cases.{response_with, stored_with};
+ghost use Rattle.proxy_core.specs.Cases.{cache_tag, key_of_path, response_with, stored_with};
 ghost use Rattle.proxy_core.specs.WrongTraces.{edge_table, fresh_for_a_minute, get_a, get_admin, events_that_store_a};
 ghost use Rattle.proxy_core.specs.WrongTraces.{item_of, condition_about_v, post_a};
 ghost use Rattle.proxy_core.specs.WrongTraces.{reply_that_stores, reply_that_sends_stored, trace_of_good_events};
 ghost use Rattle.proxy_core.specs.WrongTraces.{trace_sends_invalidated, trace_sends_behind, response_304};
-ghost use Rattle.proxy_core.specs.WrongTraces.{trace_sends_of_the_start};
+ghost use Rattle.proxy_core.specs.WrongTraces.{trace_sends_of_the_start, trace_sends_of_the_start_behind_a_purge};
+ghost use Rattle.proxy_core.specs.WrongTraces.{trace_sends_behind_a_purge, trace_stores_behind_a_purge};
+ghost use Rattle.proxy_core.specs.WrongTraces.{trace_stores_tagged, purge_item};
 ghost use Rattle.proxy_core.specs.WrongTraces.{trace_stores_invalidated, trace_with_three_forwards};
 ghost use Rattle.proxy_core.specs.WrongTraces.{trace_with_two_replies, GoingForwardIsWrong};
 ghost use Rattle.hx_allow.specs.Matching.{over_line};
@@ -73,12 +77,32 @@ pub fn an_exchange_goes_twice_and_replies_once()
 /// What was invalidated since its request went forward isn't sent: neither between its storing and
 /// its sending, nor on its way.
 pub fn sending_what_is_invalidated_is_refused()
-    ensures since_stored { NothingInvalidatedIsSent trace_sends_invalidated → ⊥ }
-    ensures on_its_way { NothingInvalidatedIsSent trace_stores_invalidated → ⊥ }
-    ensures behind_a_304 { NothingInvalidatedIsSent (trace_sends_behind (response_304 [])) → ⊥ }
-    ensures behind_a_redirect { NothingInvalidatedIsSent (trace_sends_behind (response_with 303 [])) → ⊥ }
-    ensures since_the_start { NothingInvalidatedSinceTheStartIsSent (stored_with 1 [] ∷ []) trace_sends_of_the_start
-        → ⊥ }
+    ensures since_stored { NothingInvalidatedIsSent edge_table (empty_store 2) trace_sends_invalidated → ⊥ }
+    ensures on_its_way { NothingInvalidatedIsSent edge_table (empty_store 2) trace_stores_invalidated → ⊥ }
+    ensures behind_a_304 { NothingInvalidatedIsSent edge_table (empty_store 2)
+        (trace_sends_behind (response_304 [])) → ⊥ }
+    ensures behind_a_redirect { NothingInvalidatedIsSent edge_table (empty_store 2)
+        (trace_sends_behind (response_with 303 [])) → ⊥ }
+    ensures by_its_tag { NothingInvalidatedIsSent edge_table (empty_store 2)
+        (trace_sends_behind_a_purge (codes "news")) → ⊥ }
+    ensures on_its_way_by_any_tag { NothingInvalidatedIsSent edge_table (empty_store 2)
+        (trace_stores_behind_a_purge (codes "sport")) → ⊥ }
+    ensures since_the_start { NothingInvalidatedSinceTheStartIsSent edge_table
+        (record { limit = 2; entries = stored_with 1 [] ∷ [] }) trace_sends_of_the_start → ⊥ }
+    ensures since_the_start_by_its_tag { NothingInvalidatedSinceTheStartIsSent edge_table
+        (record { limit = 2; entries = stored_with 1 (cache_tag (codes "sport, news") ∷ []) ∷ [] })
+        (trace_sends_of_the_start_behind_a_purge (codes "news")) → ⊥ }
+{}
+
+/// A purge with a tag invalidates of what is held within its scope what names the tag, and leaves the rest to be sent;
+/// of what is on its way it overtakes all that is within its scope.
+pub fn what_a_purge_with_a_tag_invalidates()
+    ensures its_own { invalidates_response edge_table (empty_store 2) 1 (key_of_path (codes "/a"))
+        (purge_item (codes "news")) trace_stores_tagged ≡ true }
+    ensures another { invalidates_response edge_table (empty_store 2) 1 (key_of_path (codes "/a"))
+        (purge_item (codes "sport")) trace_stores_tagged ≡ false }
+    ensures on_its_way { overtakes_key (key_of_path (codes "/a")) (purge_item (codes "sport")) trace_stores_tagged
+        ≡ true }
 {}
 
 /// No run stops behind its last event, nor at one that no fault stands against, but where memory runs out.

@@ -1,13 +1,15 @@
 //! A request that went forward, or waits for the answer to another, and isn't answered yet.
-ghost use Rattle.std.specs.Prelude.{◌≡◌};
-ghost use Rattle.proxy_core.specs.Scopes.{target_alone};
+ghost use Rattle.std.specs.Prelude.{◌≡◌, Some};
+ghost use Rattle.proxy_core.specs.LeadingOn.{led_on_exchange};
+ghost use Rattle.proxy_core.specs.Scopes.{scope_of_keys, target_alone};
 ghost use Rattle.proxy_core.specs.State.{exchange_gone_forward, overtaken_exchange};
 ghost use Rattle.proxy_core.specs.State.{released_exchange, exchange_past_its_wait};
 
 use crate::open::leading::waits_for;
+use crate::open::leading_on::{NextLeader, stage_behind};
 use crate::open::stage::Stage;
 use crate::steps::condition::Condition;
-use hx_allow::{PurgeScope, Route};
+use hx_allow::{Config, PurgeScope, Route};
 use hx_hop::Asked;
 use hx_reuse::ReuseRule;
 use hx_target::Key;
@@ -66,6 +68,16 @@ impl Exchange {
         }
     }
 
+    /// The client of the exchange of this id has gone. If it waited for that one it waits for the next leader, or may
+    /// be woken.
+    pub(crate) fn lead_on(&mut self, config: &Config, next: NextLeader, leader: u64)
+        ensures { self.new ≡ led_on_exchange config.now (Some next) leader self.old }
+    {
+        if waits_for(self.stage, leader) {
+            self.stage = stage_behind(config, next, self);
+        }
+    }
+
     /// Its time to wait is over.
     pub(crate) fn wait_no_more(&mut self)
         ensures { self.new ≡ exchange_past_its_wait self.old }
@@ -84,7 +96,7 @@ impl Exchange {
 
     /// Marks it, if its target is within the scope of a purge that was asked for a key.
     pub(crate) fn overtake_within(&mut self, reach: PurgeScope, asked: &Key)
-        ensures { self.new ≡ overtaken_exchange (record { reach = reach; asked = asked.now }) self.old }
+        ensures { self.new ≡ overtaken_exchange (scope_of_keys reach asked.now) self.old }
     {
         if reach.has(asked, &self.asked.target.key) {
             self.overtaken = true;

@@ -6,7 +6,8 @@
 //! is one, and nothing where there is none (see `released`). `leader` looks through the GETs of its
 //! key that are at the origin, up to the one that leads, and an invalidation goes through all
 //! exchanges of its key. `ready` goes through all of them, as does a purge of more than its target.
-ghost use Rattle.std.specs.Prelude.{◌≡◌, ◌<◌, ◌++◌, ◌∷◌, [], map, filter, not, ◌==◌, None, IfOk, OnOk, OnErr, length};
+ghost use Rattle.std.specs.Prelude.{◌≡◌, ◌<◌, ◌++◌, ◌∷◌, ℕ, [], map, filter, not, ◌==◌, None, Some, IfOk, OnOk, OnErr};
+ghost use Rattle.std.specs.Prelude.{◌&&◌, false, length};
 ghost use Rattle.std.specs.Prelude.{option_copied, option_map, slice_get, IfSome};
 ghost use Rattle.proxy_core.specs.Waiting.{ExchangeMayBeWoken};
 ghost use Rattle.std.specs.List.{All};
@@ -18,15 +19,17 @@ ghost use Rattle.proxy_core.specs.ByKey.{GetArrivalsPass, ArrivalIsEntered, Arri
 ghost use Rattle.proxy_core.specs.ByKey.{IsInNeitherIndex, HasNoEmptyKeysInEither, is_in_key_index};
 ghost use Rattle.proxy_core.specs.ByKey.{ArrivalIsMovedToOrigin};
 ghost use Rattle.std.specs.BTreeSet.{contains};
-ghost use Rattle.proxy_core.specs.Arrivals.{WaitingArrivalsPass, map_exchanges, map_passing};
+ghost use Rattle.proxy_core.specs.Arrivals.{WaitingArrivalsPass, map_exchanges, map_passing, is_arrival_of_selected};
 ghost use Rattle.proxy_core.specs.Waiters.{WaiterIsEntered, WaiterHasLeft, IsSameWaitIndex, IsNotInWaitIndex};
 ghost use Rattle.proxy_core.specs.Waiters.{HasNoEmptyWaiterSets};
 ghost use Rattle.proxy_core.specs.Outcomes.{find_exchange};
 ghost use Rattle.proxy_core.specs.Leading.{leader, ready_ids};
-ghost use Rattle.proxy_core.specs.Scopes.{target_alone};
+ghost use Rattle.proxy_core.specs.Scopes.{scope_of_keys, target_alone};
 ghost use Rattle.proxy_core.specs.State.{exchanges_after_close, released_exchange, overtaken_exchange};
 ghost use Rattle.proxy_core.specs.State.{exchanges_after_end, exchange_forwarded_again, exchange_sent_forward};
 ghost use Rattle.proxy_core.specs.State.{overdue_exchange};
+ghost use Rattle.proxy_core.specs.LeadingOn.{next_leader, exchanges_without, exchanges_after_abandon};
+ghost use Rattle.proxy_core.specs.LeadingOn.{led_on_exchange, follows_leader as is_follower};
 
 use crate::open::arrivals_by_key::ArrivalsByKey;
 use crate::open::awaited::Awaited;
@@ -34,11 +37,12 @@ use crate::open::exchange::Exchange;
 use crate::open::ids::Ids;
 use crate::open::key_index::KeyIndex;
 use crate::open::leading::{is_released, is_waiting, leads_waiters};
+use crate::open::leading_on::{NextLeader, follows_leader, leads_on};
 use crate::open::released::Released;
 use crate::open::stage::Stage;
 use crate::open::wait_index::WaitIndex;
 use crate::steps::condition::Condition;
-use hx_allow::PurgeScope;
+use hx_allow::{Config, PurgeScope};
 use hx_hop::Asked;
 use hx_policy::Policy;
 use hx_reuse::ReuseRule;
@@ -185,6 +189,55 @@ impl Exchanges {
         self.release(id);
     }
 
+    /// The client of the exchange of an id goes away before its answer. The first of those that wait for it and may
+    /// lead on may be woken, and those wait for that one that could be sent its answer. Where memory runs out nothing
+    /// has changed. It costs one walk over those that wait for it.
+    pub(crate) fn abandon(&mut self, config: &Config, id: u64) -> Result<(), AllocError>
+        ensures ok { OnOk result (self.new ≡ exchanges_after_abandon config.now id self.old) }
+        ensures err { OnErr result (self.new ≡ self.old) }
+    {
+        match self.next_leader(config, id) {
+            Some(next) => {
+                self.lead_on(config, next, id)?;
+                self.remove_from_index(id);
+            }
+            None => self.close(id),
+        }
+        Ok(())
+    }
+
+    /// The first of those that wait for the exchange of an id that may lead on.
+    fn next_leader(&self, config: &Config, id: u64) -> Option<NextLeader>
+        ensures next { result ≡ next_leader config.now id (exchanges_without id self.now) }
+        ensures another { IfSome result (λ next. (next.id == id) ≡ false) }
+    {
+        match self.waiting.find(id) {
+            Some(waiting) => first_to_lead_on(&self.by_arrival, waiting, config, id),
+            None => None,
+        }
+    }
+
+    /// Those that wait for the exchange of an id wait for the next leader, or no longer. Where memory runs out nothing
+    /// has changed.
+    fn lead_on(&mut self, config: &Config, next: NextLeader, id: u64) -> Result<(), AllocError>
+        requires { (next.id == id) ≡ false }
+        ensures ok { OnOk result (self.new ≡ map (led_on_exchange config.now (Some next) id) self.old) }
+        ensures err { OnErr result (self.new ≡ self.old) }
+    {
+        let alloc = self.waiting.alloc;
+        let followers = match self.waiting.find(id) {
+            Some(waiting) => followers(alloc, &self.by_arrival, waiting, config, next)?,
+            None => return Ok(()),
+        };
+        self.waiting.enter_all(next.id, followers)?;
+        if let Some(waiting) = self.waiting.take(id) {
+            lead_each_on(&mut self.by_arrival, &waiting, config, next, id);
+            self.released.enter_all(&waiting);
+            self.released.settle(&self.by_arrival);
+        }
+        Ok(())
+    }
+
     fn remove_from_index(&mut self, id: u64)
         ensures { self.new ≡ filter (λ x. not (x.id == id)) self.old }
     {
@@ -295,7 +348,7 @@ impl Exchanges {
     /// Marks each exchange within the scope of a purge that was asked for a key. For one target it goes through the
     /// exchanges of that key alone, else through all that are open.
     pub(crate) fn overtake_within(&mut self, reach: PurgeScope, asked: &Key)
-        ensures { self.new ≡ map (overtaken_exchange (record { reach = reach; asked = asked.now })) self.old }
+        ensures { self.new ≡ map (overtaken_exchange (scope_of_keys reach asked.now)) self.old }
     {
         match reach {
             PurgeScope::Target => self.overtake(asked),
@@ -306,7 +359,7 @@ impl Exchanges {
     }
 
     fn overtake_all(&mut self, reach: PurgeScope, asked: &Key)
-        ensures { self.new ≡ map (overtaken_exchange (record { reach = reach; asked = asked.now })) self.old }
+        ensures { self.new ≡ map (overtaken_exchange (scope_of_keys reach asked.now)) self.old }
     {
         overtake_each_within(&mut self.by_arrival, reach, asked);
         self.released.settle(&self.by_arrival);
@@ -460,6 +513,71 @@ fn release_each(by_arrival: &mut BTreeMap<u64, Exchange>, waiting: &BTreeSet<u64
     }
 }
 
+/// The first of these arrivals, among which all are that wait for the exchange of an id, that may lead on.
+fn first_to_lead_on(
+    by_arrival: &BTreeMap<u64, Exchange>,
+    waiting: &BTreeSet<u64>,
+    config: &Config,
+    id: u64,
+) -> Option<NextLeader>
+    requires { WaitingArrivalsPass id (contains nat_cmp waiting.now) by_arrival.now.entries }
+    ensures next { result ≡ next_leader config.now id (exchanges_without id (values by_arrival.now)) }
+    ensures another { IfSome result (λ next. (next.id == id) ≡ false) }
+{
+    // It is said of the length that the numbers ascend.
+    let _open = by_arrival.len();
+    for arrival in waiting {
+        if let Some(x) = by_arrival.get(arrival) {
+            if leads_on(config, id, x) {
+                return Some(NextLeader::of(x));
+            }
+        }
+    }
+    None
+}
+
+/// Those of these arrivals whose exchanges could be sent the answer to the next leader.
+fn followers(
+    alloc: Global,
+    by_arrival: &BTreeMap<u64, Exchange>,
+    waiting: &BTreeSet<u64>,
+    config: &Config,
+    next: NextLeader,
+) -> Result<BTreeSet<u64>, AllocError>
+    ensures { IfOk result (λ set. (n : ℕ) → contains nat_cmp set n ≡ (contains nat_cmp waiting.now n
+        && is_arrival_of_selected (is_follower config.now next) by_arrival.now.entries n)) }
+{
+    let mut set = BTreeSet::new(alloc);
+    for arrival in waiting {
+        if let Some(x) = by_arrival.get(arrival) {
+            if follows_leader(config, next, x) {
+                set.insert(*arrival)?;
+            }
+        }
+    }
+    Ok(set)
+}
+
+/// Leads on those of these arrivals that wait for the exchange of an id.
+fn lead_each_on(
+    by_arrival: &mut BTreeMap<u64, Exchange>,
+    waiting: &BTreeSet<u64>,
+    config: &Config,
+    next: NextLeader,
+    leader: u64,
+)
+    requires waits { WaitingArrivalsPass leader (contains nat_cmp waiting.now) by_arrival.old.entries }
+    requires another { (next.id == leader) ≡ false }
+    ensures { by_arrival.new.entries
+        ≡ map_exchanges (led_on_exchange config.now (Some next) leader) by_arrival.old.entries }
+{
+    for arrival in waiting {
+        if let Some(x) = by_arrival.get_mut(arrival) {
+            x.lead_on(config, next, leader);
+        }
+    }
+}
+
 /// Marks those of a key that an index tells.
 fn overtake_indexed(by_arrival: &mut BTreeMap<u64, Exchange>, index: &KeyIndex, key: &Key)
     ensures { by_arrival.new.entries ≡ map_passing (is_in_key_index index.now key.now)
@@ -487,7 +605,7 @@ fn overtake_each(by_arrival: &mut BTreeMap<u64, Exchange>, arrivals: &BTreeSet<u
 /// Marks those within the scope of a purge that was asked for a key.
 fn overtake_each_within(by_arrival: &mut BTreeMap<u64, Exchange>, reach: PurgeScope, asked: &Key)
     ensures { by_arrival.new.entries
-        ≡ map_exchanges (overtaken_exchange (record { reach = reach; asked = asked.now })) by_arrival.old.entries }
+        ≡ map_exchanges (overtaken_exchange (scope_of_keys reach asked.now)) by_arrival.old.entries }
 {
     // All are retained: the contract of `retain` says what is written to each.
     by_arrival.retain(|_, x| {

@@ -96,7 +96,7 @@ fn asks_for(exchange: &Exchange, awaited: Awaited) -> bool
     }
 }
 
-fn has_authorization(asked: &Asked) -> bool
+pub(crate) fn has_authorization(asked: &Asked) -> bool
     ensures { result ≡ has_authorization asked.now }
 {
     asked.fields.has(b"Authorization")

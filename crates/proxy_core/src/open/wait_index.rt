@@ -1,13 +1,16 @@
 //! Which arrivals wait for which exchange.
 //!
 //! A call costs the logarithm of how many wait.
-ghost use Rattle.std.specs.Prelude.{◌≡◌, ℕ, false, IfOk, OnOk, OnErr};
+ghost use Rattle.std.specs.Prelude.{◌≡◌, ◌||◌, ℕ, false, option_copied, IfOk, OnOk, OnErr};
+ghost use Rattle.std.specs.Ordering.{nat_cmp};
+ghost use Rattle.std.specs.BTreeMap.{get};
+ghost use Rattle.std.specs.BTreeSet.{contains};
 ghost use Rattle.std.specs.Bool.{OnFalse, OnTrue};
 ghost use Rattle.proxy_core.specs.declared.open.stage.Stage.TheVariants as staged;
 ghost use Rattle.proxy_core.specs.Waiters.{is_in_wait_index, set_contains, WaiterIsEntered, WaiterIsEnteredIf};
 ghost use Rattle.proxy_core.specs.Waiters.{WaiterHasLeft, WaitersAreTakenOut, IsSameWaitIndex};
 ghost use Rattle.proxy_core.specs.Waiters.{HasNoEmptyWaiterSets, HasNoOtherEmptyWaiterSets, IsEmptyWaitIndex};
-ghost use Rattle.proxy_core.specs.Waiters.{SetHoldsAllWaiters};
+ghost use Rattle.proxy_core.specs.Waiters.{SetHoldsAllWaiters, SetHasMembers, WaitersAreEntered};
 
 use crate::open::stage::Stage;
 use std::alloc::{AllocError, Global};
@@ -15,7 +18,7 @@ use std::collections::{BTreeMap, BTreeSet};
 
 /// The numbers of the arrivals that wait, by the id that they wait for, of which none stands there without an arrival.
 pub(crate) struct WaitIndex {
-    alloc: Global,
+    pub(crate) alloc: Global,
     arrivals: BTreeMap<u64, BTreeSet<u64>>,
 }
 
@@ -73,6 +76,42 @@ impl WaitIndex {
         self.arrivals.remove(&id)
     }
 
+    /// Those that wait for the exchange of an id.
+    pub(crate) fn find(&self, id: u64) -> Option<&BTreeSet<u64>>
+        ensures { option_copied result ≡ get nat_cmp self.now.arrivals id }
+    {
+        self.arrivals.get(&id)
+    }
+
+    /// Enters arrivals as of those that wait for the exchange of an id, beside those that do. Out of memory changes
+    /// nothing.
+    pub(crate) fn enter_all(&mut self, id: u64, arrivals: BTreeSet<u64>) -> Result<(), AllocError>
+        ensures ok { OnOk result (WaitersAreEntered id arrivals self.old self.new) }
+        ensures err { OnErr result (IsSameWaitIndex self.old self.new) }
+        ensures trim { HasNoEmptyWaiterSets self.old → HasNoEmptyWaiterSets self.new }
+    {
+        if arrivals.is_empty() {
+            return Ok(());
+        }
+        let all = self.with_those_of(id, arrivals)?;
+        self.arrivals.insert(id, all)?;
+        Ok(())
+    }
+
+    /// These arrivals, and those that wait for the exchange of an id.
+    fn with_those_of(&self, id: u64, arrivals: BTreeSet<u64>) -> Result<BTreeSet<u64>, AllocError>
+        requires { SetHasMembers arrivals }
+        ensures members { IfOk result (λ all. SetHasMembers all) }
+        ensures all { IfOk result (λ all. (m : ℕ) → contains nat_cmp all m ≡ (contains nat_cmp arrivals m
+            || is_in_wait_index self.now id m)) }
+    {
+        let mut all = arrivals;
+        if let Some(others) = self.arrivals.get(&id) {
+            insert_each(&mut all, others)?;
+        }
+        Ok(all)
+    }
+
     fn insert(&mut self, id: u64, arrival: u64) -> Result<(), AllocError>
         ensures ok { OnOk result (WaiterIsEntered (staged.Waiting id) arrival self.old self.new) }
         ensures err { OnErr result (IsSameWaitIndex self.old self.new) }
@@ -126,4 +165,17 @@ impl WaitIndex {
             None => false,
         }
     }
+}
+
+/// Puts each of the others into a set. Where memory runs out some may be in it.
+fn insert_each(set: &mut BTreeSet<u64>, others: &BTreeSet<u64>) -> Result<(), AllocError>
+    requires { SetHasMembers set.old }
+    ensures members { SetHasMembers set.new }
+    ensures all { OnOk result ((m : ℕ) → contains nat_cmp set.new m ≡ (contains nat_cmp set.old m
+        || contains nat_cmp others.now m)) }
+{
+    for arrival in others {
+        set.insert(*arrival)?;
+    }
+    Ok(())
 }

@@ -7,7 +7,7 @@ ghost use Rattle.hx_status.specs.Member.{member_text};
 ghost use Rattle.proxy_core.specs.Replies.{passed_answer_text, fields_of_passed_answer, length_of_passed_answer};
 ghost use Rattle.proxy_core.specs.Replies.{whole_answer_text, client_has_answer, fields_in_place_of_answer};
 ghost use Rattle.proxy_core.specs.Replies.{not_modified_answer_text};
-ghost use Rattle.proxy_core.specs.Replies.{cache_status_of_passed_answer, detail_past_store};
+ghost use Rattle.proxy_core.specs.Replies.{cache_status_of_passed_answer, detail_past_store, without_tags};
 ghost use Rattle.proxy_core.specs.Replies.{ttl_of_passed_answer, refusal_reply_text, fields_of_purge, purge_reply_text};
 ghost use Rattle.proxy_core.specs.Replies.{fields_of_refusal, content_unless_head, is_head, length_unless_forbidden};
 
@@ -121,6 +121,15 @@ fn member_of_passed_answer(
     member(alloc, name, &status)
 }
 
+/// Takes the tags out, over a line that hides them.
+fn hide_tags(policy: Policy, fields: &mut Fields)
+    ensures { fields.new ≡ without_tags policy.hides_tags fields.old }
+{
+    if policy.hides_tags {
+        fields.remove_named(b"Cache-Tag");
+    }
+}
+
 /// The lines of an answer that is passed on whole.
 fn fields_of_passed_answer(
     alloc: Global,
@@ -135,6 +144,7 @@ fn fields_of_passed_answer(
 {
     let member = member_of_passed_answer(alloc, name, answer, head, shown, None)?;
     let mut lines = head.fields.copy(alloc)?;
+    hide_tags(shown.policy, &mut lines);
     lines.push(b"Cache-Status", member.as_slice())?;
     Ok(lines)
 }
@@ -155,6 +165,7 @@ pub(crate) fn fields_in_place_of_answer(
     let came = Some(head.status);
     let member = member_of_passed_answer(alloc, name, answer, head, shown, came)?;
     let mut lines = own;
+    hide_tags(shown.policy, &mut lines);
     lines.push(b"Cache-Status", member.as_slice())?;
     Ok(lines)
 }

@@ -7,8 +7,8 @@ ghost use Rattle.hx_framing.specs.Text.{response_text};
 ghost use Rattle.hx_status.specs.Member.{member_text};
 ghost use Rattle.proxy_core.specs.Outcomes.{forwarded_status_info, collapsed_status_info};
 ghost use Rattle.proxy_core.specs.Replies.{cache_status_of_sent, stored_text, whole_stored_text, not_modified_text};
-ghost use Rattle.proxy_core.specs.Replies.{content_unless_head, fields_of_sent_response, is_head, text_in_form};
-ghost use Rattle.proxy_core.specs.Replies.{fwd_status_of};
+ghost use Rattle.proxy_core.specs.Replies.{content_unless_head, fields_of_sent_response, fields_with_age_and_status};
+ghost use Rattle.proxy_core.specs.Replies.{fwd_status_of, is_head, text_in_form};
 ghost use Rattle.proxy_core.specs.Validating.{without_cookies};
 
 use crate::open::exchange::Exchange;
@@ -234,7 +234,7 @@ impl StoredReply<'_> {
             self.now.info self.now.asked.now) }
     {
         let fields = not_modified(alloc, self.entry)?;
-        self.written(alloc, 304, &fields, None, &[])
+        self.written_with(alloc, 304, &fields, None, &[])
     }
 
     /// What Cache-Status tells under a status, of a response of this age in seconds.
@@ -259,8 +259,9 @@ impl StoredReply<'_> {
         member(alloc, self.name, &shown)
     }
 
-    /// A response of these lines of its own under a status: then come Age and Cache-Status.
-    #[tactic(auto, using(crate::proofs::AddedLines::lines_added))]
+    /// A response of these lines of its own under a status, without tags where those are hidden: then come Age and
+    /// Cache-Status.
+    #[tactic(auto, using(crate::proofs::Cookies::none_hidden))]
     fn written(
         &self,
         alloc: Global,
@@ -271,6 +272,28 @@ impl StoredReply<'_> {
     ) -> Result<Bytes, AllocError>
         ensures { IfOk result (λ text. text ≡ response_text status
             (fields_of_sent_response self.now.name.now status fields.now
+            self.now.entry.now self.now.sent_at self.now.info) length self.now.asked.now.close content.now) }
+    {
+        if self.info.policy.hides_tags && fields.has(b"Cache-Tag") {
+            let mut others = fields.copy(alloc)?;
+            others.remove_named(b"Cache-Tag");
+            return self.written_with(alloc, status, &others, length, content);
+        }
+        self.written_with(alloc, status, fields, length, content)
+    }
+
+    /// A response of these lines under a status: then come Age and Cache-Status.
+    #[tactic(auto, using(crate::proofs::AddedLines::lines_added))]
+    fn written_with(
+        &self,
+        alloc: Global,
+        status: u16,
+        fields: &Fields,
+        length: Option<u64>,
+        content: &[u8],
+    ) -> Result<Bytes, AllocError>
+        ensures { IfOk result (λ text. text ≡ response_text status
+            (fields_with_age_and_status self.now.name.now status fields.now
             self.now.entry.now self.now.sent_at self.now.info) length self.now.asked.now.close content.now) }
     {
         let entry = self.entry;

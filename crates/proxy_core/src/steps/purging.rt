@@ -1,54 +1,96 @@
 //! A request that purges.
-ghost use Rattle.std.specs.Prelude.{◌≡◌, ◌<◌, map, IfOk, OnOk, OnErr};
-ghost use Rattle.proxy_core.specs.Scopes.{scope_of_purge, serials_purged, serials_within};
+ghost use Rattle.std.specs.Prelude.{◌≡◌, ◌<◌, map, IfOk, OnOk, OnErr, Some};
+ghost use Rattle.hx_allow.specs.Tags.{names_tag_if_any};
+ghost use Rattle.proxy_core.specs.Scopes.{scope_of_keys, scope_of_purge, serials_purged, serials_within};
 ghost use Rattle.proxy_core.specs.Outcomes.{outcome_of_purge};
 ghost use Rattle.proxy_core.specs.State.{entries_without_serials, overtaken_exchange};
 
 use crate::core_state::Core;
+use crate::open::exchanges::Exchanges;
 use crate::outcome::{Outcome, Reply};
 use crate::replies::reply_text::purged;
 use crate::steps::finishing::remove_each;
-use hx_allow::{PurgeScope, scope_to_purge};
+use hx_allow::{PurgeScope, names_tag, scope_to_purge, tag_to_purge};
+use hx_fields::{Bytes, Fields};
 use hx_hop::Asked;
 use hx_store::{Entry, EntryTest, Serials, Shelf};
 use hx_target::Key;
 use std::alloc::{AllocError, Global};
 
-/// Whether a held response is within the scope of a purge.
+/// Whether a purge takes a held response.
 #[derive(Drop)]
 struct WithinScope {
     reach: PurgeScope,
     /// What the purge was asked for.
     asked: Key,
+    /// What a response has to name.
+    tag: Option<Bytes>,
 }
 
-impl EntryTest for WithinScope {
-    ghost use Rattle.proxy_core.specs.Scopes.{is_in_scope};
-
-    ghost takes = { λ scope e. is_in_scope (record { reach = scope.reach; asked = scope.asked }) e.key };
-
-    fn is_passed_by(&self, entry: &Entry) -> bool {
-        self.reach.has(&self.asked, &entry.key)
+/// Whether a response names a tag, where one is asked for.
+fn names_tag_if_any(tag: &Option<Bytes>, fields: &Fields) -> bool
+    ensures { result ≡ names_tag_if_any tag.now fields.now }
+{
+    match tag {
+        None => true,
+        Some(tag) => names_tag(tag.as_slice(), fields),
     }
 }
 
-/// The serials of what is held within a scope, ascending. Of one target those are found by its key, and else each held
-/// response is looked at once. Fails only where memory runs out.
-fn find_purged<S: Shelf>(
+impl EntryTest for WithinScope {
+    ghost use Rattle.proxy_core.specs.Scopes.{scope_takes};
+
+    ghost takes = { λ scope e. scope_takes
+        (record { reach = scope.reach; asked = scope.asked; tag = scope.tag }) e.key e.fields };
+
+    // Most are told apart by the key, and to compare that costs less.
+    fn is_passed_by(&self, entry: &Entry) -> bool {
+        let within = self.reach.has(&self.asked, &entry.key);
+        within && names_tag_if_any(&self.tag, &entry.fields)
+    }
+}
+
+/// The serials of what a purge takes, ascending. Of one target without a tag those are found by its key, and else each
+/// held response is looked at once. Fails only where memory runs out.
+fn find_purged<S: Shelf>(shelf: &S, alloc: Global, asked: &Asked) -> Result<Serials, AllocError>
+    ensures { IfOk result (λ found. found ≡ serials_purged asked.now (S.entries shelf.now)) }
+{
+    let reach = scope_to_purge(&asked.fields);
+    let key = &asked.target.key;
+    match tag_to_purge(&asked.fields) {
+        None => find_by_key(shelf, alloc, reach, key),
+        Some(tag) => find_tagged(shelf, alloc, reach, key, tag),
+    }
+}
+
+fn find_by_key<S: Shelf>(
     shelf: &S,
     alloc: Global,
     reach: PurgeScope,
     asked: &Key,
 ) -> Result<Serials, AllocError>
-    ensures { IfOk result
-        (λ found. found ≡ serials_within (record { reach = reach; asked = asked.now }) (S.entries shelf.now)) }
+    ensures { IfOk result (λ found. found ≡ serials_within (scope_of_keys reach asked.now) (S.entries shelf.now)) }
 {
     match reach {
         PurgeScope::Target => shelf.find(alloc, asked),
         PurgeScope::Prefix | PurgeScope::Host | PurgeScope::All => {
-            find_within(shelf, alloc, reach, asked)
+            find_within(shelf, alloc, reach, asked, None)
         }
     }
+}
+
+fn find_tagged<S: Shelf>(
+    shelf: &S,
+    alloc: Global,
+    reach: PurgeScope,
+    asked: &Key,
+    tag: &[u8],
+) -> Result<Serials, AllocError>
+    ensures { IfOk result (λ found. found ≡ serials_within
+        (record { reach = reach; asked = asked.now; tag = Some tag.now }) (S.entries shelf.now)) }
+{
+    let tag = Bytes::copy_of(alloc, tag)?;
+    find_within(shelf, alloc, reach, asked, Some(tag))
 }
 
 fn find_within<S: Shelf>(
@@ -56,19 +98,30 @@ fn find_within<S: Shelf>(
     alloc: Global,
     reach: PurgeScope,
     asked: &Key,
+    tag: Option<Bytes>,
 ) -> Result<Serials, AllocError>
-    ensures { IfOk result
-        (λ found. found ≡ serials_within (record { reach = reach; asked = asked.now }) (S.entries shelf.now)) }
+    ensures { IfOk result (λ found. found ≡ serials_within
+        (record { reach = reach; asked = asked.now; tag = tag }) (S.entries shelf.now)) }
 {
     let scope = WithinScope {
         reach,
         asked: asked.copy(alloc)?,
+        tag,
     };
     shelf.find_where(alloc, &scope)
 }
 
+/// Marks what was asked for within the scope of a purge: by its key, whatever the tag.
+fn overtake_purged(exchanges: &mut Exchanges, asked: &Asked)
+    ensures { exchanges.new ≡ map (overtaken_exchange (scope_of_purge asked.now)) exchanges.old }
+{
+    let reach = scope_to_purge(&asked.fields);
+    exchanges.overtake_within(reach, &asked.target.key);
+}
+
 impl<S: Shelf> Core<S> {
-    /// A request that purges: what is held within its scope goes, and what was asked for that before isn't stored.
+    /// A request that purges: what is held within its scope and names its tag goes, and what was asked for within its
+    /// scope before isn't stored.
     pub(crate) fn purge(
         &mut self,
         alloc: Global,
@@ -83,12 +136,10 @@ impl<S: Shelf> Core<S> {
         }) }
         ensures unchanged { OnErr result (self.new ≡ self.old) }
     {
-        let reach = scope_to_purge(&asked.fields);
-        let key = &asked.target.key;
-        let removed = find_purged(&self.shelf, alloc, reach, key)?;
+        let removed = find_purged(&self.shelf, alloc, asked)?;
         let bytes = purged(alloc, now, removed.as_slice().len(), asked.close)?;
         remove_each(&mut self.shelf, removed.as_slice());
-        self.exchanges.overtake_within(reach, key);
+        overtake_purged(&mut self.exchanges, asked);
         Ok(Outcome::Reply(Reply {
             bytes,
             close: asked.close,

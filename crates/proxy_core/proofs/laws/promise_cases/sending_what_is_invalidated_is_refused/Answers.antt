@@ -1,4 +1,4 @@
-use Rattle.std.proofs.Common.{[], ◌∷◌, Some, refl, sym}
+use Rattle.std.proofs.Common.{[], ◌∷◌, Some, codes, refl, sym}
 use Rattle.std.proofs.lemmas.Bool.{false≢true}
 use Rattle.std.specs.Fmt.{digits}
 use Rattle.httpdate.proofs.OnLiterals.{httpdate_on_literals}
@@ -10,8 +10,8 @@ use Rattle.hx_reuse.specs.Rules.{decision_of, reuse_rule_of}
 use Rattle.hx_storable.specs.Rules.{storage_rule_of}
 use Rattle.hx_validate.specs.Answering.{freshened_of}
 use Rattle.proxy_core.specs.declared.event.Event.TheVariants.{Arrive, Answer}
-use Rattle.proxy_core.specs.Cases.{response_with, stored_with}
-use Rattle.proxy_core.specs.WrongTraces.{fresh_for_a_minute, get_a, delete_a, response_304, forward_over_line_3, item_of, post_a, reply_that_stores, reply_without_store, reply_that_sends_stored}
+use Rattle.proxy_core.specs.Cases.{cache_control, cache_tag, response_with, stored_with}
+use Rattle.proxy_core.specs.WrongTraces.{fresh_for_a_minute, get_a, delete_a, response_304, forward_over_line_3, item_of, post_a, purge_item, reply_that_stores, reply_without_store, reply_that_sends_stored}
 use Rattle.proxy_core.proofs.laws.promise_cases.sending_what_is_invalidated_is_refused.Goals as goal
 
 pub returns-clause-since_stored : goal.returns-clause-since_stored
@@ -42,4 +42,22 @@ pub returns-clause-since_the_start : goal.returns-clause-since_the_start
 unfolding digits httpdate_on_literals matches_line verdict_of verdict_of_request policy_of decision_of reuse_rule_of storage_rule_of forwarded_of part_holding_day freshened_of error_rule_on
 returns-clause-since_the_start c = λ h.
     let none = h [] (item_of (Answer 111 2 (response_with 200 [])) (reply_without_store []) ∷ item_of (Arrive 110 2 post_a) forward_over_line_3 ∷ []) (item_of (Arrive 120 3 get_a) (reply_that_sends_stored 1 [])) 1 (stored_with 1 []) refl refl refl in
+    false≢true (sym none.0)
+
+pub returns-clause-by_its_tag : goal.returns-clause-by_its_tag
+unfolding digits httpdate_on_literals matches_line verdict_of verdict_of_request policy_of decision_of reuse_rule_of storage_rule_of forwarded_of part_holding_day freshened_of error_rule_on
+returns-clause-by_its_tag c = λ h.
+    let none = h [] (purge_item (codes "news") ∷ []) [] [] (item_of (Arrive 120 3 get_a) (reply_that_sends_stored 1 [])) (item_of (Answer 101 1 (response_with 200 (cache_control (codes "max-age=60") ∷ cache_tag (codes "blog, news") ∷ []))) (reply_that_stores [] (Some 1) [])) (item_of (Arrive 100 1 get_a) forward_over_line_3) 1 get_a refl refl refl refl refl refl refl in
+    false≢true (sym none.0.0)
+
+pub returns-clause-on_its_way_by_any_tag : goal.returns-clause-on_its_way_by_any_tag
+unfolding digits httpdate_on_literals matches_line verdict_of verdict_of_request policy_of decision_of reuse_rule_of storage_rule_of forwarded_of part_holding_day freshened_of error_rule_on
+returns-clause-on_its_way_by_any_tag c = λ h.
+    let none = h [] [] (purge_item (codes "sport") ∷ []) [] (item_of (Arrive 120 3 get_a) (reply_that_sends_stored 1 [])) (item_of (Answer 112 1 fresh_for_a_minute) (reply_that_stores [] (Some 1) [])) (item_of (Arrive 100 1 get_a) forward_over_line_3) 1 get_a refl refl refl refl refl refl refl in
+    false≢true (sym none.1.1.0)
+
+pub returns-clause-since_the_start_by_its_tag : goal.returns-clause-since_the_start_by_its_tag
+unfolding digits httpdate_on_literals matches_line verdict_of verdict_of_request policy_of decision_of reuse_rule_of storage_rule_of forwarded_of part_holding_day freshened_of error_rule_on
+returns-clause-since_the_start_by_its_tag c = λ h.
+    let none = h [] (purge_item (codes "news") ∷ []) (item_of (Arrive 120 3 get_a) (reply_that_sends_stored 1 [])) 1 (stored_with 1 (cache_tag (codes "sport, news") ∷ [])) refl refl refl in
     false≢true (sym none.0)

@@ -3,10 +3,8 @@ use Rattle.std.specs.Ordering.{nat_cmp}
 use Rattle.std.specs.BTreeMap.{get}
 use Rattle.std.specs.Map.{values_of}
 use Rattle.proxy_core.specs.declared.open.exchange.Exchange.{Exchange}
-use Rattle.proxy_core.specs.Scopes.{Scope}
+use Rattle.proxy_core.specs.Scopes.{scope_of_keys}
 use Rattle.proxy_core.specs.State.{overtaken_exchange}
-use Rattle.hx_target.specs.declared.keys.Key.{Key}
-use Rattle.hx_allow.specs.declared.purges.PurgeScope.{PurgeScope}
 use Rattle.proxy_core.specs.ByKey.{TellsAllByKey}
 use Rattle.proxy_core.proofs.AskedArrivals.{asked-on_all, overtake-place}
 use Rattle.proxy_core.specs.Waiters.{is_in_wait_index}
@@ -18,15 +16,12 @@ use Rattle.proxy_core.proofs.ExchangeLists.{overtake-id}
 use Rattle.proxy_core.proofs.Arrivals.{indexed_on_all, values_on_all}
 use Rattle.proxy_core.proofs.open.exchanges.Exchanges.overtake_all.Goals as goal
 
-abbrev reached : PurgeScope → Key → Scope
-reached reach asked = record { reach = reach; asked = asked }
-
 pub settle-requires : goal.settle-requires
 settle-requires c =
     let s = c.self.inside in
     let is = c.overtake_each_within.ensures in
     subst (ReleasedArrivalsPass (may_be_released s.released)) (sym is)
-    (pass-changed (may_be_released s.released) (overtaken_exchange (reached c.args.reach c.args.asked.now)) (released-overtaken (reached c.args.reach c.args.asked.now)) s.by_arrival.entries c.self.invariant.releases.within)
+    (pass-changed (may_be_released s.released) (overtaken_exchange (scope_of_keys c.args.reach c.args.asked.now)) (released-overtaken (scope_of_keys c.args.reach c.args.asked.now)) s.by_arrival.entries c.self.invariant.releases.within)
 
 pub invariant_of-self : goal.invariant_of-self
 invariant_of-self c =
@@ -35,12 +30,12 @@ invariant_of-self c =
     record {
       indexes = subst (λ (zs : List (ℕ × Exchange)). IndexesMatchExchanges zs (λ id. get nat_cmp s.arrivals id) (is_in_wait_index s.waiting)) (sym is)
           (record {
-            ids = indexed_on_all (overtaken_exchange (reached c.args.reach c.args.asked.now)) (overtake-id (reached c.args.reach c.args.asked.now)) s.by_arrival.entries _ c.self.invariant.indexes.ids;
-            waiters = waiters-on_all (overtaken_exchange (reached c.args.reach c.args.asked.now)) (overtake-stage (reached c.args.reach c.args.asked.now)) s.by_arrival.entries s.waiting c.self.invariant.indexes.waiters;
+            ids = indexed_on_all (overtaken_exchange (scope_of_keys c.args.reach c.args.asked.now)) (overtake-id (scope_of_keys c.args.reach c.args.asked.now)) s.by_arrival.entries _ c.self.invariant.indexes.ids;
+            waiters = waiters-on_all (overtaken_exchange (scope_of_keys c.args.reach c.args.asked.now)) (overtake-stage (scope_of_keys c.args.reach c.args.asked.now)) s.by_arrival.entries s.waiting c.self.invariant.indexes.waiters;
           });
       releases = c.settle.ensures.settled;
       asking = subst (TellsAllByKey s.by_key) (sym is)
-          (asked-on_all (overtaken_exchange (reached c.args.reach c.args.asked.now)) (overtake-place (reached c.args.reach c.args.asked.now)) s.by_arrival.entries s.by_key c.self.invariant.asking);
+          (asked-on_all (overtaken_exchange (scope_of_keys c.args.reach c.args.asked.now)) (overtake-place (scope_of_keys c.args.reach c.args.asked.now)) s.by_arrival.entries s.by_key c.self.invariant.asking);
       trim_waits = c.self.invariant.trim_waits;
       trim_keys = c.self.invariant.trim_keys;
     }
@@ -49,4 +44,4 @@ pub returns : goal.returns
 returns c =
     let s = c.self.inside in
     let is = c.overtake_each_within.ensures in
-    ap values_of is ∙ (values_on_all (overtaken_exchange (reached c.args.reach c.args.asked.now)) c.self.inside.by_arrival.entries ∙ ap (map (overtaken_exchange (reached c.args.reach c.args.asked.now))) c.self.view_is)
+    ap values_of is ∙ (values_on_all (overtaken_exchange (scope_of_keys c.args.reach c.args.asked.now)) c.self.inside.by_arrival.entries ∙ ap (map (overtaken_exchange (scope_of_keys c.args.reach c.args.asked.now))) c.self.view_is)

@@ -6,7 +6,7 @@ use Rattle.hx_age.specs.Age.{age_of}
 use Rattle.hx_store.specs.Stored.{Stored}
 use Rattle.proxy_core.specs.Replies.{line}
 use Rattle.proxy_core.proofs.AddedLines.{lines_added}
-use Rattle.proxy_core.proofs.replies.stored_reply.StoredReply.written.Goals as goal
+use Rattle.proxy_core.proofs.replies.stored_reply.StoredReply.written_with.Goals as goal
 
 pub returns : goal.returns
 returns c =

@@ -1,0 +1,103 @@
+-- Who leads on where the client of a leader goes away before its answer, and who waits for that one.
+--
+-- wait_has_an_end: over its line the request of an exchange waits for a limited time
+-- may_lead_on, next_leader: the first of those that wait whose answer others could be sent
+-- follows_leader: one that could be sent that answer, and waits for it
+-- stage_behind, led_on_exchange, exchanges_after_abandon: what becomes of them
+-- ExchangeMayLeadOn, IsNextLeader, CouldBeSentItsAnswer: the same in words
+use Rattle.std.specs.Prelude.{◌≡◌, ℕ, ◌==◌, ◌&&◌, ◌||◌, not, Bool, true, false, List, [], ◌∷◌, ◌++◌, Option, Some, None}
+use Rattle.std.specs.Prelude.{cond, is_some, filter, map}
+use Rattle.std.specs.List.{AllByRecursion}
+use Rattle.hx_allow.specs.TableLines.{Table}
+use Rattle.hx_allow.specs.Matching.{policy_of, wait_timeout_of}
+use Rattle.hx_reuse.specs.Conditions.{forwards_condition}
+use Rattle.hx_reuse.specs.FilledRanges.{forwards_range}
+use Rattle.proxy_core.specs.declared.open.stage.Stage.{Stage}
+use Rattle.proxy_core.specs.declared.open.stage.Stage.TheVariants.{Waiting, Released}
+use Rattle.proxy_core.specs.declared.open.exchange.Exchange.{Exchange}
+use Rattle.proxy_core.specs.declared.open.leading_on.NextLeader.{NextLeader}
+use Rattle.proxy_core.specs.Leading.{waits_for, has_authorization, is_same_truth}
+
+-- own: over a line of a table before the fourth version a request waits without end, and once, as ever ("The first that
+-- waits leads on")
+abbrev pub wait_has_an_end : Table → Exchange → Bool
+wait_has_an_end table x = is_some (wait_timeout_of table.lines x.line.number)
+
+-- Nothing that is known of its request keeps the answer to it from all others. It is for this client alone where a
+-- range goes to the origin (RFC 9110, section 14.2). What else may keep it back is looked at over a line with the word:
+-- it isn't stored where the request has no-store (RFC 9111, section 5.2.1.5), and may be a 304 to the client's own
+-- condition.
+abbrev pub may_lead_on : Table → Exchange → Bool
+may_lead_on table x =
+    wait_has_an_end table x
+    && (not (forwards_range (policy_of table.lines x.line) x.asked)
+    && (not (policy_of table.lines x.line).waits_for_stale
+    || (not x.no_store && not (forwards_condition (policy_of table.lines x.line) x.asked))))
+
+abbrev pub leading_on : Exchange → NextLeader
+leading_on x = record { id = x.id; authorized = has_authorization x.asked }
+
+-- of the exchanges, which stand in the order of arrival, the first that waits for the one of this id and may lead on
+abbrev pub next_leader : Table → ℕ → List Exchange → Option NextLeader
+next_leader table id [] = None
+next_leader table id (x ∷ xs) =
+    cond (waits_for id x.stage && may_lead_on table x) (Some (leading_on x)) (next_leader table id xs)
+
+-- It could be sent the answer to the next leader, whose key is its own.
+-- own: as where it began to wait, over a line with the word one waits for one with Authorization exactly where it has
+-- Authorization (RFC 9111, section 3.5)
+abbrev pub follows_leader : Table → NextLeader → Exchange → Bool
+follows_leader table next x =
+    not (x.id == next.id)
+    && (wait_has_an_end table x
+    && (not (policy_of table.lines x.line).waits_for_stale
+    || is_same_truth (has_authorization x.asked) next.authorized))
+
+-- One that follows waits for the next leader. That one itself may be woken, and so may all others, which may not be
+-- sent its answer.
+abbrev pub stage_behind : Table → Option NextLeader → Exchange → Stage
+stage_behind table None x = Released
+stage_behind table (Some next) x = cond (follows_leader table next x) (Waiting next.id) Released
+
+-- what becomes of an exchange where the client of the one of this id goes away
+abbrev pub led_on_exchange : Table → Option NextLeader → ℕ → Exchange → Exchange
+led_on_exchange table next id x = cond (waits_for id x.stage) (record x { stage = stage_behind table next x }) x
+
+abbrev pub exchanges_without : ℕ → List Exchange → List Exchange
+exchanges_without id xs = filter (λ x. not (x.id == id)) xs
+
+-- the exchanges, of which one waits on for the others, or may be woken
+abbrev pub exchanges_led_on : Table → ℕ → List Exchange → List Exchange
+exchanges_led_on table id xs = map (led_on_exchange table (next_leader table id xs) id) xs
+
+-- own: an exchange ends since its client went away, and the first that waits for it leads on, if one may ("The first
+-- that waits leads on")
+abbrev pub exchanges_after_abandon : Table → ℕ → List Exchange → List Exchange
+exchanges_after_abandon table id xs = exchanges_led_on table id (exchanges_without id xs)
+
+-- ---- in words
+
+-- It waits for the exchange of this id, for a limited time, and others could be sent the answer to it.
+pub record ExchangeMayLeadOn (table : Table) (id : ℕ) (x : Exchange) : Type 0 where
+  pub another : (x.id == id) ≡ false
+  pub waits : waits_for id x.stage ≡ true
+  pub for_a_time : wait_has_an_end table x ≡ true
+  pub whole : forwards_range (policy_of table.lines x.line) x.asked ≡ false
+  pub for_others : (policy_of table.lines x.line).waits_for_stale ≡ true
+      → (x.no_store ≡ false) × (forwards_condition (policy_of table.lines x.line) x.asked ≡ false)
+
+-- it is the first of these to arrive
+pub record IsNextLeader (table : Table) (id : ℕ) (xs : List Exchange) (x : Exchange) : Type 0 where
+  pub before : List Exchange
+  pub behind : List Exchange
+  pub open_are : xs ≡ before ++ x ∷ behind
+  pub it_may : ExchangeMayLeadOn table id x
+  pub none_before : AllByRecursion (λ (y : Exchange). ExchangeMayLeadOn table id y → ⊥) before
+
+-- Another exchange waits for a limited time, and the answer to this one could be sent to it: over a line with the word
+-- both have Authorization, or neither has.
+pub record CouldBeSentItsAnswer (table : Table) (next x : Exchange) : Type 0 where
+  pub another : (x.id == next.id) ≡ false
+  pub for_a_time : wait_has_an_end table x ≡ true
+  pub as_authorized : (policy_of table.lines x.line).waits_for_stale ≡ true
+      → has_authorization x.asked ≡ has_authorization next.asked

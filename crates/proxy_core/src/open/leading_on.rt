@@ -1,0 +1,77 @@
+//! Who leads on where the client of a leader goes away before its answer.
+ghost use Rattle.std.specs.Prelude.{◌≡◌, ◌==◌, ◌&&◌, not, Some};
+ghost use Rattle.proxy_core.specs.Leading.{waits_for};
+ghost use Rattle.proxy_core.specs.LeadingOn.{wait_has_an_end, may_lead_on, leading_on, follows_leader, stage_behind};
+
+use crate::open::exchange::Exchange;
+use crate::open::leading::{has_authorization, waits_for as stage_waits_for};
+use crate::open::stage::Stage;
+use hx_allow::Config;
+use hx_reuse::{forwards_condition, forwards_range};
+
+/// What those that are to wait for the next leader have to know of it.
+#[derive(Clone, Copy)]
+pub(crate) struct NextLeader {
+    pub(crate) id: u64,
+    /// Whether its request has Authorization.
+    pub(crate) authorized: bool,
+}
+
+impl NextLeader {
+    /// The exchange as the next leader.
+    pub(crate) fn of(exchange: &Exchange) -> Self
+        ensures { result ≡ leading_on exchange.now }
+    {
+        NextLeader {
+            id: exchange.id,
+            authorized: has_authorization(&exchange.asked),
+        }
+    }
+}
+
+/// Whether the request of an exchange waits for a limited time, over its line.
+fn wait_has_an_end(config: &Config, exchange: &Exchange) -> bool
+    ensures { result ≡ wait_has_an_end config.now exchange.now }
+{
+    config.wait_timeout(exchange.line.number).is_some()
+}
+
+/// Whether others could be sent the answer to the request of an exchange that waits, should it go forward.
+fn may_lead_on(config: &Config, exchange: &Exchange) -> bool
+    ensures { result ≡ may_lead_on config.now exchange.now }
+{
+    let policy = config.policy(exchange.line);
+    wait_has_an_end(config, exchange)
+        && !forwards_range(policy, &exchange.asked)
+        && (!policy.waits_for_stale
+            || (!exchange.no_store && !forwards_condition(policy, &exchange.asked)))
+}
+
+/// Whether an exchange is another than the one of this id, waits for it, and may lead on.
+pub(crate) fn leads_on(config: &Config, id: u64, exchange: &Exchange) -> bool
+    ensures { result ≡ (not (exchange.now.id == id)
+        && (waits_for id exchange.now.stage && may_lead_on config.now exchange.now)) }
+{
+    exchange.id != id && stage_waits_for(exchange.stage, id) && may_lead_on(config, exchange)
+}
+
+/// Whether an exchange that waits could be sent the answer to the next leader.
+pub(crate) fn follows_leader(config: &Config, next: NextLeader, exchange: &Exchange) -> bool
+    ensures { result ≡ follows_leader config.now next exchange.now }
+{
+    let policy = config.policy(exchange.line);
+    exchange.id != next.id
+        && wait_has_an_end(config, exchange)
+        && (!policy.waits_for_stale || has_authorization(&exchange.asked) == next.authorized)
+}
+
+/// Whether an exchange waits for the next leader from now on, or may be woken.
+pub(crate) fn stage_behind(config: &Config, next: NextLeader, exchange: &Exchange) -> Stage
+    ensures { result ≡ stage_behind config.now (Some next) exchange.now }
+{
+    if follows_leader(config, next, exchange) {
+        Stage::Waiting(next.id)
+    } else {
+        Stage::Released
+    }
+}
