@@ -18,6 +18,8 @@ use Rattle.proxy_core.specs.declared.outcome.Outcome.TheVariants as outcomes
 use Rattle.proxy_core.specs.Outcomes.{find_exchange}
 use Rattle.proxy_core.specs.Replies.{is_head}
 use Rattle.proxy_core.specs.Scopes.{Scope}
+use Rattle.hx_allow.specs.TableLines.{Table}
+use Rattle.proxy_core.specs.LeadingOn.{exchanges_after_abandon}
 use Rattle.proxy_core.specs.State.{State as CoreState, StepIsAccepted, exchanges_after_close, exchanges_after_end, forwarded_exchange as opened_exchange, waiting_exchange as queued_exchange, line_of_verdict, exchanges_after_purge, scope_purged}
 use Rattle.proxy_core.specs.Allowing.{verdict_of_asked}
 use Rattle.proxy_core.specs.Leading.{is_forwarded}
@@ -37,7 +39,7 @@ use Rattle.proxy_engine.specs.declared.endpoints.activities.Activity.TheVariants
 use Rattle.proxy_engine.proofs.ActivityCases.{free_from, open_from, forwarded_from, waiting_from}
 use Rattle.proxy_engine.proofs.Shown.{lost_by}
 use Rattle.proxy_engine.proofs.Ending.{Remains, Renews, renewed, remains, woken_remains}
-use Rattle.proxy_engine.proofs.Pairs.{within, has_place, waits_inside, some_out, ready_waits, paired_more, paired_freed, paired_unqueued, paired_opened, paired_queued, paired_left, paired_again, paired_awake, paired_purged, paired_overdue}
+use Rattle.proxy_engine.proofs.Pairs.{within, has_place, waits_inside, some_out, ready_waits, paired_more, paired_freed, paired_unqueued, paired_opened, paired_queued, paired_left, paired_abandoned, paired_again, paired_awake, paired_purged, paired_overdue}
 
 -- what stands at a place of either list
 doing_here : (cs : List ConnectionModel) (i : ℕ) → activity_at (map activity_of_model cs) i ≡ (get_or cs i no_connection).activity
@@ -159,6 +161,10 @@ freed_order cs ks xs i j c k here h = (
 -- the exchanges that an invalidation marks stay open
 left_order : (cs : List ConnectionModel) (ks : List LinkModel) (xs : List Exchange) (key : Option Scope) (id : ℕ) → Order cs ks (exchanges_after_close id xs) → Order cs ks (exchanges_after_end key id xs)
 left_order cs ks xs key id h = (paired_left (map activity_of_model cs) (map owner_of_model ks) xs key id h.0, h.1)
+
+-- nor does it close any where another leads on
+abandoned_order : (cs : List ConnectionModel) (ks : List LinkModel) (xs : List Exchange) (table : Table) (id : ℕ) → Order cs ks (exchanges_after_close id xs) → Order cs ks (exchanges_after_abandon table id xs)
+abandoned_order cs ks xs table id h = (paired_abandoned (map activity_of_model cs) (map owner_of_model ks) xs table id h.0, h.1)
 
 closing_order : (cs : List ConnectionModel) (ks : List LinkModel) (xs : List Exchange) (i : ℕ) (close : Bool) → (get_or cs i no_connection).activity ≡ Free → Order cs ks xs → Order (set cs i (with_closed close (get_or cs i no_connection))) ks xs
 closing_order cs ks xs i close none h = connection_changed cs ks xs i (with_closed close (get_or cs i no_connection)) refl (λ e. none) h
@@ -408,7 +414,7 @@ abandons_order s now i l emitted after h linked_here done =
     let cs = set s.connections i (with_activity Free (connection_at s i)) in
     let ks = set s.links l (with_dropped (link_at s l)) in
     let free : Order cs ks done.core.exchanges = subst (λ (xs : List Exchange). Order cs ks xs) (sym (ap (λ (k : CoreState). k.exchanges) done.steps.leaves))
-    (freed_order s.connections s.links s.core.exchanges i l (connection_at s i) (link_at s l) here (order_of s h)) in
+    (abandoned_order cs ks s.core.exchanges s.core.table (i + 1) (freed_order s.connections s.links s.core.exchanges i l (connection_at s i) (link_at s l) here (order_of s h))) in
     let behind = with_core (model_after_link_freed s l i) done.core in
     let ended : done.outcome ≡ outcomes.Ended = done.steps.outcome_is in
     both_moved s behind after emitted (effects.Drop (s.first + l) ∷ [])
@@ -423,7 +429,7 @@ gives_up_order s now i emitted after h waiting done =
     let here : activity_at (map activity_of_model s.connections) i ≡ Waiting = doing_here s.connections i ∙ waiting in
     let cs = set s.connections i (with_activity Free (connection_at s i)) in
     let free : Order cs s.links done.core.exchanges = subst (λ (xs : List Exchange). Order cs s.links xs) (sym (ap (λ (k : CoreState). k.exchanges) done.steps.leaves))
-    (unqueued_order s.connections s.links s.core.exchanges i (connection_at s i) here (order_of s h)) in
+    (abandoned_order cs s.links s.core.exchanges s.core.table (i + 1) (unqueued_order s.connections s.links s.core.exchanges i (connection_at s i) here (order_of s h))) in
     let behind = with_core (with_connection s i (with_activity Free)) done.core in
     let ended : done.outcome ≡ outcomes.Ended = done.steps.outcome_is in
     both_moved s behind after emitted []

@@ -21,6 +21,8 @@ use Rattle.proxy_core.specs.declared.core_fault.CoreFault.TheVariants.{MomentToo
 use Rattle.hx_hop.specs.declared.request_view.Asked.{Asked}
 use Rattle.hx_allow.specs.TableLines.{Table}
 use Rattle.hx_store.specs.Stored.{Stored}
+use Rattle.proxy_core.specs.LeadingOn.{next_leader, stage_behind, led_on_exchange, exchanges_after_abandon}
+use Rattle.proxy_core.proofs.LedOn.{behind-not_out}
 use Rattle.proxy_engine.proofs.Ending.{Remains, Renews, renewed}
 use Rattle.proxy_core.specs.Scopes.{Scope, is_in_scope}
 use Rattle.proxy_core.specs.State.{exchanges_after_close, released_exchange, forwarded_exchange, waiting_exchange, line_of_verdict, open_exchanges_after, overtaken_exchange, exchanges_after_end, exchanges_after_purge, scope_purged, exchange_past_its_wait, overdue_exchange}
@@ -335,6 +337,31 @@ paired_left activities owners xs key id h = record {
   numbered = find_left key id 0 xs ∙ h.numbered;
 }
 
+-- who is led on waits still, and who is released has waited
+out_led_on : (table : Table) (ys : List Exchange) (l id : ℕ) (xs : List Exchange) → forwarded_or_waiting_at id (map (led_on_exchange table (next_leader table l ys) l) xs) ≡ forwarded_or_waiting_at id xs
+out_led_on table ys l id [] = refl
+out_led_on table ys l id (x ∷ xs) = led_on_by (waits_for l x.stage) refl (find_exchange id (map (led_on_exchange table (next_leader table l ys) l) xs)) (find_exchange id xs) (out_led_on table ys l id xs)
+  where
+    led_on_by : (b : Bool) → waits_for l x.stage ≡ b → (o p : Option Exchange) → out o ≡ out p
+        → out (cond ((cond b (record x { stage = stage_behind table (next_leader table l ys) x }) x).id == id) (Some (cond b (record x { stage = stage_behind table (next_leader table l ys) x }) x)) o) ≡ out (cond (x.id == id) (Some x) p)
+    led_on_by true w o p h = open_by (x.id == id)
+      where
+        open_by : (b : Bool) → out (cond b (Some (record x { stage = stage_behind table (next_leader table l ys) x })) o) ≡ out (cond b (Some x) p)
+        open_by true = ap (λ (c : Bool). Some c) (behind-not_out table (next_leader table l ys) x) ∙ waits_apart l x.stage w
+        open_by false = h
+    led_on_by false w o p h = out_by (x.id == id) x o p h
+
+find_abandoned : (table : Table) (id other : ℕ) (xs : List Exchange) → forwarded_or_waiting_at other (exchanges_after_abandon table id xs) ≡ forwarded_or_waiting_at other (exchanges_after_close id xs)
+find_abandoned table id other xs = out_led_on table (but id xs) id other (but id xs) ∙ sym (out_released id other (but id xs))
+
+pub paired_abandoned : (activities : List Activity) (owners : List (Option ℕ)) (xs : List Exchange) (table : Table) (id : ℕ) → ConnectionsAndLinksArePaired activities owners (exchanges_after_close id xs) → ConnectionsAndLinksArePaired activities owners (exchanges_after_abandon table id xs)
+paired_abandoned activities owners xs table id h = record {
+  owned = h.owned;
+  linked = h.linked;
+  opened = λ i. find_abandoned table id (i + 1) xs ∙ h.opened i;
+  numbered = find_abandoned table id 0 xs ∙ h.numbered;
+}
+
 -- ---- one opens
 
 pub paired_opened : (activities : List Activity) (owners : List (Option ℕ)) (xs : List Exchange) (x : Exchange) (i : ℕ) → i < length activities → activity_at activities i ≡ Free → x.id ≡ i + 1 → is_forwarded x.stage ≡ true → ConnectionsAndLinksArePaired activities owners xs
@@ -604,6 +631,13 @@ paired_ended cs cs1 ks ks1 xs xs1 i j h links owners key exchanges w =
     (subst (λ (os : List (Option ℕ)). ConnectionsAndLinksArePaired (set (activities_of cs) i Free) os xs1) (sym owners)
     (subst (λ (es : List Exchange). ConnectionsAndLinksArePaired (set (activities_of cs) i Free) (set (owners_of ks) j None) es) (sym exchanges) (paired_left (set (activities_of cs) i Free) (set (owners_of ks) j None) xs key (i + 1) (paired_freed (activities_of cs) (owners_of ks) xs i j h w))))
 
+-- its client has gone, so that another may lead on
+pub paired_lost : (cs cs1 : List (Option Connection)) (ks ks1 : List (Option Link)) (xs xs1 : List Exchange) (i j : ℕ) → link_place_of_activity (activity_at (activities_of cs) i) ≡ Some j → activities_of cs1 ≡ set (activities_of cs) i Free → owners_of ks1 ≡ set (owners_of ks) j None → (table : Table) → xs1 ≡ exchanges_after_abandon table (i + 1) xs
+    → ConnectionsAndLinksArePaired (activities_of cs) (owners_of ks) xs → ConnectionsAndLinksArePaired (activities_of cs1) (owners_of ks1) xs1
+paired_lost cs cs1 ks ks1 xs xs1 i j h links owners table exchanges w =
+    subst (λ (es : List Exchange). ConnectionsAndLinksArePaired (activities_of cs1) (owners_of ks1) es) (sym exchanges)
+    (paired_abandoned (activities_of cs1) (owners_of ks1) xs table (i + 1) (paired_ended cs cs1 ks ks1 xs (exchanges_after_close (i + 1) xs) i j h links owners None refl w))
+
 -- an exchange was finished, or goes forward once more
 pub paired_finished : (cs cs1 cs2 : List (Option Connection)) (ks ks1 ks2 : List (Option Link)) (xs ys : List Exchange) (i j : ℕ) (o : Outcome) → link_place_of_activity (activity_at (activities_of cs) i) ≡ Some j → activities_of cs1 ≡ set (activities_of cs) i Free → owners_of ks1 ≡ set (owners_of ks) j None
     → activities_of cs2 ≡ activities_after i (length ks1) o (activities_of cs1) → owners_of ks2 ≡ owners_after i o (owners_of ks1) → is_some (find_exchange (i + 1) xs) ≡ true → Remains o (i + 1) xs ys → ConnectionsAndLinksArePaired (activities_of cs) (owners_of ks) xs → ConnectionsAndLinksArePaired (activities_of cs2) (owners_of ks2) ys
@@ -625,6 +659,12 @@ pub paired_waited : (cs cs1 : List (Option Connection)) (os : List (Option ℕ))
 paired_waited cs cs1 os xs xs1 i h links key exchanges w =
     subst (λ (ds : List Activity). ConnectionsAndLinksArePaired ds os xs1) (sym links)
     (subst (λ (es : List Exchange). ConnectionsAndLinksArePaired (set (activities_of cs) i Free) os es) (sym exchanges) (paired_left (set (activities_of cs) i Free) os xs key (i + 1) (paired_unqueued (activities_of cs) os xs i h w)))
+
+pub paired_given_up : (cs cs1 : List (Option Connection)) (os : List (Option ℕ)) (xs xs1 : List Exchange) (i : ℕ) → activity_at (activities_of cs) i ≡ Waiting → activities_of cs1 ≡ set (activities_of cs) i Free → (table : Table) → xs1 ≡ exchanges_after_abandon table (i + 1) xs
+    → ConnectionsAndLinksArePaired (activities_of cs) os xs → ConnectionsAndLinksArePaired (activities_of cs1) os xs1
+paired_given_up cs cs1 os xs xs1 i h links table exchanges w =
+    subst (λ (es : List Exchange). ConnectionsAndLinksArePaired (activities_of cs1) os es) (sym exchanges)
+    (paired_abandoned (activities_of cs1) os xs table (i + 1) (paired_waited cs cs1 os xs (exchanges_after_close (i + 1) xs) i h links None refl w))
 
 -- a request that waited was answered, or goes forward
 pub paired_woken : (cs cs1 cs2 : List (Option Connection)) (ks ks2 : List (Option Link)) (xs ys : List Exchange) (i : ℕ) (o : Outcome) → activity_at (activities_of cs) i ≡ Waiting → activities_of cs1 ≡ set (activities_of cs) i Free

@@ -156,7 +156,7 @@ impl<S: Shelf> Engine<S> {
         let id = self.ends.connections.number_at(i);
         match self.core.abandon(id) {
             Ok(_) => {}
-            Err(_) => unreachable!(),
+            Err(fault) => return Err(as_alloc_error(fault)),
         }
         release_waiting(&mut self.ends.connections, i);
         Ok(effects)
@@ -180,7 +180,7 @@ impl<S: Shelf> Engine<S> {
         let id = self.ends.connections.number_at(i);
         match self.core.abandon(id) {
             Ok(_) => {}
-            Err(_) => unreachable!(),
+            Err(fault) => return Err(as_alloc_error(fault)),
         }
         free_lost(&mut self.ends.connections, &mut self.ends.links, l, i);
         put(&mut effects, Effect::Drop(self.ends.number_at(l)));

@@ -4,7 +4,7 @@ use Rattle.proxy_script.specs.declared.effect_list.Effect.TheVariants.{Drop}
 use Rattle.proxy_engine.specs.State.{LinkRepresents}
 use Rattle.proxy_engine.proofs.Parts.{both_length}
 use Rattle.proxy_engine.proofs.Acting.{emitted_one}
-use Rattle.proxy_engine.proofs.Pairs.{within_links, link_there, paired_ended}
+use Rattle.proxy_engine.proofs.Pairs.{within_links, link_there, paired_lost}
 use Rattle.proxy_engine.proofs.Stepping.{abandoned_done}
 use Rattle.proxy_engine.proofs.engine.Engine.abandon_link.Goals as goal
 
@@ -24,6 +24,6 @@ returns-clause-ok g c = rw (← c.self.view_is) (
     (c.free_lost.ensures.represents s c.self.inside.core c.self.inside.ends.first_link h)
     )
 
-pub invariant_of-self : goal.invariant_of-self
-invariant_of-self g c = paired_ended c.self.inside.ends.connections.items c.free_lost.new.connections.items c.self.inside.ends.links.items c.free_lost.new.links.items c.self.inside.core.exchanges c.abandon.new.self.exchanges c.args.i c.args.l (rw (← c.self.view_is) at c.requires.linked) c.free_lost.ensures.activities c.free_lost.ensures.owners
-    None (ap (λ (k : CoreState). k.exchanges) (rw c.number_at-id.ensures at c.in-Ok.ensures.ok).leaves) c.self.invariant
+pub invariant_of-self-2 : goal.invariant_of-self-2
+invariant_of-self-2 g c = paired_lost c.self.inside.ends.connections.items c.free_lost.new.connections.items c.self.inside.ends.links.items c.free_lost.new.links.items c.self.inside.core.exchanges c.abandon.new.self.exchanges c.args.i c.args.l (rw (← c.self.view_is) at c.requires.linked) c.free_lost.ensures.activities c.free_lost.ensures.owners
+    c.self.inside.core.table (ap (λ (k : CoreState). k.exchanges) (rw c.number_at-id.ensures at c.in-Ok.ensures.ok).leaves) c.self.invariant

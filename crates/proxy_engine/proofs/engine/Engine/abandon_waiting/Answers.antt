@@ -1,7 +1,7 @@
 use Rattle.std.proofs.Common.{ap}
 use Rattle.proxy_core.specs.State.{State as CoreState}
 use Rattle.proxy_engine.specs.Pairing.{owners_of}
-use Rattle.proxy_engine.proofs.Pairs.{paired_waited}
+use Rattle.proxy_engine.proofs.Pairs.{paired_given_up}
 use Rattle.proxy_engine.proofs.Stepping.{given_up_done}
 use Rattle.std.proofs.Common.{None}
 use Rattle.proxy_engine.proofs.engine.Engine.abandon_waiting.Goals as goal
@@ -13,7 +13,7 @@ returns-clause-ok g c = rw (← c.self.view_is) (
     c.in_ok-effects.ensures.items h.core (c.release_waiting.ensures.represents s c.self.inside.ends.links.items c.self.inside.core c.self.inside.ends.first_link h)
     )
 
-pub invariant_of-self : goal.invariant_of-self
-invariant_of-self g c =
-    paired_waited c.self.inside.ends.connections.items c.release_waiting.new.connections.items (owners_of c.self.inside.ends.links.items) c.self.inside.core.exchanges c.abandon.new.self.exchanges c.args.i (rw (← c.self.view_is) at c.requires.waiting) c.release_waiting.ensures.activities
-    None (ap (λ (k : CoreState). k.exchanges) (rw c.number_at-id.ensures at c.in-Ok.ensures.ok).leaves) c.self.invariant
+pub invariant_of-self-2 : goal.invariant_of-self-2
+invariant_of-self-2 g c =
+    paired_given_up c.self.inside.ends.connections.items c.release_waiting.new.connections.items (owners_of c.self.inside.ends.links.items) c.self.inside.core.exchanges c.abandon.new.self.exchanges c.args.i (rw (← c.self.view_is) at c.requires.waiting) c.release_waiting.ensures.activities
+    c.self.inside.core.table (ap (λ (k : CoreState). k.exchanges) (rw c.number_at-id.ensures at c.in-Ok.ensures.ok).leaves) c.self.invariant
