@@ -70,11 +70,10 @@ class Sources:
     def said(self):
         """What the program says on standard error beside the definitions' lines: each text up to what is put in it."""
         found = set()
-        for path in glob.glob(f"{self.root}/crates/proxy_program/src/*.rt") + glob.glob(
-            f"{self.root}/crates/proxy_replay/src/*.rt"
-        ):
-            with open(path, encoding="utf-8") as it:
-                found |= {one.partition(";")[0].strip() for one in SAID.findall(it.read())}
+        for crate in ("proxy_program", "proxy_files", "proxy_replay"):
+            for path in glob.glob(f"{self.root}/crates/{crate}/src/*.rt"):
+                with open(path, encoding="utf-8") as it:
+                    found |= {one.partition(";")[0].strip() for one in SAID.findall(it.read())}
         return found - {""}
 
 

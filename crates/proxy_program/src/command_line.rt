@@ -1,10 +1,9 @@
 //! The forms of the command line.
 
-use crate::fault::Fault;
-use crate::meeting::{Question, question_of};
-use crate::trial::is_answer;
 use clap::builder::ValueParser;
 use clap::{Arg, ArgAction, ArgMatches, Command, Error};
+use proxy_check::{Question, is_answer, question_of};
+use proxy_files::CommandFault;
 use proxy_server::{Limits, ListenAt};
 use std::alloc::Global;
 use std::net::SocketAddr;
@@ -503,31 +502,31 @@ fn service_of<'a>(matches: &ArgMatches<'a>, listen: ListenAt) -> Option<Service<
 }
 
 /// That a text is no address to listen on.
-fn address_fault(alloc: Global, text: &str) -> Fault {
+fn address_fault(alloc: Global, text: &str) -> CommandFault {
     let words = format!(in alloc;
         "error: invalid value '{text}' for '--listen <ADDRESS>': an IPv4 address and a port, as in 127.0.0.1:8080, or a socket that was handed on, as in fd:3"
     );
-    Fault::Usage(words.ok())
+    CommandFault::Usage(words.ok())
 }
 
 /// The service that is asked for.
-fn serve_of<'a>(alloc: Global, matches: &ArgMatches<'a>) -> Result<Form<'a>, Fault> {
+fn serve_of<'a>(alloc: Global, matches: &ArgMatches<'a>) -> Result<Form<'a>, CommandFault> {
     let Some(text) = matches.get_str("listen") else {
-        return Err(Fault::Usage(None));
+        return Err(CommandFault::Usage(None));
     };
     let Some(listen) = listen_at(text) else {
         return Err(address_fault(alloc, text));
     };
     match service_of(matches, listen) {
         Some(service) => Ok(Form::Serve(service)),
-        None => Err(Fault::Usage(None)),
+        None => Err(CommandFault::Usage(None)),
     }
 }
 
 /// What a check asks for.
-fn check_of<'a>(alloc: Global, matches: &ArgMatches<'a>) -> Result<Form<'a>, Fault> {
+fn check_of<'a>(alloc: Global, matches: &ArgMatches<'a>) -> Result<Form<'a>, CommandFault> {
     let Some(path) = matches.get_str("table") else {
-        return Err(Fault::Usage(None));
+        return Err(CommandFault::Usage(None));
     };
     let against = match (matches.get_str("against"), matches.get_str("log")) {
         (Some(table), Some(log)) => Some((table, log)),
@@ -557,29 +556,32 @@ fn check_of<'a>(alloc: Global, matches: &ArgMatches<'a>) -> Result<Form<'a>, Fau
 }
 
 /// What is said of one of the two options that belong together.
-fn against_fault(alloc: Global) -> Fault {
+fn against_fault(alloc: Global) -> CommandFault {
     let words = format!(in alloc; "error: '--against <OLD>' and '--log <FILE>' go together");
-    Fault::Usage(words.ok())
+    CommandFault::Usage(words.ok())
 }
 
 /// What is said of a text that is no answer.
-fn answer_fault(alloc: Global, text: &str) -> Fault {
+fn answer_fault(alloc: Global, text: &str) -> CommandFault {
     let words = format!(in alloc;
         "error: invalid value '{text}' for '--answer <LINES>': lines of a head with | between them, and a status in front if it isn't 200, as in '404 | Cache-Control: max-age=60'"
     );
-    Fault::Usage(words.ok())
+    CommandFault::Usage(words.ok())
 }
 
 /// What is said of a text that is no request.
-fn question_fault(alloc: Global, text: &str) -> Fault {
+fn question_fault(alloc: Global, text: &str) -> CommandFault {
     let words = format!(in alloc;
         "error: invalid value '{text}' for '--ask <REQUEST>': a method, a blank and a URL, as in 'GET http://h.example/a'"
     );
-    Fault::Usage(words.ok())
+    CommandFault::Usage(words.ok())
 }
 
 /// What the words ask for.
-pub(crate) fn form_of<'a>(alloc: Global, matches: &ArgMatches<'a>) -> Result<Form<'a>, Fault> {
+pub(crate) fn form_of<'a>(
+    alloc: Global,
+    matches: &ArgMatches<'a>,
+) -> Result<Form<'a>, CommandFault> {
     match matches.subcommand() {
         None => Ok(Form::Replay),
         Some(("replay", inner)) => Ok(Form::ReplayOver(inner.get_str("store"))),

@@ -2,9 +2,9 @@
 
 use crate::command_line::VERSION;
 use crate::process::process_figures;
-use crate::stats_file::StatsFile;
 use crate::warnings::RareWarning;
 use hx_store::Shelf;
+use proxy_files::StatsFile;
 use proxy_server::{ProgramFacts, Server, StoreCounts};
 use std::io;
 use std::io::{ErrorKind, Write};

@@ -1,8 +1,7 @@
 //! What the system tells of the process itself (proc(5)): its memory, its time on the processor, its descriptors.
 ghost use Rattle.std.specs.Prelude.{◌≡◌, ◌*◌, ◌^◌, ◌-◌, min};
 
-use crate::descriptors::descriptors_open;
-use crate::files::read_front;
+use proxy_files::{descriptors_open, read_front};
 use proxy_server::ProcessFigures;
 use std::rt::Files;
 use std::str;

@@ -1,18 +1,16 @@
 //! What the command line asks for, done.
 
-use crate::checking::print_checked;
 use crate::command_line::{Checking, Form, Service, VERSION, form_of, read};
 use crate::commit::commit_of;
-use crate::comparing::print_compared;
-use crate::fault::{Fault, fault_of, system_call_words};
-use crate::files::{read_questions, read_table};
-use crate::mistakes::config_of;
-use crate::questions::ask_all;
+use crate::fault::Fault;
 use crate::serving::serve;
-use crate::trial::Trial;
 use clap::Error;
 use clap::error::ErrorKind;
 use hx_allow::Config;
+use proxy_check::{Trial, ask_all, print_checked, print_compared};
+use proxy_files::{
+    CommandFault, config_of, fault_of, read_questions, read_table, system_call_words,
+};
 use std::io::{BufReader, IsTerminal};
 use std::net::Net;
 use std::process::ExitCode;
@@ -29,7 +27,7 @@ fn seconds_now<R: Clock>(rt: &R) -> u64 {
 }
 
 /// The table in a file.
-fn table_in<R: Files + AllocGlobal>(rt: &R, path: &str) -> Result<Config, Fault> {
+fn table_in<R: Files + AllocGlobal>(rt: &R, path: &str) -> Result<Config, CommandFault> {
     let table = read_table(rt, path)?;
     config_of(rt.alloc(), table.as_slice())
 }
@@ -38,7 +36,7 @@ fn table_in<R: Files + AllocGlobal>(rt: &R, path: &str) -> Result<Config, Fault>
 fn check<R: Files + Print + Clock + AllocGlobal>(
     rt: &R,
     checking: &Checking<'_>,
-) -> Result<(), Fault> {
+) -> Result<(), CommandFault> {
     let table = read_table(rt, checking.table)?;
     let config = config_of(rt.alloc(), table.as_slice())?;
     let trial = Trial {
@@ -71,18 +69,21 @@ fn print_version<R: Print>(rt: &R, commit: &str) -> io::Result<()> {
 }
 
 /// What the words ask for in place of a form: help, which the library prints, or the version; else they are at fault.
-fn explain<R: Files + Print + Eprint + AllocGlobal>(rt: &R, error: &Error) -> Result<(), Fault> {
+fn explain<R: Files + Print + Eprint + AllocGlobal>(
+    rt: &R,
+    error: &Error,
+) -> Result<(), CommandFault> {
     match error.kind() {
         ErrorKind::DisplayHelp => match error.print(rt) {
             Ok(()) => Ok(()),
-            Err(_) => Err(Fault::Write(None)),
+            Err(_) => Err(CommandFault::Write(None)),
         },
         ErrorKind::DisplayVersion => match print_version(rt, commit_of(rt)?.as_str()) {
             Ok(()) => Ok(()),
-            Err(_) => Err(Fault::Write(None)),
+            Err(_) => Err(CommandFault::Write(None)),
         },
-        ErrorKind::OutOfMemory => Err(Fault::NoMemory),
-        _ => Err(Fault::Usage(format!(in rt.alloc(); "{error}").ok())),
+        ErrorKind::OutOfMemory => Err(CommandFault::NoMemory),
+        _ => Err(CommandFault::Usage(format!(in rt.alloc(); "{error}").ok())),
     }
 }
 
@@ -107,13 +108,16 @@ struct EndedEarly {
 
 /// Of a fault before it is known what is asked for. Where memory was refused that may be a replay, whose standard
 /// output has its effects alone.
-impl From<Fault> for EndedEarly {
-    fn from(fault: Fault) -> EndedEarly {
+impl From<CommandFault> for EndedEarly {
+    fn from(fault: CommandFault) -> EndedEarly {
         let is_quiet = match &fault {
-            Fault::NoMemory => true,
+            CommandFault::NoMemory => true,
             _ => false,
         };
-        EndedEarly { fault, is_quiet }
+        EndedEarly {
+            fault: Fault::Command(fault),
+            is_quiet,
+        }
     }
 }
 
@@ -124,7 +128,7 @@ fn checked<R: Files + Print + Clock + AllocGlobal>(
     match check(rt, checking) {
         Ok(()) => Ok(()),
         Err(fault) => Err(EndedEarly {
-            fault,
+            fault: Fault::Command(fault),
             is_quiet: false,
         }),
     }
@@ -154,22 +158,25 @@ fn replayed<R: Files + Input + Print + Eprint + AllocGlobal>(
     match store_reader(rt, path) {
         Ok(reader) => Ok(proxy_replay::program::run_script_over(rt, reader)),
         Err(fault) => Err(EndedEarly {
-            fault,
+            fault: Fault::Command(fault),
             is_quiet: true,
         }),
     }
 }
 
 /// What gives the bytes of a store's file.
-fn store_reader<R: Files + AllocGlobal>(rt: &R, path: &str) -> Result<BufReader<R::File>, Fault> {
+fn store_reader<R: Files + AllocGlobal>(
+    rt: &R,
+    path: &str,
+) -> Result<BufReader<R::File>, CommandFault> {
     match fs::open(rt, path) {
         Ok(file) => match BufReader::new(rt.alloc(), file) {
             Ok(reader) => Ok(reader),
-            Err(_) => Err(Fault::NoMemory),
+            Err(_) => Err(CommandFault::NoMemory),
         },
         Err(e) => {
             let words = system_call_words(rt.alloc(), "the store ", path, " can't be opened", &e);
-            Err(fault_of(&e, Fault::Read(words)))
+            Err(fault_of(&e, CommandFault::Read(words)))
         }
     }
 }
@@ -211,10 +218,10 @@ where
 }
 
 /// The words of the command line.
-fn command_line_words<R: Env + AllocGlobal>(rt: &R) -> Result<Vec<String>, Fault> {
+fn command_line_words<R: Env + AllocGlobal>(rt: &R) -> Result<Vec<String>, CommandFault> {
     match env::args(rt) {
         Ok(args) => Ok(args.collect(rt.alloc())?),
-        Err(e) => Err(fault_of(&e, Fault::Usage(None))),
+        Err(e) => Err(fault_of(&e, CommandFault::Usage(None))),
     }
 }
 

@@ -5,20 +5,18 @@ ghost use Rattle.proxy_program.specs.Seeds.{SeedIsOfKeys};
 
 use crate::command_line::Service;
 use crate::commit::commit_of;
-use crate::descriptors::{connections_within, descriptors_allowed, descriptors_wanted};
-use crate::fault::{Fault, fault_of, system_call_words};
+use crate::fault::Fault;
 use crate::figures::{Figures, FixedFacts};
-use crate::files::read_table;
-use crate::journal::{Journal, Target, log_file};
-use crate::kept_store::KeptStore;
-use crate::memory::{megabytes, memory_allowed, most_held, most_stored};
-use crate::mistakes::config_of;
 use crate::process::process_start;
-use crate::stats_file::{StatsFile, warn_of_other_writer};
 use crate::warnings::Warnings;
 use crate::watch::{ServerState, Watch};
 use hx_allow::{Config, MOST_LINES};
 use hx_store::{IndexedShelf, Shelf};
+use proxy_files::{
+    CommandFault, Journal, KeptStore, StatsFile, Target, config_of, connections_within,
+    descriptors_allowed, descriptors_wanted, fault_of, log_file, megabytes, memory_allowed,
+    most_held, most_stored, read_table, system_call_words, warn_of_other_writer,
+};
 use proxy_kept_store::a_server_may_begin_empty;
 use proxy_server::{
     CountedShelf, Limits, ListenAt, LiveSockets, Recorder, ServeFault, Server, StoreCounts,
@@ -65,19 +63,19 @@ fn record_of<R: Files + AllocGlobal>(
     how.write(true).create_new(true).mode(0o600);
     match how.open(rt, name) {
         Ok(file) => Ok(Some(Recorder::begin(rt.alloc(), file, table)?)),
-        Err(e) => Err(record_fault(rt, name, &e)),
+        Err(e) => Err(Fault::from(record_fault(rt, name, &e))),
     }
 }
 
 /// Why a record can't be begun.
-fn record_fault<R: AllocGlobal>(rt: &R, name: &str, error: &io::Error) -> Fault {
+fn record_fault<R: AllocGlobal>(rt: &R, name: &str, error: &io::Error) -> CommandFault {
     let hint = if error.kind() == ErrorKind::AlreadyExists {
         " is never written over: take another name, or %s in it for the moment of the start"
     } else {
         " can't be begun"
     };
     let words = system_call_words(rt.alloc(), "the record ", name, hint, error);
-    fault_of(error, Fault::Write(words))
+    fault_of(error, CommandFault::Write(words))
 }
 
 /// The bounds, cut to the descriptors that are allowed where the system tells.
@@ -221,7 +219,7 @@ fn journal_of<R: Files + AllocGlobal, P: Write + Drop>(
     rt: &R,
     path: Option<&str>,
     print: P,
-) -> Result<Option<Journal<R::File, P>>, Fault> {
+) -> Result<Option<Journal<R::File, P>>, CommandFault> {
     match path {
         None => Ok(None),
         Some("-") => Ok(Some(Journal::new(Target::Print(print)))),
@@ -229,7 +227,7 @@ fn journal_of<R: Files + AllocGlobal, P: Write + Drop>(
             Ok(file) => Ok(Some(Journal::new(Target::File(file)))),
             Err(e) => {
                 let words = system_call_words(rt.alloc(), "the log ", path, " can't be opened", &e);
-                Err(fault_of(&e, Fault::Write(words)))
+                Err(fault_of(&e, CommandFault::Write(words)))
             }
         },
     }
@@ -265,7 +263,7 @@ fn figures_of<'a, 'n, R: Net + Clock + Files + AllocGlobal>(
 }
 
 /// A number that nobody can foresee, for what tells variants apart before they are looked at.
-fn seed_of<R: RandomSource + AllocGlobal>(rt: &R) -> Result<u64, Fault>
+fn seed_of<R: RandomSource + AllocGlobal>(rt: &R) -> Result<u64, CommandFault>
     ensures { IfOk result SeedIsOfKeys }
 {
     match RandomState::new(rt) {
@@ -278,7 +276,7 @@ fn seed_of<R: RandomSource + AllocGlobal>(rt: &R) -> Result<u64, Fault>
                 "the system gives no number by chance",
                 &e,
             );
-            Err(Fault::Read(words))
+            Err(CommandFault::Read(words))
         }
     }
 }
@@ -293,7 +291,10 @@ fn listen_fault<R: AllocGlobal>(rt: &R, at: ListenAt, error: &io::Error) -> Faul
             "fd:{fd} is no TCP socket over IPv4 that was bound and listens: {error}"
         ),
     };
-    fault_of(error, Fault::Socket(words.ok()))
+    if error.kind() == ErrorKind::OutOfMemory {
+        return Fault::Command(CommandFault::NoMemory);
+    }
+    Fault::Socket(words.ok())
 }
 
 /// The sockets where clients connect.
@@ -404,7 +405,7 @@ fn first_serial<R: Files + Eprint + AllocGlobal, S: Shelf>(
     kept: &Option<KeptStore<'_>>,
     config: &Config,
     shelf: &mut S,
-) -> Result<u64, Fault>
+) -> Result<u64, CommandFault>
     requires empty { S.entries shelf.old ≡ [] }
     requires capacity { S.limit shelf.old ≡ config.now.capacity }
     ensures may { IfOk result (λ first. MayBeHeldAtFirst config.now (S.entries shelf.new) first) }
@@ -435,10 +436,10 @@ fn keep_store<'a, R: Net + Files + Eprint + AllocGlobal, S: Shelf + Drop>(
         return Ok(());
     }
     let (mut shelf, next) = server.into_store();
-    match next {
-        Some(next) => kept.write(rt, &mut shelf, next),
-        None => Ok(()),
+    if let Some(next) = next {
+        kept.write(rt, &mut shelf, next)?;
     }
+    Ok(())
 }
 
 /// A server over an empty shelf, or over what was kept: the file is taken away then, so nothing else may keep the
@@ -538,7 +539,7 @@ pub(crate) fn serve<R: Net + Clock + Files + Print + Eprint + AllocGlobal + Rand
     let start = Start {
         address: sockets.address(),
         stored: most_stored(&config),
-        held: most_held(&limits, service.log.is_some()),
+        held: most_held(limits.content, service.log.is_some(), limits.connections),
         allows,
         record: name,
     };

@@ -1,7 +1,7 @@
 //! What a server looks for once a second: the file that has it end, and whether its log was moved.
 
-use crate::journal::Journal;
 use hx_store::Shelf;
+use proxy_files::Journal;
 use proxy_server::Server;
 use std::io::Write;
 use std::net::Net;

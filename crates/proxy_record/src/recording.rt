@@ -18,7 +18,7 @@ ghost use Rattle.proxy_script.specs.Happenings.{plain_happening};
 ghost use Rattle.proxy_turn.specs.Calls.{Call, read_outcome_of};
 ghost use Rattle.proxy_turn.specs.Turn.{happening_of_read};
 ghost use Rattle.proxy_turn.specs.Counts.{CountRisesBy, failed};
-ghost use Rattle.proxy_turn.specs.Received.{FitsTheBuffer};
+ghost use Rattle.proxy_reads.specs.Received.{FitsTheBuffer};
 
 use crate::recorder::{RecordFault, Recorder};
 use proxy_script::Happening;

@@ -1,4 +1,2 @@
-mod Closings
-mod Dropping
 mod Living
 mod Losing

@@ -2,10 +2,10 @@
 use Rattle.std.specs.Prelude.{◌≡◌, None}
 use Rattle.std.specs.Ordering.{nat_cmp}
 use Rattle.std.specs.BTreeMap.{get}
-use Rattle.proxy_server.specs.OtherEntries.{OtherEntriesStay, ChangesOnlyAtNumber}
-use Rattle.proxy_server.specs.Streams.{stream_at_number, peer_of_link}
-use Rattle.proxy_server.specs.declared.clients.Clients.{Clients}
-use Rattle.proxy_server.specs.declared.links.Links.{Links}
+use Rattle.proxy_ends.specs.OtherEntries.{OtherEntriesStay, ChangesOnlyAtNumber}
+use Rattle.proxy_ends.specs.Streams.{stream_at_number, peer_of_link}
+use Rattle.proxy_ends.specs.declared.clients.Clients.{Clients}
+use Rattle.proxy_ends.specs.declared.links.Links.{Links}
 use Rattle.proxy_engine.specs.declared.work.End.{End}
 use Rattle.proxy_engine.specs.declared.work.End.TheVariants as end
 

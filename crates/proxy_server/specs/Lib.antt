@@ -1,16 +1,6 @@
-pub mod Cases
-pub mod Closing
-pub mod Connecting
-pub mod Departures
 pub mod FaultTexts
 pub mod Forgetting
-pub mod GivingWay
-pub mod Logging
 pub mod Losses
-pub mod OtherEntries
 pub mod Paces
-pub mod Timeouts
 pub mod ServerState
 pub mod Serving
-pub mod Streams
-pub mod Tokens

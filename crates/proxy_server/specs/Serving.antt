@@ -15,7 +15,7 @@ use Rattle.proxy_turn.specs.declared.bounds.TurnBounds.{TurnBounds}
 use Rattle.proxy_turn.specs.declared.report.Report.{Report}
 use Rattle.proxy_turn.specs.declared.report.TurnFault.{TurnFault}
 use Rattle.proxy_turn.specs.declared.report.TurnFault.TheVariants as faults
-use Rattle.proxy_server.specs.declared.limits.TheConstants.{MOST_OPEN, MOST_ACCEPTED}
+use Rattle.proxy_ends.specs.declared.limits.TheConstants.{MOST_OPEN, MOST_ACCEPTED}
 use Rattle.proxy_server.specs.ServerState.{ServerState, turn_begun, OwnSocketsDid}
 use Rattle.proxy_server.specs.Losses.{LossesAreHandedIn}
 use Rattle.proxy_server.specs.declared.server.Turned.{Turned}

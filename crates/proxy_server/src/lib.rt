@@ -8,20 +8,17 @@
 //! turns.
 #![tactic(auto)]
 
-mod clients;
 mod fault_texts;
 pub mod laws;
-mod limits;
-mod links;
 mod pace;
 mod server;
 mod server_cases;
 mod sockets;
 mod stats;
 
-pub use crate::limits::Limits;
 pub use crate::server::{ServeFault, Server, Turned};
 pub use crate::sockets::live_sockets::LiveSockets;
+pub use proxy_ends::Limits;
 pub use proxy_figures::{CountedShelf, ProcessFigures, ProgramFacts, StoreCounts, Troubles};
 pub use proxy_listener::ListenAt;
 pub use proxy_record::{RecordFault, Recorder, Recording};

@@ -11,13 +11,13 @@ ghost use Rattle.proxy_server.specs.Paces.{next_turn_must_not_wait};
 ghost use Rattle.proxy_server.specs.ServerState.{may_take_one};
 ghost use Rattle.proxy_server.specs.Serving.{turn_settles, ServeTurnAnswers, ServerServesTurn};
 
-use crate::limits::{MOST_ACCEPTED, MOST_OPEN, MOST_READ};
 use crate::pace::{Pace, milliseconds_of_duration, moment_and_milliseconds};
 use crate::sockets::live_sockets::LiveSockets;
 use hx_allow::Config;
 use hx_fields::END_OF_TIME;
 use hx_status::FailKind;
 use hx_store::Shelf;
+use proxy_ends::{MOST_ACCEPTED, MOST_OPEN, MOST_READ};
 use proxy_engine::Engine;
 use proxy_figures::Troubles;
 use proxy_log::Lines;

@@ -7,4 +7,3 @@ mod draining;
 mod holding;
 pub(crate) mod live_sockets;
 pub(crate) mod reply_log;
-pub(crate) mod socket_tokens;

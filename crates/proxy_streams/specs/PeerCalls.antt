@@ -5,8 +5,8 @@
 -- new_peer: one with which nothing was done
 use Rattle.std.specs.Prelude.{◌≡◌, ◌+◌, ◌-◌, ◌^◌, ℕ, min, Bool, true, false, List, [], ◌∷◌, ◌++◌, Result, Ok, Err}
 use Rattle.std.specs.declared.io.Error.{Error}
-use Rattle.proxy_turn.specs.declared.sockets.Received.{Received}
-use Rattle.proxy_turn.specs.declared.sockets.Received.TheVariants as received
+use Rattle.proxy_reads.specs.declared.received.Received.{Received}
+use Rattle.proxy_reads.specs.declared.received.Received.TheVariants as received
 use Rattle.proxy_streams.specs.Peers.{PeerReadOutcome, UnsentBytes, peer_read_outcome, BytesAreHandedOn}
 use Rattle.proxy_streams.specs.Peers.{BytesAreHandedOnInPart, MoreMayBeLeft}
 use Rattle.proxy_streams.specs.declared.peer.Peer.{Peer}

@@ -15,8 +15,8 @@ use Rattle.std.specs.declared.io.ErrorKind.{ErrorKind}
 use Rattle.std.specs.declared.io.ErrorKind.TheVariants.{WouldBlock, Interrupted}
 use Rattle.mio.specs.declared.event.event.Event.{Event}
 use Rattle.mio.specs.Event.{is_readable, is_read_closed, is_error}
-use Rattle.proxy_turn.specs.declared.sockets.Received.{Received}
-use Rattle.proxy_turn.specs.declared.sockets.Received.TheVariants as received
+use Rattle.proxy_reads.specs.declared.received.Received.{Received}
+use Rattle.proxy_reads.specs.declared.received.Received.TheVariants as received
 
 -- nothing, for a reason; bytes; or the end
 pub data PeerReadOutcome : Type 0 where

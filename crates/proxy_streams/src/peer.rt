@@ -2,7 +2,7 @@
 ghost use Rattle.std.specs.Prelude.{◌≡◌, ◌<◌, ◌≤◌, ◌-◌, ◌||◌, true, false, not, [], ◌∷◌, ◌++◌, length, IfOk, OnOk};
 ghost use Rattle.std.specs.Prelude.{OnErr, IfErr, IfSome, min, ◌+◌, ◌^◌, ◌⊎◌};
 ghost use Rattle.std.specs.IoError.{error_kind};
-ghost use Rattle.proxy_turn.specs.Received.{FitsTheBuffer};
+ghost use Rattle.proxy_reads.specs.Received.{FitsTheBuffer};
 ghost use Rattle.proxy_streams.specs.Silence.{end_is_silent};
 ghost use Rattle.proxy_streams.specs.Peers.{peer_read_outcome, BytesAreHandedOn, BytesAreHandedOnInPart, MoreMayBeLeft};
 ghost use Rattle.proxy_streams.specs.Peers.{event_shows_reading, event_shows_an_end, IsFailure};
@@ -16,7 +16,7 @@ use crate::unsent::{Unsent, write_some};
 use mio::event::Event;
 use mio::net::TcpStream;
 use mio::{Poll, Token};
-use proxy_turn::Received;
+use proxy_reads::Received;
 use std::alloc::Global;
 use std::io;
 use std::io::ErrorKind;

@@ -7,8 +7,8 @@ use Rattle.std.specs.Prelude.{ℕ, List, take, Bool, true, false, Result, Ok, Er
 use Rattle.std.specs.declared.net.socket_addr.SocketAddrV4.{SocketAddrV4}
 use Rattle.proxy_engine.specs.declared.work.End.{End}
 use Rattle.proxy_turn.specs.declared.sockets.SocketFailed.{SocketFailed}
-use Rattle.proxy_turn.specs.declared.sockets.Received.{Received}
-use Rattle.proxy_turn.specs.declared.sockets.Received.TheVariants as received
+use Rattle.proxy_reads.specs.declared.received.Received.{Received}
+use Rattle.proxy_reads.specs.declared.received.Received.TheVariants as received
 
 -- a connection, none yet, or a failure
 pub data AcceptOutcome : Type 0 where

@@ -3,7 +3,6 @@ pub mod Counts
 pub mod FaultTexts
 pub mod Logs
 pub mod Parts
-pub mod Received
 pub mod Served
 pub mod Turn
 pub mod TurnSteps

@@ -5,9 +5,10 @@ ghost use Rattle.proxy_engine.specs.Happenings.{plain_happening};
 ghost use Rattle.proxy_turn.specs.Calls.{read_outcome_of};
 ghost use Rattle.proxy_turn.specs.Turn.{happening_of_bytes, happening_of_end, happening_of_loss, happening_of_read};
 
-use crate::sockets::{Received, SocketFailed};
+use crate::sockets::SocketFailed;
 use hx_status::FailKind;
 use proxy_engine::{End, Happening};
+use proxy_reads::Received;
 
 /// Bytes came from an end.
 pub fn happening_of_bytes_from(end: End, bytes: &[u8]) -> Option<Happening<'_>>

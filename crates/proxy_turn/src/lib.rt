@@ -22,9 +22,10 @@ pub use crate::bounds::TurnBounds;
 pub use crate::happenings::{
     happening_of_bytes_from, happening_of_end_of_input, happening_of_lost_end, happening_of_read,
 };
-pub use crate::limits::{MOST_WORKS, PIECE};
+pub use crate::limits::MOST_WORKS;
 pub use crate::logged::{LoggedCall, LoggedReadOutcome, LoggedSockets, turn_with_log};
 pub use crate::report::{Report, TurnFault};
-pub use crate::sockets::{Received, SocketFailed, Sockets};
+pub use crate::sockets::{SocketFailed, Sockets};
 pub use crate::turns::{turn, turn_over, turn_through};
 pub use proxy_engine::End;
+pub use proxy_reads::{PIECE, Received};

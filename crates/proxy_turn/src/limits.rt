@@ -3,9 +3,6 @@
 /// Connections that are open at a time. While as many are, no other is asked for.
 pub(crate) const MOST_OPEN: usize = 256;
 
-/// Bytes of one read.
-pub const PIECE: usize = 4096;
-
 /// Acts of a turn. After as many, more may be due.
 pub const MOST_WORKS: u64 = 1000;
 

@@ -11,11 +11,12 @@ ghost use Rattle.proxy_turn.specs.Counts.{calls};
 ghost use Rattle.proxy_turn.specs.Turn.{EngineTurnsWithCalls};
 
 use crate::report::{Report, TurnFault};
-use crate::sockets::{Received, SocketFailed, Sockets};
+use crate::sockets::{SocketFailed, Sockets};
 use crate::turns::turn;
 use hx_fields::Bytes;
 use hx_store::Shelf;
 use proxy_engine::{End, Engine};
+use proxy_reads::Received;
 use std::alloc::Global;
 use std::net::SocketAddrV4;
 

@@ -2,25 +2,15 @@
 ghost use Rattle.std.specs.Prelude.{◌≡◌, ℕ, List, [], ◌∷◌, ◌++◌, length, IfOk, is_ok};
 ghost use Rattle.proxy_turn.specs.Calls.{Call, Accept, Read, Write, Connect, Shut, accept_outcome_of, read_outcome_of};
 ghost use Rattle.proxy_turn.specs.Counts.{CountRisesBy, failed};
-ghost use Rattle.proxy_turn.specs.Received.{FitsTheBuffer};
+ghost use Rattle.proxy_reads.specs.Received.{FitsTheBuffer};
 
 use proxy_engine::End;
+use proxy_reads::Received;
 use std::net::SocketAddrV4;
 
 /// A call on a socket failed. No further call is made on its end.
 #[derive(Clone, Copy, Debug, PartialEq, Eq)]
 pub struct SocketFailed;
-
-/// What a read gave.
-#[derive(Clone, Copy, PartialEq, Eq)]
-pub enum Received {
-    /// Nothing yet.
-    Nothing,
-    /// So many bytes, at least one, at the front of the buffer.
-    Bytes(usize),
-    /// No more will come.
-    End,
-}
 
 /// A listener, the clients that it accepted and the links to origins, each client and link by its number.
 pub trait Sockets {

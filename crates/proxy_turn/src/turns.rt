@@ -15,7 +15,7 @@ ghost use Rattle.proxy_turn.specs.OverParts.{ListenerIsAsked, ConnectionsAreAcce
 use crate::bounds::TurnBounds;
 use crate::effects::{carry_out, take};
 use crate::happenings::happening_of_read;
-use crate::limits::{MOST_EFFECTS, MOST_OPEN, MOST_WORKS, PIECE};
+use crate::limits::{MOST_EFFECTS, MOST_OPEN, MOST_WORKS};
 use crate::report::{Report, TurnFault};
 use crate::sockets::Sockets;
 use hx_store::Shelf;
@@ -24,6 +24,7 @@ use proxy_engine::laws::{
     what_ends_stays_ended,
 };
 use proxy_engine::{End, Engine, Happening, Work};
+use proxy_reads::PIECE;
 use std::alloc::Global;
 
 /// Asks for a connection, where fewer than `most_open` are open and a number is left; answers whether one came. Its end

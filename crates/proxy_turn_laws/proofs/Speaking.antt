@@ -27,6 +27,8 @@ use Rattle.proxy_core.specs.declared.event.Event.{Event}
 use Rattle.proxy_core.specs.declared.event.Event.TheVariants as events
 use Rattle.proxy_core.specs.declared.open.exchange.Exchange.{Exchange}
 use Rattle.proxy_core.specs.declared.open.stage.Stage.TheVariants.{Released}
+use Rattle.proxy_core.specs.declared.open.stage.Stage.TheVariants as stages
+use Rattle.std.proofs.lemmas.Option.{same_Some}
 use Rattle.proxy_core.specs.declared.outcome.Outcome.{Outcome}
 use Rattle.proxy_core.specs.declared.outcome.Outcome.TheVariants as outcomes
 use Rattle.proxy_core.specs.declared.steps.condition.Condition.{Condition}
@@ -46,7 +48,7 @@ use Rattle.proxy_core.specs.Starts.{StoreAtStart}
 use Rattle.proxy_core.specs.Traces.{initial_state as core_begun}
 use Rattle.proxy_core.proofs.SentBeside.{led_over, sent_over, unless_sent}
 use Rattle.proxy_core.proofs.ExchangeLists.{changed_by}
-use Rattle.proxy_core.proofs.Moves.{Move, apart, opens, queues, passes, again, wakes, closes, lapses, move_of, out_again, woken_form, forward_goes_on, is_either, answer_either}
+use Rattle.proxy_core.proofs.Moves.{Move, apart, opens, queues, passes, again, wakes, closes, turns, lapses, move_of, out_again, woken_form, forward_goes_on, is_either, answer_either}
 use Rattle.proxy_script.specs.declared.effect_list.Effect.{Effect}
 use Rattle.proxy_script.specs.declared.effect_list.Effect.TheVariants as effects
 use Rattle.proxy_engine.specs.Activities.{has_exchange, link_place_of_activity, forwarded_or_waiting}
@@ -225,6 +227,7 @@ module _ (G : Type 0) (id now : ℕ) (asked : Asked) (r : Request) (v x y : Opti
   arrives_here o tells (again z now2 t a xi c g yi j f) = absurd (false≢true (sym a))
   arrives_here o tells (wakes table es z now2 ev xi st g yi) = absurd (cc)
   arrives_here o tells (closes z t a xi en yn) = absurd (false≢true (sym a))
+  arrives_here o tells (turns z j m ev n xi st f yi) = absurd (cc)
   arrives_here o tells (lapses z ev xi st f yi) = absurd (cc)
 
 -- the open exchange goes on, or is answered
@@ -249,6 +252,10 @@ module _ (G : Type 0) (id : ℕ) (event : Event) (v x y : Option Exchange) (said
   is_answered outcomes.Ended e tells z xi yn = absurd (false≢true (sym tells))
   is_answered outcomes.WaitsNoMore e tells z xi yn = absurd (false≢true e)
 
+  -- nobody else goes away
+  its_own : (j : ℕ) → event ≡ events.Abandon j → eqb j id ≡ false → ⊥
+  its_own j ev n = false≢true (sym n ∙ eq-eqb j id (sym (ap exchange_id_of_event ev) ∙ own))
+
   later_here : (o : Outcome) → is_end o ≡ false → Move id v event o x y → Here G (told_by o ++ said) y
   later_here o tells (apart n e) = absurd (false≢true (sym n ∙ eq-eqb (exchange_id_of_event event) id own))
   later_here o tells (opens table es now2 asked2 line ev xn goes yi) = absurd (false≢true (sym late ∙ ap is_arrival_event ev))
@@ -257,6 +264,7 @@ module _ (G : Type 0) (id : ℕ) (event : Event) (v x y : Option Exchange) (said
   later_here o tells (again z now2 t a xi c g yi j f) = waits_on o (forward_goes_on o g) z (out_again now2 z) xi refl yi
   later_here o tells (wakes table es z now2 ev xi st g yi) = waits_on o (forward_goes_on o g) z (woken_form table es now2 z) xi refl yi
   later_here o tells (closes z t a xi en yn) = is_answered o en tells z xi yn
+  later_here o tells (turns z j m ev n xi st f yi) = absurd (its_own j ev n)
   later_here o tells (lapses z ev xi st f yi) = waits_on o (ap outcome_ends_exchange f) z (exchange_past_its_wait z) xi refl yi
 
   -- it waits no more
@@ -268,6 +276,7 @@ module _ (G : Type 0) (id : ℕ) (event : Event) (v x y : Option Exchange) (said
   overdue_here (again z now2 t a xi c g yi j f) = absurd (false≢true g)
   overdue_here (wakes table es z now2 ev xi st g yi) = absurd (false≢true g)
   overdue_here (closes z t a xi en yn) = absurd (false≢true en)
+  overdue_here (turns z j m ev n xi st f yi) = absurd (its_own j ev n)
   overdue_here (lapses z ev xi st f yi) = waits_on outcomes.WaitsNoMore refl z (exchange_past_its_wait z) xi refl yi
 
   abandoned_here : (o : Outcome) → o ≡ outcomes.Ended → Move id v event o x y → StandsAt Awaited said × (y ≡ None)
@@ -278,6 +287,7 @@ module _ (G : Type 0) (id : ℕ) (event : Event) (v x y : Option Exchange) (said
   abandoned_here o ends (again z now2 t a xi c g yi j f) = absurd (false≢true (sym (ap outcome_goes_forward ends) ∙ g))
   abandoned_here o ends (wakes table es z now2 ev xi st g yi) = absurd (false≢true (sym (ap outcome_goes_forward ends) ∙ g))
   abandoned_here o ends (closes z t a xi en yn) = ((awaited_there G said x z here xi).stands, yn)
+  abandoned_here o ends (turns z j m ev n xi st f yi) = absurd (its_own j ev n)
   abandoned_here o ends (lapses z ev xi st f yi) =
       let no : outcomes.Ended ≡ outcomes.WaitsNoMore = sym ends ∙ f in
       absurd (cc)
@@ -322,6 +332,21 @@ changed_here G key i x said here = record { standing = here.standing; stands = h
         let c = changed_some key i y in
         (r, past, c.0, said_is, ap (changed_by key i) found ∙ c.1, subst (λ (a : Asked). RequestCameAs r a) (sym c.2) admitted)
 
+-- it waits for the next leader
+turned_here : (G : Type 0) (x y : Option Exchange) (said : List Said) (z : Exchange) (m : ℕ) → x ≡ Some z → y ≡ Some (record z { stage = stages.Waiting m }) → Here G said x → Here G said y
+turned_here G x y said z m xi yi here = record { standing = here.standing; stands = here.stands; last = by_standing here.standing here.last; gone = here.gone }
+  where
+    never : x ≡ None → ⊥
+    never none =
+        let no : None ≡ Some z = sym none ∙ xi in
+        absurd (cc)
+
+    by_standing : (o : Standing) → LastRequestIsOpen o said x → LastRequestIsOpen o said y
+    by_standing Answered last = absurd (never last)
+    by_standing Left last = absurd (never last)
+    by_standing Awaited (r, past, v, said_is, found, admitted) =
+        (r, past, record z { stage = stages.Waiting m }, said_is, yi, subst (λ (a : Asked). RequestCameAs r a) (ap (λ (u : Exchange). u.asked) (same_Some v z (sym found ∙ xi))) admitted)
+
 away_here : (G : Type 0) (id : ℕ) (event : Event) (o : Outcome) (v x y : Option Exchange) (said : List Said) → eqb (exchange_id_of_event event) id ≡ false → Here G said x → Move id v event o x y → Here G said y
 away_here G id event o v x y said off here (apart n e) = subst (Here G said) (sym e) (changed_here G _ _ x said here)
 away_here G id event o v x y said off here (opens table es now2 asked2 line ev xn goes yi) = absurd (false≢true (sym off ∙ eq-eqb (exchange_id_of_event event) id (ap exchange_id_of_event ev)))
@@ -330,6 +355,7 @@ away_here G id event o v x y said off here (passes t a xn en yn) = absurd (false
 away_here G id event o v x y said off here (again z now2 t a xi c g yi j f) = absurd (false≢true (sym off ∙ t))
 away_here G id event o v x y said off here (wakes table es z now2 ev xi st g yi) = absurd (false≢true (sym off ∙ eq-eqb (exchange_id_of_event event) id (ap exchange_id_of_event ev)))
 away_here G id event o v x y said off here (closes z t a xi en yn) = absurd (false≢true (sym off ∙ t))
+away_here G id event o v x y said off here (turns z j m ev n xi st f yi) = turned_here G x y said z m xi yi here
 away_here G id event o v x y said off here (lapses z ev xi st f yi) = absurd (false≢true (sym off ∙ eq-eqb (exchange_id_of_event event) id (ap exchange_id_of_event ev)))
 
 -- ---- the model of an engine

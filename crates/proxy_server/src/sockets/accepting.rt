@@ -2,9 +2,9 @@
 ghost use Rattle.std.specs.Prelude.{◌≡◌, ◌&&◌, is_some};
 
 use crate::sockets::live_sockets::LiveSockets;
-use crate::sockets::socket_tokens::Holder;
 use mio::Poll;
 use mio::net::TcpStream;
+use proxy_ends::Holder;
 use proxy_figures::{UnansweredCause, is_out_of_descriptors};
 use proxy_streams::{Peer, Socket};
 use std::io;

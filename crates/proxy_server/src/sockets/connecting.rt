@@ -1,11 +1,10 @@
 //! How links to origins are begun.
 ghost use Rattle.std.specs.Prelude.{◌≡◌};
 
-use crate::limits::SECOND;
-use crate::links::link::Link;
 use crate::sockets::live_sockets::LiveSockets;
 use hx_status::FailKind;
 use mio::net::TcpStream;
+use proxy_ends::{Link, SECOND};
 use proxy_figures::{Admission, is_out_of_descriptors, is_out_of_ports};
 use proxy_streams::{Peer, Socket};
 use proxy_turn::SocketFailed;

@@ -1,29 +1,25 @@
 //! TCP sockets of the system, under the numbers of the engine.
 ghost use Rattle.std.specs.Prelude.{◌≡◌, ◌≤◌, ◌+◌, ◌-◌, ◌/◌, ◌^◌, ◌==◌, if◌then◌else◌, min, length, vec_len};
 ghost use Rattle.std.specs.Prelude.{true, false, option_copied, is_some, IfOk, IsOk, None};
-ghost use Rattle.proxy_turn.specs.Received.{FitsTheBuffer};
+ghost use Rattle.proxy_reads.specs.Received.{FitsTheBuffer};
 ghost use Rattle.std.specs.Ordering.{nat_cmp};
 ghost use Rattle.std.specs.BTreeMap.{get};
 ghost use Rattle.proxy_figures.specs.KnownOrigins.{some_is_crowded};
-ghost use Rattle.proxy_server.specs.Connecting.{link_is_connecting};
-ghost use Rattle.proxy_server.specs.OtherEntries.{OtherEntriesStay, ChangesOnlyAtNumber};
+ghost use Rattle.proxy_ends.specs.Connecting.{link_is_connecting};
+ghost use Rattle.proxy_ends.specs.OtherEntries.{OtherEntriesStay, ChangesOnlyAtNumber};
 ghost use Rattle.proxy_server.specs.Forgetting.{ClientIsForgotten, LinkIsForgotten};
-ghost use Rattle.proxy_server.specs.Closing.{StreamIsClosedByNumber};
+ghost use Rattle.proxy_ends.specs.Closing.{StreamIsClosedByNumber};
 ghost use Rattle.proxy_server.specs.Paces.{milliseconds_of_moment};
 ghost use Rattle.std.specs.Prelude.{nat_lt};
 ghost use Rattle.slab.specs.Slab.{slab_len};
 
-use crate::clients::Clients;
-use crate::clients::departures::Departure;
-use crate::limits::{LONGEST_WAIT, Limits, MOST_EVENTS, SECOND};
-use crate::links::Links;
 use crate::pace::turn_end_of;
 use crate::sockets::call_counts::CallCounts;
-use crate::sockets::socket_tokens::Holder;
 use hx_allow::{Config, MOST_LINES};
 use hx_status::FailKind;
 use mio::net::{TcpListener, TcpStream};
 use mio::{Events, Interest, Poll};
+use proxy_ends::{Clients, Departure, Holder, LONGEST_WAIT, Limits, Links, MOST_EVENTS, SECOND};
 use proxy_figures::{
     AcceptCounts, Asked, CutReason, ReplyCounts, Troubles, Turns, UnansweredCause,
 };

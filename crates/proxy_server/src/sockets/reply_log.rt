@@ -1,29 +1,15 @@
 //! What is told of each reply, and of each request that never had one: its line in the log, and what it counts as.
 ghost use Rattle.std.specs.Prelude.{◌≡◌};
-ghost use Rattle.proxy_server.specs.Departures.{DepartureIsLogged};
-ghost use Rattle.proxy_server.specs.Logging.{LineAboutReplyIsAdded};
+ghost use Rattle.proxy_ends.specs.Departures.{DepartureIsLogged};
+ghost use Rattle.proxy_ends.specs.Logging.{LineAboutReplyIsAdded};
 
-use crate::clients::Clients;
-use crate::clients::client::Client;
-use crate::clients::departures::Departure;
 use crate::sockets::live_sockets::LiveSockets;
+use proxy_ends::{Client, Clients, Departure, Reply};
 use proxy_figures::sort_of;
-use proxy_log::{Lines, ReplyFacts, read_reply};
+use proxy_log::{Lines, read_reply};
 use std::alloc::Global;
 use std::mem::replace;
 use std::net::Net;
-
-/// A reply that was written.
-#[derive(Clone, Copy, Debug)]
-pub(crate) struct Reply<'a> {
-    /// When, in milliseconds since 1970.
-    pub(crate) moment: u64,
-    pub(crate) facts: ReplyFacts<'a>,
-    /// Milliseconds since the first byte of its request came.
-    pub(crate) took: u64,
-    /// The address of the origin that was asked; empty where none was, or none is known.
-    pub(crate) origin: &'a [u8],
-}
 
 /// Adds the line about a reply to a client. Where there is no memory for it, it is lost, and counted.
 fn log_line(lines: &mut Lines, client: &mut Client, reply: &Reply<'_>)

@@ -1,6 +1,6 @@
 //! Sockets in memory, of which one call fails: clients that ask once, and an origin that answers once on each link.
 ghost use Rattle.std.specs.Prelude.{◌≡◌, length};
-ghost use Rattle.proxy_turn.specs.Received.{FitsTheBuffer};
+ghost use Rattle.proxy_reads.specs.Received.{FitsTheBuffer};
 
 use proxy_turn::{End, Received, SocketFailed, Sockets};
 use std::alloc::Global;

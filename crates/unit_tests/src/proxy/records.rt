@@ -1,6 +1,6 @@
 //! A record of turns over sockets in memory: its replay does what the turns did.
 ghost use Rattle.std.specs.Prelude.{◌≡◌, ◌<◌, length, IfOk};
-ghost use Rattle.proxy_turn.specs.Received.{FitsTheBuffer};
+ghost use Rattle.proxy_reads.specs.Received.{FitsTheBuffer};
 
 use super::first_run::{FIRST_TABLE, engine};
 use super::memory_sockets::give;

@@ -1,0 +1,93 @@
+-- Clients that go with a request that isn't answered.
+--
+-- departure_of, departed_client: what is told of a client that goes, once, and the client then
+-- IsLineAboutDeparture: the line of the log about it
+-- DepartureIsLogged: what becomes of that line
+-- ClientIsKept: the engine is told of a client before the next turn
+-- LostIsKept: so it is, unless there is no memory to keep that
+-- LossIsTold: so it is with a client whose stream is dropped
+use Rattle.std.specs.Prelude.{◌≡◌, ◌⊎◌, ◌++◌, ◌∷◌, [], ℕ, List, Bool, true, false, if◌then◌else◌, Option, None, Some}
+use Rattle.std.specs.Prelude.{is_some}
+use Rattle.std.specs.Net.Text.{socket_text}
+use Rattle.std.specs.Global.{Box}
+use Rattle.proxy_figures.specs.Counts.{count_plus}
+use Rattle.proxy_figures.specs.Unanswered.{unanswered_name}
+use Rattle.proxy_figures.specs.declared.unanswered.UnansweredCause.{UnansweredCause}
+use Rattle.proxy_log.specs.Asked.{next_question}
+use Rattle.proxy_log.specs.Line.{log_line_text, unanswered_reason}
+use Rattle.proxy_log.specs.PendingLines.{LineIsAdded, LineIsLost}
+use Rattle.proxy_log.specs.declared.asked.Question.{Question}
+use Rattle.proxy_log.specs.declared.line.Line.{Line}
+use Rattle.proxy_log.specs.declared.pending_lines.Lines.{Lines}
+use Rattle.proxy_ends.specs.declared.clients.Clients.{Clients}
+use Rattle.proxy_ends.specs.declared.clients.client.Client.{Client}
+use Rattle.proxy_ends.specs.declared.clients.client.Logged.{Logged}
+use Rattle.proxy_ends.specs.declared.clients.client.Place.{Place}
+use Rattle.proxy_ends.specs.declared.clients.client.Place.TheVariants as place
+use Rattle.proxy_ends.specs.declared.clients.departures.Departure.{Departure}
+
+-- one with a request that was begun and isn't answered
+abbrev pub departure_of : {S : Type 0} → UnansweredCause → Client S → Option Departure
+departure_of cause client =
+    if client.is_begun then Some (record { cause = cause; asked = client.asked; logged = client.logged }) else None
+
+-- what was told isn't told again
+abbrev pub departed_client : {S : Type 0} → Client S → Client S
+departed_client client = if client.is_begun then record client { is_begun = false; logged = None } else client
+
+-- the line of the log names what it asked for, why it has no answer, and the origin that was asked
+abbrev pub line_of_departure : Question → List ℕ → UnansweredCause → ℕ → ℕ → List ℕ → Line
+line_of_departure question address cause moment took origin = record {
+  moment = moment;
+  client = address;
+  method = question.method;
+  target = question.target;
+  status = 0;
+  length = 0;
+  reason = unanswered_reason (unanswered_name cause);
+  took = took;
+  origin = origin;
+}
+
+abbrev pub line_where_logged : Option (Box Logged) → UnansweredCause → ℕ → ℕ → List ℕ → Option Line
+line_where_logged None cause moment took origin = None
+line_where_logged (Some logged) cause moment took origin =
+    Some (line_of_departure (next_question logged.value.asked.questions.items logged.value.asked.begun)
+    (socket_text logged.value.address) cause moment took origin)
+
+-- there is one where a log is kept
+abbrev pub IsLineAboutDeparture : Departure → ℕ → ℕ → List ℕ → Option Line → Type 0
+IsLineAboutDeparture departure moment took origin line =
+    line ≡ line_where_logged departure.logged departure.cause moment took origin
+
+-- the line stands behind the others, or it is lost, and counts as that; of one of which no log is kept there is none
+abbrev pub LineIsLogged : Option Line → Lines → Lines → Type 0
+LineIsLogged None old new = (new ≡ old) ⊎ LineIsLost old new
+LineIsLogged (Some line) old new = LineIsAdded (log_line_text line) old new ⊎ LineIsLost old new
+
+abbrev pub DepartureIsLogged : Departure → ℕ → ℕ → List ℕ → Lines → Lines → Type 0
+DepartureIsLogged departure moment took origin old new =
+    LineIsLogged (line_where_logged departure.logged departure.cause moment took origin) old new
+
+-- its number and what is told of it stand behind the others, and no line is lost
+abbrev pub ClientIsKept : {S : Type 0} → ℕ → Option Departure → Clients S → Clients S → Type 0
+ClientIsKept number departure old new =
+    (new.lost.items ≡ old.lost.items ++ (record { number = number; departure = departure }) ∷ [])
+    × (new.lost_lines ≡ old.lost_lines)
+
+-- it is kept, or there is no memory for it: then the others stay, and a line that was to be told of it counts as lost
+abbrev pub LostIsKept : {S : Type 0} → ℕ → Option Departure → Clients S → Clients S → Type 0
+LostIsKept number departure old new =
+    ClientIsKept number departure old new
+    ⊎ ((new.lost.items ≡ old.lost.items)
+    × (new.lost_lines ≡ (if is_some departure then count_plus old.lost_lines 1 else old.lost_lines)))
+
+-- it is told of a client that it knew, and whose stream is dropped for a cause, and of nobody else
+abbrev pub LossOfPlaceIsTold : {S : Type 0} → Place → Option Departure → Clients S → Clients S → Type 0
+LossOfPlaceIsTold (place.Open n) departure old new = LostIsKept n departure old new
+LossOfPlaceIsTold (place.In queue since) departure old new =
+    (new.lost.items ≡ old.lost.items) × (new.lost_lines ≡ old.lost_lines)
+
+abbrev pub LossIsTold : {S : Type 0} → UnansweredCause → Option (Client S) → Clients S → Clients S → Type 0
+LossIsTold cause None old new = (new.lost.items ≡ old.lost.items) × (new.lost_lines ≡ old.lost_lines)
+LossIsTold cause (Some client) old new = LossOfPlaceIsTold client.place (departure_of cause client) old new

@@ -1,0 +1,10 @@
+pub mod Cases
+pub mod Closing
+pub mod Connecting
+pub mod Departures
+pub mod GivingWay
+pub mod Logging
+pub mod OtherEntries
+pub mod Streams
+pub mod Timeouts
+pub mod Tokens

@@ -1,0 +1,409 @@
+//! A client's stream: where it stands, what it asks for, and what a log needs of it.
+ghost use Rattle.std.specs.Prelude.{◌≡◌, ◌<◌, ◌≤◌, ◌++◌, length, take, drop, false, [], Some, None, Ok, IfOk, OnOk};
+ghost use Rattle.std.specs.Prelude.{OnErr};
+ghost use Rattle.proxy_ends.specs.Timeouts.{client_has_left, has_lasted_longer, milliseconds_since};
+ghost use Rattle.proxy_ends.specs.GivingWay.{client_is_quiet, client_takes_nothing};
+ghost use Rattle.proxy_reads.specs.Received.{FitsTheBuffer};
+ghost use Rattle.proxy_ends.specs.Departures.{departure_of, departed_client};
+ghost use Rattle.proxy_ends.specs.Logging.{IsLineAboutReply, logged_address};
+ghost use Rattle.proxy_ends.specs.Streams.{client_has_rest, client_may_give, rest_bytes, ClientIsRead};
+ghost use Rattle.proxy_ends.specs.Streams.{number_of_place, client_is_idle, new_client, ClientIsReadOn};
+
+use crate::clients::departures::Departure;
+use crate::limits::SECOND;
+use crate::replies::Reply;
+use proxy_figures::UnansweredCause;
+use proxy_log::{SeenOfReply, UnansweredRequests, line_about};
+use proxy_pacing::{LEAST_HANDED_IN, Rest, StreamQueue, head_end};
+use proxy_reads::Received;
+use proxy_streams::{Peer, Socket, Stream};
+use std::alloc::{AllocError, Global};
+use std::io;
+use std::net::SocketAddr;
+
+/// Where a client's stream stands.
+#[derive(Clone, Copy, PartialEq, Eq)]
+pub enum Place {
+    /// The engine knows it by this number.
+    Open(u64),
+    /// It was closed, and stands in a queue, since it had this stamp.
+    In(StreamQueue, u64),
+}
+
+/// What a log needs of a client.
+#[derive(Drop)]
+pub struct Logged {
+    pub address: SocketAddr,
+    /// What it asks for.
+    pub asked: UnansweredRequests,
+}
+
+/// A client's stream. Moments are milliseconds of the clock that never goes back.
+pub struct Client<S: Stream + Drop = Socket> {
+    pub peer: Peer<S>,
+    alloc: Global,
+    pub place: Place,
+    /// What came behind the head of a request, and wasn't handed in yet.
+    rest: Option<Rest>,
+    /// When the first byte of its request came, if its request isn't answered.
+    pub asked: Option<u64>,
+    /// Something of a request was handed in that wasn't answered yet.
+    is_begun: bool,
+    /// Bytes that were handed in of the request that isn't answered yet.
+    pub handed: usize,
+    /// When its end was seen.
+    pub left: Option<u64>,
+    /// By which moment it stands among those that have sent their end.
+    pub departed_mark: Option<u64>,
+    /// It has sent a request, in all.
+    pub has_asked: bool,
+    /// It stands among the ends that are read next.
+    pub is_listed: bool,
+    /// Since when it is between two requests, if it is.
+    pub idle_since: u64,
+    /// By which moment it stands among those that were between two requests.
+    pub idle_mark: Option<u64>,
+    /// By which moment it stands among those whose request isn't answered yet.
+    pub begun_mark: Option<u64>,
+    /// When it is looked at next.
+    pub look: u64,
+    /// When it was closed.
+    pub closed: u64,
+    /// In memory of its own: where no log is kept, a client is smaller by it.
+    logged: Option<Box<Logged>>,
+}
+
+/// One call drops it, wherever that is.
+impl<S: Stream + Drop> Drop for Client<S> {
+    fn drop(self) {
+        let Client {
+            peer: _,
+            alloc: _,
+            place: _,
+            rest: _,
+            asked: _,
+            is_begun: _,
+            handed: _,
+            left: _,
+            departed_mark: _,
+            has_asked: _,
+            is_listed: _,
+            idle_since: _,
+            idle_mark: _,
+            begun_mark: _,
+            look: _,
+            closed: _,
+            logged: _,
+        } = self;
+    }
+}
+
+impl<S: Stream + Drop> Client<S> {
+    /// A client from which nothing has come, under its number.
+    pub fn new(alloc: Global, peer: Peer<S>, n: u64, now: u64) -> Client<S>
+        ensures { result ≡ new_client alloc peer n now }
+    {
+        Client {
+            peer,
+            alloc,
+            place: Place::Open(n),
+            rest: None,
+            asked: None,
+            is_begun: false,
+            handed: 0,
+            left: None,
+            departed_mark: None,
+            has_asked: false,
+            is_listed: false,
+            idle_since: now,
+            idle_mark: None,
+            begun_mark: None,
+            look: 0,
+            closed: 0,
+            logged: None,
+        }
+    }
+
+    /// Its number, where the engine knows it.
+    pub fn number(&self) -> Option<u64>
+        ensures { result ≡ number_of_place self.now.place }
+    {
+        match self.place {
+            Place::Open(n) => Some(n),
+            Place::In(_, _) => None,
+        }
+    }
+
+    /// Keeps what a log needs: who it is, and what it asks for from now on. An `Err` changes nothing.
+    pub fn keep_log(&mut self, address: SocketAddr, max_body: u64) -> Result<(), AllocError>
+        ensures ok { OnOk result (logged_address self.new.logged ≡ Some address) }
+        ensures err { OnErr result (self.new ≡ self.old) }
+    {
+        let asked = UnansweredRequests::new(self.alloc, max_body);
+        let logged = Box::new(self.alloc, Logged { address, asked })?;
+        self.logged = Some(logged);
+        Ok(())
+    }
+
+    /// Takes what came, for a log.
+    pub fn read_piece(&mut self, piece: &[u8])
+        ensures { logged_address self.new.logged ≡ logged_address self.old.logged }
+    {
+        let alloc = self.alloc;
+        if let Some(logged) = &mut self.logged {
+            // Without memory for it, lines about what follows on this connection don't name what was asked.
+            let _ = logged.asked.read_piece(alloc, piece);
+        }
+    }
+
+    /// What is told of it where it goes with a request that isn't answered.
+    pub fn depart(&mut self, cause: UnansweredCause) -> Option<Departure>
+        ensures told { result ≡ departure_of cause self.old }
+        ensures rest { self.new ≡ departed_client self.old }
+    {
+        if !self.is_begun {
+            return None;
+        }
+        self.is_begun = false;
+        Some(Departure {
+            cause,
+            asked: self.asked,
+            logged: self.logged.take(),
+        })
+    }
+
+    /// Milliseconds since the first byte of the request came that is being answered.
+    pub fn milliseconds_taken(&self, now: u64) -> u64
+        ensures { result ≡ milliseconds_since now self.now.asked }
+    {
+        match self.asked {
+            Some(asked) => now.saturating_sub(asked),
+            None => 0,
+        }
+    }
+
+    /// The line about a reply, where a log is kept.
+    pub fn line_about(&mut self, reply: &Reply<'_>) -> Result<Option<proxy_log::Line>, AllocError>
+        ensures about { IfOk result (IsLineAboutReply self.old.logged reply.now) }
+        ensures without { self.old.logged ≡ None → result ≡ Ok None }
+    {
+        let alloc = self.alloc;
+        let Some(kept) = &mut self.logged else {
+            return Ok(None);
+        };
+        let logged = &mut **kept;
+        let question = logged.asked.next_question(alloc);
+        let address = logged.address.to_string(alloc)?;
+        let seen = SeenOfReply {
+            moment: reply.moment,
+            client: address.as_str().as_bytes(),
+            took: reply.took,
+            origin: reply.origin,
+        };
+        Ok(Some(line_about(alloc, question, &reply.facts, &seen)?))
+    }
+
+    /// Keeps what came and isn't handed in yet. An `Err` changes nothing.
+    fn keep(&mut self, piece: &[u8]) -> Result<(), AllocError>
+        ensures kept { OnOk result (rest_bytes self.new.rest ≡ rest_bytes self.old.rest ++ piece.now) }
+        ensures err { OnErr result (rest_bytes self.new.rest ≡ rest_bytes self.old.rest) }
+        ensures peer { self.new.peer ≡ self.old.peer }
+    {
+        match &mut self.rest {
+            Some(rest) => rest.keep(piece),
+            None => {
+                let mut rest = Rest::new(self.alloc);
+                rest.keep(piece)?;
+                self.rest = Some(rest);
+                Ok(())
+            }
+        }
+    }
+
+    /// Whether something has come that wasn't handed in yet.
+    pub fn has_rest(&self) -> bool
+        ensures { result ≡ client_has_rest self.now.rest }
+    {
+        match &self.rest {
+            Some(rest) => !rest.is_empty(),
+            None => false,
+        }
+    }
+
+    /// Drops what has come and wasn't handed in.
+    pub fn drop_rest(&mut self)
+        ensures { self.new ≡ record self.old { rest = None } }
+    {
+        self.rest = None;
+    }
+
+    /// Whether its request has been incomplete for more than so many milliseconds.
+    pub fn is_late(&self, now: u64, limit: u64) -> bool
+        ensures { result ≡ has_lasted_longer now self.now.asked limit }
+    {
+        match self.asked {
+            Some(asked) => now.saturating_sub(asked) > limit,
+            None => false,
+        }
+    }
+
+    /// Whether it has sent its end, and for more than so many milliseconds nothing was written since.
+    pub fn has_left(&self, now: u64, limit: u64) -> bool
+        ensures { result ≡ client_has_left now self.now.left self.now.peer.heard limit }
+    {
+        match self.left {
+            Some(left) => now.saturating_sub(left.max(self.peer.heard)) > limit,
+            None => false,
+        }
+    }
+
+    /// Whether no byte of it came or went for a second at least.
+    pub fn is_quiet(&self, now: u64) -> bool
+        ensures { result ≡ client_is_quiet now self.now }
+    {
+        now.saturating_sub(self.peer.heard) >= SECOND
+    }
+
+    /// Whether it has taken nothing for a second at least of what it is to take.
+    pub fn takes_nothing(&self, now: u64) -> bool
+        ensures { result ≡ client_takes_nothing now self.now }
+    {
+        self.peer.has_unsent() && self.is_quiet(now)
+    }
+
+    /// Whether there is something that a read would give, or may.
+    pub fn may_give(&self) -> bool
+        ensures { result ≡ client_may_give self.now }
+    {
+        !self.peer.has_unsent() && (self.peer.readable || self.has_rest())
+    }
+
+    /// Whether it is between two requests: nothing of one was handed in, nor is to be.
+    pub fn is_idle(&self) -> bool
+        ensures { result ≡ client_is_idle self.now }
+    {
+        match self.place {
+            Place::Open(_) => !self.is_begun && !self.has_rest(),
+            Place::In(_, _) => false,
+        }
+    }
+
+    /// So many bytes of a request are handed in.
+    fn note_handed_in(&mut self, count: usize, now: u64)
+        ensures peer { self.new.peer ≡ self.old.peer }
+        ensures rest { self.new.rest ≡ self.old.rest }
+    {
+        self.is_begun = true;
+        self.has_asked = true;
+        self.handed = self.handed.saturating_add(count);
+        if self.asked.is_none() {
+            self.asked = Some(now);
+        }
+    }
+
+    /// Its request was answered.
+    pub fn answered(&mut self, now: u64)
+        ensures { self.new.logged ≡ self.old.logged }
+    {
+        self.asked = None;
+        self.is_begun = false;
+        self.handed = 0;
+        self.idle_since = now;
+    }
+
+    /// How many bytes are handed in at least, where so many have come.
+    fn least(&self) -> usize {
+        if self.is_begun { LEAST_HANDED_IN } else { 0 }
+    }
+
+    /// Keeps what stands behind the head of a request for the next reads; answers how many bytes stand in front. Where
+    /// there is no memory for it, all are handed in.
+    fn keep_rest(&mut self, piece: &[u8], least: usize) -> usize
+        ensures within { result ≤ length piece.now }
+        ensures some { 0 < length piece.now → 0 < result }
+        ensures kept { rest_bytes self.old.rest ≡ [] → take result piece.now ++ rest_bytes self.new.rest ≡ piece.now }
+        ensures peer { self.new.peer ≡ self.old.peer }
+    {
+        let end = head_end(piece, least);
+        if end == 0 || end == piece.len() {
+            return piece.len();
+        }
+        match self.keep(&piece[end..]) {
+            Ok(()) => end,
+            Err(_) => piece.len(),
+        }
+    }
+
+    /// Reads a piece of what has come, if anything may have, behind what was kept. From one that still has to take what
+    /// was written nothing is read.
+    pub fn read_on(&mut self, buf: &mut [u8], now: u64) -> io::Result<Received>
+        ensures within { IfOk result (FitsTheBuffer (length buf.old)) }
+        ensures length { length buf.new ≡ length buf.old }
+        ensures takes_first { 0 < length self.old.peer.unsent.bytes → (self.new ≡ self.old)
+            × (result ≡ Ok Received.Nothing) }
+        ensures read { ClientIsReadOn S.Passed (length buf.old) result buf.new self.old self.new }
+    {
+        if !self.peer.has_unsent() {
+            return self.peer.read(buf, now);
+        }
+        Ok(Received::Nothing)
+    }
+
+    /// Hands in what was kept, as far as the head of one request; answers how many bytes.
+    fn give_rest(&mut self, buf: &mut [u8], least: usize) -> usize
+        ensures within { result ≤ length buf.old }
+        ensures length { length buf.new ≡ length buf.old }
+        ensures some { 0 < length buf.old → 0 < length (rest_bytes self.old.rest) → 0 < result }
+        ensures given { take result buf.new ++ rest_bytes self.new.rest ≡ rest_bytes self.old.rest }
+        ensures peer { self.new.peer ≡ self.old.peer }
+    {
+        let Some(rest) = &mut self.rest else {
+            return 0;
+        };
+        let n = rest.give(buf, least);
+        if rest.is_empty() {
+            self.rest = None;
+        }
+        n
+    }
+
+    /// Reads what has come, if anything may have, as far as the head of one request: what was kept comes first. From
+    /// one that still has to take what was written nothing is read.
+    pub fn read(&mut self, buf: &mut [u8], now: u64) -> io::Result<Received>
+        ensures within { IfOk result (FitsTheBuffer (length buf.old)) }
+        ensures length { length buf.new ≡ length buf.old }
+        ensures takes_first { 0 < length self.old.peer.unsent.bytes → (self.new ≡ self.old)
+            × (result ≡ Ok Received.Nothing) }
+        ensures handed_in { 0 < length buf.old → IfOk result
+            (λ received. ClientIsRead S.Passed received buf.new self.old self.new) }
+    {
+        if self.peer.has_unsent() {
+            return Ok(Received::Nothing);
+        }
+        let least = self.least();
+        let n = self.give_rest(buf, least);
+        if n > 0 {
+            self.note_handed_in(n, now);
+            return Ok(Received::Bytes(n));
+        }
+        self.read_stream(buf, least, now)
+    }
+
+    /// Reads what has come, if anything may have, as far as the head of one request, where nothing is left of what came
+    /// before.
+    fn read_stream(&mut self, buf: &mut [u8], least: usize, now: u64) -> io::Result<Received>
+        ensures within { IfOk result (FitsTheBuffer (length buf.old)) }
+        ensures length { length buf.new ≡ length buf.old }
+        ensures handed_in { rest_bytes self.old.rest ≡ [] → IfOk result
+            (λ received. ClientIsRead S.Passed received buf.new self.old self.new) }
+    {
+        match self.peer.read(buf, now)? {
+            Received::Bytes(n) => {
+                let n = self.keep_rest(&buf[..n], least);
+                self.note_handed_in(n, now);
+                Ok(Received::Bytes(n))
+            }
+            received => Ok(received),
+        }
+    }
+}

@@ -1,0 +1,15 @@
+-- How many descriptors a server may want, and how many connections there can be where so many are allowed.
+use Rattle.std.specs.Prelude.{ℕ, ◌+◌, ◌-◌, ◌/◌, ◌^◌, min, max}
+
+-- the listener, the log, the record, the table, and what the system wants besides
+abbrev pub other_descriptors : ℕ
+other_descriptors = 16
+
+-- one for each connection of a client and each link; a sum too great for 64 bits counts as the greatest number
+abbrev pub descriptors_wanted : ℕ → ℕ → ℕ
+descriptors_wanted connections links =
+    min (min (connections + links) (2 ^ 64 - 1) + other_descriptors) (2 ^ 64 - 1)
+
+-- a quarter of those allowed at most is for links; one client at least can connect
+abbrev pub connections_within : ℕ → ℕ → ℕ
+connections_within allows links = max (allows - min links (allows / 4) - other_descriptors) 1

@@ -1,0 +1,4 @@
+pub mod Descriptors
+pub mod Exits
+pub mod Memory
+pub mod TableFiles

@@ -1,0 +1,23 @@
+//! The operator's files: a table and its faults, questions, the store that outlives a restart, a log and figures; and
+//! what the system tells in files of its own. What can't be done with one is a fault of the command, with its words.
+#![tactic(auto)]
+
+mod command_fault;
+mod descriptors;
+mod files;
+mod journal;
+mod kept_store;
+mod memory;
+mod mistakes;
+mod stats_file;
+
+pub use crate::command_fault::{CommandFault, fault_of, print_words, system_call_words};
+pub use crate::descriptors::{
+    connections_within, descriptors_allowed, descriptors_open, descriptors_wanted,
+};
+pub use crate::files::{no_table_is_cut, read_front, read_questions, read_table};
+pub use crate::journal::{Journal, Target, log_file};
+pub use crate::kept_store::KeptStore;
+pub use crate::memory::{megabytes, memory_allowed, most_held, most_stored, print_store};
+pub use crate::mistakes::config_of;
+pub use crate::stats_file::{StatsFile, warn_of_other_writer};
