@@ -28,6 +28,7 @@ fn with_word(policy: Policy, word: &str) -> Option<Policy> {
         ("while-revalidating", "sent") => policy.sends_while_revalidating = true,
         ("explain", "storing") => policy.explains_storing = true,
         ("conditions", "answered") => policy.forwards_conditions = false,
+        ("tags", "hidden") => policy.hides_tags = true,
         ("ranges", "served") => policy.forwards_ranges = false,
         ("ranges", "filled") => {
             policy.forwards_ranges = false;
