@@ -4,6 +4,8 @@ from costed.requests import KINDS, LISTS, LONG_NAME
 from costed.scripts import (DATE, LINES, Script, again, answer, client, count_of, distinct, filler, grown, large, line, link, ordinary, request, short)
 
 STORED = b";stored"
+# (with more than 64 names Vary counts as a star)
+NOT_STORED = b"edge;fwd=uri-miss\r\n"
 
 
 def family(function):
@@ -13,15 +15,21 @@ def family(function):
     return function
 
 
+def star(function):
+    """An answer whose Vary has too many names to be stored."""
+    FAMILIES.add("stored", plain="stored_plain", name=f"passed_{function.__name__}")(kept(function, NOT_STORED))
+    return function
+
+
 def both(function, size):
     told = function(size)
     return told if isinstance(told, tuple) else (told, ())
 
 
-def kept(function):
+def kept(function, told=STORED):
     def script(size):
         text, lines = both(function, size)
-        return Script(b"", lambda i: client(request(0, *lines, target=b"/%06d" % i)) + link(i + 1, text), STORED)
+        return Script(b"", lambda i: client(request(0, *lines, target=b"/%06d" % i)) + link(i + 1, text), told)
 
     script.__doc__ = function.__doc__
     return script
@@ -66,43 +74,43 @@ def varied(size, members, names=lambda i: b"%02x" % i):
     return answer(size, rest=lambda room: [line(b"Vary", members, room)]), short(names)
 
 
-@family
+@star
 def vary_1(size):
     """Vary of names of one letter, and a request of many lines"""
     return varied(size, distinct(1))
 
 
-@family
+@star
 def vary_2(size):
     """Vary of names of two letters"""
     return varied(size, distinct(2))
 
 
-@family
+@star
 def vary_3(size):
     """Vary of names of three letters, none twice"""
     return varied(size, distinct(3))
 
 
-@family
+@star
 def vary_repeated(size):
     """Vary of one name, which the request has"""
     return varied(size, again(b"00"))
 
 
-@family
+@star
 def vary_repeated_absent(size):
     """Vary of one name, which the request lacks"""
     return varied(size, again(b"a"))
 
 
-@family
+@star
 def vary_alike(size):
     """Vary of names that differ from the request's in the last letters alone"""
     return varied(size, (LONG_NAME + it for it in distinct(3)), lambda i: LONG_NAME + b"%03d" % i)
 
 
-@family
+@star
 def vary_one_long_value(size):
     """Vary of one name again and again, and the request's value of it is half as long as a head may be"""
     text = answer(size // 2, rest=lambda room: [line(b"Vary", again(b"a"), room)])

@@ -38,7 +38,7 @@ def what_is_held_for_a_target_is_purged_by_its_key(stage):
     client = proxy.client()
     for path, lines in (("/a", ("X-A: 1",)), ("/a", ("X-A: 2",)), ("/a/b", ()), ("/a?b", ())):
         expect("status", 200, client.ask(path, *lines).status)
-    others = ("Purge-Scope: site", "Purge-Scope: ALL", "purge-tag: news", "Purge-Mode: stale", "Purge-Anything: x")
+    others = ("Purge-Scope: site", "Purge-Scope: ALL", "purge-tag: a, b", "Purge-Mode: stale", "Purge-Anything: x")
     for lines in ((), (f"Purge-Key: {KEY[:-1]}z",), (f"Purge-Key: {KEY[:-1]}",), (f"Purge-Key: {KEY}x",), (f"Key: {KEY}",), *((SHOWN, it) for it in others)):
         expect_refusal(client.ask("/a", *lines, method="PURGE"), 403, DENIED)
     expect_answer(client.ask("/a", "X-A: 1"), 200, "edge;hit;ttl=60", b"page")
@@ -81,6 +81,56 @@ def a_purge_takes_what_is_within_its_scope(stage):
     purge("/x", "all", 4)
     expect_held("g", ())
     expect_asked(origin, 12)
+
+
+@scenario
+def what_names_a_tag_is_purged_by_it(stage):
+    """By Purge-Tag all goes that names the tag in its Cache-Tag, within Purge-Scope where that stands, and what has more than 64 tags by each. No
+    client sees a Cache-Tag: at a miss, a hit, HEAD, a range or a 304. Two lines of Purge-Tag are denied."""
+    tags = {"/a": "front, news", "/b": "sport,news", "/c": "old-news", "/d": None, "/e": ", ".join(f"t{n}" for n in range(65)), "/f": ",".join(f"t{n}" for n in range(64))}
+    answers = {path: whole(200, MINUTE, 'ETag: "v"', *((f"Cache-Tag: {it}",) if it else ()), content=b"page") for path, it in tags.items()}
+    proxy, origin = purging(stage, answers, capacity=100)
+    client = proxy.client()
+
+    def purge(count, *lines):
+        expect_purged(client.ask("/x", SHOWN, *lines, method="PURGE"), count)
+
+    def expect_held(host, held):
+        for path in tags:
+            answer = client.ask(f"http://{host}{path}", "Cache-Control: only-if-cached")
+            expect(f"status of {host}{path}", 200 if path in held else 504, answer.status)
+
+    for host in ("h", "g"):
+        for path in tags:
+            expect("Cache-Tag at a miss", (200, None), (lambda it: (it.status, it.value("Cache-Tag")))(client.ask(f"http://{host}{path}")))
+    for status, lines, more in ((200, (), {}), (200, (), {"method": "HEAD"}), (206, ("Range: bytes=0-1",), {}), (304, ('If-None-Match: "v"',), {}), (416, ("Range: bytes=9-",), {})):
+        answer = client.ask("http://h/a", *lines, **more)
+        expect(f"Cache-Tag of a {status}", (status, None), (answer.status, answer.value("Cache-Tag")))
+    expect_refusal(client.ask("/x", SHOWN, "Purge-Tag: news", "Purge-Tag: sport", method="PURGE"), 403, DENIED)
+    purge(3, "Purge-Tag: news", "Purge-Scope: host")
+    expect_held("h", ("/c", "/d", "/f"))
+    expect_held("g", tags)
+    purge(1, "purge-tag: t63", "Purge-Scope: host")
+    expect_held("h", ("/c", "/d"))
+    purge(3, "Purge-Tag: news")
+    expect_held("g", ("/c", "/d", "/f"))
+    purge(0, "Purge-Tag: News")
+    expect_held("h", ("/c", "/d"))
+    expect_asked(origin, 12)
+
+
+@scenario
+def what_was_asked_for_before_a_purge_of_a_tag_is_not_stored(stage):
+    """Nobody knows yet which tags an answer on its way will name: what was asked for before isn't stored, whatever it names."""
+    go = threading.Event()
+    proxy, origin = purging(stage, {"/a": held_back(go, whole(200, MINUTE, "Cache-Tag: sport", content=b"old"))})
+    first = sent(proxy, "/a")
+    time.sleep(READ)
+    expect_purged(proxy.client().ask("/x", SHOWN, "Purge-Tag: news", method="PURGE"), 0)
+    go.set()
+    expect_answer(first.response(), 200, "edge;fwd=uri-miss", b"old")
+    expect_answer(proxy.client().ask("/a"), 200, STORED, b"old")
+    expect_asked(origin, 2)
 
 
 @scenario
