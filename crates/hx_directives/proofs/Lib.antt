@@ -1,3 +1,4 @@
 pub mod LineByLine
 pub mod ShortMembers
 pub mod TokenNames
+pub mod OtherLines

@@ -7,7 +7,7 @@ ghost use Rattle.std.specs.Str.Parse.{digits_value};
 ghost use Rattle.hx_directives.specs.Seconds.{capped, seconds_of};
 
 use crate::limits::MOST_SECONDS;
-use hx_fields::number_up_to;
+use hx_fields::digit_value;
 
 fn are_digits(text: &[u8]) -> bool
     ensures { result ≡ list_all is_ascii_digit text.now }
@@ -19,9 +19,17 @@ fn are_digits(text: &[u8]) -> bool
 fn capped_number(digits: &[u8]) -> u64
     ensures { result ≡ capped (digits_value 10 digits.now) }
 {
-    match number_up_to(MOST_SECONDS, 10, digits) {
-        Some(seconds) => seconds,
-        None => MOST_SECONDS,
+    let mut number = 0u64;
+    for b in digits {
+        // A number that is too large already doesn't grow.
+        if number < MOST_SECONDS {
+            number = number * 10 + u64::from(digit_value(*b));
+        }
+    }
+    if number < MOST_SECONDS {
+        number
+    } else {
+        MOST_SECONDS
     }
 }
 

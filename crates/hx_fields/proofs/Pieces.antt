@@ -6,14 +6,9 @@ use Rattle.std.proofs.lemmas.List.{get_or-drop, length-drop}
 use Rattle.std.proofs.lemmas.Grind.{common_steps}
 use Rattle.std.proofs.lemmas.Bool.{cases_Bool}
 use Rattle.std.specs.List.{prefix_len, suffix_len}
+pub use Rattle.hx_fields.specs.Names.{all_in_front}
 use Rattle.hx_fields.specs.Names.{pieces, piece_with_byte, is_separating_comma, quote_state_after, trimmed, is_nonempty, is_blank, members_of_value}
-use Rattle.hx_fields.specs.declared.cutting.QuoteState.{QuoteState}
-use Rattle.hx_fields.specs.declared.cutting.QuoteState.TheVariants.{Outside, Quoted, Escaped}
-
--- these bytes in front of the first piece
-abbrev pub all_in_front : List ℕ → List (List ℕ) → List (List ℕ)
-all_in_front cur [] = cur ∷ []
-all_in_front cur (p ∷ ps) = (cur ++ p) ∷ ps
+use Rattle.hx_fields.specs.Names.{QuoteState, Outside, Quoted, Escaped}
 
 -- the members among some pieces
 abbrev pub kept : List (List ℕ) → List (List ℕ)

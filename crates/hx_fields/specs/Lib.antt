@@ -7,3 +7,5 @@ pub mod Tokens
 pub mod SpelledNumbers
 pub mod Examples
 pub mod Folded
+pub mod NamePlaces
+pub mod NameBuckets

@@ -4,14 +4,13 @@
 -- is_same_name: two names are one          joined: values as one value
 -- is_blank, trimmed: the spaces and tabs round a value
 -- pieces, members_of_value: what stands between the commas of a value
+-- RunsTo: nothing is cut between two places
 -- cut_at: a text before and behind a byte
-use Rattle.std.specs.Prelude.{ℕ, ◌-◌, ◌==◌, nat_lt, if◌then◌else◌, Bool, false, ◌||◌, List, [], ◌∷◌, ◌++◌, length, take}
-use Rattle.std.specs.Prelude.{drop, map, filter, codes, Option, Some, None}
+use Rattle.std.specs.Prelude.{◌≡◌, ℕ, ◌-◌, ◌==◌, nat_lt, if◌then◌else◌, Bool, false, ◌||◌, List, [], ◌∷◌, ◌++◌, length}
+use Rattle.std.specs.Prelude.{take, drop, map, filter, slice_range, codes, Option, Some, None}
 use Rattle.std.specs.Option.{option_map}
 use Rattle.std.specs.List.{prefix_len, suffix_len, concat}
 use Rattle.std.specs.Str.{str_eq_ignore_ascii_case}
-use Rattle.hx_fields.specs.declared.cutting.QuoteState.{QuoteState}
-use Rattle.hx_fields.specs.declared.cutting.QuoteState.TheVariants.{Outside, Quoted, Escaped}
 
 -- field names compare without ASCII case (RFC 9110, section 5.1)
 abbrev pub is_same_name : List ℕ → List ℕ → Bool
@@ -41,6 +40,10 @@ quote = 34
 abbrev pub backslash : ℕ
 backslash = 92
 
+-- where a byte of a value stands: the last is in quotes, behind a backslash
+pub data QuoteState : Type 0 where
+  Outside Quoted Escaped : QuoteState
+
 -- where the next byte stands: in a quoted string a backslash takes the next byte with it (RFC 9110, section 5.6.4)
 -- own: an unclosed quote runs to the end of its line
 abbrev pub quote_state_after : QuoteState → ℕ → QuoteState
@@ -66,8 +69,22 @@ pieces place (b ∷ bs) =
     if is_separating_comma place b then [] ∷ pieces Outside bs else piece_with_byte b
     (pieces (quote_state_after place b) bs)
 
+-- these bytes in front of the first piece
+abbrev pub all_in_front : List ℕ → List (List ℕ) → List (List ℕ)
+all_in_front front [] = front ∷ []
+all_in_front front (p ∷ ps) = (front ++ p) ∷ ps
+
+-- what stands at a start goes on to here without a cut, and the next byte stands at this place
+abbrev pub RunsTo : List ℕ → ℕ → ℕ → QuoteState → Type 0
+RunsTo value start i place =
+    pieces Outside (drop start value) ≡ all_in_front (slice_range value start i) (pieces place (drop i value))
+
 abbrev pub is_nonempty : List ℕ → Bool
 is_nonempty text = nat_lt 0 (length text)
+
+-- the member that a piece has, if anything is left of it
+abbrev pub member_of_piece : List ℕ → List (List ℕ)
+member_of_piece piece = filter is_nonempty (trimmed piece ∷ [])
 
 -- the members of one line's value: its trimmed pieces, the empty ones dropped (RFC 9110, section 5.6.1)
 abbrev pub members_of_value : List ℕ → List (List ℕ)

@@ -1,25 +1,14 @@
 //! Where a list's members stand in the bytes of a value. No function here takes memory.
-ghost use Rattle.std.specs.Prelude.{◌≡◌, ◌≤◌, ◌-◌, ◌∷◌, ◌==◌, ◌||◌, ◌&&◌, [], length, take, drop, ◌<◌, ◌+◌};
-ghost use Rattle.std.specs.Prelude.{IfSome, MatchOption};
+ghost use Rattle.std.specs.Prelude.{◌≡◌, ◌≤◌, ◌-◌, ◌∷◌, ◌++◌, ◌==◌, ◌||◌, [], length, drop, ◌<◌, ◌+◌, slice_range};
+ghost use Rattle.std.specs.Prelude.{ℕ, IfSome, MatchOption};
 ghost use Rattle.std.specs.Option.{option_map};
 ghost use Rattle.std.specs.List.{prefix_len, suffix_len};
-ghost use Rattle.hx_fields.specs.Names.{is_same_name, pieces, is_blank, trimmed, is_separating_comma};
-ghost use Rattle.hx_fields.specs.Names.{quote_state_after, members_of_value};
-ghost use Rattle.hx_fields.specs.Names.{cut_at};
+ghost use Rattle.hx_fields.specs.Names.{is_same_name, is_blank, trimmed, members_of_value, member_of_piece};
+ghost use Rattle.hx_fields.specs.Names.{RunsTo, Outside, Quoted, cut_at};
 ghost use Rattle.hx_fields.specs.LongMembers.{long_members};
 ghost use Rattle.hx_fields.specs.FirstBytes.{members_beginning_in};
-ghost use Rattle.hx_fields.specs.declared.cutting.QuoteState.{QuoteState};
 
 use crate::first_bytes::FirstBytes;
-
-/// Where a byte of a value stands.
-#[derive(Clone, Copy, Debug, PartialEq, Eq)]
-pub(crate) enum QuoteState {
-    Outside,
-    Quoted,
-    /// In quotes, behind a backslash.
-    Escaped,
-}
 
 /// Whether two field names are one: they compare without ASCII case (RFC 9110, section 5.1).
 pub fn is_same_name(a: &[u8], b: &[u8]) -> bool
@@ -65,63 +54,66 @@ pub fn trim_blanks(text: &[u8]) -> &[u8]
     &rest[..trailing_start(rest)]
 }
 
-fn is_separating_comma(place: QuoteState, b: u8) -> bool
-    ensures { result ≡ is_separating_comma place b }
-{
-    place == QuoteState::Outside && b == b','
-}
-
-fn quote_state_after(place: QuoteState, b: u8) -> QuoteState
-    ensures { result ≡ quote_state_after place b }
-{
-    match place {
-        QuoteState::Outside => {
-            if b == b'"' {
-                QuoteState::Quoted
-            } else {
-                QuoteState::Outside
-            }
-        }
-        QuoteState::Quoted => {
-            if b == b'"' {
-                QuoteState::Outside
-            } else if b == b'\\' {
-                QuoteState::Escaped
-            } else {
-                QuoteState::Quoted
-            }
-        }
-        QuoteState::Escaped => QuoteState::Quoted,
-    }
-}
-
-/// Where the first piece ends: at a comma that separates members, or at the end.
-fn piece_end(text: &[u8]) -> usize
+/// Behind the quote that ends the quoted string of this byte, or the end.
+fn quoted_end(text: &[u8], from: usize) -> usize
+    requires { from ≤ length text.now }
+    ensures behind { from ≤ result }
     ensures within { result ≤ length text.now }
-    ensures last { result ≡ length text.now → pieces QuoteState.Outside text.now ≡ text.now ∷ [] }
-    ensures cut { result < length text.now → pieces QuoteState.Outside text.now
-        ≡ take result text.now ∷ pieces QuoteState.Outside (drop (result + 1) text.now) }
+    ensures runs { (start : ℕ) → start ≤ from → RunsTo text.now start from Quoted
+        → RunsTo text.now start result Outside }
 {
-    let mut i = 0;
+    let mut i = from;
     while i < text.len() {
         let b = text[i];
-        if b == b',' {
-            return i;
-        }
         if b == b'"' {
-            break;
+            return i + 1;
         }
-        i += 1;
-    }
-    let mut place = QuoteState::Outside;
-    while i < text.len() {
-        if is_separating_comma(place, text[i]) {
-            return i;
-        }
-        place = quote_state_after(place, text[i]);
-        i += 1;
+        // A backslash takes the next byte with it.
+        let step = if b == b'\\' && i + 1 < text.len() {
+            2
+        } else {
+            1
+        };
+        i += step;
     }
     i
+}
+
+/// Where the piece that begins here ends: at a comma that separates members, or at the end.
+fn piece_end(text: &[u8], start: usize) -> usize
+    requires { start ≤ length text.now }
+    ensures behind { start ≤ result }
+    ensures within { result ≤ length text.now }
+    ensures members { members_of_value (drop start text.now)
+        ≡ member_of_piece (slice_range text.now start result) ++ members_of_value (drop (result + 1) text.now) }
+{
+    let mut i = start;
+    while i < text.len() {
+        let b = text[i];
+        // Most bytes of members are above the comma.
+        if b > b',' {
+            i += 1;
+        } else if b == b',' {
+            return i;
+        } else if b == b'"' {
+            i = quoted_end(text, i + 1);
+        } else {
+            i += 1;
+        }
+    }
+    i
+}
+
+/// What stands behind a piece that ends here, and behind its comma.
+fn behind_piece(value: &[u8], end: usize) -> &[u8]
+    requires { end ≤ length value.now }
+    ensures { result.now ≡ drop (end + 1) value.now }
+{
+    if end == value.len() {
+        &value[end..]
+    } else {
+        &value[end + 1..]
+    }
 }
 
 fn is_separator(b: u8) -> bool
@@ -130,61 +122,26 @@ fn is_separator(b: u8) -> bool
     is_blank(b) || b == b','
 }
 
-/// A value without the commas and blanks in front of its first member.
-fn skip_separators(value: &[u8]) -> &[u8]
-    ensures members { members_of_value result.now ≡ members_of_value value.now }
-    ensures shorter { length result.now ≤ length value.now }
-{
-    let mut n = 0;
-    while n < value.len() && is_separator(value[n]) {
-        n += 1;
-    }
-    &value[n..]
-}
-
 /// The first member of a value, and what stands behind it.
 pub fn next_member(value: &[u8]) -> Option<(&[u8], &[u8])>
     ensures members { MatchOption result (members_of_value value.now ≡ [])
         (λ r. members_of_value value.now ≡ r.0.now ∷ members_of_value r.1.now) }
     ensures shorter { IfSome result (λ r. length r.1.now < length value.now) }
 {
-    let mut rest = skip_separators(value);
-    loop {
-        let end = piece_end(rest);
-        let piece = trim_blanks(&rest[..end]);
-        if end == rest.len() {
-            return if piece.is_empty() {
-                None
-            } else {
-                Some((piece, &rest[end..]))
-            };
-        }
-        rest = &rest[end + 1..];
-        if !piece.is_empty() {
-            return Some((piece, rest));
-        }
-    }
-}
-
-/// A value without the pieces in front that have fewer bytes than so many. Thousands of them cost little more than
-/// their bytes.
-fn skip_short_pieces(value: &[u8], least: usize) -> &[u8]
-    ensures members { long_members least result.now ≡ long_members least value.now }
-    ensures shorter { length result.now ≤ length value.now }
-{
     let mut start = 0;
-    let mut i = 0;
-    let mut place = QuoteState::Outside;
-    while i < value.len() && i - start < least {
-        if is_separating_comma(place, value[i]) {
-            start = i + 1;
-            place = QuoteState::Outside;
+    while start < value.len() {
+        if is_separator(value[start]) {
+            start += 1;
         } else {
-            place = quote_state_after(place, value[i]);
+            let end = piece_end(value, start);
+            let member = trim_blanks(&value[start..end]);
+            if !member.is_empty() {
+                return Some((member, behind_piece(value, end)));
+            }
+            start = end + 1;
         }
-        i += 1;
     }
-    &value[start..]
+    None
 }
 
 /// The first member of a value that has so many bytes at least, and what stands behind it.
@@ -193,42 +150,18 @@ pub fn next_long_member(value: &[u8], least: usize) -> Option<(&[u8], &[u8])>
         (λ r. long_members least value.now ≡ r.0.now ∷ long_members least r.1.now) }
     ensures shorter { IfSome result (λ r. length r.1.now < length value.now) }
 {
-    let mut rest = value;
-    while let Some((member, behind)) = next_member(rest) {
-        if member.len() >= least {
-            return Some((member, behind));
+    let mut start = 0;
+    while start < value.len() {
+        let end = piece_end(value, start);
+        if end - start >= least {
+            let member = trim_blanks(&value[start..end]);
+            if member.len() >= least && !member.is_empty() {
+                return Some((member, behind_piece(value, end)));
+            }
         }
-        rest = skip_short_pieces(behind, least);
+        start = end + 1;
     }
     None
-}
-
-/// Whether a piece begins behind this byte: behind a comma, and behind a blank in front of the piece.
-fn begins_behind(place: QuoteState, b: u8, is_in_front: bool) -> bool
-    ensures { result ≡ (is_separating_comma place b || (is_in_front && is_blank b)) }
-{
-    is_separating_comma(place, b) || (is_in_front && is_blank(b))
-}
-
-/// A value without the pieces in front that begin with none of these bytes. Thousands of them cost little more than
-/// their bytes.
-fn skip_other_pieces<'a>(value: &'a [u8], firsts: &FirstBytes) -> &'a [u8]
-    ensures members { members_beginning_in firsts.now result.now ≡ members_beginning_in firsts.now value.now }
-    ensures shorter { length result.now ≤ length value.now }
-{
-    let mut start = 0;
-    let mut i = 0;
-    let mut place = QuoteState::Outside;
-    while i < value.len() && (i > start || !firsts.has(value[i])) {
-        if begins_behind(place, value[i], i == start) {
-            start = i + 1;
-            place = QuoteState::Outside;
-        } else {
-            place = quote_state_after(place, value[i]);
-        }
-        i += 1;
-    }
-    &value[start..]
 }
 
 /// The first member of a value that begins with one of these bytes, and what stands behind it.
@@ -240,12 +173,21 @@ pub fn next_member_beginning_in<'a>(
         (λ r. members_beginning_in firsts.now value.now ≡ r.0.now ∷ members_beginning_in firsts.now r.1.now) }
     ensures shorter { IfSome result (λ r. length r.1.now < length value.now) }
 {
-    let mut rest = value;
-    while let Some((member, behind)) = next_member(rest) {
-        if firsts.has_first_of(member) {
-            return Some((member, behind));
+    let mut start = 0;
+    while start < value.len() {
+        let first = value[start];
+        if is_separator(first) {
+            start += 1;
+        } else {
+            let end = piece_end(value, start);
+            if firsts.has(first) {
+                let member = trim_blanks(&value[start..end]);
+                if !member.is_empty() {
+                    return Some((member, behind_piece(value, end)));
+                }
+            }
+            start = end + 1;
         }
-        rest = skip_other_pieces(behind, firsts);
     }
     None
 }

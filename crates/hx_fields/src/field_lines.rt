@@ -1,6 +1,7 @@
 //! A list of field lines, in the order in which they came.
 ghost use Rattle.std.specs.Prelude.{◌≡◌, ◌≤◌, ◌++◌, ◌∷◌, [], length, take, IfOk, OnOk, OnErr, slice_get, count_by};
-ghost use Rattle.std.specs.Prelude.{option_copied};
+ghost use Rattle.std.specs.Prelude.{option_copied, false};
+ghost use Rattle.std.specs.Bool.{OnFalse};
 ghost use Rattle.hx_fields.specs.FieldLines.{is_named, has_field, count_of, values_of, only_value, combined_of};
 ghost use Rattle.hx_fields.specs.FieldLines.{members_of};
 ghost use Rattle.hx_fields.specs.FieldLines.{without_named};
@@ -10,6 +11,7 @@ use crate::byte_string::Bytes;
 use crate::cutting::{is_same_name, next_member};
 use crate::field_line::Field;
 use crate::member_list::Members;
+use crate::name_places::NamePlaces;
 use std::alloc::{AllocError, Global};
 use std::marker::Model;
 
@@ -17,15 +19,20 @@ use std::marker::Model;
 #[derive(Debug, Drop)]
 pub struct Fields {
     lines: Vec<Field>,
+    /// The place of each line's name is marked.
+    places: NamePlaces,
 }
 
 impl Model for Fields {
     ghost use Rattle.std.specs.Prelude.{List};
     ghost use Rattle.hx_fields.specs.declared.field_line.Field.{Field};
+    ghost use Rattle.hx_fields.specs.NamePlaces.{PlacesAreMarked};
 
     ghost Value = { List Field };
 
     ghost view = { λ f. f.lines.items };
+
+    ghost invariant = { λ f. PlacesAreMarked f.places.marks f.lines.items };
 }
 
 impl Fields {
@@ -35,6 +42,7 @@ impl Fields {
     {
         Fields {
             lines: Vec::new(alloc),
+            places: NamePlaces::none(),
         }
     }
 
@@ -44,6 +52,7 @@ impl Fields {
     {
         Ok(Fields {
             lines: Vec::with_capacity(alloc, n)?,
+            places: NamePlaces::none(),
         })
     }
 
@@ -52,7 +61,10 @@ impl Fields {
         ensures ok { OnOk result (self.new ≡ self.old ++ line ∷ []) }
         ensures err { OnErr result (self.new ≡ self.old) }
     {
+        let mut places = self.places;
+        places.add(line.name.as_slice());
         self.lines.push(line)?;
+        self.places = places;
         Ok(())
     }
 
@@ -94,27 +106,45 @@ impl Fields {
         for line in &self.lines {
             lines.push(line.copy(alloc)?)?;
         }
-        Ok(Fields { lines })
+        Ok(Fields {
+            lines,
+            places: self.places,
+        })
+    }
+
+    /// Whether a line of this name may stand. Where none may the lines aren't looked at.
+    fn may_have(&self, name: &[u8]) -> bool
+        ensures values { OnFalse result (values_of self.now name.now ≡ []) }
+        ensures has { OnFalse result (has_field self.now name.now ≡ false) }
+    {
+        self.places.has(name)
     }
 
     /// Whether a line of this name stands.
     pub fn has(&self, name: &[u8]) -> bool
         ensures { result ≡ has_field self.now name.now }
     {
-        has_line(self.lines.as_slice(), name)
+        self.may_have(name) && has_line(self.lines.as_slice(), name)
     }
 
     /// How many lines of this name stand.
     pub fn count(&self, name: &[u8]) -> usize
         ensures { result ≡ count_of self.now name.now }
     {
-        count_lines(self.lines.as_slice(), name)
+        if self.may_have(name) {
+            count_lines(self.lines.as_slice(), name)
+        } else {
+            0
+        }
     }
 
     /// The value of the first line of this name.
     pub fn value(&self, name: &[u8]) -> Option<&[u8]>
         ensures { option_copied result ≡ slice_get (values_of self.now name.now) 0 }
     {
+        if !self.may_have(name) {
+            return None;
+        }
         for line in &self.lines {
             if is_same_name(line.name.as_slice(), name) {
                 return Some(line.value.as_slice());
@@ -148,6 +178,9 @@ impl Fields {
     pub fn combined(&self, alloc: Global, name: &[u8]) -> Result<Option<Bytes>, AllocError>
         ensures { IfOk result (λ value. value ≡ combined_of self.now name.now) }
     {
+        if !self.may_have(name) {
+            return Ok(None);
+        }
         combined_value(alloc, self.lines.as_slice(), name)
     }
 
@@ -156,6 +189,9 @@ impl Fields {
         ensures { IfOk result (λ found. found ≡ members_of self.now name.now) }
     {
         let mut found = Members::new(alloc);
+        if !self.may_have(name) {
+            return Ok(found);
+        }
         for line in &self.lines {
             if is_same_name(line.name.as_slice(), name) {
                 push_members(alloc, &mut found, line.value.as_slice())?;
@@ -174,6 +210,9 @@ impl Fields {
         ensures { IfOk result (λ found. found ≡ take most (members_of self.now name.now)) }
     {
         let mut found = Members::new(alloc);
+        if !self.may_have(name) {
+            return Ok(found);
+        }
         for line in &self.lines {
             if is_same_name(line.name.as_slice(), name) {
                 push_members_up_to(alloc, &mut found, line.value.as_slice(), most)?;
@@ -186,6 +225,9 @@ impl Fields {
     pub fn first_member(&self, name: &[u8]) -> Option<&[u8]>
         ensures { option_copied result ≡ slice_get (members_of self.now name.now) 0 }
     {
+        if !self.may_have(name) {
+            return None;
+        }
         for line in &self.lines {
             if is_same_name(line.name.as_slice(), name) {
                 if let Some((member, _)) = next_member(line.value.as_slice()) {

@@ -22,7 +22,8 @@ impl Model for FirstBytes {
     ghost view = { λ f. f.are };
 }
 
-fn first_byte(text: &[u8]) -> u8
+/// The first byte in lower case; that of an empty text is 0.
+pub(crate) fn first_byte(text: &[u8]) -> u8
     ensures { result ≡ first_byte text.now }
 {
     match text {

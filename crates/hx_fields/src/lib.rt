@@ -16,6 +16,8 @@ mod folded_names;
 pub mod laws;
 mod limits;
 mod member_list;
+mod name_buckets;
+mod name_places;
 mod tokens;
 
 pub use crate::byte_string::Bytes;
@@ -29,4 +31,5 @@ pub use crate::first_bytes::FirstBytes;
 pub use crate::folded_names::FoldedName;
 pub use crate::limits::END_OF_TIME;
 pub use crate::member_list::Members;
+pub use crate::name_buckets::NameBuckets;
 pub use crate::tokens::is_token;

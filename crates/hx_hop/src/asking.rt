@@ -2,37 +2,43 @@
 ghost use Rattle.std.specs.Prelude.{◌≡◌, codes, filter, Err, false, IfErr, IfOk};
 ghost use Rattle.hx_fields.specs.FieldLines.{values_of};
 ghost use Rattle.hx_target.specs.Judgement.{is_malformed};
-ghost use Rattle.hx_hop.specs.Asking.{fields_that_go_on_of, client_connection_closes, asked_with_target};
+ghost use Rattle.hx_hop.specs.Asking.{fields_that_go_on_of, asked_with_target};
 ghost use Rattle.hx_hop.specs.Asking.{asked_with_judged_target, IsAsked};
+ghost use Rattle.hx_hop.specs.Stripping.{connection_names};
 ghost use Rattle.hx_hop.specs.LinesThatGoOn.{line_goes_on};
 
 use crate::Asked;
-use crate::named_lines::{has_many_members, strip_many};
+use crate::named_lines::{Stripped, has_many_members, strip_many};
 use crate::request_view::copy_content;
-use crate::stripping::{connection_names, is_hop_name, name_is_among};
+use crate::stripping::{is_hop_name, name_is_among};
 use hx_fields::{Field, Fields, Members, is_same_name};
 use hx_framing::Request;
 use hx_target::{Target, TargetFault, read_target};
 use std::alloc::{AllocError, Global};
 
-/// The lines that go on.
-fn fields_that_go_on_of(alloc: Global, fields: &Fields) -> Result<Fields, AllocError>
-    ensures { IfOk result (λ kept. kept ≡ fields_that_go_on_of fields.now) }
+/// What goes on, and whether the client's connection is to close.
+fn stripped_request(alloc: Global, fields: &Fields) -> Result<Stripped, AllocError>
+    ensures lines { IfOk result (λ kept. kept.fields ≡ fields_that_go_on_of fields.now) }
+    ensures closes { IfOk result (λ kept. kept.closes ≡ connection_names fields.now (codes "close")) }
 {
     if has_many_members(fields) {
-        return kept_beside_many(alloc, fields);
+        return stripped_of_many(alloc, fields);
     }
     let named = fields.members(alloc, b"Connection")?;
-    keep_few(alloc, fields, &named)
+    Ok(Stripped {
+        closes: name_is_among(&named, b"close"),
+        fields: keep_few(alloc, fields, &named)?,
+    })
 }
 
 /// The same where Connection has many members.
-fn kept_beside_many(alloc: Global, fields: &Fields) -> Result<Fields, AllocError>
-    ensures { IfOk result (λ kept. kept ≡ fields_that_go_on_of fields.now) }
+fn stripped_of_many(alloc: Global, fields: &Fields) -> Result<Stripped, AllocError>
+    ensures lines { IfOk result (λ kept. kept.fields ≡ fields_that_go_on_of fields.now) }
+    ensures closes { IfOk result (λ kept. kept.closes ≡ connection_names fields.now (codes "close")) }
 {
     let mut kept = strip_many(alloc, fields)?;
-    kept.remove_named(b"Host");
-    kept.remove_named(b"Expect");
+    kept.fields.remove_named(b"Host");
+    kept.fields.remove_named(b"Expect");
     Ok(kept)
 }
 
@@ -60,23 +66,17 @@ fn line_goes_on(named: &Members, line: &Field) -> bool
         && !name_is_among(named, name)
 }
 
-/// Whether the client's connection closes after the answer.
-fn client_connection_closes(request: &Request) -> bool
-    ensures { result ≡ client_connection_closes request.now }
-{
-    request.minor == 0 || connection_names(&request.fields, b"close")
-}
-
 fn asked_with_target(alloc: Global, request: &Request, target: Target) -> Result<Asked, AllocError>
     ensures { IfOk result (λ asked. asked ≡ asked_with_target request.now target) }
 {
+    let kept = stripped_request(alloc, &request.fields)?;
     Ok(Asked {
         method: request.method.clone()?,
         minor: request.minor,
         target,
-        fields: fields_that_go_on_of(alloc, &request.fields)?,
+        fields: kept.fields,
         content: copy_content(alloc, request.content.as_ref())?,
-        close: client_connection_closes(request),
+        close: request.minor == 0 || kept.closes,
     })
 }
 

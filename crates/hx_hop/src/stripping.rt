@@ -4,40 +4,12 @@
 ghost use Rattle.std.specs.Prelude.{◌≡◌, codes, IfOk};
 ghost use Rattle.std.specs.List.{list_any};
 ghost use Rattle.hx_fields.specs.Names.{is_same_name, members_of_value};
-ghost use Rattle.hx_hop.specs.Stripping.{cache_names, connection_names, name_is_among, is_hop_name, lists_cache_field};
+ghost use Rattle.hx_hop.specs.Stripping.{cache_names, name_is_among, is_hop_name, lists_cache_field};
 ghost use Rattle.hx_hop.specs.Stripping.{stripped};
 
 use crate::named_lines::{has_many_members, strip_many};
 use hx_fields::{Fields, Members, is_same_name, next_long_member};
 use std::alloc::{AllocError, Global};
-
-/// Whether a member of this value is a name. Shorter members are passed over.
-fn value_names(value: &[u8], name: &[u8]) -> bool
-    ensures { result ≡ name_is_among (members_of_value value.now) name.now }
-{
-    let mut rest = value;
-    while let Some((member, behind)) = next_long_member(rest, name.len()) {
-        if is_same_name(member, name) {
-            return true;
-        }
-        rest = behind;
-    }
-    false
-}
-
-/// Whether a member of Connection is this name.
-pub(crate) fn connection_names(fields: &Fields, name: &[u8]) -> bool
-    ensures { result ≡ connection_names fields.now name.now }
-{
-    for line in fields.as_slice() {
-        if is_same_name(line.name.as_slice(), b"Connection")
-            && value_names(line.value.as_slice(), name)
-        {
-            return true;
-        }
-    }
-    false
-}
 
 /// Whether a field of this name never goes on.
 pub(crate) fn is_hop_name(name: &[u8]) -> bool
@@ -71,7 +43,7 @@ pub fn strip(alloc: Global, fields: &Fields) -> Result<Fields, AllocError>
     ensures { IfOk result (λ kept. kept ≡ stripped fields.now) }
 {
     if has_many_members(fields) {
-        return strip_many(alloc, fields);
+        return Ok(strip_many(alloc, fields)?.fields);
     }
     strip_few(alloc, fields)
 }

@@ -5,7 +5,7 @@ use Rattle.hx_hop.proofs.NamedLemmas.{MarksOn}
 use Rattle.hx_hop.proofs.named_lines.mark_value.Given as goal
 
 abbrev pub invariant-loop-member : goal.invariant-loop-member
-invariant-loop-member l = MarksOn (gives_name (members_beginning_in l.firsts l.rest)) l.names (names_in_value l.value) l.fn.names
+invariant-loop-member l = MarksOn (gives_name (members_beginning_in l.signs.firsts l.rest)) l.names (names_in_value l.value) l.fn.names
 
 abbrev pub decreases-loop-member : goal.decreases-loop-member
 decreases-loop-member l = length l.rest

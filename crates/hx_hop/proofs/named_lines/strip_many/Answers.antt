@@ -1,11 +1,18 @@
-use Rattle.std.proofs.Common.{List, subst, ◌≡◌}
-use Rattle.std.specs.Prelude.{IfOk}
-use Rattle.hx_fields.specs.declared.field_line.Field.{Field}
-use Rattle.hx_hop.proofs.NamedLemmas.{keeps_stripped}
+use Rattle.std.proofs.Common.{rules, ◌≡◌, ◌∙◌, ap, codes}
+use Rattle.std.specs.BTreeMap.{get}
+use Rattle.hx_fields.specs.Folded.{folded, folded_cmp}
+use Rattle.hx_hop.specs.NamedLines.{is_present_and_marked}
+use Rattle.hx_hop.proofs.NamedLemmas.{keeps_stripped, tells_close}
 use Rattle.hx_hop.proofs.named_lines.strip_many.Goals as goal
 
 pub returns : goal.returns
 returns c =
-    subst (λ (lines : List Field). IfOk c.keep_unmarked.result (λ kept. kept ≡ lines))
-    (keeps_stripped c.args.fields.now c.in_ok-names.names c.mark_members.new.names c.in_ok-names.ensures c.in_ok-mark_members.ensures)
-    c.keep_unmarked.ensures
+    let fields = c.args.fields.now in
+    let start = c.in_ok-names.names in
+    let names = c.mark_members.new.names in
+    record {
+      lines = c.in_ok-keep_unmarked.ensures ∙ keeps_stripped fields start names c.in_ok-names.ensures c.in_ok-mark_members.ensures;
+      closes = c.is_present_and_marked-closes.ensures
+          ∙ ap (λ q. is_present_and_marked (get folded_cmp names q)) (search rules)
+          ∙ tells_close fields start names c.in_ok-names.ensures c.in_ok-mark_members.ensures;
+    }

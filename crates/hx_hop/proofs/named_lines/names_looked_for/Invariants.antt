@@ -1,0 +1,6 @@
+use Rattle.std.proofs.Common.{take}
+use Rattle.hx_hop.specs.NamedLines.{AreUnmarkedNames}
+use Rattle.hx_hop.proofs.named_lines.names_looked_for.Given as goal
+
+abbrev pub invariant-loop-line : goal.invariant-loop-line
+invariant-loop-line l = AreUnmarkedNames (take l.line-index l.fields) l.names
