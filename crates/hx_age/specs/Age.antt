@@ -1,7 +1,7 @@
 -- How old a response is, and what that leaves of its lifetime (RFC 9111, sections 4.2 and 4.2.3).
 -- Sums have no bound; `a - b` is 0 where b is greater, but in `ttl_of`.
-use Rattle.std.specs.Prelude.{ℕ, ◌+◌, ◌-◌, max, nat_lt, ℤ, pos, ◌-ℤ◌, Bool, List, codes, unwrap_or, option_map}
-use Rattle.std.specs.Prelude.{option_and_then, slice_get}
+use Rattle.std.specs.Prelude.{ℕ, ◌+◌, ◌-◌, max, min, nat_lt, ℤ, pos, ◌-ℤ◌, Bool, List, codes, unwrap_or}
+use Rattle.std.specs.Prelude.{option_and_then, option_map, Option, None, Some, slice_get}
 use Rattle.hx_fields.specs.FieldLines.{members_of}
 use Rattle.hx_fields.specs.declared.field_line.Field.{Field}
 use Rattle.hx_directives.specs.Seconds.{capped, seconds_of}
@@ -22,7 +22,13 @@ times_of fields request_time response_time =
       age_value = age_value_of fields;
       request_time = request_time;
       response_time = response_time;
+      expired = None;
     }
+
+-- The same once a purge ended its lifetime at a moment. A response ends but once: an earlier purge counts.
+-- own: "A purge that expires"
+abbrev pub expired_times : Times → ℕ → Times
+expired_times times now = record times { expired = Some (unwrap_or times.expired now) }
 
 -- apparent_age = max(0, response_time - date_value)
 abbrev pub apparent_age : Times → ℕ
@@ -35,6 +41,16 @@ corrected_age_value times = times.age_value + (times.response_time - times.reque
 -- current_age = max(apparent_age, corrected_age_value) + resident_time; resident_time = now - response_time
 abbrev pub age_of : Times → ℕ → ℕ
 age_of times now = capped (max (apparent_age times) (corrected_age_value times) + (now - times.response_time))
+
+-- a lifetime that ends by this moment at the latest: with the age that the response has then
+abbrev pub lifetime_until : Option ℕ → Times → Lifetime → Lifetime
+lifetime_until None times lifetime = lifetime
+lifetime_until (Some moment) times lifetime =
+    record { explicit = lifetime.explicit; seconds = min lifetime.seconds (age_of times moment) }
+
+-- what a purge leaves of a lifetime
+abbrev pub lifetime_until_expired : Times → Lifetime → Lifetime
+lifetime_until_expired times lifetime = lifetime_until times.expired times lifetime
 
 -- response_is_fresh = (freshness_lifetime > current_age)
 abbrev pub is_fresh_of : Lifetime → ℕ → Bool

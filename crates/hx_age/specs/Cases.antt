@@ -1,5 +1,5 @@
 -- The messages that the laws of worked cases speak of.
-use Rattle.std.specs.Prelude.{ℕ, List, [], ◌∷◌, codes}
+use Rattle.std.specs.Prelude.{ℕ, List, [], ◌∷◌, codes, None, Some}
 use Rattle.hx_fields.specs.declared.field_line.Field.{Field}
 use Rattle.hx_fields.specs.Examples.{line}
 use Rattle.hx_age.specs.declared.moments.Times.{Times}
@@ -18,7 +18,17 @@ fields_with_expires value = line (codes "Date") (codes "Thu, 01 Jan 1970 00:01:4
 
 abbrev pub times_at : ℕ → ℕ → ℕ → ℕ → Times
 times_at date age_value request_time response_time =
-    record { date = date; age_value = age_value; request_time = request_time; response_time = response_time }
+    record {
+      date = date;
+      age_value = age_value;
+      request_time = request_time;
+      response_time = response_time;
+      expired = None;
+    }
+
+-- received at 100 as it was made, and expired by a purge at this moment
+abbrev pub purged_at : ℕ → Times
+purged_at moment = record (times_at 100 0 100 100) { expired = Some moment }
 
 -- a message with two lines of Date, both of the beginning of 1970
 abbrev pub fields_with_two_dates : List Field

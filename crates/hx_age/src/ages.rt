@@ -1,7 +1,7 @@
 //! Ages, and what they leave of a lifetime.
 
 ghost use Rattle.std.specs.Prelude.{◌≡◌};
-ghost use Rattle.hx_age.specs.Age.{age_of, is_fresh_of, staleness_of, ttl_of};
+ghost use Rattle.hx_age.specs.Age.{age_of, is_fresh_of, lifetime_until_expired, staleness_of, ttl_of};
 
 use crate::lifetimes::{Lifetime, capped};
 use crate::moments::Times;
@@ -16,6 +16,20 @@ pub fn current_age(times: &Times, now: u64) -> u32
     let corrected = u64::from(times.age_value).saturating_add(delay);
     let resident = now.saturating_sub(times.response_time);
     capped(apparent.max(corrected).saturating_add(resident))
+}
+
+/// What a purge leaves of the lifetime of a response: at most the age that it had at that moment. Without a purge the
+/// whole lifetime.
+pub fn lifetime_until_expired(times: &Times, lifetime: Lifetime) -> Lifetime
+    ensures { result ≡ lifetime_until_expired times.now lifetime }
+{
+    match times.expired {
+        Some(moment) => Lifetime {
+            explicit: lifetime.explicit,
+            seconds: lifetime.seconds.min(current_age(times, moment)),
+        },
+        None => lifetime,
+    }
 }
 
 /// Whether a response of this age, in seconds, is within its lifetime. At its end it no longer is.

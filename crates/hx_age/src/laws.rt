@@ -1,14 +1,16 @@
 //! What the definitions say of worked cases, computed.
 
-ghost use Rattle.std.specs.Prelude.{◌≡◌, ℕ, ◌-◌, ◌^◌, ◌≤◌, true, false, List, [], ◌++◌, codes, pos, negsuc, None, Some};
+ghost use Rattle.std.specs.Prelude.{◌≡◌, ℕ, ◌-◌, ◌^◌, ◌<◌, ◌≤◌, true, false, List, [], ◌++◌, codes, pos, negsuc, None};
+ghost use Rattle.std.specs.Prelude.{Some};
 ghost use Rattle.hx_fields.specs.declared.field_line.Field.{Field};
 ghost use Rattle.hx_age.specs.declared.moments.Times.{Times as Moments};
+ghost use Rattle.hx_age.specs.declared.lifetimes.Lifetime.{Lifetime as StatedLifetime};
 ghost use Rattle.hx_age.specs.Dates.{date_of};
 ghost use Rattle.hx_age.specs.Age.{age_of, apparent_age, corrected_age_value, is_fresh_of, staleness_of, times_of};
-ghost use Rattle.hx_age.specs.Age.{ttl_of};
+ghost use Rattle.hx_age.specs.Age.{expired_times, lifetime_until_expired, ttl_of};
 ghost use Rattle.hx_age.specs.Lifetime.{explicit_lifetime, lifetime_of};
 ghost use Rattle.hx_age.specs.Cases.{fields_with_age, fields_with_cache_control, fields_with_two_dates};
-ghost use Rattle.hx_age.specs.Cases.{fields_with_expires, times_at};
+ghost use Rattle.hx_age.specs.Cases.{fields_with_expires, purged_at, times_at};
 
 /// Made at 100, asked for at 105, received at 110 with an Age of 3, looked at at 120.
 pub fn age_sums()
@@ -72,6 +74,60 @@ pub fn moments_are_read()
     ensures first { times_of (fields_with_age (codes "3, 4")) 5 7 ≡ times_at 0 3 5 7 }
     ensures two_dates { date_of fields_with_two_dates ≡ None }
     ensures date { date_of (fields_with_age (codes "3")) ≡ Some 0 }
+{}
+
+/// Received at 100, fresh for a minute, and expired by a purge at 120, a second one at 140 aside: at 130 it is 30
+/// seconds old and 10 seconds stale. What was stale already is as stale as it was.
+pub fn a_purge_expires()
+    ensures whole { lifetime_until_expired (times_at 100 0 100 100) (explicit_lifetime 60) ≡ explicit_lifetime 60 }
+    ensures ended { lifetime_until_expired (purged_at 120) (explicit_lifetime 60) ≡ explicit_lifetime 20 }
+    ensures again { expired_times (purged_at 120) 140 ≡ purged_at 120 }
+    ensures age { age_of (purged_at 120) 130 ≡ 30 }
+    ensures at_once { is_fresh_of (lifetime_until_expired (purged_at 120) (explicit_lifetime 60)) 20 ≡ false }
+    ensures staleness { staleness_of (lifetime_until_expired (purged_at 120) (explicit_lifetime 60)) 30 ≡ 10 }
+    ensures left { ttl_of (lifetime_until_expired (purged_at 120) (explicit_lifetime 60)) 30 ≡ negsuc 9 }
+    ensures earlier { is_fresh_of (lifetime_until_expired (purged_at 120) (explicit_lifetime 60)) 19 ≡ true }
+    ensures stale_already { lifetime_until_expired (purged_at 200) (explicit_lifetime 60) ≡ explicit_lifetime 60 }
+    ensures as_received { lifetime_until_expired (purged_at 100) (explicit_lifetime 60) ≡ explicit_lifetime 0 }
+    ensures not_stated { lifetime_until_expired (purged_at 120) (record { explicit = false; seconds = 60 })
+        ≡ record { explicit = false; seconds = 20 } }
+{}
+
+/// From the moment of a purge on a response isn't fresh, at any moment that isn't before it.
+pub fn nothing_is_fresh_from_its_purge_on()
+    ensures { (times : Moments) (lifetime : StatedLifetime) (purge now : ℕ) → times.expired ≡ Some purge → purge ≤ now
+        → is_fresh_of (lifetime_until_expired times lifetime) (age_of times now) ≡ false }
+{}
+
+/// Its staleness counts from the purge, as long as its age isn't at the cap: it is at least the seconds since, and
+/// exactly those where the response was fresh then.
+pub fn staleness_counts_from_the_purge()
+    ensures least { (times : Moments) (lifetime : StatedLifetime) (purge now : ℕ) → times.expired ≡ Some purge
+        → times.response_time ≤ purge → purge ≤ now → age_of times now < 2147483648
+        → now - purge ≤ staleness_of (lifetime_until_expired times lifetime) (age_of times now) }
+    ensures exact { (times : Moments) (lifetime : StatedLifetime) (purge now : ℕ) → times.expired ≡ Some purge
+        → times.response_time ≤ purge → purge ≤ now → age_of times now < 2147483648
+        → is_fresh_of lifetime (age_of times purge) ≡ true
+        → staleness_of (lifetime_until_expired times lifetime) (age_of times now) ≡ now - purge }
+{}
+
+/// Without a purge a lifetime stays what it is. A purge makes none longer, none explicit, and no age another; at a
+/// lesser age than that of the purge the response is as fresh as before. The first of several counts.
+pub fn a_purge_does_nothing_else()
+    ensures without { (times : Moments) (lifetime : StatedLifetime) → times.expired ≡ None
+        → lifetime_until_expired times lifetime ≡ lifetime }
+    ensures not_longer { (times : Moments) (lifetime : StatedLifetime)
+        → (lifetime_until_expired times lifetime).seconds ≤ lifetime.seconds }
+    ensures explicit { (times : Moments) (lifetime : StatedLifetime)
+        → (lifetime_until_expired times lifetime).explicit ≡ lifetime.explicit }
+    ensures younger { (times : Moments) (lifetime : StatedLifetime) (purge age : ℕ) → times.expired ≡ Some purge
+        → age < age_of times purge
+        → is_fresh_of (lifetime_until_expired times lifetime) age ≡ is_fresh_of lifetime age }
+    ensures age { (times : Moments) (purge now : ℕ) → age_of (expired_times times purge) now ≡ age_of times now }
+    ensures marked { (times : Moments) (purge : ℕ) → times.expired ≡ None
+        → (expired_times times purge).expired ≡ Some purge }
+    ensures first { (times : Moments) (purge later : ℕ)
+        → expired_times (expired_times times purge) later ≡ expired_times times purge }
 {}
 
 /// No age and no lifetime is above 2147483648 seconds, also by an Expires of a far year (RFC 9111, section 1.2.2).

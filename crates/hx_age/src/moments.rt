@@ -1,13 +1,13 @@
 //! The moments from which an age is counted.
 
 ghost use Rattle.std.specs.Prelude.{◌≡◌};
-ghost use Rattle.hx_age.specs.Age.{age_value_of, times_of};
+ghost use Rattle.hx_age.specs.Age.{age_value_of, expired_times, times_of};
 
 use crate::dates::single_date;
 use hx_directives::capped_seconds;
 use hx_fields::Fields;
 
-/// When a response was made, asked for and received, in seconds since 1970.
+/// When a response was made, asked for and received, and whether a purge ended its lifetime, in seconds since 1970.
 #[derive(Clone, Copy, Debug, PartialEq, Eq)]
 pub struct Times {
     /// By its Date.
@@ -18,6 +18,8 @@ pub struct Times {
     pub request_time: u64,
     /// When the response was received.
     pub response_time: u64,
+    /// When a purge ended its lifetime, in seconds since 1970.
+    pub expired: Option<u64>,
 }
 
 impl Times {
@@ -30,6 +32,18 @@ impl Times {
             age_value: age_value(fields),
             request_time,
             response_time,
+            expired: None,
+        }
+    }
+
+    /// The times of the same response, once a purge ended its lifetime at a moment. Where an earlier purge did, that
+    /// one counts.
+    pub fn expired_at(self, now: u64) -> Times
+        ensures { result ≡ expired_times self now }
+    {
+        Times {
+            expired: Some(self.expired.unwrap_or(now)),
+            ..self
         }
     }
 }

@@ -10,9 +10,7 @@ use Rattle.hx_fields.specs.Names.{is_same_name}
 use Rattle.hx_hop.specs.declared.request_view.Asked.{Asked}
 use Rattle.hx_hop.specs.Bypass.{request_has_content, asks_for_range, has_precondition}
 use Rattle.hx_hop.proofs.Lines.{filter_keeps, list_any_fewer, list_any_none_left, not_true, same_lower}
-use Rattle.hx_policy.specs.declared.words.Policy.{Policy}
-use Rattle.hx_reuse.specs.Conditions.{keeps_conditions}
-use Rattle.hx_reuse.specs.FilledRanges.{fills_range, request_forwarded, without_range, RangesOfACacheableGetAreFilled, NoOtherRangeIsFilled, PlainLineFillsNoRange, NoFilledRangeIsForwarded, OtherLinesAreForwarded, ConditionsStayAsOfTheWhole}
+use Rattle.hx_reuse.specs.FilledRanges.{fills_range, without_range, RangesOfACacheableGetAreFilled, NoOtherRangeIsFilled, PlainLineFillsNoRange, NoFilledRangeIsForwarded, OtherLinesAreForwarded, ConditionsStayAsOfTheWhole}
 
 pub filled : RangesOfACacheableGetAreFilled
 filled policy asked fills caches get asks is = rw fills (rw caches (rw get (rw asks (rw is.no_content (rw is.no_precondition refl)))))

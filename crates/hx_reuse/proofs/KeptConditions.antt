@@ -1,5 +1,5 @@
 -- Whose matter the conditions of a client are.
-use Rattle.std.proofs.Common.{◌≡◌, inl, Bool, true, false, List, codes, refl}
+use Rattle.std.proofs.Common.{◌≡◌, inl, Bool, true, false, codes, refl}
 use Rattle.std.specs.Prelude.{not, ◌&&◌, ◌||◌, bytes_eq}
 use Rattle.std.proofs.lemmas.Slice.Eq.{bytes_eq-Decides}
 use Rattle.hx_hop.specs.Bypass.{request_has_content, asks_for_range, has_precondition}

@@ -13,7 +13,7 @@ use Rattle.hx_target.specs.declared.keys.Key.{Key}
 use Rattle.hx_target.specs.Keys.{same_key}
 use Rattle.hx_age.specs.declared.lifetimes.Lifetime.{Lifetime}
 use Rattle.hx_age.specs.Lifetime.{lifetime_of}
-use Rattle.hx_age.specs.Age.{age_of}
+use Rattle.hx_age.specs.Age.{age_of, lifetime_until_expired}
 use Rattle.hx_hop.specs.declared.request_view.Asked.{Asked}
 use Rattle.hx_store.specs.Stored.{Stored}
 use Rattle.hx_policy.specs.declared.words.Policy.{Policy}
@@ -23,7 +23,7 @@ use Rattle.hx_reuse.specs.declared.rule.ReuseRule.TheVariants.{Operator, Method,
 use Rattle.hx_reuse.specs.declared.rule.ErrorRule.{ErrorRule}
 use Rattle.hx_reuse.specs.declared.rule.ErrorRule.TheVariants as on_error
 use Rattle.hx_reuse.specs.Chosen.{chosen_of}
-use Rattle.hx_reuse.specs.Lifetimes.{lifetime_at_most, lifetime_with_given, lifetime_under}
+use Rattle.hx_reuse.specs.Lifetimes.{lifetime_at_most, lifetime_with_given, lifetime_of_held, lifetime_under}
 use Rattle.hx_reuse.specs.Rules.{Situation, situation_at, situation_of_request, is_fresh_situation, asks_to_validate, is_above_max_age_limit, is_below_min_fresh_limit, asks_for_freshness, accepts_stale, is_past_max_stale, is_some_and, rule_condition, reuse_rule_applies, reuse_rules, reuse_rule_of, decision_by_rule, decision_of}
 use Rattle.hx_reuse.specs.ErrorRules.{seconds_stated_once, stale_limit_of_response, stale_limit_of_request, stale_limit_of_operator, is_past_stale_limit, error_rule_condition, error_rules, situation_of_stored, error_rule_on, permission_of_rule, permission_on_error}
 use Rattle.hx_reuse.specs.OnError.{staleness_at}
@@ -178,8 +178,8 @@ plain_error_rule caches on_error.TooStale lifetime age response request =
 
 plain_chosen : (caches : Bool) (which : ReuseRule) (e : Stored) (asked : Asked) (now : ℕ) → rule_condition which (situation_of_request (plain caches) e asked now) ≡ plain_condition_on_chosen which e asked now
 plain_chosen caches which e asked now =
-    ap (λ (l : Lifetime). rule_condition which (situation_at (plain caches) l (age_of e.times now) (occurrences_of e.fields) (occurrences_of asked.fields))) (plain_lifetime caches e.status e.fields)
-    ∙ plain_rule caches which (lifetime_of e.fields) (age_of e.times now) (occurrences_of e.fields) (occurrences_of asked.fields)
+    ap (λ (l : Lifetime). rule_condition which (situation_at (plain caches) (lifetime_until_expired e.times l) (age_of e.times now) (occurrences_of e.fields) (occurrences_of asked.fields))) (plain_lifetime caches e.status e.fields)
+    ∙ plain_rule caches which (lifetime_until_expired e.times (lifetime_of e.fields)) (age_of e.times now) (occurrences_of e.fields) (occurrences_of asked.fields)
 
 module _ (caches : Bool) (held : List Stored) (asked : Asked) (now : ℕ) where
   plain_apply : (which : ReuseRule) → reuse_rule_applies which (plain caches) held asked now ≡ plain_applies which caches held asked now
@@ -205,9 +205,10 @@ unfolding error_rule_on plain_permission_on_error
 plain_leaves caches response request now =
     let age = age_of response.times now in
     let directives = occurrences_of response.fields in
-    ap permission_of_rule (same_found (λ which. error_rule_condition which (situation_of_stored (plain caches) response request now)) (λ which. plain_error_rule_condition which (lifetime_of response.fields) age directives request) error_rules
-    (λ which. ap (λ (l : Lifetime). error_rule_condition which (situation_at (plain caches) l age directives request)) (plain_lifetime caches response.status response.fields)
-    ∙ plain_error_rule caches which (lifetime_of response.fields) age directives request))
+    let lasts : Lifetime → Lifetime = lifetime_until_expired response.times in
+    ap permission_of_rule (same_found (λ which. error_rule_condition which (situation_of_stored (plain caches) response request now)) (λ which. plain_error_rule_condition which (lasts (lifetime_of response.fields)) age directives request) error_rules
+    (λ which. ap (λ (l : Lifetime). error_rule_condition which (situation_at (plain caches) (lasts l) age directives request)) (plain_lifetime caches response.status response.fields)
+    ∙ plain_error_rule caches which (lasts (lifetime_of response.fields)) age directives request))
 
 -- ---- a request's advice
 
@@ -256,7 +257,7 @@ module _ (policy : Policy) (held : List Stored) (asked other : Asked) (now : ℕ
   same_apply VaryMiss = ap is_none like.same_choice
   same_apply which =
       same_of_some (λ e. rule_condition which (situation_of_request policy e asked now)) (λ e. rule_condition which (situation_of_request policy e other now)) (chosen_of held asked)
-      (λ e. advice_is_none policy off (lifetime_under policy e.status e.fields) (age_of e.times now) (occurrences_of e.fields) (occurrences_of asked.fields) (occurrences_of other.fields) like.same_max_stale which)
+      (λ e. advice_is_none policy off (lifetime_of_held policy e) (age_of e.times now) (occurrences_of e.fields) (occurrences_of asked.fields) (occurrences_of other.fields) like.same_max_stale which)
       ∙ ap (is_some_and (λ e. rule_condition which (situation_of_request policy e other now))) like.same_choice
 
   pub advice_decides_nothing : decision_of policy held asked now ≡ decision_of policy held other now

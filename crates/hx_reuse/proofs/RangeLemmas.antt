@@ -1,6 +1,6 @@
 -- A request for a range is decided as one for the whole, over a line that doesn't forward ranges.
-use Rattle.std.proofs.Common.{◌≡◌, ℕ, Bool, true, false, List, refl, sym, ◌∙◌, ap}
-use Rattle.std.specs.Prelude.{not, ◌&&◌, ◌||◌, ◌==◌, bytes_eq, codes, length, find, filter, is_none, Option, Some, None, option_map}
+use Rattle.std.proofs.Common.{◌≡◌, ℕ, false, List, refl, sym, ◌∙◌, ap}
+use Rattle.std.specs.Prelude.{not, ◌||◌, ◌==◌, bytes_eq, codes, length, find, filter, is_none, Option, option_map}
 use Rattle.hx_directives.specs.Occurrences.{occurrences_of}
 use Rattle.hx_directives.specs.declared.occurrences.Occurrence.{Occurrence}
 use Rattle.hx_target.specs.declared.keys.Key.{Key}
@@ -13,7 +13,7 @@ use Rattle.hx_policy.specs.declared.words.Policy.{Policy}
 use Rattle.hx_reuse.specs.declared.rule.ReuseRule.{ReuseRule}
 use Rattle.hx_reuse.specs.declared.rule.ReuseRule.TheVariants.{Operator, Method, Content, Range, Precondition, UriMiss, VaryMiss}
 use Rattle.hx_reuse.specs.Chosen.{chosen_of}
-use Rattle.hx_reuse.specs.Lifetimes.{lifetime_under}
+use Rattle.hx_reuse.specs.Lifetimes.{lifetime_of_held}
 use Rattle.hx_reuse.specs.Rules.{situation_at, situation_of_request, is_some_and, rule_condition, reuse_rule_applies, reuse_rules, reuse_rule_of, decision_by_rule, decision_of}
 use Rattle.hx_reuse.specs.Ranges.{RequestsAskForTheSameResponse, RangeDecidesNothing, ForwardedRangesGoPastTheStore}
 use Rattle.hx_fields.proofs.JoinedTests.{never, first_absent, second_false}
@@ -31,7 +31,7 @@ module _ (policy : Policy) (held : List Stored) (asked other : Asked) (now : ℕ
   same_apply VaryMiss = ap is_none like.same_choice
   same_apply which =
       same_of_some (λ e. rule_condition which (situation_of_request policy e asked now)) (λ e. rule_condition which (situation_of_request policy e other now)) (chosen_of held asked)
-      (λ e. ap (λ (found : List Occurrence). rule_condition which (situation_at policy (lifetime_under policy e.status e.fields) (age_of e.times now) (occurrences_of e.fields) found)) like.same_directives)
+      (λ e. ap (λ (found : List Occurrence). rule_condition which (situation_at policy (lifetime_of_held policy e) (age_of e.times now) (occurrences_of e.fields) found)) like.same_directives)
       ∙ ap (is_some_and (λ e. rule_condition which (situation_of_request policy e other now))) like.same_choice
 
   pub decides_alike : decision_of policy held asked now ≡ decision_of policy held other now

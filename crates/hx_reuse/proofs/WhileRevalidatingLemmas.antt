@@ -9,7 +9,6 @@ use Rattle.hx_directives.specs.declared.occurrences.Occurrence.{Occurrence}
 use Rattle.hx_directives.specs.declared.names.Directive.TheVariants as directive
 use Rattle.hx_directives.specs.declared.answers.Seconds.{Seconds}
 use Rattle.hx_directives.specs.declared.answers.Seconds.TheVariants as seconds_are
-use Rattle.hx_age.specs.Age.{age_of}
 use Rattle.hx_store.specs.Stored.{Stored}
 use Rattle.hx_policy.specs.declared.words.Policy.{Policy}
 use Rattle.hx_policy.specs.Policies.{plain}
@@ -22,7 +21,7 @@ use Rattle.hx_reuse.specs.OnError.{staleness_at}
 use Rattle.hx_reuse.specs.Promises.{ResponseForbidsStale}
 use Rattle.hx_reuse.specs.WhileRevalidating.{limit_while_revalidating, rules_while_revalidating, may_be_sent_in, may_be_sent_while_revalidating, ResponseStatesLimit, OperatorGivesLimit, ResponseMayBeSentWhileRevalidating, policy_without_limit}
 use Rattle.hx_fields.proofs.FirstThat.{IsMember, none_passes}
-use Rattle.hx_fields.proofs.JoinedTests.{never, not_false, not_true, left_false, right_false, neither, first_absent, last_absent, second_false, under_not, no_value, not_below, is_not_below}
+use Rattle.hx_fields.proofs.JoinedTests.{never, not_false, not_true, left_false, right_false, neither, last_absent, second_false, under_not, no_value, not_below, is_not_below}
 use Rattle.hx_reuse.proofs.ValueTests.{test_false, none_tests}
 use Rattle.hx_reuse.proofs.LineLemmas.{none_occurs}
 

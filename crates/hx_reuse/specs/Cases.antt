@@ -58,12 +58,16 @@ stored_at moment request fields = record {
   status = 200;
   fields = fields;
   content = codes "hi";
-  times = record { date = moment; age_value = 0; request_time = moment; response_time = moment };
+  times = record { date = moment; age_value = 0; request_time = moment; response_time = moment; expired = None };
 }
 
 -- the one response that is held, stored at 0, with one Cache-Control line
 abbrev pub stored_with_cache_control : List ℕ → Stored
 stored_with_cache_control value = stored_at 0 [] (cache_control_fields value)
+
+-- the same once a purge expired it
+abbrev pub purged_at : ℕ → Stored → Stored
+purged_at moment e = record e { times = record e.times { expired = Some moment } }
 
 abbrev pub one_held_with_cache_control : List ℕ → List Stored
 one_held_with_cache_control value = stored_with_cache_control value ∷ []

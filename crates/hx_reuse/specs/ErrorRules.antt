@@ -21,7 +21,7 @@ use Rattle.hx_hop.specs.declared.request_view.Asked.{Asked}
 use Rattle.hx_store.specs.Stored.{Stored}
 use Rattle.hx_policy.specs.declared.words.Policy.{Policy}
 use Rattle.hx_reuse.specs.Chosen.{chosen_of}
-use Rattle.hx_reuse.specs.Lifetimes.{lifetime_under}
+use Rattle.hx_reuse.specs.Lifetimes.{lifetime_of_held}
 use Rattle.hx_reuse.specs.Rules.{Situation, situation_at, may_not_be_sent_stale, asks_to_validate, is_some_and}
 use Rattle.hx_reuse.specs.declared.rule.ErrorRule.{ErrorRule}
 use Rattle.hx_reuse.specs.declared.rule.ErrorRule.TheVariants.{NoCache, MustRevalidate, NoLifetime, RequestNoCache}
@@ -76,7 +76,7 @@ error_rules = NoCache ∷ MustRevalidate ∷ NoLifetime ∷ RequestNoCache ∷ N
 -- what the rules read of a response, at a moment, and of a request's directives
 abbrev pub situation_of_stored : Policy → Stored → List Occurrence → ℕ → Situation
 situation_of_stored policy response request now =
-    situation_at policy (lifetime_under policy response.status response.fields) (age_of response.times now)
+    situation_at policy (lifetime_of_held policy response) (age_of response.times now)
     (occurrences_of response.fields) request
 
 -- the least rule that stands against sending this response, by the directives of a request

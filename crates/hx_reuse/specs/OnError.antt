@@ -16,7 +16,7 @@ use Rattle.hx_directives.specs.declared.answers.Seconds.TheVariants.{Value}
 use Rattle.hx_age.specs.Age.{age_of}
 use Rattle.hx_store.specs.Stored.{Stored}
 use Rattle.hx_policy.specs.declared.words.Policy.{Policy}
-use Rattle.hx_reuse.specs.Lifetimes.{lifetime_under}
+use Rattle.hx_reuse.specs.Lifetimes.{lifetime_of_held}
 use Rattle.hx_reuse.specs.RuleNames.{error_rule_number}
 use Rattle.hx_reuse.specs.ErrorRules.{situation_of_stored, error_rule_condition, error_rule_on}
 use Rattle.hx_reuse.specs.declared.rule.ErrorRule.{ErrorRule}
@@ -39,7 +39,7 @@ pub record OperatorGivesStaleLimit (policy : Policy) (response : Stored) (reques
 -- by how much the response is past its lifetime (RFC 9111, section 4.2)
 abbrev pub staleness_at : Policy → Stored → ℕ → ℕ
 staleness_at policy response now =
-    age_of response.times now - (lifetime_under policy response.status response.fields).seconds
+    age_of response.times now - (lifetime_of_held policy response).seconds
 
 -- own: its lifetime is stated, or the operator gives it one; the request has no no-cache that is heeded; and each limit
 -- counts
@@ -49,7 +49,7 @@ pub record ResponseMayBeSentOnError (policy : Policy) (response : Stored) (reque
   pub no_must_revalidate : directive_occurs (occurrences_of response.fields) MustRevalidate ≡ false
   pub no_proxy_revalidate : directive_occurs (occurrences_of response.fields) ProxyRevalidate ≡ false
   pub no_s_maxage : directive_occurs (occurrences_of response.fields) SMaxage ≡ false
-  pub has_a_lifetime : (lifetime_under policy response.status response.fields).explicit ≡ true
+  pub has_a_lifetime : (lifetime_of_held policy response).explicit ≡ true
   pub not_to_be_validated : policy.heeds_requests ≡ true → directive_occurs request NoCache ≡ false
   pub is_allowed : ((most : ℕ) × ResponseStatesStaleLimit response most)
       ⊎ (((most : ℕ) × RequestStatesStaleLimit request most) ⊎

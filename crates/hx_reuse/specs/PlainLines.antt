@@ -14,7 +14,7 @@ use Rattle.hx_directives.specs.declared.occurrences.Occurrence.{Occurrence}
 use Rattle.hx_directives.specs.declared.names.Directive.TheVariants as directive
 use Rattle.hx_age.specs.declared.lifetimes.Lifetime.{Lifetime}
 use Rattle.hx_age.specs.Lifetime.{lifetime_of}
-use Rattle.hx_age.specs.Age.{age_of, is_fresh_of, staleness_of}
+use Rattle.hx_age.specs.Age.{age_of, is_fresh_of, lifetime_until_expired, staleness_of}
 use Rattle.hx_hop.specs.declared.request_view.Asked.{Asked}
 use Rattle.hx_hop.specs.Bypass.{request_has_content, asks_for_range, has_precondition}
 use Rattle.hx_store.specs.Stored.{Stored}
@@ -84,11 +84,11 @@ plain_rule_condition Precondition lifetime age response request = false
 plain_rule_condition UriMiss lifetime age response request = false
 plain_rule_condition VaryMiss lifetime age response request = false
 
--- a rule on the chosen response, by the lifetime that it states
+-- a rule on the chosen response, by the lifetime that it states, unless a purge ended that
 abbrev pub plain_condition_on_chosen : ReuseRule → Stored → Asked → ℕ → Bool
 plain_condition_on_chosen which e asked now =
-    plain_rule_condition which (lifetime_of e.fields) (age_of e.times now) (occurrences_of e.fields)
-    (occurrences_of asked.fields)
+    plain_rule_condition which (lifetime_until_expired e.times (lifetime_of e.fields)) (age_of e.times now)
+    (occurrences_of e.fields) (occurrences_of asked.fields)
 
 abbrev pub plain_applies_to_chosen : ReuseRule → List Stored → Asked → ℕ → Bool
 plain_applies_to_chosen which held asked now =
@@ -136,8 +136,8 @@ plain_error_rule_condition on_error.TooStale lifetime age response request =
 
 unfoldable pub plain_permission_on_error : Stored → List Occurrence → ℕ → Result (Unit {0}) ErrorRule
 plain_permission_on_error response request now =
-    permission_of_rule (find (λ which. plain_error_rule_condition which (lifetime_of response.fields)
-    (age_of response.times now)
+    permission_of_rule (find (λ which. plain_error_rule_condition which
+    (lifetime_until_expired response.times (lifetime_of response.fields)) (age_of response.times now)
     (occurrences_of response.fields) request) error_rules)
 
 -- ---- the statements

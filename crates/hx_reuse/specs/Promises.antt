@@ -2,8 +2,9 @@
 -- line say: it follows from the rules.
 --
 -- ResponseForbidsStale: the response may not be sent stale    ResponseIsSent: it is the one that answers
+-- ResponseWasPurged: a purge expired it, at a moment or before
 -- Below them are the statements that the laws of `src/laws.rt` prove.
-use Rattle.std.specs.Prelude.{◌≡◌, ℕ, ◌<◌, ◌⊎◌, true, List, None}
+use Rattle.std.specs.Prelude.{◌≡◌, ℕ, ◌<◌, ◌≤◌, ◌⊎◌, true, List, None, Some}
 use Rattle.std.specs.List.{Contains}
 use Rattle.hx_fields.specs.FieldLines.{combined_of}
 use Rattle.hx_fields.specs.declared.field_line.Field.{Field}
@@ -20,9 +21,10 @@ use Rattle.hx_store.specs.Stored.{Stored}
 use Rattle.hx_policy.specs.declared.words.Policy.{Policy}
 use Rattle.hx_store.specs.Serials.{Distinct}
 use Rattle.hx_store.specs.Shelf.{serials}
-use Rattle.hx_reuse.specs.Lifetimes.{lifetime_under}
+use Rattle.hx_reuse.specs.Lifetimes.{lifetime_of_held, lifetime_under}
 use Rattle.hx_reuse.specs.Rules.{decision_of}
 use Rattle.hx_reuse.specs.ErrorRules.{error_rule_on}
+use Rattle.hx_reuse.specs.Reusable.{MayBeSentStale}
 use Rattle.hx_reuse.specs.declared.decision.Decision.TheVariants.{Hit}
 
 -- must-revalidate, proxy-revalidate or s-maxage (RFC 9111, sections 5.2.2.2, 5.2.2.8 and 5.2.2.10)
@@ -38,6 +40,10 @@ pub record ResponseIsSent (policy : Policy) (held : List Stored) (asked : Asked)
   pub names_one : Distinct (serials held)
   pub is_held : Contains held response
   pub is_the_hit : decision_of policy held asked now ≡ Hit response.serial
+
+-- a purge ended its lifetime, at this moment or before
+abbrev pub ResponseWasPurged : Stored → ℕ → Type 0
+ResponseWasPurged response now = (purge : ℕ) × (response.times.expired ≡ Some purge) × (purge ≤ now)
 
 -- ---- the statements
 
@@ -59,7 +65,7 @@ NoVariantOfAnotherRequestIsSent =
 abbrev pub NeverSentStaleWhereForbidden : Type 0
 NeverSentStaleWhereForbidden = (policy : Policy) (held : List Stored) (asked : Asked) (now : ℕ) (response : Stored) →
     ResponseIsSent policy held asked now response → ResponseForbidsStale response
-    → age_of response.times now < (lifetime_under policy response.status response.fields).seconds
+    → age_of response.times now < (lifetime_of_held policy response).seconds
 
 -- and where it states its lifetime no word of the operator's line lengthens that
 abbrev pub NeverOutlastsItsStatedLifetime : Type 0
@@ -78,3 +84,19 @@ abbrev pub NeverSentOnErrorWhereForbidden : Type 0
 NeverSentOnErrorWhereForbidden = (policy : Policy) (response : Stored) (request : List Occurrence) (now : ℕ) →
     error_rule_on policy response request now ≡ None
     → (directive_occurs (occurrences_of response.fields) NoCache ≡ true) ⊎ ResponseForbidsStale response → ⊥
+
+-- what a purge expired is sent from then on only where a stale one may be (RFC 9111, section 4.2.4)
+abbrev pub PurgedIsSentAsStaleAlone : Type 0
+PurgedIsSentAsStaleAlone = (policy : Policy) (held : List Stored) (asked : Asked) (now : ℕ) (response : Stored) →
+    ResponseIsSent policy held asked now response → ResponseWasPurged response now
+    → MayBeSentStale policy response asked now
+
+-- so never where it forbids that
+abbrev pub PurgedIsNeverSentWhereForbidden : Type 0
+PurgedIsNeverSentWhereForbidden = (policy : Policy) (held : List Stored) (asked : Asked) (now : ℕ) (response : Stored) →
+    ResponseIsSent policy held asked now response → ResponseWasPurged response now → ResponseForbidsStale response → ⊥
+
+-- and what no purge expired lasts as long as it would without purges
+abbrev pub OthersLastAsLong : Type 0
+OthersLastAsLong = (policy : Policy) (response : Stored) → response.times.expired ≡ None
+    → lifetime_of_held policy response ≡ lifetime_under policy response.status response.fields

@@ -18,7 +18,7 @@ use Rattle.hx_store.specs.Stored.{Stored}
 use Rattle.hx_policy.specs.declared.words.Policy.{Policy}
 use Rattle.hx_store.specs.Serials.{Distinct}
 use Rattle.hx_store.specs.Shelf.{serials}
-use Rattle.hx_reuse.specs.Lifetimes.{lifetime_under}
+use Rattle.hx_reuse.specs.Lifetimes.{lifetime_of_held}
 use Rattle.hx_reuse.specs.ChosenAndNamed.{ResponseIsChosen}
 use Rattle.hx_reuse.specs.Rules.{decision_of}
 use Rattle.hx_reuse.specs.declared.decision.Decision.TheVariants.{Hit}
@@ -41,12 +41,12 @@ ResponseIsWithinMaxAge response asked now =
 abbrev pub ResponseIsFreshForMinFresh : Policy → Stored → Asked → ℕ → Type 0
 ResponseIsFreshForMinFresh policy response asked now =
     (least : ℕ) → first_valid (occurrences_of asked.fields) MinFresh ≡ Some least
-    → age_of response.times now + least ≤ (lifetime_under policy response.status response.fields).seconds
+    → age_of response.times now + least ≤ (lifetime_of_held policy response).seconds
 
 -- it is fresh, and the request takes it so (RFC 9111, sections 4.2 and 5.2.1)
 -- own: its no-cache, max-age and min-fresh count where the operator's line heeds them
 pub record MayBeSentFresh (policy : Policy) (response : Stored) (asked : Asked) (now : ℕ) : Type 0 where
-  pub is_fresh : age_of response.times now < (lifetime_under policy response.status response.fields).seconds
+  pub is_fresh : age_of response.times now < (lifetime_of_held policy response).seconds
   pub not_to_be_validated : policy.heeds_requests ≡ true → directive_occurs (occurrences_of asked.fields) NoCache
       ≡ false
   pub within_max_age : policy.heeds_requests ≡ true → ResponseIsWithinMaxAge response asked now
@@ -62,15 +62,15 @@ MaxStaleTakesStaleness (UpTo limit) n = n ≤ limit
 -- 5.2.2.8 and 5.2.2.10)
 -- own: its lifetime is stated, or the operator gives it one; none is guessed
 pub record MayBeSentStale (policy : Policy) (response : Stored) (asked : Asked) (now : ℕ) : Type 0 where
-  pub is_stale : (lifetime_under policy response.status response.fields).seconds ≤ age_of response.times now
+  pub is_stale : (lifetime_of_held policy response).seconds ≤ age_of response.times now
   pub no_must_revalidate : directive_occurs (occurrences_of response.fields) MustRevalidate ≡ false
   pub no_proxy_revalidate : directive_occurs (occurrences_of response.fields) ProxyRevalidate ≡ false
   pub no_s_maxage : directive_occurs (occurrences_of response.fields) SMaxage ≡ false
-  pub has_a_lifetime : (lifetime_under policy response.status response.fields).explicit ≡ true
+  pub has_a_lifetime : (lifetime_of_held policy response).explicit ≡ true
   pub not_to_be_validated : policy.heeds_requests ≡ true → directive_occurs (occurrences_of asked.fields) NoCache
       ≡ false
   pub within_max_stale : MaxStaleTakesStaleness (max_stale (occurrences_of asked.fields))
-      (age_of response.times now - (lifetime_under policy response.status response.fields).seconds)
+      (age_of response.times now - (lifetime_of_held policy response).seconds)
   pub within_max_age : policy.heeds_requests ≡ true → ResponseIsWithinMaxAge response asked now
   pub no_min_fresh : policy.heeds_requests ≡ true → first_valid (occurrences_of asked.fields) MinFresh ≡ None
 

@@ -19,7 +19,7 @@ use Rattle.hx_hop.specs.declared.request_view.Asked.{Asked}
 use Rattle.hx_hop.specs.Bypass.{request_has_content, asks_for_range, has_precondition}
 use Rattle.hx_store.specs.Stored.{Stored}
 use Rattle.hx_policy.specs.declared.words.Policy.{Policy}
-use Rattle.hx_reuse.specs.Lifetimes.{lifetime_under}
+use Rattle.hx_reuse.specs.Lifetimes.{lifetime_of_held}
 use Rattle.hx_reuse.specs.Chosen.{entries_of_key, chosen_of}
 use Rattle.hx_reuse.specs.declared.rule.ReuseRule.{ReuseRule}
 use Rattle.hx_reuse.specs.declared.rule.ReuseRule.TheVariants.{Operator, Method, Content, Range, Precondition, UriMiss}
@@ -48,7 +48,7 @@ situation_at policy lifetime age response request =
 
 abbrev pub situation_of_request : Policy → Stored → Asked → ℕ → Situation
 situation_of_request policy e asked now =
-    situation_at policy (lifetime_under policy e.status e.fields) (age_of e.times now) (occurrences_of e.fields)
+    situation_at policy (lifetime_of_held policy e) (age_of e.times now) (occurrences_of e.fields)
     (occurrences_of asked.fields)
 
 abbrev pub is_fresh_situation : Situation → Bool

@@ -17,7 +17,7 @@ use Rattle.hx_age.specs.Age.{age_of, staleness_of}
 use Rattle.hx_store.specs.Stored.{Stored}
 use Rattle.hx_policy.specs.declared.words.Policy.{Policy}
 use Rattle.hx_policy.specs.Policies.{plain}
-use Rattle.hx_reuse.specs.Lifetimes.{lifetime_under}
+use Rattle.hx_reuse.specs.Lifetimes.{lifetime_of_held}
 use Rattle.hx_reuse.specs.Rules.{Situation, is_some_and, is_fresh_situation, rule_condition, is_past_max_stale}
 use Rattle.hx_reuse.specs.ErrorRules.{seconds_stated_once, situation_of_stored}
 use Rattle.hx_reuse.specs.OnError.{staleness_at}
@@ -71,12 +71,12 @@ pub record OperatorGivesLimit (policy : Policy) (response : Stored) (most : ℕ)
 pub record ResponseMayBeSentWhileRevalidating (policy : Policy) (response : Stored) (request : List Occurrence)
     (now : ℕ) : Type 0 where
   pub line_lets : policy.sends_while_revalidating ≡ true
-  pub is_stale : (lifetime_under policy response.status response.fields).seconds ≤ age_of response.times now
+  pub is_stale : (lifetime_of_held policy response).seconds ≤ age_of response.times now
   pub no_no_cache : directive_occurs (occurrences_of response.fields) directive.NoCache ≡ false
   pub no_must_revalidate : directive_occurs (occurrences_of response.fields) directive.MustRevalidate ≡ false
   pub no_proxy_revalidate : directive_occurs (occurrences_of response.fields) directive.ProxyRevalidate ≡ false
   pub no_s_maxage : directive_occurs (occurrences_of response.fields) directive.SMaxage ≡ false
-  pub has_a_lifetime : (lifetime_under policy response.status response.fields).explicit ≡ true
+  pub has_a_lifetime : (lifetime_of_held policy response).explicit ≡ true
   pub not_to_be_validated : policy.heeds_requests ≡ true → directive_occurs request directive.NoCache ≡ false
   pub within_max_age : policy.heeds_requests ≡ true → (most : ℕ) → first_valid request directive.MaxAge ≡ Some most
       → age_of response.times now ≤ most

@@ -34,6 +34,7 @@ ghost use Rattle.hx_reuse.specs.Promises.{NoVariantOfAnotherRequestIsSent, NoOth
 ghost use Rattle.hx_reuse.specs.Promises.{NeverSentStaleWhereForbidden};
 ghost use Rattle.hx_reuse.specs.Promises.{NeverOutlastsItsStatedLifetime, NeverSentUnvalidatedWithNoCache};
 ghost use Rattle.hx_reuse.specs.Promises.{NeverSentOnErrorWhereForbidden};
+ghost use Rattle.hx_reuse.specs.Promises.{OthersLastAsLong, PurgedIsNeverSentWhereForbidden, PurgedIsSentAsStaleAlone};
 ghost use Rattle.hx_reuse.specs.WhileRevalidating.{WhatMayBeIsSentWhileRevalidating};
 ghost use Rattle.hx_reuse.specs.WhileRevalidating.{NothingElseIsSentWhileRevalidating};
 ghost use Rattle.hx_reuse.specs.WhileRevalidating.{NeverSentWhileRevalidatingWhereForbidden};
@@ -48,10 +49,11 @@ pub use crate::worked_cases::{
     a_variant_comes_before_the_default, age_equal_to_lifetime_is_stale, bypass_rules_in_order,
     least_error_rule, least_reuse_rule, line_without_cache, minute_after_an_error, minute_at_most,
     minute_from_the_line, moment_goes_backwards, no_lifetime_is_only_validated,
-    of_two_alike_the_later_comes_first, reload_is_ignored, request_max_age_and_only_if_cached,
-    seconds_of_errors, stale_if_error_of_request, stale_if_error_of_response,
-    stale_while_revalidate_of_line, stale_while_revalidate_of_response, vary_values_are_compared,
-    which_ranges_are_answered, which_ranges_are_filled, whose_condition_stays,
+    of_two_alike_the_later_comes_first, purged_is_stale, reload_is_ignored,
+    request_max_age_and_only_if_cached, seconds_of_errors, stale_if_error_of_request,
+    stale_if_error_of_response, stale_while_revalidate_of_line, stale_while_revalidate_of_response,
+    vary_values_are_compared, which_ranges_are_answered, which_ranges_are_filled,
+    whose_condition_stays,
 };
 use hx_vary::laws::kept_is_enough;
 
@@ -131,6 +133,14 @@ pub fn what_has_to_be_validated_is()
     ensures no_cache { NeverSentUnvalidatedWithNoCache }
     ensures error { NeverSentOnErrorWhereForbidden }
     ensures while_revalidating { NeverSentWhileRevalidatingWhereForbidden }
+{}
+
+/// A response that a purge expired is sent from that moment on only where a stale one may be, so never where it forbids
+/// to be sent stale. What no purge expired lasts as long as it would without purges.
+pub fn what_a_purge_expired_is_stale()
+    ensures stale { PurgedIsSentAsStaleAlone }
+    ensures forbidden { PurgedIsNeverSentWhereForbidden }
+    ensures others { OthersLastAsLong }
 {}
 
 /// With a line that has no words nothing is asked but what the standards' conditions say, and a

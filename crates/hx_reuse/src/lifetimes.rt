@@ -1,12 +1,13 @@
 //! How long a response is fresh under what a line of the operator's table says of caching.
 ghost use Rattle.std.specs.Prelude.{◌≡◌};
 ghost use Rattle.hx_directives.specs.Occurrences.{occurrences_of};
-ghost use Rattle.hx_reuse.specs.Lifetimes.{lifetime_at_most, lifetime_under};
+ghost use Rattle.hx_reuse.specs.Lifetimes.{lifetime_at_most, lifetime_of_held, lifetime_under};
 
-use hx_age::Lifetime;
+use hx_age::{Lifetime, lifetime_until_expired};
 use hx_directives::{Directives, MOST_SECONDS};
 use hx_fields::Fields;
 use hx_policy::Policy;
+use hx_store::Entry;
 
 /// A stated lifetime, as far as the operator lets it count.
 fn lifetime_at_most(most: Option<u32>, lifetime: Lifetime) -> Lifetime
@@ -43,4 +44,12 @@ pub fn lifetime_under(
         },
         None => lifetime,
     }
+}
+
+/// The lifetime of a held response under a policy. One that a purge expired is over as of then.
+pub fn lifetime_of_held(policy: Policy, entry: &Entry) -> Lifetime
+    ensures { result ≡ lifetime_of_held policy entry.now }
+{
+    let lifetime = lifetime_under(policy, entry.status, &entry.fields, &entry.directives);
+    lifetime_until_expired(&entry.times, lifetime)
 }

@@ -9,7 +9,7 @@ ghost use Rattle.hx_reuse.specs.Rules.{is_some_and, situation_at};
 ghost use Rattle.hx_reuse.specs.ErrorRules.{seconds_stated_once, error_rules, error_rule_condition, error_rule_on};
 ghost use Rattle.hx_reuse.specs.ErrorRules.{permission_on_error};
 
-use crate::lifetimes::lifetime_under;
+use crate::lifetimes::lifetime_of_held;
 use crate::reuse_rules::{asks_to_validate, may_not_be_sent_stale};
 use crate::rule::ErrorRule;
 use hx_age::{Lifetime, current_age, staleness};
@@ -118,7 +118,7 @@ fn rule_on(
 ) -> Option<ErrorRule>
     ensures { result ≡ error_rule_on policy entry.now asked_directives.now now }
 {
-    let lifetime = lifetime_under(policy, entry.status, &entry.fields, &entry.directives);
+    let lifetime = lifetime_of_held(policy, entry);
     let age = current_age(&entry.times, now);
     rule_on_error(policy, lifetime, age, &entry.directives, asked_directives)
 }

@@ -11,7 +11,7 @@ ghost use Rattle.hx_reuse.specs.Rules.{accepts_stale, situation_at};
 ghost use Rattle.hx_reuse.specs.Rules.{situation_of_request};
 ghost use Rattle.hx_reuse.specs.Rules.{request_rules, rules_on_chosen};
 
-use crate::lifetimes::lifetime_under;
+use crate::lifetimes::lifetime_of_held;
 use crate::rule::ReuseRule;
 use hx_age::{Lifetime, current_age, is_fresh, staleness};
 use hx_directives::{Directive, Directives, MaxStale};
@@ -192,7 +192,7 @@ pub(crate) fn rule_on(
     ensures { result ≡ find
         (λ r. rule_condition r (situation_of_request policy entry.now asked.now now)) rules_on_chosen }
 {
-    let lifetime = lifetime_under(policy, entry.status, &entry.fields, &entry.directives);
+    let lifetime = lifetime_of_held(policy, entry);
     let age = current_age(&entry.times, now);
     rule_against(policy, lifetime, age, &entry.directives, asked_directives)
 }

@@ -11,7 +11,7 @@ ghost use Rattle.hx_reuse.specs.ErrorRules.{seconds_stated_once};
 ghost use Rattle.hx_reuse.specs.WhileRevalidating.{rules_while_revalidating, may_be_sent_in};
 ghost use Rattle.hx_reuse.specs.WhileRevalidating.{may_be_sent_while_revalidating};
 
-use crate::lifetimes::lifetime_under;
+use crate::lifetimes::lifetime_of_held;
 use crate::reuse_rules::{
     asks_for_freshness, asks_to_validate, is_above_max_age, is_past_limit, may_not_be_sent_stale,
 };
@@ -120,7 +120,7 @@ pub fn may_serve_while_revalidating(
 ) -> bool
     ensures { result ≡ may_be_sent_while_revalidating policy entry.now asked_directives.now now }
 {
-    let lifetime = lifetime_under(policy, entry.status, &entry.fields, &entry.directives);
+    let lifetime = lifetime_of_held(policy, entry);
     let age = current_age(&entry.times, now);
     may_be_sent_in(policy, lifetime, age, &entry.directives, asked_directives)
 }

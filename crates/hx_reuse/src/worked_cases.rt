@@ -14,7 +14,7 @@ ghost use Rattle.hx_reuse.specs.ErrorRules.{permission_on_error, error_rule_of};
 ghost use Rattle.hx_reuse.specs.WhileRevalidating.{may_be_sent_while_revalidating};
 ghost use Rattle.hx_reuse.specs.Cases.{revalidating_policy, stale_while_revalidate_policy};
 ghost use Rattle.hx_reuse.specs.Cases.{cache_control_fields, accept_language, get_a_with, get_b, get_a_with_content};
-ghost use Rattle.hx_reuse.specs.Cases.{stored_at, stored_with_cache_control, one_held_with_cache_control};
+ghost use Rattle.hx_reuse.specs.Cases.{purged_at, stored_at, stored_with_cache_control, one_held_with_cache_control};
 ghost use Rattle.hx_reuse.specs.Cases.{one_held_in_german, one_held_with_etag, request_directives, lifetime_policy};
 ghost use Rattle.hx_reuse.specs.Cases.{error_lifetime_policy, lifetime_most_policy};
 ghost use Rattle.hx_reuse.specs.Cases.{stale_if_error_policy, ignore_directives_policy, stored_with_status};
@@ -333,6 +333,41 @@ pub fn minute_after_an_error()
     ensures with_a_lifetime { permission_on_error (record (stale_if_error_policy 60) { lifetime = Some 10 })
         (stored_with_status 200 []) [] 70
         ≡ Ok tt }
+{}
+
+/// Of ten minutes, received at 0 and expired by a purge at 100: a moment before, at that moment, and to requests that
+/// take what is stale by 5. Stale by 30 and by 31 with what allows 30 after an error or while it is validated; and with
+/// what forbids to send it stale.
+pub fn purged_is_stale()
+    ensures before { decision_of (plain true) (purged_at 100 (stored_with_cache_control (codes "max-age=600")) ∷ [])
+        (get_a_with []) 99 ≡ Decision.Hit 1 }
+    ensures at_once { decision_of (plain true) (purged_at 100 (stored_with_cache_control (codes "max-age=600")) ∷ [])
+        (get_a_with []) 100 ≡ Decision.Forward ReuseRule.NoMaxStale (Some 1) }
+    ensures by_5 { decision_of (plain true) (purged_at 100 (stored_with_cache_control (codes "max-age=600")) ∷ [])
+        (get_a_with (cache_control_fields (codes "max-stale=5"))) 105 ≡ Decision.Hit 1 }
+    ensures by_6 { decision_of (plain true) (purged_at 100 (stored_with_cache_control (codes "max-age=600")) ∷ [])
+        (get_a_with (cache_control_fields (codes "max-stale=5"))) 106
+        ≡ Decision.Forward ReuseRule.PastMaxStale (Some 1) }
+    ensures must_revalidate { decision_of (plain true)
+        (purged_at 100 (stored_with_cache_control (codes "max-age=600, must-revalidate")) ∷ [])
+        (get_a_with (cache_control_fields (codes "max-stale"))) 100
+        ≡ Decision.Forward ReuseRule.MustRevalidate (Some 1) }
+    ensures given { decision_of (lifetime_policy 600) (purged_at 100 (stored_with_cache_control (codes "")) ∷ [])
+        (get_a_with []) 100 ≡ Decision.Forward ReuseRule.NoMaxStale (Some 1) }
+    ensures error_by_30 { permission_on_error (plain true)
+        (purged_at 100 (stored_with_cache_control (codes "max-age=600, stale-if-error=30"))) [] 130 ≡ Ok tt }
+    ensures error_by_31 { permission_on_error (plain true)
+        (purged_at 100 (stored_with_cache_control (codes "max-age=600, stale-if-error=30"))) [] 131
+        ≡ Err ErrorRule.TooStale }
+    ensures error_of_purged_stale { permission_on_error (plain true)
+        (purged_at 700 (stored_with_cache_control (codes "max-age=600, stale-if-error=30"))) [] 700
+        ≡ Err ErrorRule.TooStale }
+    ensures meanwhile_before { may_be_sent_while_revalidating revalidating_policy
+        (purged_at 100 (stored_with_cache_control (codes "max-age=600, stale-while-revalidate=30"))) [] 99 ≡ false }
+    ensures meanwhile_by_30 { may_be_sent_while_revalidating revalidating_policy
+        (purged_at 100 (stored_with_cache_control (codes "max-age=600, stale-while-revalidate=30"))) [] 130 ≡ true }
+    ensures meanwhile_by_31 { may_be_sent_while_revalidating revalidating_policy
+        (purged_at 100 (stored_with_cache_control (codes "max-age=600, stale-while-revalidate=30"))) [] 131 ≡ false }
 {}
 
 /// Of ten minutes and thirty seconds more, the example of RFC 5861, section 3, while a GET is at the origin for it:

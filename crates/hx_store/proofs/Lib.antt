@@ -13,3 +13,5 @@ mod Indices
 mod MarkLists
 mod IndexedLists
 mod MatchLists
+pub mod ExpiredEntries
+mod ExpiredMarks

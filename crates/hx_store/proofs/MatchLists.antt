@@ -47,7 +47,7 @@ filter-insert p s (x ∷ xs) h = elim (leb_tells s x) [
       )
 ]
 
-filter-agree : (p q : ℕ → Bool) (xs : List ℕ) → ((s : ℕ) → serial_is_in s xs ≡ true → p s ≡ q s) → filter p xs ≡ filter q xs
+pub filter-agree : (p q : ℕ → Bool) (xs : List ℕ) → ((s : ℕ) → serial_is_in s xs ≡ true → p s ≡ q s) → filter p xs ≡ filter q xs
 filter-agree p q [] h = refl
 filter-agree p q (x ∷ xs) h =
     ap (λ b. cond b (x ∷ filter p xs) (filter p xs)) (h x (ap (λ b. b || serial_is_in x xs) (eq-eqb x x refl)))

@@ -18,7 +18,7 @@ entry_of_path serial path =
       status = 200;
       fields = [];
       content = [];
-      times = record { date = 0; age_value = 0; request_time = 0; response_time = 0 };
+      times = record { date = 0; age_value = 0; request_time = 0; response_time = 0; expired = None };
     }
 
 abbrev pub first : Stored
@@ -33,6 +33,13 @@ third = entry_of_path 3 (codes "/c")
 -- of the same key as the third
 abbrev pub fourth : Stored
 fourth = entry_of_path 4 (codes "/c")
+
+-- the first and the second, expired at a moment
+abbrev pub first_expired_at : ℕ → Stored
+first_expired_at now = record first { times = record first.times { expired = Some now } }
+
+abbrev pub second_expired_at : ℕ → Stored
+second_expired_at now = record second { times = record second.times { expired = Some now } }
 
 -- the first with five bytes of content, and with a line of eleven bytes
 abbrev pub first_with_content : Stored

@@ -4,11 +4,13 @@
 -- entry_matches: an entry has a request's nominated values          matching_serials: those with a key that have them
 -- serials_where: those of the entries that pass a test
 -- without_serials, without_key: the entries that stay                  with_promoted: one comes first
-use Rattle.std.specs.Prelude.{ℕ, Bool, false, not, ◌==◌, Option, None, Some, List, [], ◌∷◌, if◌then◌else◌}
+-- with_expired: some are expired
+use Rattle.std.specs.Prelude.{ℕ, Bool, false, not, ◌==◌, Option, None, Some, List, [], ◌∷◌, if◌then◌else◌, map}
 use Rattle.std.specs.List.{filter}
 use Rattle.hx_fields.specs.declared.field_line.Field.{Field}
 use Rattle.hx_target.specs.declared.keys.Key.{Key}
 use Rattle.hx_target.specs.Keys.{same_key}
+use Rattle.hx_age.specs.Age.{expired_times}
 use Rattle.hx_vary.specs.Vary.{vary_matches}
 use Rattle.hx_store.specs.Stored.{Stored}
 use Rattle.hx_store.specs.Serials.{serial_is_in, insert_ascending}
@@ -61,6 +63,15 @@ with_in_front (Some e) es = e ∷ es
 -- the held entry of this serial comes first
 abbrev pub with_promoted : ℕ → List Stored → List Stored
 with_promoted s es = with_in_front (find_entry s es) (without_serials (s ∷ []) es)
+
+-- the entry once a purge ended its lifetime at a moment, if it has one of these serials
+abbrev pub expired_entry : List ℕ → ℕ → Stored → Stored
+expired_entry ended now e =
+    if serial_is_in e.serial ended then record e { times = expired_times e.times now } else e
+
+-- the entries, of which those with these serials are expired at a moment: each stays where it is
+abbrev pub with_expired : List ℕ → ℕ → List Stored → List Stored
+with_expired ended now es = map (expired_entry ended now) es
 
 -- a bounded store: the most entries that it holds, those that it holds, the latest stored or used
 -- first, and for how many entries, those among them, memory is known to stand ready

@@ -4,7 +4,9 @@
 
 ghost use Rattle.std.specs.Prelude.{◌≡◌, ◌==◌, IfOk};
 ghost use Rattle.hx_target.specs.Keys.{same_key};
+ghost use Rattle.hx_age.specs.Age.{expired_times};
 ghost use Rattle.hx_store.specs.Serials.{serial_is_in};
+ghost use Rattle.hx_store.specs.Shelf.{expired_entry};
 
 use hx_age::Times;
 use hx_directives::Directives;
@@ -83,6 +85,22 @@ impl Entry {
             content: self.content.copy(alloc)?,
             times: self.times,
         })
+    }
+
+    /// Expires it at a moment, in seconds since 1970.
+    pub(crate) fn expire(&mut self, now: u64)
+        ensures { self.new ≡ record self.old { times = expired_times self.old.times now } }
+    {
+        self.times = self.times.expired_at(now);
+    }
+
+    /// The same where it has one of these serials.
+    pub(crate) fn expire_among(&mut self, serials: &[u64], now: u64)
+        ensures { self.new ≡ expired_entry serials.now now self.old }
+    {
+        if self.is_among(serials) {
+            self.expire(now);
+        }
     }
 
     pub(crate) fn has_serial(&self, serial: u64) -> bool

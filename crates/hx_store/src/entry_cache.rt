@@ -8,7 +8,7 @@ ghost use Rattle.std.specs.List.{filter, list_all};
 ghost use Rattle.std.specs.Map.{keys_of};
 ghost use Rattle.hx_store.specs.Index.{entry_matches_values, EachMarkIsOfItsEntry};
 ghost use Rattle.hx_store.specs.Shelf.{holds_serial, find_entry, entry_matches, without_serials, with_promoted};
-ghost use Rattle.hx_store.specs.Shelf.{serials, serials_where};
+ghost use Rattle.hx_store.specs.Shelf.{serials, serials_where, with_expired};
 
 use crate::entries::Entry;
 use crate::key_marks::KeyMarks;
@@ -254,6 +254,15 @@ impl EntryCache {
         ensures entries { self.new ≡ with_promoted serial self.old }
     {
         self.entries.promote(&serial)
+    }
+
+    /// Expires the entry of this serial at a moment, if it is here. It stays where it is. No memory is taken.
+    pub(crate) fn expire(&mut self, serial: u64, now: u64)
+        ensures { self.new ≡ with_expired (serial ∷ []) now self.old }
+    {
+        if let Some(entry) = self.entries.peek_mut(&serial) {
+            entry.expire(now);
+        }
     }
 
     /// Takes the entry of this serial out. No memory is taken.

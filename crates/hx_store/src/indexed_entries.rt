@@ -8,8 +8,7 @@ ghost use Rattle.std.specs.Option.{ForSome};
 ghost use Rattle.hx_target.specs.Keys.{same_key};
 ghost use Rattle.hx_store.specs.Serials.{Distinct};
 ghost use Rattle.hx_store.specs.Shelf.{holds_serial, find_entry, without_serials, serials, serials_of};
-ghost use Rattle.hx_store.specs.Shelf.{matching_serials, serials_where, with_promoted};
-ghost use Rattle.hx_store.specs.Shelf.{without_key};
+ghost use Rattle.hx_store.specs.Shelf.{matching_serials, serials_where, with_expired, with_promoted, without_key};
 ghost use Rattle.hx_store.specs.Index.{entries_but_others};
 ghost use Rattle.hx_store.specs.Weights.{after_shedding, shed_entry, total_weight};
 
@@ -211,6 +210,22 @@ impl IndexedEntries {
         ensures entries { self.new ≡ with_promoted serial self.old }
     {
         self.entries.promote(serial)
+    }
+
+    /// Expires the entry of this serial at a moment, if it is here. It stays where it is. No memory is taken.
+    fn expire_one(&mut self, serial: u64, now: u64)
+        ensures { self.new ≡ with_expired (serial ∷ []) now self.old }
+    {
+        self.entries.expire(serial, now);
+    }
+
+    /// Expires the entries with these serials at a moment, each at the cost of a look-up. No memory is taken.
+    pub(crate) fn expire(&mut self, serials: &[u64], now: u64)
+        ensures { self.new ≡ with_expired serials.now now self.old }
+    {
+        for serial in serials {
+            self.expire_one(*serial, now);
+        }
     }
 
     /// Takes the entry of this serial out. No memory is taken.

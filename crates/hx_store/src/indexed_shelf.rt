@@ -137,6 +137,10 @@ impl Shelf for IndexedShelf {
         before - self.held.len()
     }
 
+    fn expire(&mut self, serials: &[u64], now: u64) {
+        self.held.expire(serials, now);
+    }
+
     fn shed(&mut self, most: u64) -> Option<Entry> {
         self.held.shed(most)
     }

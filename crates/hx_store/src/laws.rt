@@ -1,18 +1,22 @@
 //! What the definitions say of worked calls, computed, and of every list of entries.
 
 ghost use Rattle.std.specs.Prelude.{◌≡◌, ◌<◌, ◌∷◌, ◌++◌, [], ℕ, List, true, false, codes, length, map, take, slice_get};
-ghost use Rattle.std.specs.Prelude.{is_some, IfSome, Some, None, Decides};
+ghost use Rattle.std.specs.Prelude.{is_some, option_map, IfSome, Some, None, Decides};
+ghost use Rattle.hx_fields.specs.declared.field_line.Field.{Field};
+ghost use Rattle.hx_target.specs.declared.keys.Key.{Key};
+ghost use Rattle.hx_age.specs.Age.{expired_times};
 ghost use Rattle.hx_store.specs.Serials.{serial_is_in};
 ghost use Rattle.hx_store.specs.Stored.{Stored};
 ghost use Rattle.hx_store.specs.Recency.{StoreChange, Held, IsTouchedLater, IsStoredAndNotRemoved, bounded_of, held_of};
 ghost use Rattle.hx_store.specs.Recency.{count_before, recent_after_change};
 ghost use Rattle.hx_store.specs.Recency.{recent_of};
 ghost use Rattle.hx_store.specs.Shelf.{find_entry, holds_serial, with_promoted, serials, serials_of, without_serials};
-ghost use Rattle.hx_store.specs.Shelf.{without_key};
+ghost use Rattle.hx_store.specs.Shelf.{expired_entry, matching_serials, with_expired, without_key};
+ghost use Rattle.hx_store.specs.Weights.{total_weight};
 ghost use Rattle.hx_store.specs.Found.{FindsSerialsOfTheKey, FoundSerialsAscend, FindsMatchingSerials};
 ghost use Rattle.hx_store.specs.Found.{MatchingSerialsAscend, FindsSerialsOfWhatPasses, SerialsOfWhatPassesAscend};
 ghost use Rattle.hx_store.specs.Found.{WithoutThemTheOthersStay, TestOfTheKeyFindsThoseOfTheKey};
-ghost use Rattle.hx_store.specs.Cases.{key_of_path, first, second, third, fourth};
+ghost use Rattle.hx_store.specs.Cases.{key_of_path, first, first_expired_at, second, second_expired_at, third, fourth};
 
 pub use crate::weight_laws::{
     an_entry_weighs_what_it_keeps, entries_are_cut_to_their_bounds, entries_are_shed,
@@ -32,6 +36,36 @@ pub fn shelf_calls()
     ensures absent { find_entry 9 (third ∷ fourth ∷ []) ≡ None }
     ensures found { serials_of (key_of_path (codes "/c")) (fourth ∷ second ∷ third ∷ []) ≡ 3 ∷ 4 ∷ [] }
     ensures invalidated { without_key (key_of_path (codes "/c")) (fourth ∷ second ∷ third ∷ []) ≡ second ∷ [] }
+{}
+
+/// Of the entries 2 and 1 the last is expired at 9, and later both at 12: what was expired stays as it is.
+pub fn entries_are_expired()
+    ensures one { with_expired (1 ∷ []) 9 (second ∷ first ∷ []) ≡ second ∷ first_expired_at 9 ∷ [] }
+    ensures both { with_expired (1 ∷ 2 ∷ []) 12 (second ∷ first_expired_at 9 ∷ [])
+        ≡ second_expired_at 12 ∷ first_expired_at 9 ∷ [] }
+    ensures no_other { with_expired (3 ∷ []) 12 (second ∷ first ∷ []) ≡ second ∷ first ∷ [] }
+{}
+
+/// Expiring changes no entry but those with the serials, and of those nothing but their times. All stay where they are,
+/// weigh what they weighed, and are found as before.
+pub fn expiring_changes_only_times()
+    ensures times { (ended : List ℕ) (now : ℕ) (e : Stored) → serial_is_in e.serial ended ≡ true
+        → (expired_entry ended now e).times ≡ expired_times e.times now }
+    ensures others { (ended : List ℕ) (now : ℕ) (e : Stored) → serial_is_in e.serial ended ≡ false
+        → expired_entry ended now e ≡ e }
+    ensures nothing_else { (ended : List ℕ) (now : ℕ) (e : Stored)
+        → record (expired_entry ended now e) { times = e.times } ≡ e }
+    ensures serials { (ended : List ℕ) (now : ℕ) (entries : List Stored)
+        → serials (with_expired ended now entries) ≡ serials entries }
+    ensures weight { (ended : List ℕ) (now : ℕ) (entries : List Stored)
+        → total_weight (with_expired ended now entries) ≡ total_weight entries }
+    ensures found { (ended : List ℕ) (now serial : ℕ) (entries : List Stored)
+        → find_entry serial (with_expired ended now entries)
+        ≡ option_map (expired_entry ended now) (find_entry serial entries) }
+    ensures of_key { (ended : List ℕ) (now : ℕ) (key : Key) (entries : List Stored)
+        → serials_of key (with_expired ended now entries) ≡ serials_of key entries }
+    ensures matching { (ended : List ℕ) (now : ℕ) (key : Key) (request : List Field) (entries : List Stored)
+        → matching_serials key request (with_expired ended now entries) ≡ matching_serials key request entries }
 {}
 
 /// The serials are those of all entries, in their order. A serial is held exactly where an entry is found by it, and

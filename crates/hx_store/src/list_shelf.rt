@@ -5,7 +5,7 @@ ghost use Rattle.std.specs.Prelude.{MatchOption, IsOk, OnOk, OnErr, IfOk, IfErr,
 ghost use Rattle.std.specs.List.{list_any};
 ghost use Rattle.hx_target.specs.Keys.{same_key};
 ghost use Rattle.hx_store.specs.SerialPlaces.{SerialIsAbsent, IsPlaceOfSerial};
-ghost use Rattle.hx_store.specs.Shelf.{holds_serial, without_serials, without_key};
+ghost use Rattle.hx_store.specs.Shelf.{holds_serial, with_expired, without_serials, without_key};
 
 use crate::entries::Entry;
 use crate::serial_list::Serials;
@@ -108,6 +108,16 @@ fn evict_last(entries: &mut Vec<Entry>, capacity: usize) -> Option<Entry>
         entries.pop()
     } else {
         None
+    }
+}
+
+/// Those with these serials are expired where they stand.
+fn expire_each_among(entries: &mut Vec<Entry>, serials: &[u64], now: u64)
+    ensures items { entries.new.items ≡ with_expired serials.now now entries.old.items }
+    ensures room { vec_capacity entries.new ≡ vec_capacity entries.old }
+{
+    for entry in entries.iter_mut() {
+        entry.expire_among(serials, now);
     }
 }
 
@@ -242,6 +252,10 @@ impl Shelf for ListShelf {
         let before = self.entries.len();
         self.entries.retain(|e| !e.has_key(key));
         before - self.entries.len()
+    }
+
+    fn expire(&mut self, serials: &[u64], now: u64) {
+        expire_each_among(&mut self.entries, serials, now);
     }
 
     fn shed(&mut self, most: u64) -> Option<Entry> {

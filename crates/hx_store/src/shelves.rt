@@ -10,7 +10,7 @@ ghost use Rattle.hx_target.specs.Keys.{same_key};
 ghost use Rattle.hx_store.specs.Serials.{Distinct};
 ghost use Rattle.hx_store.specs.Shelf.{holds_serial, find_entry, without_serials, without_key, serials, serials_of};
 ghost use Rattle.hx_store.specs.Shelf.{matching_serials, serials_where};
-ghost use Rattle.hx_store.specs.Shelf.{with_promoted};
+ghost use Rattle.hx_store.specs.Shelf.{with_expired, with_promoted};
 ghost use Rattle.hx_store.specs.Weights.{after_shedding, shed_entry, total_weight};
 
 use crate::entries::Entry;
@@ -134,6 +134,13 @@ pub trait Shelf {
     fn invalidate(&mut self, key: &Key) -> usize
         ensures value { result ≡ length (entries self.old) - length (entries self.new) }
         ensures entries { entries self.new ≡ without_key key.now (entries self.old) }
+        ensures limit { limit self.new ≡ limit self.old }
+        ensures room { room self.old ≤ room self.new };
+
+    /// Expires the entries with these serials at a moment, in seconds since 1970. None is used by this, and one that is
+    /// expired already stays as it is. No memory is taken.
+    fn expire(&mut self, serials: &[u64], now: u64)
+        ensures entries { entries self.new ≡ with_expired serials.now now (entries self.old) }
         ensures limit { limit self.new ≡ limit self.old }
         ensures room { room self.old ≤ room self.new };
 

@@ -1,5 +1,5 @@
 -- The messages and stored responses that the laws of worked cases speak of.
-use Rattle.std.specs.Prelude.{ℕ, zero, suc, Bool, false, List, [], ◌∷◌, codes, None}
+use Rattle.std.specs.Prelude.{ℕ, zero, suc, Bool, false, List, [], ◌∷◌, codes, None, Some}
 use Rattle.hx_fields.specs.declared.field_line.Field.{Field}
 use Rattle.hx_fields.specs.Examples.{line}
 use Rattle.hx_hop.specs.declared.response_view.Answered.{Answered}
@@ -25,7 +25,7 @@ stored_with fields =
       status = 200;
       fields = fields;
       content = codes "hi";
-      times = record { date = 100; age_value = 0; request_time = 100; response_time = 101 };
+      times = record { date = 100; age_value = 0; request_time = 100; response_time = 101; expired = None };
     }
 
 -- a 304 of these lines
@@ -56,6 +56,12 @@ first_stored_fields =
 abbrev pub first_304_fields : List Field
 first_304_fields =
     line (codes "Date") (codes "Thu, 01 Jan 1970 00:02:40 GMT") ∷ line (codes "Cache-Control") (codes "max-age=60") ∷ etag_line (codes "\"v1\"") ∷ []
+
+-- that response once a purge expired it at 130
+abbrev pub first_purged : Stored
+first_purged = record (stored_with first_stored_fields) {
+  times = record (stored_with first_stored_fields).times { expired = Some 130 };
+}
 
 -- of two lines each of a name, and a name that only one has
 abbrev pub old_lines : List Field

@@ -2,8 +2,11 @@
 //! law, and its body is empty.
 ghost use Rattle.std.specs.Prelude.{◌≡◌, [], ◌∷◌, codes, true, false, Some, None};
 ghost use Rattle.hx_fields.specs.Examples.{line};
+ghost use Rattle.hx_age.specs.Age.{lifetime_until_expired, times_of};
+ghost use Rattle.hx_age.specs.Lifetime.{explicit_lifetime, lifetime_of};
 ghost use Rattle.hx_validate.specs.Answering.{freshened_fields, freshened_of};
 ghost use Rattle.hx_validate.specs.Cases.{answered_with, asked_with, first_304_fields, first_stored_fields};
+ghost use Rattle.hx_validate.specs.Cases.{first_purged};
 ghost use Rattle.hx_validate.specs.Cases.{is_answered_by_304, many_lines};
 ghost use Rattle.hx_validate.specs.Cases.{last_modified_line, new_lines, if_none_match_line, old_lines};
 ghost use Rattle.hx_validate.specs.Cases.{if_modified_since_line, stored_with};
@@ -125,14 +128,25 @@ pub fn lines_are_replaced_by_name()
 pub fn client_304_after_validation()
     ensures answered { is_answered_by_304 first_stored_fields first_304_fields ≡ true }
     ensures freshened { (freshened_of [] (stored_with first_stored_fields) (answered_with first_304_fields)
-        (asked_with []) (record { date = 160; age_value = 0; request_time = 160; response_time = 160 })).fields
-        ≡ first_304_fields }
+        (asked_with []) (times_of first_304_fields 160 160)).fields ≡ first_304_fields }
     ensures wanted { gets_304 (asked_with (line (codes "If-None-Match") (codes "\"v1\"") ∷ [])) (stored_with first_304_fields) ≡ true }
     ensures sent { fields_of_304 first_304_fields ≡ first_304_fields }
     ensures no_modified { fields_of_304 (last_modified_line (codes "x") ∷ etag_line (codes "e")
         ∷ line (codes "Content-Type") (codes "text/plain") ∷ line (codes "vary") (codes "a") ∷ [])
         ≡ etag_line (codes "e") ∷ line (codes "vary") (codes "a") ∷ [] }
     ensures modified { fields_of_304 (last_modified_line (codes "x") ∷ []) ≡ last_modified_line (codes "x") ∷ [] }
+{}
+
+/// A purge at 130 left half a minute of a minute. The 304 at 160 ends that: its moments are without a purge.
+#[tactic(auto, unfolding(httpdate::proofs::OnLiterals::httpdate_on_literals, crate::specs::Answering::freshened_of))]
+pub fn purged_is_fresh_after_validation()
+    ensures purged { lifetime_until_expired first_purged.times (lifetime_of first_purged.fields)
+        ≡ explicit_lifetime 30 }
+    ensures moments { (freshened_of [] first_purged (answered_with first_304_fields) (asked_with [])
+        (times_of first_304_fields 160 160)).times
+        ≡ record { date = 160; age_value = 0; request_time = 160; response_time = 160; expired = None } }
+    ensures fresh { lifetime_until_expired (times_of first_304_fields 160 160) (lifetime_of first_304_fields)
+        ≡ explicit_lifetime 60 }
 {}
 
 /// If-None-Match decides alone where it stands: by a star, or by weak equality with a member.

@@ -1,9 +1,10 @@
-use Rattle.std.proofs.Common.{◌≡◌, ℕ, List, refl, ◌∙◌, ap}
+use Rattle.std.proofs.Common.{◌≡◌, ℕ, List, refl, sym, ◌∙◌, ap}
 use Rattle.std.specs.Prelude.{find}
 use Rattle.hx_directives.specs.declared.occurrences.Occurrence.{Occurrence}
 use Rattle.hx_age.specs.declared.lifetimes.Lifetime.{Lifetime}
 use Rattle.hx_store.specs.Stored.{Stored}
 use Rattle.hx_policy.specs.declared.words.Policy.{Policy}
+use Rattle.hx_reuse.specs.Lifetimes.{lifetime_of_held}
 use Rattle.hx_reuse.specs.Rules.{situation_at}
 use Rattle.hx_reuse.specs.ErrorRules.{error_rule_condition, error_rules, error_rule_on}
 use Rattle.hx_reuse.proofs.on_error.rule_on.Goals as goal
@@ -17,5 +18,5 @@ pub returns : goal.returns
 unfolding error_rule_on
 returns c =
     c.rule_on_error.ensures
-    ∙ same_least c.args.policy _ _ _ _ _ _ c.args.asked_directives.now c.lifetime_under-lifetime.ensures c.current_age-age.ensures c.entry.invariant
+    ∙ same_least c.args.policy _ _ _ _ _ _ c.args.asked_directives.now (c.lifetime_of_held-lifetime.ensures ∙ ap (lifetime_of_held c.args.policy) (sym c.entry.view_is)) c.current_age-age.ensures c.entry.invariant
     ∙ ap (λ (e : Stored). error_rule_on c.args.policy e c.args.asked_directives.now c.args.now) c.entry.view_is

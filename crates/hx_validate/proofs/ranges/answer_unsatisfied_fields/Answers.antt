@@ -1,0 +1,20 @@
+use Rattle.std.proofs.Common.{rules, ◌≡◌, ◌++◌, ◌∷◌, [], drop, codes, filter, sym, ap, ◌∙◌}
+use Rattle.std.proofs.Math.ListN.{drop_of_length-le}
+use Rattle.std.proofs.lemmas.List.{append-nil}
+use Rattle.hx_fields.specs.Examples.{line}
+use Rattle.hx_validate.specs.Ranges.{unsatisfied_text, is_carried_by_416_to_asker}
+use Rattle.hx_validate.proofs.ranges.answer_unsatisfied_fields.Goals as goal
+
+pub returns : goal.returns
+returns c =
+    let fields = c.args.fields.now in
+    let total = c.args.total in
+    let items = c.as_slice-line-items.result.now in
+    let told : c.as_slice-2.result.now ≡ unsatisfied_text total = search rules in
+    let same : items ≡ fields = search rules in
+    let ended : drop c.loop-line.line-index items ≡ [] = drop_of_length-le items c.loop-line-test.false in
+    let taken : c.loop-line.carried ≡ filter is_carried_by_416_to_asker fields =
+    sym (append-nil c.loop-line.carried) ∙ ap (λ ls. c.loop-line.carried ++ filter is_carried_by_416_to_asker ls) (sym ended) ∙ c.loop-line.invariant
+    ∙ ap (filter is_carried_by_416_to_asker) same in
+    c.in_ok-push-2.ensures.ok ∙ ap (λ t. c.loop-line.carried ++ line (codes "Content-Range") t ∷ []) told
+    ∙ ap (λ ls. ls ++ line (codes "Content-Range") (unsatisfied_text total) ∷ []) taken
