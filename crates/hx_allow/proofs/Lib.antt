@@ -17,6 +17,7 @@ pub mod Loops
 pub mod WordsRead
 pub mod PathTails
 pub mod Purging
+mod PurgeOrders
 mod ScopesTold
 mod TagsNamed
 pub mod LeastUnknown

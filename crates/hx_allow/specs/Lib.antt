@@ -9,6 +9,7 @@ pub mod LineWords
 pub mod TableLines
 pub mod Matching
 pub mod PathTails
+pub mod PurgeModes
 pub mod Purges
 pub mod Scopes
 pub mod Tags

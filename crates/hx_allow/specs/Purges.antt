@@ -13,6 +13,7 @@ use Rattle.hx_fields.specs.FieldLines.{has_field, is_named, values_of}
 use Rattle.hx_fields.specs.Names.{is_same_name, cut_at}
 use Rattle.hx_target.specs.declared.keys.Key.{Key}
 use Rattle.hx_target.specs.Keys.{same_key}
+use Rattle.hx_allow.specs.PurgeModes.{purge_mode_of}
 use Rattle.hx_allow.specs.Tags.{purge_tag_of}
 use Rattle.hx_allow.specs.declared.purges.PurgeScope.{PurgeScope}
 use Rattle.hx_allow.specs.declared.purges.PurgeScope.TheVariants.{Target, Prefix, Host, All}
@@ -57,13 +58,14 @@ abbrev pub is_unknown_purge_field : Field → Bool
 is_unknown_purge_field field =
     begins_with_purge field.name
     && not (is_named (codes "Purge-Key") field || is_named (codes "Purge-Scope") field
-    || is_named (codes "Purge-Tag") field)
+    || is_named (codes "Purge-Tag") field || is_named (codes "Purge-Mode") field)
 
 -- own: a field whose name begins with `Purge-` is an order; one that isn't known, or names what isn't, could ask for
 -- less than all of the scope, so nothing goes ("A purge has a key")
 abbrev pub asks_for_more : List Field → Bool
 asks_for_more fields =
     list_any is_unknown_purge_field fields || is_none (purge_scope_of fields) || is_none (purge_tag_of fields)
+    || is_none (purge_mode_of fields)
 
 abbrev pub asks_to_purge : List ℕ → List Field → Bool
 asks_to_purge key fields = shows_key key fields && not (asks_for_more fields)

@@ -1,7 +1,12 @@
--- What is within the scope of a purge, in words.
-use Rattle.std.specs.Prelude.{◌≡◌, ◌⊎◌, ℕ, Bool, true, false, List, ◌∷◌, ◌++◌}
+-- What is within the scope of a purge, and which orders of a purge are known, in words.
+use Rattle.std.specs.Prelude.{◌≡◌, ◌⊎◌, ℕ, Bool, true, false, List, [], ◌∷◌, ◌++◌, codes, is_some}
+use Rattle.std.specs.List.{list_any}
+use Rattle.hx_fields.specs.declared.field_line.Field.{Field}
+use Rattle.hx_fields.specs.FieldLines.{values_of}
 use Rattle.hx_target.specs.declared.keys.Key.{Key}
-use Rattle.hx_allow.specs.Purges.{ends_with_slash, path_before_query}
+use Rattle.hx_allow.specs.PurgeModes.{ModeIsKnown}
+use Rattle.hx_allow.specs.Purges.{ends_with_slash, path_before_query, is_unknown_purge_field, purge_scope_of}
+use Rattle.hx_allow.specs.Tags.{purge_tag_of}
 
 -- A path is at or below another: it is that path, or goes on behind it with a slash; behind one that ends with a slash,
 -- with anything.
@@ -20,3 +25,10 @@ pub record IsThatTarget (asked key : Key) : Type 0 where
   pub same_host : key.host ≡ asked.host
   pub same_port : key.port ≡ asked.port
   pub same_path : key.path_query ≡ asked.path_query
+
+-- Each order of a request is known here: no line names another, and scope, tag and mode are known, each by its lines.
+pub record EachOrderIsKnown (fields : List Field) : Type 0 where
+  pub no_other : list_any is_unknown_purge_field fields ≡ false
+  pub scope : is_some (purge_scope_of fields) ≡ true
+  pub tag : is_some (purge_tag_of fields) ≡ true
+  pub mode : ModeIsKnown (values_of fields (codes "Purge-Mode"))

@@ -64,7 +64,7 @@ pub fn worked_requests_with_keys()
         (codes "host") ∷ []) ≡ false }
     ensures a_tag_and_an_unknown_scope { asks_for_more (line (codes "Purge-Tag") (codes "news")
         ∷ line (codes "Purge-Scope") (codes "site") ∷ []) ≡ true }
-    ensures a_mode { asks_for_more (line (codes "PURGE-MODE") (codes "stale") ∷ []) ≡ true }
+    ensures an_unknown_field { asks_for_more (line (codes "PURGE-AGE") (codes "stale") ∷ []) ≡ true }
     ensures any { asks_for_more (line (codes "Host") (codes "h") ∷ line (codes "Purge-") [] ∷ []) ≡ true }
     ensures a_longer_key { asks_for_more (line (codes "Purge-Keys") purge_key ∷ []) ≡ true }
     ensures its_begin { asks_for_more (line (codes "Purge") (codes "x") ∷ []) ≡ false }
@@ -137,7 +137,19 @@ pub fn worked_requests_that_purge()
         (line (codes "Purge-Key") purge_key ∷ line (codes "Purge-Tag") (codes "news")
         ∷ line (codes "Purge-Tag") (codes "sport") ∷ []) ≡ DeniedBy 1 }
     ensures with_a_mode { verdict_of_request purging_table (codes "PURGE") (target_for_path (codes "x") (codes "/a"))
-        (line (codes "Purge-Key") purge_key ∷ line (codes "Purge-Mode") (codes "stale") ∷ []) ≡ DeniedBy 1 }
+        (line (codes "Purge-Key") purge_key ∷ line (codes "Purge-Mode") (codes "stale") ∷ []) ≡ Purged 1 }
+    ensures with_another_mode { verdict_of_request purging_table (codes "PURGE")
+        (target_for_path (codes "x") (codes "/a")) (line (codes "Purge-Key") purge_key
+        ∷ line (codes "Purge-Mode") (codes "soft") ∷ []) ≡ DeniedBy 1 }
+    ensures with_two_modes { verdict_of_request purging_table (codes "PURGE") (target_for_path (codes "x") (codes "/a"))
+        (line (codes "Purge-Key") purge_key ∷ line (codes "Purge-Mode") (codes "stale")
+        ∷ line (codes "purge-mode") (codes "stale") ∷ []) ≡ DeniedBy 1 }
+    ensures with_a_mode_and_no_key { verdict_of_request purging_table (codes "PURGE")
+        (target_for_path (codes "x") (codes "/a")) (line (codes "Purge-Mode") (codes "stale") ∷ []) ≡ DeniedBy 1 }
+    ensures with_a_mode_a_scope_and_a_tag { verdict_of_request purging_table (codes "PURGE")
+        (target_for_path (codes "x") (codes "/a")) (line (codes "Purge-Key") purge_key
+        ∷ line (codes "Purge-Scope") (codes "host") ∷ line (codes "Purge-Tag") (codes "news")
+        ∷ line (codes "Purge-Mode") (codes "stale") ∷ []) ≡ Purged 1 }
     ensures another_path { verdict_of_request purging_table (codes "PURGE") (target_for_path (codes "x") (codes "/b"))
         (line (codes "Purge-Key") purge_key ∷ []) ≡ NoLine }
     ensures with_the_key_of_another_line { verdict_of_request purging_table (codes "PURGE")

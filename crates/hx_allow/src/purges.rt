@@ -7,6 +7,7 @@ ghost use Rattle.hx_allow.specs.Purges.{scope_of_word, scope_without_word, purge
 ghost use Rattle.hx_allow.specs.Purges.{path_before_query, ends_with_slash, begins_with, goes_on_with_slash};
 ghost use Rattle.hx_allow.specs.Purges.{is_at_or_below, is_within_scope};
 
+use crate::purge_modes::purge_mode_of;
 use crate::tags::asks_for_a_tag_or_none;
 use hx_fields::{Field, Fields, cut_at, is_same_name};
 use hx_target::Key;
@@ -133,7 +134,8 @@ fn is_unknown_purge_field(field: &Field) -> bool
     begins_with_purge(name)
         && !(is_same_name(name, b"Purge-Key")
             || is_same_name(name, b"Purge-Scope")
-            || is_same_name(name, b"Purge-Tag"))
+            || is_same_name(name, b"Purge-Tag")
+            || is_same_name(name, b"Purge-Mode"))
 }
 
 fn has_unknown_purge_field(fields: &[Field]) -> bool
@@ -149,6 +151,7 @@ fn asks_for_more(fields: &Fields) -> bool
     has_unknown_purge_field(fields.as_slice())
         || purge_scope_of(fields).is_none()
         || !asks_for_a_tag_or_none(fields)
+        || purge_mode_of(fields).is_none()
 }
 
 /// Whether a request with these lines purges over a line with this key.

@@ -1,0 +1,69 @@
+//! What a purge does with what it takes, and by which of its lines: each function's contract is a law or worked cases,
+//! and its body is empty.
+ghost use Rattle.std.specs.Prelude.{Decides, ◌≡◌, ◌∷◌, [], List, true, false, not, None, Some, codes, is_some};
+ghost use Rattle.hx_fields.specs.declared.field_line.Field.{Field};
+ghost use Rattle.hx_fields.specs.Examples.{line};
+ghost use Rattle.hx_fields.specs.FieldLines.{has_field, values_of};
+ghost use Rattle.hx_allow.specs.PurgeModes.{purge_mode_of, mode_to_purge, ModeIsKnown};
+ghost use Rattle.hx_allow.specs.Purges.{asks_for_more, purge_scope_of};
+ghost use Rattle.hx_allow.specs.Scopes.{EachOrderIsKnown};
+ghost use Rattle.hx_allow.specs.Tags.{purge_tag_of};
+ghost use Rattle.hx_allow.specs.declared.purge_modes.PurgeMode.TheVariants.{Remove, Stale};
+
+/// A purge leaves what it takes, as stale, exactly where its one line of Purge-Mode says `stale`. Without such a line
+/// it removes it, and with any other lines it asks for what isn't known.
+pub fn a_purge_leaves_what_is_stale_where_it_says_so()
+    ensures stale { (fields : List Field) → values_of fields (codes "Purge-Mode") ≡ codes "stale" ∷ []
+        → mode_to_purge fields ≡ Stale }
+    ensures nothing_else { (fields : List Field) → mode_to_purge fields ≡ Stale
+        → values_of fields (codes "Purge-Mode") ≡ codes "stale" ∷ [] }
+    ensures without { (fields : List Field) → values_of fields (codes "Purge-Mode") ≡ []
+        → purge_mode_of fields ≡ Some Remove }
+    ensures known { (fields : List Field) → Decides (is_some (purge_mode_of fields))
+        (ModeIsKnown (values_of fields (codes "Purge-Mode"))) }
+{}
+
+/// A request asks for nothing that isn't known exactly where each of its orders is known. Scope, tag and mode are read
+/// each of its own lines; the tag's widen the scope where none is named.
+pub fn each_order_of_a_purge_decides_by_itself()
+    ensures known { (fields : List Field) → Decides (not (asks_for_more fields)) (EachOrderIsKnown fields) }
+    ensures mode { (fields : List Field) (other : List Field)
+        → values_of fields (codes "Purge-Mode") ≡ values_of other (codes "Purge-Mode")
+        → purge_mode_of fields ≡ purge_mode_of other }
+    ensures tag { (fields : List Field) (other : List Field)
+        → values_of fields (codes "Purge-Tag") ≡ values_of other (codes "Purge-Tag")
+        → purge_tag_of fields ≡ purge_tag_of other }
+    ensures scope { (fields : List Field) (other : List Field)
+        → values_of fields (codes "Purge-Scope") ≡ values_of other (codes "Purge-Scope")
+        → has_field fields (codes "Purge-Tag") ≡ has_field other (codes "Purge-Tag")
+        → purge_scope_of fields ≡ purge_scope_of other }
+{}
+
+/// The words of Purge-Mode: one alone is known, byte for byte.
+pub fn worked_modes_of_purges()
+    ensures by_default { mode_to_purge [] ≡ Remove }
+    ensures of_other_lines { mode_to_purge (line (codes "Purge-Tag") (codes "stale")
+        ∷ line (codes "Purge-Scope") (codes "all") ∷ []) ≡ Remove }
+    ensures stale { mode_to_purge (line (codes "Purge-Mode") (codes "stale") ∷ []) ≡ Stale }
+    ensures any_case_of_the_name { mode_to_purge (line (codes "purge-mode") (codes "stale") ∷ []) ≡ Stale }
+    ensures beside_a_scope_and_a_tag { mode_to_purge (line (codes "Purge-Scope") (codes "host")
+        ∷ line (codes "Purge-Tag") (codes "news") ∷ line (codes "Purge-Mode") (codes "stale") ∷ []) ≡ Stale }
+    ensures asks_for_no_more { asks_for_more (line (codes "Purge-Mode") (codes "stale") ∷ []) ≡ false }
+    ensures beside_an_unknown_scope { asks_for_more (line (codes "Purge-Scope") (codes "site")
+        ∷ line (codes "Purge-Mode") (codes "stale") ∷ []) ≡ true }
+    ensures beside_two_tags { asks_for_more (line (codes "Purge-Tag") (codes "a") ∷ line (codes "Purge-Tag") (codes "b")
+        ∷ line (codes "Purge-Mode") (codes "stale") ∷ []) ≡ true }
+    ensures in_capitals { purge_mode_of (line (codes "Purge-Mode") (codes "Stale") ∷ []) ≡ None }
+    ensures in_quotes { purge_mode_of (line (codes "Purge-Mode") (codes "\"stale\"") ∷ []) ≡ None }
+    ensures another { purge_mode_of (line (codes "Purge-Mode") (codes "remove") ∷ []) ≡ None }
+    ensures longer { purge_mode_of (line (codes "Purge-Mode") (codes "stale-if-error") ∷ []) ≡ None }
+    ensures its_beginning { purge_mode_of (line (codes "Purge-Mode") (codes "stal") ∷ []) ≡ None }
+    ensures empty { purge_mode_of (line (codes "Purge-Mode") [] ∷ []) ≡ None }
+    ensures twice { purge_mode_of (line (codes "Purge-Mode") (codes "stale") ∷ line (codes "Purge-Mode")
+        (codes "stale") ∷ []) ≡ None }
+    ensures listed { purge_mode_of (line (codes "Purge-Mode") (codes "stale, stale") ∷ []) ≡ None }
+    ensures another_asks_for_more { asks_for_more (line (codes "Purge-Mode") (codes "soft") ∷ []) ≡ true }
+    ensures two_ask_for_more { asks_for_more (line (codes "Purge-Mode") (codes "stale") ∷ line (codes "PURGE-MODE")
+        (codes "stale") ∷ []) ≡ true }
+    ensures a_longer_name { asks_for_more (line (codes "Purge-Modes") (codes "stale") ∷ []) ≡ true }
+{}
