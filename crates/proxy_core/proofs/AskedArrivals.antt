@@ -25,7 +25,7 @@ use Rattle.proxy_core.specs.State.{released_exchange, overtaken_exchange}
 use Rattle.proxy_core.specs.Arrivals.{HaveDistinctArrivalsAndIds, SelectedArrivalsPass, WaitingArrivalsPass, IsExactIndexOfSelected, map_exchanges}
 use Rattle.proxy_core.specs.ByKey.{is_get_at_origin_for_key, is_get_not_at_origin_for_key, is_other_for_key, ArrivalIsMovedToOrigin, is_in_key_index, GetArrivalsPass, ArrivalIsPutWhere, ArrivalIsTakenOutWhere, AreSameKeyIndex, IsNotInKeyIndex, ArrivalIsEntered, ArrivalHasLeft, AreSameArrivals, IsInNeitherIndex, TellsAllByKey}
 use Rattle.proxy_core.proofs.Indexed.{lookup-removed, not_indexed, indexes-entered, indexes-left, indexes-written, indexes-on_all}
-use Rattle.proxy_core.specs.LeadingOn.{may_lead_on, leading_on, next_leader, exchanges_without}
+use Rattle.proxy_core.specs.LeadingOn.{may_lead_on, leading_on, first_to_lead_on, exchanges_without}
 use Rattle.proxy_core.proofs.FirstOf.{first_of, FirstIsLeft, none_passes, none_left, not_there, not_passing, it_is_first}
 use Rattle.proxy_core.proofs.Waiters.{none_has, overtake-stage}
 
@@ -278,17 +278,17 @@ it_leads policy awaited asked n x ns es s there active h =
 abbrev pub leads_on_for : Table → ℕ → Exchange → Bool
 leads_on_for table id x = not (x.id == id) && (waits_for id x.stage && may_lead_on table x)
 
-pub next_leader_is : (table : Table) (id : ℕ) (xs : List Exchange) → next_leader table id (exchanges_without id xs) ≡ option_map leading_on (first_of (leads_on_for table id) xs)
-next_leader_is table id [] = refl
-next_leader_is table id (x ∷ xs) = by_id (next_leader_is table id xs) (x.id == id)
+pub first_to_lead_on_is : (table : Table) (id : ℕ) (xs : List Exchange) → first_to_lead_on table id (exchanges_without id xs) ≡ option_map leading_on (first_of (leads_on_for table id) xs)
+first_to_lead_on_is table id [] = refl
+first_to_lead_on_is table id (x ∷ xs) = by_id (first_to_lead_on_is table id xs) (x.id == id)
   where
-    by_test : next_leader table id (exchanges_without id xs) ≡ option_map leading_on (first_of (leads_on_for table id) xs) → (b : Bool) →
-        cond b (Some (leading_on x)) (next_leader table id (exchanges_without id xs)) ≡ option_map leading_on (cond b (Some x) (first_of (leads_on_for table id) xs))
+    by_test : first_to_lead_on table id (exchanges_without id xs) ≡ option_map leading_on (first_of (leads_on_for table id) xs) → (b : Bool) →
+        cond b (Some (leading_on x)) (first_to_lead_on table id (exchanges_without id xs)) ≡ option_map leading_on (cond b (Some x) (first_of (leads_on_for table id) xs))
     by_test rest true = refl
     by_test rest false = rest
 
-    by_id : next_leader table id (exchanges_without id xs) ≡ option_map leading_on (first_of (leads_on_for table id) xs) → (b : Bool) →
-        next_leader table id (cond (not b) (x ∷ exchanges_without id xs) (exchanges_without id xs)) ≡ option_map leading_on (cond (not b && (waits_for id x.stage && may_lead_on table x)) (Some x) (first_of (leads_on_for table id) xs))
+    by_id : first_to_lead_on table id (exchanges_without id xs) ≡ option_map leading_on (first_of (leads_on_for table id) xs) → (b : Bool) →
+        first_to_lead_on table id (cond (not b) (x ∷ exchanges_without id xs) (exchanges_without id xs)) ≡ option_map leading_on (cond (not b && (waits_for id x.stage && may_lead_on table x)) (Some x) (first_of (leads_on_for table id) xs))
     by_id rest true = rest
     by_id rest false = by_test rest (waits_for id x.stage && may_lead_on table x)
 
@@ -304,6 +304,6 @@ waiters_lead_on table id p (e ∷ es) h = (λ w. h.0 (middle (not (e.1.id == id)
 pub next_leaders : (table : Table) (id : ℕ) (ns : List ℕ) (es : Numbered) → IsStrictlySortedBy nat_cmp ns → WaitingArrivalsPass id (λ k. list_any (λ n. at k n) ns) es → FirstIsLeft (leads_on_for table id) ns es
 next_leaders table id ns es s h = (waiters_lead_on table id (λ k. list_any (λ n. at k n) ns) es h, s)
 
-pub none_waits : (table : Table) (id : ℕ) (es : Numbered) → WaitingArrivalsPass id (λ k. false) es → next_leader table id (exchanges_without id (values_of es)) ≡ None
+pub none_waits : (table : Table) (id : ℕ) (es : Numbered) → WaitingArrivalsPass id (λ k. false) es → first_to_lead_on table id (exchanges_without id (values_of es)) ≡ None
 none_waits table id es h =
-    next_leader_is table id (values_of es) ∙ ap (option_map leading_on) (none_passes (leads_on_for table id) es (waiters_lead_on table id (λ k. false) es h))
+    first_to_lead_on_is table id (values_of es) ∙ ap (option_map leading_on) (none_passes (leads_on_for table id) es (waiters_lead_on table id (λ k. false) es h))

@@ -11,6 +11,9 @@ use Rattle.hx_policy.specs.Policies.{given_lifetime}
 use Rattle.hx_directives.specs.Occurrences.{occurrences_of}
 use Rattle.hx_directives.specs.Answers.{directive_occurs, seconds_of_directive}
 use Rattle.hx_directives.specs.declared.names.Directive.TheVariants as directive
+use Rattle.hx_age.specs.declared.lifetimes.Lifetime.{Lifetime}
+use Rattle.hx_age.specs.declared.moments.Times.{Times}
+use Rattle.hx_age.specs.Age.{lifetime_until}
 use Rattle.hx_age.specs.Lifetime.{lifetime_of, explicit_lifetime, stated_seconds, until_expires}
 use Rattle.hx_hop.specs.declared.request_view.Asked.{Asked}
 use Rattle.hx_store.specs.Stored.{Stored}
@@ -18,7 +21,7 @@ use Rattle.hx_store.specs.Serials.{Distinct}
 use Rattle.hx_store.specs.Shelf.{serials, find_entry}
 use Rattle.std.specs.Option.{option_and_then}
 use Rattle.hx_reuse.proofs.Choice.{found_by_serial, chosen_is_held}
-use Rattle.hx_reuse.specs.Lifetimes.{lifetime_under, lifetime_at_most, lifetime_with_given}
+use Rattle.hx_reuse.specs.Lifetimes.{lifetime_of_held, lifetime_under, lifetime_at_most, lifetime_with_given}
 use Rattle.hx_reuse.specs.Chosen.{chosen_of}
 use Rattle.hx_reuse.specs.RuleNames.{reuse_rule_number}
 use Rattle.hx_reuse.specs.Rules.{Situation, rule_condition, reuse_rule_applies, rule_applies_to_chosen, situation_of_request, is_fresh_situation, is_some_and, names_chosen, decision_of}
@@ -66,6 +69,15 @@ lifetime_is_stated policy status fields h = by_test (lifetime_of fields).explici
         (if b then lifetime_at_most policy.lifetime_most (lifetime_of fields) else lifetime_with_given (given_lifetime policy status) (lifetime_of fields)).explicit ≡ true
     by_test true k h = at_most policy.lifetime_most k
     by_test false k h = by_given (given_lifetime policy status) k h
+
+-- a purge ends a lifetime, which stays one that is stated or given
+same_explicit : (purge : Option ℕ) (times : Times) (lifetime : Lifetime) → (lifetime_until purge times lifetime).explicit ≡ lifetime.explicit
+same_explicit None times lifetime = refl
+same_explicit (Some moment) times lifetime = refl
+
+held_is_stated : (policy : Policy) (e : Stored) → nat_lt 0 (lifetime_under policy e.status e.fields).seconds ≡ true → (lifetime_of_held policy e).explicit ≡ true
+held_is_stated policy e h =
+    same_explicit e.times.expired e.times (lifetime_under policy e.status e.fields) ∙ lifetime_is_stated policy e.status e.fields h
 
 -- ---- rules
 
@@ -246,7 +258,7 @@ module _ (policy : Policy) (es : List Stored) (asked : Asked) (now : ℕ) where
       let chosen = l.2.1 in
       let over = l.2.2 in
       let seconds = is_below 0 (lifetime_under policy e.status e.fields).seconds over.had_lifetime in
-      let expired = five_are_left e chosen over.is_over over.not_asked_each_time (by_word l.0 takes) (lifetime_is_stated policy e.status e.fields seconds) rule l.1 least.it_applies in
+      let expired = five_are_left e chosen over.is_over over.not_asked_each_time (by_word l.0 takes) (held_is_stated policy e seconds) rule l.1 least.it_applies in
       ap (λ b. cond b (Some Missing) (cond (policy.waits_for_stale && has_expired rule) (awaited_of_chosen policy (chosen_of es asked)) None)) (named_is_no_miss rule l.1)
       ∙ (ap (λ b. cond (b && has_expired rule) (awaited_of_chosen policy (chosen_of es asked)) None) l.0
       ∙ (ap (λ b. cond b (awaited_of_chosen policy (chosen_of es asked)) None) expired

@@ -137,8 +137,8 @@ find-without i id xs = find-but i id xs
 
 -- the client of another went away
 pub find-abandoned : (table : Table) (i id : ℕ) (xs : List Exchange) →
-    find_exchange id (exchanges_after_abandon table i xs) ≡ cond (eqb i id) None (option_map (led_on_exchange table (next_leader table i (exchanges_without i xs)) i) (find_exchange id xs))
-find-abandoned table i id xs = by_next (next_leader table i (exchanges_without i xs))
+    find_exchange id (exchanges_after_abandon table i xs) ≡ cond (eqb i id) None (option_map (led_on_exchange table (next_leader table i xs) i) (find_exchange id xs))
+find-abandoned table i id xs = by_next (next_leader table i xs)
   where
     by_next : (next : Option NextLeader) → find_exchange id (map (led_on_exchange table next i) (but i xs)) ≡ cond (eqb i id) None (option_map (led_on_exchange table next i) (find_exchange id xs))
     by_next next =

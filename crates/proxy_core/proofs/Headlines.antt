@@ -58,6 +58,7 @@ use Rattle.proxy_core.proofs.OpenLaws.{has_its_request}
 use Rattle.proxy_core.proofs.SendLaws.{forwards_nothing_else, reaches_where_allowed, refuses_where_not_allowed, purges_its_scope, reusable_hit, sends_what_may_be_sent, sends_nothing_else}
 use Rattle.proxy_core.proofs.SentResponses.{sends_what_is_held}
 use Rattle.proxy_core.proofs.Purged.{purges_where_said}
+use Rattle.proxy_core.proofs.Expiring.{expires_just_that}
 use Rattle.proxy_core.proofs.StoredAnswers.{stores_where_it_may, stores_nowhere_else, stores_the_next, removes_just_that}
 use Rattle.proxy_core.proofs.Tracing.{denied_leave_no_trace}
 use Rattle.proxy_core.proofs.TwiceForward.{twice_forward_one_reply}
@@ -429,7 +430,7 @@ module _ (table : Table) (start : StoreAtStart) (first : ℕ) where
         sends_that_response = each (SentResponseIsTheStoredOne table start) (λ item past g s h. sends_what_is_held table start first s item past g h) trace g;
         names_the_first_rule = each (OtherAnswerNamesTheFirstRule table start first) (λ item past g. names_first_rules table start first item past g) trace g;
         stores_where_it_may = each (AnswerIsStoredExactlyWhereItMayBe table start first) stores trace g;
-        removes_what_goes = each (StoredResponsesAreRemovedExactlyWhereTheyMustBe table start) (λ item past g. (removes_just_that table start first item past g, purges_where_said table start first item past g)) trace g;
+        removes_what_goes = each (StoredResponsesAreRemovedExactlyWhereTheyMustBe table start) (λ item past g. (removes_just_that table start first item past g, purges_where_said table start first item past g, expires_just_that table start first item past g)) trace g;
         closes_as_asked = each ConnectionClosesAsAsked closes trace g;
         nothing_invalidated_is_sent = nothing_invalidated_is_sent table start first trace plain;
         nothing_invalidated_since = nothing_invalidated_since table start first trace plain;

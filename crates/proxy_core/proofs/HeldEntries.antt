@@ -1,5 +1,6 @@
 -- Lists of held responses, against what a function gives of each serial.
 use Rattle.std.proofs.Common.{◌≡◌, ℕ, Bool, true, false, not, cond, ◌&&◌, ◌||◌, eqb, Option, Some, List, [], ◌∷◌, ◌++◌, refl, sym, ◌∙◌, ap, subst, inl, inr}
+use Rattle.std.specs.Prelude.{map, option_map}
 use Rattle.std.specs.List.{filter, filter_map, cons_option, list_any}
 use Rattle.std.proofs.lemmas.Bool.{cases_Bool, eqb-true, eq-eqb, or_parts, false_from_ne_true, false≢true}
 use Rattle.std.proofs.lemmas.Option.{same_Some}
@@ -94,6 +95,12 @@ EachIs-same look other es k h = subst (λ f. EachIs f es) (λ i. λ s. k' s i) h
   where
     k' : (s : ℕ) → look s ≡ other s
     k' s = sym (k s)
+
+-- each under its serial is changed by a function that leaves the serial
+pub EachIs-map : (f : Stored → Stored) → ((e : Stored) → (f e).serial ≡ e.serial) → (look : ℕ → Option Stored) (es : List Stored) → EachIs look es → EachIs (λ s. option_map f (look s)) (map f es)
+unfolding EachIs
+EachIs-map f same look [] h = tt
+EachIs-map f same look (e ∷ es) h = (ap (λ s. option_map f (look s)) (same e) ∙ ap (option_map f) h.0, EachIs-map f same look es h.1)
 
 pub EachIs-find : (look : ℕ → Option Stored) (s : ℕ) (es : List Stored) (e : Stored) → find_entry s es ≡ Some e → EachIs look es → look s ≡ Some e
 unfolding EachIs

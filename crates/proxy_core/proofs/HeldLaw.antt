@@ -24,13 +24,14 @@ use Rattle.proxy_core.specs.declared.event.Event.TheVariants.{Arrive, Answer, Fa
 use Rattle.proxy_core.specs.declared.core_fault.CoreFault.{CoreFault}
 use Rattle.proxy_core.specs.Validating.{stored_response_is_answered, freshened_by_304}
 use Rattle.proxy_core.specs.Outcomes.{find_exchange, exchange_id_of_event, outcome_of_event, step_fault}
-use Rattle.proxy_core.specs.State.{State, state_after, open_exchanges_after, entries_after, NoSerialIsHeldFrom, serial_stored_by_outcome, serial_used_by_outcome, serials_removed_by_outcome, next_serial_after, serial_after_this, stored_response_by_answer, stored_response_as_used, entries_after_storing, entries_after_use, entries_without_serials, bounds_of, cut_where_touched}
+use Rattle.proxy_core.specs.State.{State, state_after, open_exchanges_after, entries_after, NoSerialIsHeldFrom, serial_stored_by_outcome, serial_used_by_outcome, serials_removed_by_outcome, next_serial_after, serial_after_this, stored_response_by_answer, stored_response_as_used, entries_after_storing, entries_after_use, entries_without_serials, bounds_of, cut_where_touched, serials_expired_by_outcome, entries_after_expiring}
 use Rattle.proxy_core.specs.Starts.{StoreAtStart, weight_if_any}
 use Rattle.proxy_core.specs.Traces.{Item, initial_state, state_after_trace, IsGood, ItemIsAccepted, RunStopsAt}
-use Rattle.proxy_core.specs.Histories.{store_change_of, store_changes, held_serials, open_exchanges, held_entry, held_entries, next_serial, IsGoodHistory, stored_response_after, HistoryStopsAt}
+use Rattle.proxy_core.specs.Histories.{store_change_of, store_changes, held_serials, open_exchanges, held_entry, held_entries, next_serial, IsGoodHistory, stored_response_after, response_if_any_after_expiring, HistoryStopsAt}
 use Rattle.proxy_core.proofs.Held.{NoneFrom-taken, NoneFrom-fresh, NoneFrom-next, NoneFrom-cut}
 use Rattle.proxy_core.proofs.Leaving.{serial_stays}
 use Rattle.proxy_core.proofs.Beginning.{held_at_start, found_at_start}
+use Rattle.proxy_core.proofs.ExpiredEntries.{weight_stays, serials_stay, EachIs-expired, within_stays_expired, NoneFrom-expired}
 use Rattle.proxy_core.proofs.HeldEntries.{EachIs, EachIs-all, EachIs-filter, EachIs-cut, EachIs-weights, EachIs-taken, EachIs-cons, EachIs-but, EachIs-same, EachIs-find, serials-filter, serials-taken, taken_is}
 use Rattle.proxy_core.proofs.StepKinds.{Kind, idle, uses, stores, kind_in}
 
@@ -40,7 +41,8 @@ list_before es x event st us rm = entries_after_storing x event st rm (entries_a
 
 entries_are : (bounds : StoreBounds) (es : List Stored) (x : Option Exchange) (event : Event) (o : Outcome) →
     entries_after bounds es x event o
-    ≡ cut_where_touched bounds (serial_stored_by_outcome o) (serial_used_by_outcome o) (list_before es x event (serial_stored_by_outcome o) (serial_used_by_outcome o) (serials_removed_by_outcome o))
+    ≡ entries_after_expiring event (serials_expired_by_outcome o)
+    (cut_where_touched bounds (serial_stored_by_outcome o) (serial_used_by_outcome o) (list_before es x event (serial_stored_by_outcome o) (serial_used_by_outcome o) (serials_removed_by_outcome o)))
 unfolding list_before
 entries_are bounds es x event o = refl
 
@@ -221,33 +223,41 @@ stands_more table start first past st i p a =
     let k = kept es x event st.next (serial_stored_by_outcome o) (serial_used_by_outcome o) (serials_removed_by_outcome o) look kind p.entries_are p.fresh in
     let look' : ℕ → Option Stored = look_after x event (serial_stored_by_outcome o) (serial_used_by_outcome o) look in
     let bounds_are : bounds_of st.table st.limit ≡ bounds = ap (λ (t : Table). bounds_of t st.limit) p.table_is ∙ ap (bounds_of table) p.limit_is in
-    let e : entries_after (bounds_of st.table st.limit) es x event o ≡ cut_to_bounds bounds raw =
+    let gone : List ℕ = serials_expired_by_outcome o in
+    let cut : List Stored = cut_to_bounds bounds raw in
+    let e : entries_after (bounds_of st.table st.limit) es x event o ≡ entries_after_expiring event gone cut =
     entries_are (bounds_of st.table st.limit) es x event o
-    ∙ ap (λ (b : StoreBounds). cut_where_touched b (serial_stored_by_outcome o) (serial_used_by_outcome o) raw) bounds_are
-    ∙ touched_is_cut bounds es x event st.next (serial_stored_by_outcome o) (serial_used_by_outcome o) (serials_removed_by_outcome o) kind p.within
+    ∙ ap (entries_after_expiring event gone) (ap (λ (b : StoreBounds). cut_where_touched b (serial_stored_by_outcome o) (serial_used_by_outcome o) raw) bounds_are
+    ∙ touched_is_cut bounds es x event st.next (serial_stored_by_outcome o) (serial_used_by_outcome o) (serials_removed_by_outcome o) kind p.within)
+    in
+    let same_weights : (s : ℕ) → weight_if_any (look_after (find_exchange (exchange_id_of_event event) (open_exchanges table start past)) event (serial_stored_by_outcome o) (serial_used_by_outcome o) look s)
+    ≡ weight_if_any (stored_response_after (find_exchange (exchange_id_of_event event) (open_exchanges table start past)) event o look s) =
+    λ s. sym (weight_stays event gone (look_after (find_exchange (exchange_id_of_event event) (open_exchanges table start past)) event (serial_stored_by_outcome o) (serial_used_by_outcome o) look s))
     in
     record {
       table_is = p.table_is;
       limit_is = p.limit_is;
       serials_are = ap serials e
+          ∙ serials_stay event gone cut
           ∙ serials_are_cut bounds (λ s. weight_if_any (look' s)) raw (EachIs-weights look' raw k.entries_are)
           ∙ ap (front_within bounds (λ s. weight_if_any (look' s))) k.serials_are
           ∙ ap (λ xs. front_within bounds (λ s. weight_if_any (look' s)) (recent_after_change item xs)) p.serials_are
           ∙ ap (λ xs. front_within bounds (λ s. weight_if_any (look_after (find_exchange (exchange_id_of_event event) xs) event (serial_stored_by_outcome o) (serial_used_by_outcome o) look s)) (recent_after_change item (held_serials table start past))) p.exchanges_are
+          ∙ ap (λ (w : ℕ → ℕ). front_within bounds w (recent_after_change item (held_serials table start past))) (λ i. λ s. same_weights s i)
           ∙ sym (weighed_held_more bounds (record {
             change = item;
             weights = λ s. weight_if_any (stored_response_after (find_exchange (exchange_id_of_event event) (open_exchanges table start past)) event o look s);
           }) (store_changes table start past));
-      entries_are = EachIs-same look' (stored_response_after (find_exchange (exchange_id_of_event event) (open_exchanges table start past)) event o look) _
-          (λ s. ap (λ xs. look_after (find_exchange (exchange_id_of_event event) xs) event (serial_stored_by_outcome o) (serial_used_by_outcome o) look s) (sym p.exchanges_are))
-          (subst (EachIs look') (sym e) (EachIs-cut look' bounds raw k.entries_are));
-      within = subst (IsWithin bounds weight_of) (sym e) (cut_is_longest bounds weight_of raw).is_within;
+      entries_are = EachIs-same (λ s. response_if_any_after_expiring event gone (look' s)) (stored_response_after (find_exchange (exchange_id_of_event event) (open_exchanges table start past)) event o look) _
+          (λ s. ap (λ xs. response_if_any_after_expiring event gone (look_after (find_exchange (exchange_id_of_event event) xs) event (serial_stored_by_outcome o) (serial_used_by_outcome o) look s)) (sym p.exchanges_are))
+          (subst (EachIs (λ s. response_if_any_after_expiring event gone (look' s))) (sym e) (EachIs-expired event gone look' cut (EachIs-cut look' bounds raw k.entries_are)));
+      within = subst (IsWithin bounds weight_of) (sym e) (within_stays_expired bounds event gone cut (cut_is_longest bounds weight_of raw).is_within);
       exchanges_are = ap (λ (t : Table). open_exchanges_after t st.entries st.exchanges event o) p.table_is
           ∙ ap (λ zs. open_exchanges_after table zs st.exchanges event o) (held_is table start first past st p)
           ∙ ap (λ xs. open_exchanges_after table (held_entries table start past) xs event o) p.exchanges_are;
       next_is = ap (λ n. next_serial_after n (serial_stored_by_outcome o)) p.next_is;
       fresh = subst (NoSerialIsHeldFrom (next_serial_after st.next (serial_stored_by_outcome o))) (sym e)
-          (NoneFrom-cut (next_serial_after st.next (serial_stored_by_outcome o)) bounds raw k.fresh);
+          (NoneFrom-expired (next_serial_after st.next (serial_stored_by_outcome o)) event gone cut (NoneFrom-cut (next_serial_after st.next (serial_stored_by_outcome o)) bounds raw k.fresh));
     }
 
 -- what a good trace leaves stands for it

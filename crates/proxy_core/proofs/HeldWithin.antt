@@ -1,6 +1,6 @@
 -- What is held is within the bounds of the store, and what is stored is held behind it.
 use Rattle.std.proofs.Common.{◌≡◌, ℕ, ◌≤◌, not, cond, ◌||◌, Bool, true, false, Option, None, Some, List, [], ◌∷◌, ◌++◌, map, refl, sym, ◌∙◌, ap, subst, arith}
-use Rattle.std.specs.Prelude.{IfSome, codes}
+use Rattle.std.specs.Prelude.{IfSome, codes, unwrap_or, option_map}
 use Rattle.std.proofs.lemmas.Bool.{eq-eqb}
 use Rattle.std.proofs.lemmas.List.Sums.{sum_by-cons}
 use Rattle.std.proofs.lemmas.List.Filters.{sum_by-filter_both}
@@ -19,16 +19,19 @@ use Rattle.hx_store.specs.Weights.{StoreBounds, IsWithin, weight_of, weight_of_l
 use Rattle.hx_store.proofs.Fronts.{first_stays}
 use Rattle.hx_store.proofs.WeightedRecency.{held_by_number}
 use Rattle.proxy_core.specs.declared.open.exchange.Exchange.{Exchange}
+use Rattle.proxy_core.specs.declared.event.Event.{Event}
 use Rattle.proxy_core.specs.declared.event.Event.TheVariants.{Answer}
 use Rattle.proxy_core.specs.Outcomes.{find_exchange, exchange_id_of_event}
 use Rattle.proxy_core.specs.Storing.{stored_response_made, weight_of_answer}
 use Rattle.proxy_core.specs.Validating.{without_cookies}
-use Rattle.proxy_core.specs.State.{bounds_of, serial_stored_by_outcome, serial_used_by_outcome, serials_removed_by_outcome, stored_response_by_answer, entries_after, entries_after_use, entries_after_storing, cut_where_touched}
+use Rattle.proxy_core.specs.State.{bounds_of, serial_stored_by_outcome, serial_used_by_outcome, serials_removed_by_outcome, stored_response_by_answer, entries_after, entries_after_use, entries_after_storing, cut_where_touched, serials_expired_by_outcome, stored_response_as_used, entries_after_expiring}
 use Rattle.proxy_core.specs.Starts.{StoreAtStart, change_that_stores}
 use Rattle.proxy_core.specs.Traces.{Item, initial_state, state_after_trace}
-use Rattle.proxy_core.specs.Histories.{store_change_of, store_changes, held_entry, open_exchanges, IsGoodHistory}
+use Rattle.proxy_core.specs.Histories.{store_change_of, store_changes, held_entry, held_entries, open_exchanges, response_if_any_after_expiring, IsGoodHistory}
+use Rattle.proxy_core.specs.StoredAnswers.{ThoseAreExpired}
 use Rattle.proxy_core.specs.Bounds.{HeldIsWithinTheBounds, StoredIsHeld, StoredWeighsNoMoreThanTheStore, HeldByNumberAlone, StoreChangesAreThose}
 use Rattle.proxy_core.proofs.Beginning.{changes_are_start}
+use Rattle.proxy_core.proofs.Expiring.{expires_just_that}
 use Rattle.proxy_core.proofs.HeldLaw.{good_plain, entries_are_held, stands_for}
 use Rattle.proxy_core.proofs.StoredAnswers.{stored_at}
 
@@ -83,6 +86,13 @@ alone_fits table start e room h = record {
 some_same : {B : Type 0} {x y : B} → ◌≡◌ {A = Option B} (Some x) (Some y) → x ≡ y
 some_same h = cc
 
+-- what stores expires nothing
+stores_expires : (table : Table) (start : StoreAtStart) (first serial : ℕ) (item : Item) (past : List Item) → IsGoodHistory table start first (item ∷ past) → serial_stored_by_outcome item.outcome ≡ Some serial → serials_expired_by_outcome item.outcome ≡ []
+stores_expires table start first serial item past good stored =
+    let a = (stored_at table start first serial item past good stored).answer in
+    ap (λ (o : Option (List ℕ)). unwrap_or o [])
+    (subst (λ (v : Event). ThoseAreExpired table (held_entries table start past) v item.outcome) a.event_is (expires_just_that table start first item past good))
+
 first_of : (s : ℕ) (o : Option ℕ) (a b : Option Stored) → o ≡ Some s → cond (is_that_serial o s) a b ≡ a
 first_of s o a b h = ap (λ (o : Option ℕ). cond (is_that_serial o s) a b) h ∙ ap (λ t. cond t a b) (eq-eqb s s refl)
 
@@ -108,7 +118,12 @@ made_by table start first serial item past good stored =
 pub stored_weighs_no_more : StoredWeighsNoMoreThanTheStore
 stored_weighs_no_more table start first serial e item past good stored look =
     let m = made_by table start first serial item past good stored in
-    let form : held_entry table start (item ∷ past) serial ≡ Some m.made = first_of serial (serial_stored_by_outcome item.outcome) _ _ stored ∙ m.is in
+    let x = find_exchange (exchange_id_of_event item.event) (open_exchanges table start past) in
+    let before = held_entry table start past serial in
+    let made_or_used : Option Stored = cond (is_that_serial (serial_stored_by_outcome item.outcome) serial) (stored_response_by_answer x item.event serial) (cond (is_that_serial (serial_used_by_outcome item.outcome) serial) (option_map (stored_response_as_used x item.event) before) before) in
+    let form : held_entry table start (item ∷ past) serial ≡ Some m.made =
+    ap (λ gone. response_if_any_after_expiring item.event gone made_or_used) (stores_expires table start first serial item past good stored)
+    ∙ first_of serial (serial_stored_by_outcome item.outcome) (stored_response_by_answer x item.event serial) (cond (is_that_serial (serial_used_by_outcome item.outcome) serial) (option_map (stored_response_as_used x item.event) before) before) stored ∙ m.is in
     subst (λ (f : Stored). IfSome table.max_store (λ most. weight_of f ≤ most)) (some_same (sym form ∙ look)) m.fits
 
 pub stored_is_held : StoredIsHeld
@@ -124,7 +139,8 @@ stored_is_held table start first serial item past room good stored =
     let rest = without_serials removed (entries_after_use x item.event used st.entries) in
     let here : stored_response_by_answer x item.event serial ≡ Some m.made = ap (λ xs. stored_response_by_answer (find_exchange (exchange_id_of_event item.event) xs) item.event serial) p.exchanges_are ∙ m.is in
     let after : entries_after (bounds_of st.table st.limit) st.entries x item.event item.outcome ≡ cut_to_bounds (bounds_of table start.limit) (m.made ∷ rest) =
-    ap (λ o. cut_where_touched (bounds_of st.table st.limit) o used (entries_after_storing x item.event o removed (entries_after_use x item.event used st.entries))) stored
+    ap (λ gone. entries_after_expiring item.event gone (cut_where_touched (bounds_of st.table st.limit) (serial_stored_by_outcome item.outcome) used (entries_after_storing x item.event (serial_stored_by_outcome item.outcome) removed (entries_after_use x item.event used st.entries)))) (stores_expires table start first serial item past good stored)
+    ∙ ap (λ o. cut_where_touched (bounds_of st.table st.limit) o used (entries_after_storing x item.event o removed (entries_after_use x item.event used st.entries))) stored
     ∙ ap (λ (b : StoreBounds). cut_to_bounds b (with_in_front (stored_response_by_answer x item.event serial) rest)) bounds_are
     ∙ ap (λ (o : Option Stored). cut_to_bounds (bounds_of table start.limit) (with_in_front o rest)) here
     in

@@ -51,7 +51,7 @@ ids-closed : (id : ℕ) (xs : List Exchange) → exchange_ids (exchanges_after_c
 ids-closed id xs = ids-map (released_exchange id) (release-id id) (left_by id xs) ∙ ids-left id xs
 
 ids-abandoned : (table : Table) (id : ℕ) (xs : List Exchange) → exchange_ids (exchanges_after_abandon table id xs) ≡ but id (exchange_ids xs)
-ids-abandoned table id xs = ids-map (led_on_exchange table (next_leader table id (left_by id xs)) id) (led_on-id table (next_leader table id (left_by id xs)) id) (left_by id xs) ∙ ids-left id xs
+ids-abandoned table id xs = ids-map (led_on_exchange table (next_leader table id xs) id) (led_on-id table (next_leader table id xs) id) (left_by id xs) ∙ ids-left id xs
 
 ids-purged : (key : Option Scope) (xs : List Exchange) → exchange_ids (exchanges_after_purge key xs) ≡ exchange_ids xs
 ids-purged None xs = refl

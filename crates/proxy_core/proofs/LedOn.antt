@@ -1,8 +1,8 @@
 -- The next leader, and what becomes of those that waited for one whose client went away.
 use Rattle.std.proofs.Common.{◌≡◌, ◌⊎◌, ℕ, Bool, true, false, not, cond, ◌&&◌, ◌||◌, eqb, Option, None, Some, List, [], ◌∷◌, ◌++◌, map, refl, sym, ◌∙◌, ap, inl, inr}
-use Rattle.std.specs.Prelude.{option_map}
+use Rattle.std.specs.Prelude.{option_map, nat_le}
 use Rattle.std.specs.List.{AllByRecursion}
-use Rattle.std.proofs.lemmas.Bool.{cases_Bool, false≢true, false_from_ne_true}
+use Rattle.std.proofs.lemmas.Bool.{cases_Bool, false≢true, false_from_ne_true, le-leb, leb-true}
 use Rattle.std.proofs.lemmas.Option.{same_Some}
 use Rattle.hx_allow.specs.TableLines.{Table}
 use Rattle.hx_allow.specs.Matching.{policy_of}
@@ -15,7 +15,7 @@ use Rattle.proxy_core.specs.declared.open.leading_on.NextLeader.{NextLeader}
 use Rattle.proxy_core.specs.Leading.{waits_for, is_waiting, is_forwarded, has_authorization, is_same_truth}
 use Rattle.proxy_core.specs.Outcomes.{find_exchange}
 use Rattle.proxy_core.proofs.ExchangeLists.{find-abandoned, led_on-id}
-use Rattle.proxy_core.specs.LeadingOn.{wait_has_an_end, may_lead_on, leading_on, next_leader, follows_leader, stage_behind, led_on_exchange, exchanges_without, exchanges_after_abandon, ExchangeMayLeadOn, IsNextLeader, CouldBeSentItsAnswer}
+use Rattle.proxy_core.specs.LeadingOn.{wait_has_an_end, may_lead_on, leading_on, first_to_lead_on, count_waiting, most_led_on, next_leader, follows_leader, stage_behind, led_on_exchange, exchanges_without, exchanges_after_abandon, ExchangeMayLeadOn, IsNextLeader, CouldBeSentItsAnswer}
 use Rattle.proxy_core.proofs.AskedArrivals.{KeepsItsPlace}
 use Rattle.proxy_core.proofs.Waiters.{TurnsAway}
 
@@ -52,17 +52,17 @@ turned_has_an_end table j id m xs z f n w there = elim (behind_is table next z) 
 ]
   where
     next : Option NextLeader
-    next = next_leader table j (exchanges_without j xs)
+    next = next_leader table j xs
 
-    is : Some (led_on_exchange table (next_leader table j (exchanges_without j xs)) j z) ≡ Some (record z { stage = Waiting m })
+    is : Some (led_on_exchange table (next_leader table j xs) j z) ≡ Some (record z { stage = Waiting m })
     is =
-        sym (find-abandoned table j id xs ∙ ap (λ b. cond b None (option_map (led_on_exchange table (next_leader table j (exchanges_without j xs)) j) (find_exchange id xs))) n
-        ∙ ap (option_map (led_on_exchange table (next_leader table j (exchanges_without j xs)) j)) f) ∙ there
+        sym (find-abandoned table j id xs ∙ ap (λ b. cond b None (option_map (led_on_exchange table (next_leader table j xs) j) (find_exchange id xs))) n
+        ∙ ap (option_map (led_on_exchange table (next_leader table j xs) j)) f) ∙ there
 
-    waits : stage_behind table (next_leader table j (exchanges_without j xs)) z ≡ Waiting m
+    waits : stage_behind table (next_leader table j xs) z ≡ Waiting m
     waits =
-        sym (led_on-stage table (next_leader table j (exchanges_without j xs)) j z ∙ ap (λ b. cond b (stage_behind table (next_leader table j (exchanges_without j xs)) z) z.stage) w)
-        ∙ ap (λ (y : Exchange). y.stage) (same_Some (led_on_exchange table (next_leader table j (exchanges_without j xs)) j z) (record z { stage = Waiting m }) is)
+        sym (led_on-stage table (next_leader table j xs) j z ∙ ap (λ b. cond b (stage_behind table (next_leader table j xs) z) z.stage) w)
+        ∙ ap (λ (y : Exchange). y.stage) (same_Some (led_on_exchange table (next_leader table j xs) j z) (record z { stage = Waiting m }) is)
 
 -- nobody is at the origin behind it
 pub behind-not_out : (table : Table) (next : Option NextLeader) (x : Exchange) → is_forwarded (stage_behind table next x) ≡ false
@@ -172,20 +172,28 @@ may_by_words table id x m =
     (both_true (not (forwards_range p x.asked)) (not p.waits_for_stale || (not x.no_store && not (forwards_condition p x.asked))) (ap not m.whole)
     (to_word p.waits_for_stale (not x.no_store && not (forwards_condition p x.asked)) (λ w. both_true (not x.no_store) (not (forwards_condition p x.asked)) (ap not (m.for_others w).0) (ap not (m.for_others w).1)))))
 
+-- it is the first that may lead on, however many wait
+record IsFirstToLeadOn (table : Table) (id : ℕ) (xs : List Exchange) (x : Exchange) : Type 0 where
+  before : List Exchange
+  behind : List Exchange
+  open_are : xs ≡ before ++ x ∷ behind
+  it_may : ExchangeMayLeadOn table id x
+  none_before : AllByRecursion (λ (y : Exchange). ExchangeMayLeadOn table id y → ⊥) before
+
 -- the first in words is the first that is found
-pub next_is : (table : Table) (id : ℕ) (xs before behind : List Exchange) (x : Exchange) → xs ≡ before ++ x ∷ behind → ExchangeMayLeadOn table id x
-    → AllByRecursion (λ (y : Exchange). ExchangeMayLeadOn table id y → ⊥) before → next_leader table id (exchanges_without id xs) ≡ Some (leading_on x)
-next_is table id xs before behind x is may none = ap (λ (zs : List Exchange). next_leader table id (exchanges_without id zs)) is ∙ among before none
+first_is : (table : Table) (id : ℕ) (xs before behind : List Exchange) (x : Exchange) → xs ≡ before ++ x ∷ behind → ExchangeMayLeadOn table id x
+    → AllByRecursion (λ (y : Exchange). ExchangeMayLeadOn table id y → ⊥) before → first_to_lead_on table id (exchanges_without id xs) ≡ Some (leading_on x)
+first_is table id xs before behind x is may none = ap (λ (zs : List Exchange). first_to_lead_on table id (exchanges_without id zs)) is ∙ among before none
   where
-    among : (before : List Exchange) → AllByRecursion (λ (y : Exchange). ExchangeMayLeadOn table id y → ⊥) before → next_leader table id (exchanges_without id (before ++ x ∷ behind)) ≡ Some (leading_on x)
+    among : (before : List Exchange) → AllByRecursion (λ (y : Exchange). ExchangeMayLeadOn table id y → ⊥) before → first_to_lead_on table id (exchanges_without id (before ++ x ∷ behind)) ≡ Some (leading_on x)
     among [] none =
-        ap (λ b. next_leader table id (cond (not b) (x ∷ exchanges_without id behind) (exchanges_without id behind))) may.another
-        ∙ ap (λ b. cond b (Some (leading_on x)) (next_leader table id (exchanges_without id behind))) (may_by_words table id x may)
+        ap (λ b. first_to_lead_on table id (cond (not b) (x ∷ exchanges_without id behind) (exchanges_without id behind))) may.another
+        ∙ ap (λ b. cond b (Some (leading_on x)) (first_to_lead_on table id (exchanges_without id behind))) (may_by_words table id x may)
     among (y ∷ before) none = elim (cases_Bool (eqb y.id id)) [
-      | inl t ↦ ap (λ b. next_leader table id (cond (not b) (y ∷ exchanges_without id (before ++ x ∷ behind)) (exchanges_without id (before ++ x ∷ behind)))) t ∙ among before none.1
+      | inl t ↦ ap (λ b. first_to_lead_on table id (cond (not b) (y ∷ exchanges_without id (before ++ x ∷ behind)) (exchanges_without id (before ++ x ∷ behind)))) t ∙ among before none.1
       | inr f ↦ (
-          ap (λ b. next_leader table id (cond (not b) (y ∷ exchanges_without id (before ++ x ∷ behind)) (exchanges_without id (before ++ x ∷ behind)))) f
-          ∙ (ap (λ b. cond b (Some (leading_on y)) (next_leader table id (exchanges_without id (before ++ x ∷ behind)))) (may_not y f none.0) ∙ among before none.1)
+          ap (λ b. first_to_lead_on table id (cond (not b) (y ∷ exchanges_without id (before ++ x ∷ behind)) (exchanges_without id (before ++ x ∷ behind)))) f
+          ∙ (ap (λ b. cond b (Some (leading_on y)) (first_to_lead_on table id (exchanges_without id (before ++ x ∷ behind)))) (may_not y f none.0) ∙ among before none.1)
           )
     ]
       where
@@ -193,11 +201,11 @@ next_is table id xs before behind x is may none = ap (λ (zs : List Exchange). n
         may_not y f never = false_from_ne_true _ (λ t. never (may_in_words table id y f t))
 
 -- and where one is found there is one in words
-pub next_in_words : (table : Table) (id : ℕ) (xs : List Exchange) (next : NextLeader) → next_leader table id (exchanges_without id xs) ≡ Some next → (x : Exchange) × IsNextLeader table id xs x
-next_in_words table id [] next h = absurd (cc)
-next_in_words table id (y ∷ xs) next h = by_id (λ k. next_in_words table id xs next k) (eqb y.id id) refl h
+first_in_words : (table : Table) (id : ℕ) (xs : List Exchange) (next : NextLeader) → first_to_lead_on table id (exchanges_without id xs) ≡ Some next → (x : Exchange) × IsFirstToLeadOn table id xs x
+first_in_words table id [] next h = absurd (cc)
+first_in_words table id (y ∷ xs) next h = by_id (λ k. first_in_words table id xs next k) (eqb y.id id) refl h
   where
-    behind_it : ((z : Exchange) × IsNextLeader table id xs z) → (ExchangeMayLeadOn table id y → ⊥) → (z : Exchange) × IsNextLeader table id (y ∷ xs) z
+    behind_it : ((z : Exchange) × IsFirstToLeadOn table id xs z) → (ExchangeMayLeadOn table id y → ⊥) → (z : Exchange) × IsFirstToLeadOn table id (y ∷ xs) z
     behind_it n never = (
       n.0,
       record {
@@ -209,13 +217,37 @@ next_in_words table id (y ∷ xs) next h = by_id (λ k. next_in_words table id x
       },
     )
 
-    by_test : (next_leader table id (exchanges_without id xs) ≡ Some next → (z : Exchange) × IsNextLeader table id xs z) → (b : Bool) → (waits_for id y.stage && may_lead_on table y) ≡ b → eqb y.id id ≡ false → cond b (Some (leading_on y)) (next_leader table id (exchanges_without id xs)) ≡ Some next → (z : Exchange) × IsNextLeader table id (y ∷ xs) z
+    by_test : (first_to_lead_on table id (exchanges_without id xs) ≡ Some next → (z : Exchange) × IsFirstToLeadOn table id xs z) → (b : Bool) → (waits_for id y.stage && may_lead_on table y) ≡ b → eqb y.id id ≡ false → cond b (Some (leading_on y)) (first_to_lead_on table id (exchanges_without id xs)) ≡ Some next → (z : Exchange) × IsFirstToLeadOn table id (y ∷ xs) z
     by_test rest true t f h = (y, record { before = []; behind = xs; open_are = refl; it_may = may_in_words table id y f t; none_before = tt })
     by_test rest false t f h = behind_it (rest h) (λ m. false≢true (sym t ∙ may_by_words table id y m))
 
-    by_id : (next_leader table id (exchanges_without id xs) ≡ Some next → (z : Exchange) × IsNextLeader table id xs z) → (b : Bool) → eqb y.id id ≡ b → next_leader table id (cond (not b) (y ∷ exchanges_without id xs) (exchanges_without id xs)) ≡ Some next → (z : Exchange) × IsNextLeader table id (y ∷ xs) z
+    by_id : (first_to_lead_on table id (exchanges_without id xs) ≡ Some next → (z : Exchange) × IsFirstToLeadOn table id xs z) → (b : Bool) → eqb y.id id ≡ b → first_to_lead_on table id (cond (not b) (y ∷ exchanges_without id xs) (exchanges_without id xs)) ≡ Some next → (z : Exchange) × IsFirstToLeadOn table id (y ∷ xs) z
     by_id rest true e h = behind_it (rest h) (λ m. false≢true (sym m.another ∙ e))
     by_id rest false e h = by_test rest (waits_for id y.stage && may_lead_on table y) refl e h
+
+-- the same where no more wait than are led on
+pub next_is : (table : Table) (id : ℕ) (xs : List Exchange) (x : Exchange) → IsNextLeader table id xs x → next_leader table id xs ≡ Some (leading_on x)
+next_is table id xs x n =
+    ap (λ b. cond b (first_to_lead_on table id (exchanges_without id xs)) None) (le-leb (count_waiting id xs) most_led_on n.few_wait)
+    ∙ first_is table id xs n.before n.behind x n.open_are n.it_may n.none_before
+
+pub next_in_words : (table : Table) (id : ℕ) (xs : List Exchange) (next : NextLeader) → next_leader table id xs ≡ Some next → (x : Exchange) × IsNextLeader table id xs x
+next_in_words table id xs next h = by_count (nat_le (count_waiting id xs) most_led_on) refl h
+  where
+    by_count : (b : Bool) → nat_le (count_waiting id xs) most_led_on ≡ b → cond b (first_to_lead_on table id (exchanges_without id xs)) None ≡ Some next → (x : Exchange) × IsNextLeader table id xs x
+    by_count true few k =
+        let w = first_in_words table id xs next k in (
+          w.0,
+          record {
+            before = w.1.before;
+            behind = w.1.behind;
+            open_are = w.1.open_are;
+            it_may = w.1.it_may;
+            none_before = w.1.none_before;
+            few_wait = leb-true (count_waiting id xs) most_led_on few;
+          },
+        )
+    by_count false few k = absurd (cc)
 
 -- ---- who follows it
 

@@ -10,6 +10,7 @@ pub mod UnsafeAnswers
 pub mod Moves
 pub mod TwiceForward
 pub mod HeldEntries
+pub mod ExpiredEntries
 pub mod SentBeside
 pub mod StepKinds
 pub mod Beginning
@@ -38,6 +39,9 @@ pub mod StoredAnswers
 pub mod Headlines
 pub mod OneOutcome
 pub mod Purged
+pub mod Expiring
+mod PurgesExpire
+mod PurgeSteps
 mod Refusals
 pub mod Driven
 pub mod Waits
@@ -53,7 +57,8 @@ pub mod AskedArrivals
 pub mod Overtaking
 pub mod OverdueArrivals
 pub mod AddedLines
-pub mod Cutting
+pub mod Crowds
+mod Cutting
 pub mod HeldWithin
 pub mod Restarts
 pub mod ConditionsKept

@@ -16,7 +16,7 @@ use Rattle.proxy_core.specs.Carrying.{ExchangeWasJudged}
 use Rattle.proxy_core.specs.Scopes.{Scope, is_in_scope, target_alone}
 use Rattle.proxy_core.specs.State.{overtaken_exchange}
 use Rattle.proxy_core.specs.Traces.{Item, initial_state, state_after_trace, IsGood}
-use Rattle.proxy_core.specs.Promises.{outcome_goes_forward, is_arrival_event, count_of_outcomes, request_after_event, latest_request_of, scope_invalidated_by_event, is_overtaken_key, overtakes_key, NoItemOvertakes, some_item_overtakes}
+use Rattle.proxy_core.specs.Promises.{outcome_goes_forward, is_arrival_event, count_of_outcomes, request_after_event, latest_request_of, scope_overtaken_by_event, is_overtaken_key, overtakes_key, NoItemOvertakes, some_item_overtakes}
 use Rattle.proxy_core.specs.declared.open.stage.Stage.TheVariants.{Forwarded, Waiting, Released}
 use Rattle.proxy_core.specs.Leading.{waits_for}
 use Rattle.proxy_core.specs.State.{released_exchange}
@@ -95,8 +95,8 @@ asked_is table start first (i ∷ past) g id a k =
 
 -- what an item invalidates, by the exchange and by the items before
 key_is : (w : Option Exchange) (event : Event) (o : Outcome) (b : Option Asked) → fault_at_exchange w event ≡ None → ((a : Asked) → asked_of w ≡ Some a → b ≡ Some a) →
-    scope_invalidated_by_event b event o ≡ scope_invalidated_by_event (asked_of w) event o
-key_is (Some w) event o b f h = ap (λ b. scope_invalidated_by_event b event o) (h w.asked refl)
+    scope_overtaken_by_event b event o ≡ scope_overtaken_by_event (asked_of w) event o
+key_is (Some w) event o b f h = ap (λ b. scope_overtaken_by_event b event o) (h w.asked refl)
 key_is None (Arrive now i asked) o b f h = refl
 key_is None (Answer now i r) o b f h = absurd (cc)
 key_is None (Fail now i kind) o b f h = absurd (cc)
@@ -107,7 +107,7 @@ key_is None (Overdue i) o b f h = absurd (cc)
 -- and as its outcome shows it
 shown : (table : Table) (start : StoreAtStart) (past : List Item) (es : List Stored) (xs : List Exchange) (next : Option ℕ) (w : Option Exchange) (event : Event) (o : Outcome) →
     ((z : Exchange) → w ≡ Some z → ExchangeWasJudged table start z past) → o ≡ outcome_of table es xs w next event →
-    scope_invalidated_by_event (asked_of w) event o ≡ key_taken_by_step (asked_of w) event o
+    scope_overtaken_by_event (asked_of w) event o ≡ key_taken_by_step (asked_of w) event o
 shown table start past es xs next None (Arrive now i asked) o a is = refl
 shown table start past es xs next None (Answer now i r) o a is = refl
 shown table start past es xs next None (Fail now i kind) o a is = refl
@@ -123,7 +123,7 @@ shown table start past es xs next (Some z) (Abandon i) o a is = refl
 shown table start past es xs next (Some z) (Overdue i) o a is = refl
 
 pub same_key_of_step : (table : Table) (start : StoreAtStart) (first : ℕ) (i : Item) (past : List Item) → IsGood (initial_state table start first) (i ∷ past) →
-    scope_invalidated_by_event (latest_request_of (exchange_id_of_event i.event) past) i.event i.outcome
+    scope_overtaken_by_event (latest_request_of (exchange_id_of_event i.event) past) i.event i.outcome
     ≡ key_taken_by_step (asked_of (find_exchange (exchange_id_of_event i.event) (state_after_trace (initial_state table start first) past).exchanges)) i.event i.outcome
 same_key_of_step table start first i past g =
     let s = state_after_trace (initial_state table start first) past in

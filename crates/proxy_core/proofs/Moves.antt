@@ -424,7 +424,7 @@ module _ (table : Table) (es : List Stored) (xs : List Exchange) (next : Option 
 
   abandons : (i : ℕ) (w : Exchange) (o : Outcome) → find_exchange i xs ≡ Some w → o ≡ Ended → Move id (Some w) (Abandon i) o (find_exchange id xs) (find_exchange id (exchanges_after_abandon table i xs))
   abandons i w o f h =
-      let next = next_leader table i (exchanges_without i xs) in
+      let next = next_leader table i xs in
       let p = find-abandoned table i id xs in
       subst (λ (o : Outcome). Move id (Some w) (Abandon i) o (find_exchange id xs) (find_exchange id (exchanges_after_abandon table i xs))) (sym h)
       (elim (cases_Bool (eqb i id)) [

@@ -1,6 +1,6 @@
 -- What becomes of those that waited for an exchange whose client went away.
 use Rattle.std.proofs.Common.{◌≡◌, ℕ, Bool, true, false, not, cond, ◌&&◌, ◌||◌, eqb, Option, None, Some, is_some, List, [], ◌∷◌, ◌++◌, map, refl, ◌∙◌, ap}
-use Rattle.std.specs.Prelude.{option_map}
+use Rattle.std.specs.Prelude.{option_map, nat_le}
 use Rattle.std.specs.Option.{option_and_then}
 use Rattle.std.proofs.lemmas.Bool.{false_from_ne_true}
 use Rattle.hx_allow.specs.TableLines.{Table}
@@ -14,7 +14,7 @@ use Rattle.proxy_core.specs.declared.open.leading_on.NextLeader.{NextLeader}
 use Rattle.proxy_core.specs.declared.event.Event.{Event}
 use Rattle.proxy_core.specs.declared.event.Event.TheVariants.{Arrive, Answer, Fail, Wake, Abandon, Overdue}
 use Rattle.proxy_core.specs.Leading.{waits_for, has_authorization, is_same_truth}
-use Rattle.proxy_core.specs.LeadingOn.{wait_has_an_end, leading_on, next_leader, follows_leader, stage_behind, led_on_exchange, exchanges_without, exchanges_after_abandon, IsNextLeader}
+use Rattle.proxy_core.specs.LeadingOn.{wait_has_an_end, leading_on, first_to_lead_on, count_waiting, most_led_on, next_leader, follows_leader, stage_behind, led_on_exchange, exchanges_without, exchanges_after_abandon, IsNextLeader}
 use Rattle.proxy_core.specs.Outcomes.{find_exchange, exchange_id_of_event}
 use Rattle.proxy_core.specs.State.{open_exchanges_after, exchanges_after_close}
 use Rattle.proxy_core.specs.Starts.{StoreAtStart}
@@ -30,7 +30,7 @@ use Rattle.proxy_core.proofs.LedOn.{led_on-stage, led_on-others, next_is, next_i
 
 module _ (table : Table) (start : StoreAtStart) (leader id : ℕ) (item : Item) (past : List Item) (x : Exchange) (left : item.event ≡ Abandon leader) (here : find_exchange id (open_exchanges table start past) ≡ Some x) (other : eqb leader id ≡ false) where
   abbrev next_of : Option NextLeader
-  next_of = next_leader table leader (exchanges_without leader (open_exchanges table start past))
+  next_of = next_leader table leader (open_exchanges table start past)
 
   after_it : find_exchange id (open_exchanges table start (item ∷ past)) ≡ Some (led_on_exchange table next_of leader x)
   after_it =
@@ -53,7 +53,7 @@ by_follow b n c e = ap (λ b. Some (cond b (Waiting n) Released)) e
 
 pub first_leads_on : FirstThatWaitsLeadsOn
 first_leads_on table start first leader id item past next x g left n here other waits =
-    let is = next_is table leader (open_exchanges table start past) n.before n.behind next n.open_are n.it_may n.none_before in
+    let is = next_is table leader (open_exchanges table start past) next n in
     let stage = stage_after table start leader id item past x left here other (Some (leading_on next)) is waits in
     record {
       it_leads = λ e. stage ∙ by_follow (follows_leader table (leading_on next) x) next.id false (ap (λ b. not b && (wait_has_an_end table x && (not (policy_of table.lines x.line).waits_for_stale || is_same_truth (has_authorization x.asked) (has_authorization next.asked)))) e);
@@ -65,30 +65,37 @@ pub nobody_leads_on : NobodyLeadsOnWhereNoneMay
 nobody_leads_on table start first leader id item past x g left here other =
     (λ none waits. stage_after table start leader id item past x left here other None (nobody none) waits, λ waits. unchanged table start leader id item past x left here other waits)
   where
-    by_next : (o : Option NextLeader) → next_leader table leader (exchanges_without leader (open_exchanges table start past)) ≡ o → ((next : Exchange) → IsNextLeader table leader (open_exchanges table start past) next → ⊥) → o ≡ None
+    by_next : (o : Option NextLeader) → next_leader table leader (open_exchanges table start past) ≡ o → ((next : Exchange) → IsNextLeader table leader (open_exchanges table start past) next → ⊥) → o ≡ None
     by_next None e none = refl
     by_next (Some next) e none =
         let w = next_in_words table leader (open_exchanges table start past) next e in
         absurd (none w.0 w.1)
 
-    nobody : ((next : Exchange) → IsNextLeader table leader (open_exchanges table start past) next → ⊥) → next_leader table leader (exchanges_without leader (open_exchanges table start past)) ≡ None
-    nobody none = by_next (next_leader table leader (exchanges_without leader (open_exchanges table start past))) refl none
+    nobody : ((next : Exchange) → IsNextLeader table leader (open_exchanges table start past) next → ⊥) → next_leader table leader (open_exchanges table start past) ≡ None
+    nobody none = by_next (next_leader table leader (open_exchanges table start past)) refl none
 
 -- ---- where waits have no end
 
 module _ (table : Table) (no_end : (line : ℕ) → is_some (wait_timeout_of table.lines line) ≡ false) where
+  none_first : (id : ℕ) (xs : List Exchange) → first_to_lead_on table id xs ≡ None
+  none_first id [] = refl
+  none_first id (x ∷ xs) =
+      ap (λ b. cond (waits_for id x.stage && (b && (not (forwards_range (policy_of table.lines x.line) x.asked) && (not (policy_of table.lines x.line).waits_for_stale || (not x.no_store && not (forwards_condition (policy_of table.lines x.line) x.asked)))))) (Some (leading_on x)) (first_to_lead_on table id xs)) (no_end x.line.number)
+      ∙ (ap (λ b. cond b (Some (leading_on x)) (first_to_lead_on table id xs)) (and_none (waits_for id x.stage)) ∙ none_first id xs)
+
   none_next : (id : ℕ) (xs : List Exchange) → next_leader table id xs ≡ None
-  none_next id [] = refl
-  none_next id (x ∷ xs) =
-      ap (λ b. cond (waits_for id x.stage && (b && (not (forwards_range (policy_of table.lines x.line) x.asked) && (not (policy_of table.lines x.line).waits_for_stale || (not x.no_store && not (forwards_condition (policy_of table.lines x.line) x.asked)))))) (Some (leading_on x)) (next_leader table id xs)) (no_end x.line.number)
-      ∙ (ap (λ b. cond b (Some (leading_on x)) (next_leader table id xs)) (and_none (waits_for id x.stage)) ∙ none_next id xs)
+  none_next id xs = either (first_to_lead_on table id (exchanges_without id xs)) (none_first id (exchanges_without id xs)) (nat_le (count_waiting id xs) most_led_on)
+    where
+      either : (o : Option NextLeader) → o ≡ None → (b : Bool) → cond b o None ≡ None
+      either o e true = e
+      either o e false = refl
 
   all_released : (id : ℕ) (xs : List Exchange) → exchanges_after_abandon table id xs ≡ exchanges_after_close id xs
-  all_released id xs = ap (λ (next : Option NextLeader). map (led_on_exchange table next id) (exchanges_without id xs)) (none_next id (exchanges_without id xs))
+  all_released id xs = ap (λ (next : Option NextLeader). map (led_on_exchange table next id) (exchanges_without id xs)) (none_next id xs)
 
   none_followed : (xs : List Exchange) (id l : ℕ) → leader_followed table xs id l ≡ None
   none_followed xs id l =
-      ap (λ (next : Option NextLeader). option_and_then (λ (x : Exchange). leader_of_stage (stage_behind table next x)) (find_exchange id (exchanges_without l xs))) (none_next l (exchanges_without l xs))
+      ap (λ (next : Option NextLeader). option_and_then (λ (x : Exchange). leader_of_stage (stage_behind table next x)) (find_exchange id (exchanges_without l xs))) (none_next l xs)
       ∙ nothing (find_exchange id (exchanges_without l xs))
     where
       nothing : (o : Option Exchange) → option_and_then (λ (x : Exchange). leader_of_stage (stage_behind table None x)) o ≡ None

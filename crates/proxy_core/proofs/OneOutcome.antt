@@ -46,14 +46,14 @@ use Rattle.proxy_core.specs.Storing.{storing_rule_to_explain, is_304_without_con
 use Rattle.proxy_core.specs.Validating.{condition_about_serial, is_304_to_own_conditions, stored_response_validated}
 use Rattle.proxy_core.specs.Replies.{stored_text, passed_answer_text, refusal_reply_text, is_head}
 use Rattle.proxy_core.specs.Outcomes.{hit_status_info, find_exchange, exchange_id_of_event, outcome_of_event, outcome_of_refusal, forwarded_status_info, forward_text, or_fault, fault_if_not_forwarded, fault_if_not_released, fault_at_exchange, step_fault}
-use Rattle.proxy_core.specs.State.{outcome_purges, serial_stored_by_outcome, serial_used_by_outcome, serials_removed_by_outcome, stored_response_as_used, bounds_of}
+use Rattle.proxy_core.specs.State.{expired_by_outcome, outcome_purges, serial_stored_by_outcome, serial_used_by_outcome, serials_removed_by_outcome, stored_response_as_used, bounds_of}
 use Rattle.proxy_core.specs.Starts.{StoreAtStart, StartStands}
 use Rattle.proxy_core.specs.Traces.{Item}
 use Rattle.proxy_core.specs.Histories.{held_entries, open_exchanges, next_serial, IsGoodHistory}
 use Rattle.proxy_core.specs.Sending.{StoredResponseIsReusable, StoredResponseMayBeSent, RequestGoesForward, NoLeaderIsOpen, RequestWaitsForTheFirst, RequestReachesCacheOrOrigin, RequestIsTurnedAway, DetailWordAfterError, DetailWordAtAnswer, DetailWordAtArrival, CacheStatusShowsHow, IsAbout, ReplyIsThatStoredResponse}
 use Rattle.proxy_core.specs.GoingOn.{EventMayCome, IsClientReply, ExchangeGoesOnBy}
 use Rattle.proxy_core.specs.Naming.{AnswerNamesErrorRule, AnswerAfterFailureNames, AnswerNamesByEvent, AnswerNamesFirstRule}
-use Rattle.proxy_core.specs.StoredAnswers.{ThoseAreRemoved, event_purges}
+use Rattle.proxy_core.specs.StoredAnswers.{ThoseAreExpired, ThoseAreRemoved, event_purges}
 use Rattle.proxy_core.specs.Headline.{HoldsAtEachItem, ExchangeGoesOnToItsAnswer, RequestReachesExactlyWhereAllowed, StoredResponseIsSentExactlyWhereItMayBe, SentResponseIsTheStoredOne, OtherAnswerNamesTheFirstRule, AnswerIsStoredExactlyWhereItMayBe, StoredResponsesAreRemovedExactlyWhereTheyMustBe, ConnectionClosesAsAsked, Headline, AnswerHasFinalStatus, NoOtherTraceHasTheHeadline}
 use Rattle.proxy_core.proofs.FirstRules.{held_distinct}
 use Rattle.proxy_core.proofs.Leads.{leads_for_none, leads_for}
@@ -228,14 +228,15 @@ module _ (table : Table) (es : List Stored) (distinct : Distinct (serials es)) w
 
 -- ---- replies
 
-reply_same : (a b : Reply) → a.bytes ≡ b.bytes → a.close ≡ b.close → a.stored ≡ b.stored → a.used ≡ b.used → a.removed ≡ b.removed → a.purged ≡ b.purged → a ≡ b
-reply_same a b bytes close stored used removed purged =
-    ap (λ (z : List ℕ). record { bytes = z; close = a.close; stored = a.stored; used = a.used; removed = a.removed; purged = a.purged }) bytes
-    ∙ ap (λ (z : Bool). record { bytes = b.bytes; close = z; stored = a.stored; used = a.used; removed = a.removed; purged = a.purged }) close
-    ∙ ap (λ (z : Option ℕ). record { bytes = b.bytes; close = b.close; stored = z; used = a.used; removed = a.removed; purged = a.purged }) stored
-    ∙ ap (λ (z : Option ℕ). record { bytes = b.bytes; close = b.close; stored = b.stored; used = z; removed = a.removed; purged = a.purged }) used
-    ∙ ap (λ (z : List ℕ). record { bytes = b.bytes; close = b.close; stored = b.stored; used = b.used; removed = z; purged = a.purged }) removed
-    ∙ ap (λ (z : Bool). record { bytes = b.bytes; close = b.close; stored = b.stored; used = b.used; removed = b.removed; purged = z }) purged
+reply_same : (a b : Reply) → a.bytes ≡ b.bytes → a.close ≡ b.close → a.stored ≡ b.stored → a.used ≡ b.used → a.removed ≡ b.removed → a.expired ≡ b.expired → a.purged ≡ b.purged → a ≡ b
+reply_same a b bytes close stored used removed expired purged =
+    ap (λ (z : List ℕ). record { bytes = z; close = a.close; stored = a.stored; used = a.used; removed = a.removed; expired = a.expired; purged = a.purged }) bytes
+    ∙ ap (λ (z : Bool). record { bytes = b.bytes; close = z; stored = a.stored; used = a.used; removed = a.removed; expired = a.expired; purged = a.purged }) close
+    ∙ ap (λ (z : Option ℕ). record { bytes = b.bytes; close = b.close; stored = z; used = a.used; removed = a.removed; expired = a.expired; purged = a.purged }) stored
+    ∙ ap (λ (z : Option ℕ). record { bytes = b.bytes; close = b.close; stored = b.stored; used = z; removed = a.removed; expired = a.expired; purged = a.purged }) used
+    ∙ ap (λ (z : List ℕ). record { bytes = b.bytes; close = b.close; stored = b.stored; used = b.used; removed = z; expired = a.expired; purged = a.purged }) removed
+    ∙ ap (λ (z : Option (List ℕ)). record { bytes = b.bytes; close = b.close; stored = b.stored; used = b.used; removed = b.removed; expired = z; purged = a.purged }) expired
+    ∙ ap (λ (z : Bool). record { bytes = b.bytes; close = b.close; stored = b.stored; used = b.used; removed = b.removed; expired = b.expired; purged = z }) purged
 
 removed_same : (table : Table) (es : List Stored) (x : Option Exchange) (event : Event) (a b : Reply) → a.stored ≡ b.stored → a.used ≡ b.used →
     serials_removed_at table es x event (Replied a) ≡ serials_removed_at table es x event (Replied b)
@@ -248,6 +249,14 @@ removed_same table es x (Wake now id) a b stored used = refl
 removed_same table es x (Abandon id) a b stored used = refl
 removed_same table es x (Overdue id) a b stored used = refl
 
+expired_same : (table : Table) (es : List Stored) (event : Event) (o p : Outcome) → ThoseAreExpired table es event o → ThoseAreExpired table es event p → expired_by_outcome o ≡ expired_by_outcome p
+expired_same table es (Arrive now id asked) o p a b = a ∙ sym b
+expired_same table es (Answer now id r) o p a b = a ∙ sym b
+expired_same table es (Fail now id kind) o p a b = a ∙ sym b
+expired_same table es (Wake now id) o p a b = a ∙ sym b
+expired_same table es (Abandon id) o p a b = a ∙ sym b
+expired_same table es (Overdue id) o p a b = a ∙ sym b
+
 -- what is asked of one outcome of an event, by the exchange of its id
 record Fits (table : Table) (start : StoreAtStart) (first : ℕ) (past : List Item) (x : Option Exchange) (event : Event) (o : Outcome) : Type 0 where
   goes_on : ExchangeGoesOnBy table (held_entries table start past) x event o
@@ -256,6 +265,7 @@ record Fits (table : Table) (start : StoreAtStart) (first : ℕ) (past : List It
   names : AnswerNamesFirstRule table start past (next_serial first past) x event o
   removes : ThoseAreRemoved table (held_entries table start past) x event o
   purges : outcome_purges o ≡ event_purges table event
+  expires : ThoseAreExpired table (held_entries table start past) event o
   reaches : RequestReachesExactlyWhereAllowed table start (record { event = event; outcome = o }) past
   stores : AnswerIsStoredExactlyWhereItMayBe table start first (record { event = event; outcome = o }) past
   closes : ConnectionClosesAsAsked (record { event = event; outcome = o }) past
@@ -300,7 +310,8 @@ module _ (table : Table) (start : StoreAtStart) (first : ℕ) (past : List Item)
         sym (ap serials_removed_by_outcome h) ∙ removed_by_words table es x event o a.removes ∙ ap (serials_removed_at table es x event) h ∙ removed_same table es x event m n stored used ∙ sym (ap (serials_removed_at table es x event) k) ∙ sym (removed_by_words table es x event p b.removes) ∙ ap serials_removed_by_outcome k
         in
         let purged : m.purged ≡ n.purged = sym (ap outcome_purges h) ∙ a.purges ∙ sym b.purges ∙ ap outcome_purges k in
-        h ∙ ap (λ (r : Reply). Replied r) (reply_same m n bytes close stored used removed purged) ∙ sym k
+        let expired : m.expired ≡ n.expired = sym (ap expired_by_outcome h) ∙ expired_same table es event o p a.expires b.expires ∙ ap expired_by_outcome k in
+        h ∙ ap (λ (r : Reply). Replied r) (reply_same m n bytes close stored used removed expired purged) ∙ sym k
 
     both_send : (s : ℕ) → serial_used_by_outcome o ≡ Some s → o ≡ p
     both_send s h =
@@ -431,6 +442,7 @@ module _ (table : Table) (start : StoreAtStart) (first : ℕ) where
     names = h.names_the_first_rule.0;
     removes = h.removes_what_goes.0.0;
     purges = h.removes_what_goes.0.1;
+    expires = h.removes_what_goes.0.2;
     reaches = h.reaches_where_allowed.0;
     stores = h.stores_where_it_may.0;
     closes = h.closes_as_asked.0;
@@ -469,7 +481,7 @@ module _ (table : Table) (start : StoreAtStart) (first : ℕ) where
           HoldsAtEachItem (λ item past. Fits table start first past (find_exchange (exchange_id_of_event item.event) (open_exchanges table start past)) item.event item.outcome) trace
       zip [] a b c d e f g i = tt
       zip (item ∷ past) a b c d e f g i =
-          (record { goes_on = a.0; sends = b.0; that = c.0; names = d.0; removes = e.0.0; purges = e.0.1; reaches = f.0; stores = g.0; closes = i.0 }, zip past a.1 b.1 c.1 d.1 e.1 f.1 g.1 i.1)
+          (record { goes_on = a.0; sends = b.0; that = c.0; names = d.0; removes = e.0.0; purges = e.0.1; expires = e.0.2; reaches = f.0; stores = g.0; closes = i.0 }, zip past a.1 b.1 c.1 d.1 e.1 f.1 g.1 i.1)
 
 pub no_other_trace_has_it : NoOtherTraceHasTheHeadline
 no_other_trace_has_it table start first trace h final = good table start first trace (record { begins = h.begins_as_it_may; comes = h.comes_where_it_may; fit = each_fits table start first trace h; final = final })

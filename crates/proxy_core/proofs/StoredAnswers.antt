@@ -37,7 +37,7 @@ use Rattle.proxy_core.specs.declared.event.Event.TheVariants.{Arrive, Answer, Fa
 use Rattle.proxy_core.specs.declared.steps.fallback.Fallback.{Fallback}
 use Rattle.proxy_core.specs.declared.steps.fallback.Fallback.TheVariants.{Sends, Refuses}
 use Rattle.proxy_core.specs.Outcomes.{outcome_of_allowed_request, outcome_of_answer, outcome_of_arrival, outcome_of_failure, fallback_for, find_exchange, forward_text, forwarded_status_info, exchange_id_of_event, is_error_status, is_only_if_cached, outcome_of, outcome_of_passing_on, outcome_of_passing_on_or_stale, outcome_of_304, outcome_of_sending_stored, outcome_of_waiting_or_forwarding, outcome_of_sending_freshened, serial_of_stored_answer, outcome_without_stored_response, outcome_of_wake, step_fault, fault_at_exchange}
-use Rattle.proxy_core.specs.Scopes.{serials_purged}
+use Rattle.proxy_core.specs.Scopes.{serials_to_remove}
 use Rattle.proxy_core.specs.State.{serial_stored_by_outcome, serial_used_by_outcome, serials_removed_by_outcome}
 use Rattle.proxy_core.specs.Starts.{StoreAtStart}
 use Rattle.proxy_core.specs.Storing.{weight_of_answer, replaced_by, storing_rule_to_explain, storing_facts_of_answer, is_storable, is_304_without_condition}
@@ -281,7 +281,7 @@ removed_by_answer table held x now r stored =
 abbrev pub serials_removed_at : Table → List Stored → Option Exchange → Event → Outcome → List ℕ
 serials_removed_at table held (Some x) (Answer now id r) outcome = removed_by_answer table held x now r (serial_stored_by_outcome outcome)
 serials_removed_at table held None (Answer now id r) outcome = []
-serials_removed_at table held x (Arrive now id asked) outcome = cond (request_purges table asked) (serials_purged asked held) []
+serials_removed_at table held x (Arrive now id asked) outcome = cond (request_purges table asked) (serials_to_remove asked held) []
 serials_removed_at table held x (Fail now id kind) outcome = []
 serials_removed_at table held x (Wake now id) outcome = []
 serials_removed_at table held x (Abandon id) outcome = []
@@ -440,7 +440,7 @@ module _ (table : Table) (es : List Stored) (xs : List Exchange) (next : Option 
       by_decision line (decision.Hit s) = refl
       by_decision line (decision.Forward rule against) = unless line rule (condition_about_serial es against) (is_only_if_cached asked)
 
-      by_verdict : (v : Verdict) → serials_removed_by_outcome (outcome_of_arrival table es xs now asked v) ≡ cond (is_purge v) (serials_purged asked es) []
+      by_verdict : (v : Verdict) → serials_removed_by_outcome (outcome_of_arrival table es xs now asked v) ≡ cond (is_purge v) (serials_to_remove asked es) []
       by_verdict (verdict.Allowed line) = by_decision line (decision_of (policy_of table.lines line) es asked now)
       by_verdict (verdict.DeniedBy line) = refl
       by_verdict verdict.NoLine = refl

@@ -74,9 +74,9 @@ same_good start events outcomes more m g = subst (λ (os : List Outcome). IsGood
 
 denied_by : (table : Table) (es : List Stored) (xs : List Exchange) (now : ℕ) (asked : Asked) (v : Verdict) → ((line : Route) → v ≢ Allowed line) → is_purge v ≡ false → OutcomeLeavesNoTrace (outcome_of_arrival table es xs now asked v)
 denied_by table es xs now asked (Allowed line) n p = absurd (n line refl)
-denied_by table es xs now asked (DeniedBy line) n p = (refl, refl, refl)
-denied_by table es xs now asked NoLine n p = (refl, refl, refl)
-denied_by table es xs now asked (Looped line) n p = (refl, refl, refl)
+denied_by table es xs now asked (DeniedBy line) n p = (refl, refl, refl, refl)
+denied_by table es xs now asked NoLine n p = (refl, refl, refl, refl)
+denied_by table es xs now asked (Looped line) n p = (refl, refl, refl, refl)
 denied_by table es xs now asked (Purged line) n p = absurd (cc)
 
 denied_item : (table : Table) (s : State) (event : Event) (outcome : Outcome) → ItemIsAccepted table s.entries s.exchanges s.next (record { event = event; outcome = outcome }) → ArrivalIsDenied table event → OutcomeLeavesNoTrace outcome

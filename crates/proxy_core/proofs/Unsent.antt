@@ -42,15 +42,19 @@ use Rattle.proxy_core.specs.Validating.{condition_about_serial, is_304_to_own_co
 use Rattle.proxy_core.specs.Storing.{storing_rule_to_explain, storing_facts_of_answer, is_storable, is_304_without_condition, answer_invalidates, key_invalidated}
 use Rattle.proxy_core.specs.Leading.{is_forwarded}
 use Rattle.proxy_core.specs.Outcomes.{find_exchange, exchange_id_of_event, outcome_of_arrival, outcome_of_allowed_request, outcome_of_waiting_or_forwarding, outcome_without_stored_response, outcome_of_wake, fault_at_exchange, is_only_if_cached, fallback_for, outcome_of_failure, is_error_status, outcome_of_passing_on, outcome_of_passing_on_or_stale, serials_removed_by_answer, serial_of_stored_answer, outcome_of_304, outcome_of_answer, outcome_of}
-use Rattle.proxy_core.specs.Scopes.{Scope, scope_takes, target_alone, scope_of_purge, serials_purged, serials_within}
-use Rattle.proxy_core.specs.State.{State, outcome_purges, scope_purged, serial_stored_by_outcome, serial_used_by_outcome, serials_removed_by_outcome, next_serial_after, serial_after_this, stored_response_by_answer, stored_response_as_used, bounds_of, NoSerialIsHeldFrom}
+use Rattle.hx_allow.specs.PurgeModes.{mode_to_purge}
+use Rattle.hx_allow.specs.declared.purge_modes.PurgeMode.{PurgeMode}
+use Rattle.hx_allow.specs.declared.purge_modes.PurgeMode.TheVariants.{Remove, Stale}
+use Rattle.proxy_core.specs.Scopes.{Scope, scope_takes, target_alone, scope_of_purge, serials_purged, serials_within, serials_to_remove, removed_in_mode, scope_if_removing}
+use Rattle.proxy_core.specs.State.{State, serials_expired_by_outcome, outcome_purges, scope_purged, serial_stored_by_outcome, serial_used_by_outcome, serials_removed_by_outcome, next_serial_after, serial_after_this, stored_response_by_answer, stored_response_as_used, bounds_of, NoSerialIsHeldFrom}
 use Rattle.proxy_core.specs.Starts.{StoreAtStart, StartStands}
 use Rattle.proxy_core.specs.Traces.{Item, initial_state, state_after_trace, IsGood}
-use Rattle.proxy_core.specs.Histories.{held_serials, held_entry, lines_held, lines_if_any, store_change_of, exchanges_and_responses_after}
-use Rattle.proxy_core.specs.Promises.{reply_uses_no_stored_response, is_overtaken_key, overtakes_key, NoItemOvertakes, is_invalidated_response, invalidates_response, NoItemInvalidates, NothingInvalidatedIsSent, NothingInvalidatedSinceTheStartIsSent}
+use Rattle.proxy_core.specs.Histories.{response_if_any_after_expiring, held_serials, held_entry, lines_held, lines_if_any, store_change_of, exchanges_and_responses_after}
+use Rattle.proxy_core.specs.Promises.{scope_invalidated_of, reply_uses_no_stored_response, is_overtaken_key, overtakes_key, NoItemOvertakes, is_invalidated_response, invalidates_response, NoItemInvalidates, NothingInvalidatedIsSent, NothingInvalidatedSinceTheStartIsSent}
 use Rattle.proxy_core.proofs.SentBeside.{led_over, sent_over, unless_sent}
 use Rattle.proxy_core.proofs.Storable.{none_of}
 use Rattle.proxy_core.proofs.Leaving.{key_stays}
+use Rattle.proxy_core.proofs.ExpiredEntries.{key_expired}
 use Rattle.proxy_core.proofs.HeldEntries.{EachIs-find, held_found, some_passing}
 use Rattle.proxy_core.proofs.StepKinds.{Kind, idle, uses, stores, kind_in}
 use Rattle.proxy_core.proofs.HeldLaw.{look_after, held_before_cut, stands_for}
@@ -260,22 +264,29 @@ purged_parts asked o k h = by_test (outcome_purges o) h
     by_test false h = absurd (cc)
 
 purge_removes : (table : Table) (es : List Stored) (xs : List Exchange) (now : ℕ) (asked : Asked) (v : Verdict) → outcome_purges (outcome_of_arrival table es xs now asked v) ≡ true →
-    serials_removed_by_outcome (outcome_of_arrival table es xs now asked v) ≡ serials_purged asked es
+    serials_removed_by_outcome (outcome_of_arrival table es xs now asked v) ≡ serials_to_remove asked es
 purge_removes table es xs now asked (verdict.Allowed line) h = absurd (false≢true (sym (allowed_purges_none table es xs now asked line) ∙ h))
 purge_removes table es xs now asked (verdict.DeniedBy line) h = absurd (false≢true h)
 purge_removes table es xs now asked verdict.NoLine h = absurd (false≢true h)
 purge_removes table es xs now asked (verdict.Looped line) h = absurd (false≢true h)
 purge_removes table es xs now asked (verdict.Purged line) h = refl
 
+-- a purge that invalidates removes
+removing_parts : (mode : PurgeMode) (o : Option Scope) (k : Scope) → scope_if_removing mode o ≡ Some k → (mode ≡ Remove) × (o ≡ Some k)
+removing_parts Remove o k h = (refl, h)
+removing_parts Stale o k h = absurd (cc)
+
 scope_of_some : (o : Option Key) (k : Scope) → option_map target_alone o ≡ Some k → (key : Key) × (o ≡ Some key) × (target_alone key ≡ k)
 scope_of_some None k h = absurd (cc)
 scope_of_some (Some key) k h = (key, refl, same_Some (target_alone key) k h)
 
 removes_scope : (table : Table) (es : List Stored) (xs : List Exchange) (w : Option Exchange) (next : Option ℕ) (event : Event) (o : Outcome) (k : Scope) →
-    o ≡ outcome_of table es xs w next event → key_taken_by_step (asked_of w) event o ≡ Some k → serials_removed_by_outcome o ≡ serials_within k es
+    o ≡ outcome_of table es xs w next event → scope_invalidated_of event (key_taken_by_step (asked_of w) event o) ≡ Some k → serials_removed_by_outcome o ≡ serials_within k es
 removes_scope table es xs w next (Arrive now i asked) o k e h =
-    let there = purged_parts asked o k h in
-    ap serials_removed_by_outcome e ∙ purge_removes table es xs now asked (verdict_of_asked table asked) (sym (ap outcome_purges e) ∙ there.0) ∙ ap (λ (scope : Scope). serials_within scope es) there.1
+    let removing = removing_parts (mode_to_purge asked.fields) (scope_purged asked o) k h in
+    let there = purged_parts asked o k removing.1 in
+    ap serials_removed_by_outcome e ∙ purge_removes table es xs now asked (verdict_of_asked table asked) (sym (ap outcome_purges e) ∙ there.0)
+    ∙ ap (λ mode. removed_in_mode mode (serials_purged asked es)) removing.0 ∙ ap (λ (scope : Scope). serials_within scope es) there.1
 removes_scope table es xs None next (Answer now i r) o k e h = absurd (cc)
 removes_scope table es xs None next (Fail now i kind) o k e h = absurd (cc)
 removes_scope table es xs None next (Wake now i) o k e h = absurd (cc)
@@ -343,6 +354,12 @@ key_of : Option Stored → Option Key
 key_of None = None
 key_of (Some e) = Some e.key
 
+key_of_expired : (event : Event) (expired : List ℕ) (o : Option Stored) → key_of (response_if_any_after_expiring event expired o) ≡ key_of o
+unfolding key_of
+key_of_expired event [] o = refl
+key_of_expired event (s ∷ expired) None = refl
+key_of_expired event (s ∷ expired) (Some e) = ap (λ k. Some k) (key_expired event (s ∷ expired) e)
+
 used_key : (x : Option Exchange) (event : Event) (e : Stored) → (stored_response_as_used x event e).key ≡ e.key
 used_key None event e = refl
 used_key (Some x) (Arrive now id asked) e = refl
@@ -404,9 +421,9 @@ module _ (table : Table) (start : StoreAtStart) (first : ℕ) where
       let its_key : f.0.key ≡ k = same_Some f.0.key k (ap key_of (sym held_is) ∙ q) in
       record {
         held_before = was;
-        clean = ap (λ o. is_invalidated_response o k (lines_held table start past s)) (same_key_of_step table start first i past g)
+        clean = ap (λ o. is_invalidated_response (scope_invalidated_of i.event o) k (lines_held table start past s)) (same_key_of_step table start first i past g)
             ∙ false_from_ne_true _ (λ t.
-            let named = gone_key (key_taken_by_step (asked_of w) i.event i.outcome) t in
+            let named = gone_key (scope_invalidated_of i.event (key_taken_by_step (asked_of w) i.event i.outcome)) t in
             let r : serials_removed_by_outcome i.outcome ≡ serials_within named.0 es = removes_scope table es st.exchanges w st.next i.event i.outcome named.0 g.0.outcome_is named.1 in
             let there = some_passing (λ (e : Stored). scope_takes named.0 e.key e.fields) s es f.0 f.1
             (ap (λ key. scope_takes named.0 key f.0.fields) its_key ∙ (ap (λ (o : Option Stored). scope_takes named.0 k (lines_if_any o)) (sym held_is) ∙ named.2)) in
@@ -435,7 +452,7 @@ module _ (table : Table) (start : StoreAtStart) (first : ℕ) where
       let v = find_exchange (exchange_id_of_event i.event) (exchanges_and_responses_after table start all).exchanges in
       record {
         below = d.below;
-        key = key_kept v i.event (serial_stored_by_outcome i.outcome) (serial_used_by_outcome i.outcome) (held_entry table start all) s d.not_stored ∙ so.key;
+        key = key_of_expired i.event (serials_expired_by_outcome i.outcome) _ ∙ key_kept v i.event (serial_stored_by_outcome i.outcome) (serial_used_by_outcome i.outcome) (held_entry table start all) s d.not_stored ∙ so.key;
         clean = λ m.
             let r = executes s k i all g so.below so.key m in
             (r.clean, so.clean r.held_before);
@@ -458,7 +475,7 @@ module _ (table : Table) (start : StoreAtStart) (first : ℕ) where
       let v = find_exchange (exchange_id_of_event i.event) (exchanges_and_responses_after table start items).exchanges in
       record {
         below = d.below;
-        key = key_kept v i.event (serial_stored_by_outcome i.outcome) (serial_used_by_outcome i.outcome) (held_entry table start items) s d.not_stored ∙ so.key;
+        key = key_of_expired i.event (serials_expired_by_outcome i.outcome) _ ∙ key_kept v i.event (serial_stored_by_outcome i.outcome) (serial_used_by_outcome i.outcome) (held_entry table start items) s d.not_stored ∙ so.key;
         clean = λ m.
             let r = executes s k i items g so.below so.key m in
             (subst (λ zs. invalidates_response table start s k i zs ≡ false) (sym (append-nil items)) r.clean, so.clean r.held_before);
@@ -503,7 +520,8 @@ module _ (table : Table) (start : StoreAtStart) (first : ℕ) where
         in_time = d.plain.in_time;
         since_then = record {
           below = subst (Below s) (sym (ap (λ o. next_serial_after st.next o) e)) (below_next s s (omega arith));
-          key = ap key_of (ap (λ o. cond (is_that_serial o s) (stored_response_by_answer v storing.event s) (cond (is_that_serial (serial_used_by_outcome storing.outcome) s) (option_map (stored_response_as_used v storing.event) (look s)) (look s))) e
+          key = key_of_expired storing.event (serials_expired_by_outcome storing.outcome) _
+              ∙ ap key_of (ap (λ o. cond (is_that_serial o s) (stored_response_by_answer v storing.event s) (cond (is_that_serial (serial_used_by_outcome storing.outcome) s) (option_map (stored_response_as_used v storing.event) (look s)) (look s))) e
               ∙ ap (λ b. cond b (stored_response_by_answer v storing.event s) (cond (is_that_serial (serial_used_by_outcome storing.outcome) s) (option_map (stored_response_as_used v storing.event) (look s)) (look s))) (eq-eqb s s refl)
               ∙ ap (λ x. stored_response_by_answer x storing.event s) x_seen
               ∙ ap (λ v. stored_response_by_answer (Some z) v s) d.event_is);

@@ -112,25 +112,25 @@ of_its_leader table next x = by_stage (behind_is table next x)
 
 -- the client of another goes away
 stage_abandoned : (table : Table) (xs : List Exchange) (id j : ℕ) (o : Outcome) (x : Exchange) (leads : Option ℕ) → eqb j id ≡ false → o ≡ Ended → find_exchange id xs ≡ Some x → x.stage ≡ stage_of_waiter leads →
-    cond (waits_for j x.stage) (stage_behind table (next_leader table j (exchanges_without j xs)) x) x.stage
+    cond (waits_for j x.stage) (stage_behind table (next_leader table j xs) x) x.stage
     ≡ stage_of_waiter (option_and_then (λ l. leader_after_item table xs id l (record { event = Abandon j; outcome = o })) leads)
 stage_abandoned table xs id j o x None n e f s =
-    ap (λ (t : Stage). cond (waits_for j t) (stage_behind table (next_leader table j (exchanges_without j xs)) x) t) s
+    ap (λ (t : Stage). cond (waits_for j t) (stage_behind table (next_leader table j xs) x) t) s
 stage_abandoned table xs id j o x (Some l) n e f s =
-    ap (λ (t : Stage). cond (waits_for j t) (stage_behind table (next_leader table j (exchanges_without j xs)) x) t) s
-    ∙ (ap (λ b. cond b (stage_behind table (next_leader table j (exchanges_without j xs)) x) (Waiting l)) (other_way l j)
+    ap (λ (t : Stage). cond (waits_for j t) (stage_behind table (next_leader table j xs) x) t) s
+    ∙ (ap (λ b. cond b (stage_behind table (next_leader table j xs) x) (Waiting l)) (other_way l j)
     ∙ (by_id (eqb j l) refl
     ∙ sym (ap (λ b. stage_of_waiter (cond (b && false) None (cond (eqb j l && (true && outcome_ends_exchange o)) (leader_followed table xs id l) (Some l)))) n
     ∙ ap (λ (o : Outcome). stage_of_waiter (cond (eqb j l && (true && outcome_ends_exchange o)) (leader_followed table xs id l) (Some l))) e)))
   where
-    followed : eqb j l ≡ true → leader_followed table xs id l ≡ leader_of_stage (stage_behind table (next_leader table j (exchanges_without j xs)) x)
+    followed : eqb j l ≡ true → leader_followed table xs id l ≡ leader_of_stage (stage_behind table (next_leader table j xs) x)
     followed t =
         ap (leader_followed table xs id) (sym (eqb-true j l t))
-        ∙ ap (λ (w : Option Exchange). option_and_then (λ (x : Exchange). leader_of_stage (stage_behind table (next_leader table j (exchanges_without j xs)) x)) w)
+        ∙ ap (λ (w : Option Exchange). option_and_then (λ (x : Exchange). leader_of_stage (stage_behind table (next_leader table j xs) x)) w)
         (find-without j id xs ∙ (ap (λ b. cond b None (find_exchange id xs)) n ∙ f))
 
-    by_id : (b : Bool) → eqb j l ≡ b → cond b (stage_behind table (next_leader table j (exchanges_without j xs)) x) (Waiting l) ≡ stage_of_waiter (cond (b && true) (leader_followed table xs id l) (Some l))
-    by_id true t = of_its_leader table (next_leader table j (exchanges_without j xs)) x ∙ sym (ap stage_of_waiter (followed t))
+    by_id : (b : Bool) → eqb j l ≡ b → cond b (stage_behind table (next_leader table j xs) x) (Waiting l) ≡ stage_of_waiter (cond (b && true) (leader_followed table xs id l) (Some l))
+    by_id true t = of_its_leader table (next_leader table j xs) x ∙ sym (ap stage_of_waiter (followed t))
     by_id false t = refl
 
 -- ---- until when it waits
@@ -198,14 +198,14 @@ module _ (table : Table) (es : List Stored) (xs : List Exchange) (next : Option 
       by_event (Abandon j) e =
           let away : eqb j id ≡ false = sym (ap (λ (v : Event). eqb (exchange_id_of_event v) id) e) ∙ n in
           let ended : i.outcome ≡ Ended = accepted.outcome_is ∙ ap (outcome_of_event table es xs next) e in
-          let follower = led_on_exchange table (next_leader table j (exchanges_without j xs)) j s.x in
+          let follower = led_on_exchange table (next_leader table j xs) j s.x in
           let is : record { event = Abandon j; outcome = i.outcome } ≡ i = ap (λ (v : Event). record { event = v; outcome = i.outcome }) (sym e) in
           record {
             x = follower;
             y_is = ap (λ (v : Event). find_exchange id (open_exchanges_after table es xs v i.outcome)) e
-                ∙ (find-abandoned table j id xs ∙ (ap (λ b. cond b None (option_map (led_on_exchange table (next_leader table j (exchanges_without j xs)) j) (find_exchange id xs))) away
-                ∙ ap (option_map (led_on_exchange table (next_leader table j (exchanges_without j xs)) j)) s.y_is));
-            stage = led_on-stage table (next_leader table j (exchanges_without j xs)) j s.x
+                ∙ (find-abandoned table j id xs ∙ (ap (λ b. cond b None (option_map (led_on_exchange table (next_leader table j xs) j) (find_exchange id xs))) away
+                ∙ ap (option_map (led_on_exchange table (next_leader table j xs) j)) s.y_is));
+            stage = led_on-stage table (next_leader table j xs) j s.x
                 ∙ (stage_abandoned table xs id j i.outcome s.x leads away ended s.y_is s.stage
                 ∙ ap (λ (v : Item). stage_of_waiter (option_and_then (λ l. leader_after_item table xs id l v) leads)) is);
             unwoken = unwoken;

@@ -18,7 +18,7 @@ use Rattle.hx_age.specs.Age.{age_of, is_fresh_of}
 use Rattle.hx_hop.specs.declared.request_view.Asked.{Asked}
 use Rattle.hx_store.specs.Stored.{Stored}
 use Rattle.hx_store.specs.Shelf.{find_entry}
-use Rattle.hx_reuse.specs.Lifetimes.{lifetime_under}
+use Rattle.hx_reuse.specs.Lifetimes.{lifetime_of_held, lifetime_under}
 use Rattle.hx_reuse.specs.Chosen.{chosen_of}
 use Rattle.hx_reuse.specs.Rules.{names_chosen, decision_of}
 use Rattle.hx_reuse.specs.ChosenAndNamed.{IsLeastReuseRule}
@@ -40,11 +40,11 @@ asks_the_origin policy asked = policy.heeds_requests && has_directive (occurrenc
 -- ---- in the standard's words
 
 -- A response had a lifetime under the line (RFC 9111, section 4.2.1), which is over (section 4.2),
--- and its origin doesn't want to be asked about it each time (section 5.2.2.4). So the origin's word
+-- be it by a purge, and its origin doesn't want to be asked about it each time (section 5.2.2.4). So the origin's word
 -- on it now makes it fresh again, for all that it could be sent to.
 pub record ResponseIsOver (policy : Policy) (now : ℕ) (response : Stored) : Type 0 where
   pub had_lifetime : 0 < (lifetime_under policy response.status response.fields).seconds
-  pub is_over : is_fresh_of (lifetime_under policy response.status response.fields) (age_of response.times now) ≡ false
+  pub is_over : is_fresh_of (lifetime_of_held policy response) (age_of response.times now) ≡ false
   pub not_asked_each_time : has_directive (occurrences_of response.fields) NoCache ≡ false
 
 -- By this rule, the first that stands against what is held, a request could be sent the answer to

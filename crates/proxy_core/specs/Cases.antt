@@ -1,5 +1,5 @@
 -- The messages, stored responses and exchanges that the laws of worked cases speak of.
-use Rattle.std.specs.Prelude.{ℕ, true, false, List, [], ◌∷◌, map, codes, Some, None}
+use Rattle.std.specs.Prelude.{ℕ, zero, suc, ◌+◌, true, false, List, [], ◌∷◌, map, codes, Some, None}
 use Rattle.hx_policy.specs.declared.words.Policy.{Policy}
 use Rattle.hx_policy.specs.Policies.{plain}
 use Rattle.hx_fields.specs.declared.field_line.Field.{Field}
@@ -36,6 +36,10 @@ request_for method path fields = record {
 
 abbrev pub get_a_with : List Field → Asked
 get_a_with fields = request_for (codes "GET") (codes "/a") fields
+
+-- and one that asks, over a line that purges, to expire what it takes
+abbrev pub get_a_to_expire : Asked
+get_a_to_expire = get_a_with (line (codes "Purge-Mode") (codes "stale") ∷ [])
 
 abbrev pub head_of_a : Asked
 head_of_a = request_for (codes "HEAD") (codes "/a") []
@@ -186,6 +190,11 @@ crowd_behind asked =
     forwarded_on_miss (get_a_with []) ∷ waits_behind 1 2 asked ∷ waits_behind 1 3 (get_a_with [])
     ∷ waits_behind 7 4 (get_a_with []) ∷ waits_behind 1 5 (get_a_with []) ∷ []
 
+-- so many that wait for the first
+abbrev pub waits_in_a_row : ℕ → List Exchange
+waits_in_a_row zero = []
+waits_in_a_row (suc n) = waits_behind 1 (2 + n) (get_a_with []) ∷ waits_in_a_row n
+
 -- one that asked about the stored response of serial 1, which states no lifetime, by its tag
 abbrev pub revalidates_e : Asked → Exchange
 revalidates_e asked =
@@ -198,6 +207,10 @@ revalidates_e asked =
 -- one that no stored response may answer, of this id and for this path
 abbrev pub post_exchange : ℕ → List ℕ → Exchange
 post_exchange id path = record (forwarded_on_miss (request_for (codes "POST") path [])) { id = id }
+
+-- the same, once what its answer may be was purged
+abbrev pub as_overtaken : Exchange → Exchange
+as_overtaken x = record x { overtaken = true }
 
 -- an answer of these lines
 abbrev pub response_with : ℕ → List Field → Response
@@ -240,11 +253,18 @@ stored_with serial fields = record {
   status = 200;
   fields = fields;
   content = codes "hi";
-  times = record { date = 101; age_value = 0; request_time = 100; response_time = 101 };
+  times = record { date = 101; age_value = 0; request_time = 100; response_time = 101; expired = None };
 }
 
 abbrev pub first_stored : Stored
 first_stored = stored_with 1 first_answer_fields
+
+-- a response once a purge expired it at a moment, and one that was received in the second in which it was asked for
+abbrev pub purged_at : ℕ → Stored → Stored
+purged_at moment e = record e { times = record e.times { expired = Some moment } }
+
+abbrev pub stored_at_once : Stored → Stored
+stored_at_once e = record e { times = record e.times { request_time = 101 } }
 
 -- one of /a with these tags
 abbrev pub stored_with_tags : ℕ → List ℕ → Stored

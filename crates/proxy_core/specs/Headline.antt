@@ -37,6 +37,7 @@ use Rattle.proxy_core.specs.Sending.{StoredResponseMayBeSent}
 use Rattle.proxy_core.specs.Sending.{ReplyIsThatStoredResponse}
 use Rattle.proxy_core.specs.GoingOn.{EventMayCome, ExchangeGoesOnBy, IsConditionOfEvent}
 use Rattle.proxy_core.specs.StoredAnswers.{AnswerMayBeStored, IsAnswerThatMayBeStored, ThoseAreRemoved}
+use Rattle.proxy_core.specs.StoredAnswers.{ThoseAreExpired}
 use Rattle.proxy_core.specs.StoredAnswers.{event_purges}
 use Rattle.proxy_core.specs.Naming.{AnswerNamesFirstRule}
 
@@ -119,12 +120,14 @@ AnswerIsStoredExactlyWhereItMayBe table start first item past =
 
 -- What goes: what a stored answer takes the place of, what is held for a key that an unsafe request
 -- invalidates, and what a 304 freshens and may not be kept (RFC 9111, sections 4.1, 4.4, 4.3.4); and
--- what a request purges by the operator's word, and its outcome alone is that of a purge.
+-- what a request purges by the operator's word, and its outcome alone is that of a purge. Where it says so that stays,
+-- expired.
 abbrev pub StoredResponsesAreRemovedExactlyWhereTheyMustBe : Table → StoreAtStart → Item → List Item → Type 0
 StoredResponsesAreRemovedExactlyWhereTheyMustBe table start item past =
     ThoseAreRemoved table (held_entries table start past)
     (find_exchange (exchange_id_of_event item.event) (open_exchanges table start past)) item.event item.outcome
     × (outcome_purges item.outcome ≡ event_purges table item.event)
+    × ThoseAreExpired table (held_entries table start past) item.event item.outcome
 
 -- a client's connection closes behind its reply where its request says so
 abbrev pub ConnectionClosesAsAsked : Item → List Item → Type 0

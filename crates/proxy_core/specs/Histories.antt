@@ -21,6 +21,7 @@ use Rattle.proxy_core.specs.declared.core_fault.CoreFault.{CoreFault}
 use Rattle.proxy_core.specs.declared.core_fault.CoreFault.TheVariants.{OutOfMemory}
 use Rattle.proxy_core.specs.Outcomes.{find_exchange, exchange_id_of_event, step_fault}
 use Rattle.proxy_core.specs.State.{serial_stored_by_outcome, serial_used_by_outcome, serials_removed_by_outcome}
+use Rattle.proxy_core.specs.State.{serials_expired_by_outcome, response_after_expiring}
 use Rattle.proxy_core.specs.State.{stored_response_by_answer, stored_response_as_used, open_exchanges_after}
 use Rattle.proxy_core.specs.State.{next_serial_after, bounds_of}
 use Rattle.proxy_core.specs.Starts.{StoreAtStart, StartStands, changes_at_start, weight_if_any}
@@ -34,12 +35,20 @@ store_change_of i = record {
   removed = serials_removed_by_outcome i.outcome;
 }
 
--- the response of a serial after an event with its outcome: what the storing answer makes; a later 304 freshens it
+-- a response after an event that expires these serials
+abbrev pub response_if_any_after_expiring : Event → List ℕ → Option Stored → Option Stored
+response_if_any_after_expiring event [] response = response
+response_if_any_after_expiring event (s ∷ expired) response =
+    option_map (response_after_expiring event (s ∷ expired)) response
+
+-- the response of a serial after an event with its outcome: what the storing answer makes; a later 304 freshens it, and
+-- a purge may expire it
 abbrev pub stored_response_after : Option Exchange → Event → Outcome → (ℕ → Option Stored) → ℕ → Option Stored
 stored_response_after x event o entry s =
-    cond (is_that_serial (serial_stored_by_outcome o) s) (stored_response_by_answer x event s)
+    response_if_any_after_expiring event (serials_expired_by_outcome o)
+    (cond (is_that_serial (serial_stored_by_outcome o) s) (stored_response_by_answer x event s)
     (cond (is_that_serial (serial_used_by_outcome o) s) (option_map (stored_response_as_used x event) (entry s))
-    (entry s))
+    (entry s)))
 
 -- the open exchanges in the order of arrival, the response of a serial, held or not, and what was done to the store,
 -- with what the responses weighed once it was done

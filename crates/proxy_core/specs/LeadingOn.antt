@@ -1,12 +1,13 @@
 -- Who leads on where the client of a leader goes away before its answer, and who waits for that one.
 --
 -- wait_has_an_end: over its line the request of an exchange waits for a limited time
--- may_lead_on, next_leader: the first of those that wait whose answer others could be sent
+-- may_lead_on, first_to_lead_on: the first of those that wait whose answer others could be sent
+-- count_waiting, most_led_on, next_leader: the same, where not too many wait
 -- follows_leader: one that could be sent that answer, and waits for it
 -- stage_behind, led_on_exchange, exchanges_after_abandon: what becomes of them
 -- ExchangeMayLeadOn, IsNextLeader, CouldBeSentItsAnswer: the same in words
-use Rattle.std.specs.Prelude.{◌≡◌, ℕ, ◌==◌, ◌&&◌, ◌||◌, not, Bool, true, false, List, [], ◌∷◌, ◌++◌, Option, Some, None}
-use Rattle.std.specs.Prelude.{cond, is_some, filter, map}
+use Rattle.std.specs.Prelude.{◌≡◌, ℕ, ◌≤◌, nat_le, ◌==◌, ◌&&◌, ◌||◌, not, Bool, true, false, List, [], ◌∷◌, ◌++◌}
+use Rattle.std.specs.Prelude.{Option, Some, None, cond, is_some, filter, length, map}
 use Rattle.std.specs.List.{AllByRecursion}
 use Rattle.hx_allow.specs.TableLines.{Table}
 use Rattle.hx_allow.specs.Matching.{policy_of, wait_timeout_of}
@@ -38,10 +39,27 @@ abbrev pub leading_on : Exchange → NextLeader
 leading_on x = record { id = x.id; authorized = has_authorization x.asked }
 
 -- of the exchanges, which stand in the order of arrival, the first that waits for the one of this id and may lead on
+abbrev pub first_to_lead_on : Table → ℕ → List Exchange → Option NextLeader
+first_to_lead_on table id [] = None
+first_to_lead_on table id (x ∷ xs) =
+    cond (waits_for id x.stage && may_lead_on table x) (Some (leading_on x)) (first_to_lead_on table id xs)
+
+abbrev pub exchanges_without : ℕ → List Exchange → List Exchange
+exchanges_without id xs = filter (λ x. not (x.id == id)) xs
+
+-- how many wait for the exchange of this id
+abbrev pub count_waiting : ℕ → List Exchange → ℕ
+count_waiting id xs = length (filter (λ x. waits_for id x.stage) xs)
+
+-- own: so many are led on at most. Each of them is looked at, so what one client costs that goes away has a bound
+-- ("The first that waits leads on").
+abbrev pub most_led_on : ℕ
+most_led_on = 512
+
+-- of the others the first that may lead on, where no more wait than are led on
 abbrev pub next_leader : Table → ℕ → List Exchange → Option NextLeader
-next_leader table id [] = None
-next_leader table id (x ∷ xs) =
-    cond (waits_for id x.stage && may_lead_on table x) (Some (leading_on x)) (next_leader table id xs)
+next_leader table id xs =
+    cond (nat_le (count_waiting id xs) most_led_on) (first_to_lead_on table id (exchanges_without id xs)) None
 
 -- It could be sent the answer to the next leader, whose key is its own.
 -- own: as where it began to wait, over a line with the word one waits for one with Authorization exactly where it has
@@ -63,17 +81,10 @@ stage_behind table (Some next) x = cond (follows_leader table next x) (Waiting n
 abbrev pub led_on_exchange : Table → Option NextLeader → ℕ → Exchange → Exchange
 led_on_exchange table next id x = cond (waits_for id x.stage) (record x { stage = stage_behind table next x }) x
 
-abbrev pub exchanges_without : ℕ → List Exchange → List Exchange
-exchanges_without id xs = filter (λ x. not (x.id == id)) xs
-
--- the exchanges, of which one waits on for the others, or may be woken
-abbrev pub exchanges_led_on : Table → ℕ → List Exchange → List Exchange
-exchanges_led_on table id xs = map (led_on_exchange table (next_leader table id xs) id) xs
-
 -- own: an exchange ends since its client went away, and the first that waits for it leads on, if one may ("The first
 -- that waits leads on")
 abbrev pub exchanges_after_abandon : Table → ℕ → List Exchange → List Exchange
-exchanges_after_abandon table id xs = exchanges_led_on table id (exchanges_without id xs)
+exchanges_after_abandon table id xs = map (led_on_exchange table (next_leader table id xs) id) (exchanges_without id xs)
 
 -- ---- in words
 
@@ -86,13 +97,14 @@ pub record ExchangeMayLeadOn (table : Table) (id : ℕ) (x : Exchange) : Type 0 
   pub for_others : (policy_of table.lines x.line).waits_for_stale ≡ true
       → (x.no_store ≡ false) × (forwards_condition (policy_of table.lines x.line) x.asked ≡ false)
 
--- it is the first of these to arrive
+-- it is the first of these to arrive, and no more wait than are led on
 pub record IsNextLeader (table : Table) (id : ℕ) (xs : List Exchange) (x : Exchange) : Type 0 where
   pub before : List Exchange
   pub behind : List Exchange
   pub open_are : xs ≡ before ++ x ∷ behind
   pub it_may : ExchangeMayLeadOn table id x
   pub none_before : AllByRecursion (λ (y : Exchange). ExchangeMayLeadOn table id y → ⊥) before
+  pub few_wait : count_waiting id xs ≤ most_led_on
 
 -- Another exchange waits for a limited time, and the answer to this one could be sent to it: over a line with the word
 -- both have Authorization, or neither has.

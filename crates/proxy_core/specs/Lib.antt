@@ -22,6 +22,7 @@ pub mod Sending
 pub mod Uncached
 pub mod GoingOn
 pub mod StoredAnswers
+pub mod Expiring
 pub mod Headline
 pub mod Driving
 pub mod Restarts

@@ -16,6 +16,8 @@ use Rattle.std.specs.Option.{option_and_then}
 use Rattle.hx_hop.specs.declared.request_view.Asked.{Asked}
 use Rattle.hx_hop.specs.Forwarding.{forwarded_of}
 use Rattle.hx_hop.specs.Moments.{date_text_of}
+use Rattle.hx_allow.specs.PurgeModes.{mode_to_purge}
+use Rattle.hx_allow.specs.declared.purge_modes.PurgeMode.{PurgeMode}
 use Rattle.hx_allow.specs.TableLines.{Table}
 use Rattle.hx_allow.specs.Matching.{policy_of}
 use Rattle.proxy_core.specs.Allowing.{verdict_of_asked, exchanges_to_wait_for}
@@ -58,7 +60,7 @@ use Rattle.proxy_core.specs.Moments.{moment_too_late_fault}
 use Rattle.proxy_core.specs.Leading.{is_forwarded, is_waiting, is_released}
 use Rattle.proxy_core.specs.Awaiting.{awaited_of, leader_of_request}
 use Rattle.proxy_core.specs.Revalidating.{sent_beside}
-use Rattle.proxy_core.specs.Scopes.{serials_purged}
+use Rattle.proxy_core.specs.Scopes.{serials_purged, removed_in_mode, expired_in_mode}
 use Rattle.proxy_core.specs.Replies.{stored_text, passed_answer_text, refusal_reply_text, purge_reply_text, is_head}
 use Rattle.proxy_core.specs.Validating.{conditions_to_send, condition_about_serial, is_304_to_own_conditions}
 use Rattle.proxy_core.specs.Validating.{stored_response_validated, freshened_by_304, freshened_may_be_kept}
@@ -84,6 +86,7 @@ outcome_of_sending_stored table es serial now info asked =
       stored = None;
       used = Some serial;
       removed = [];
+      expired = None;
       purged = false;
     })
 
@@ -95,19 +98,27 @@ outcome_of_refusal now cause asked = Reply (record {
   stored = None;
   used = None;
   removed = [];
+  expired = None;
   purged = false;
 })
 
--- a purge: what is held within the scope of its request goes
-abbrev pub outcome_of_purge : List Stored → ℕ → Asked → Outcome
-outcome_of_purge es now asked = Reply (record {
-  bytes = purge_reply_text (date_text_of now) (length (serials_purged asked es)) asked.close;
-  close = asked.close;
+-- a purge, by these bytes, that takes these serials
+abbrev pub outcome_of_taking : List ℕ → Bool → PurgeMode → List ℕ → Outcome
+outcome_of_taking bytes close mode taken = Reply (record {
+  bytes = bytes;
+  close = close;
   stored = None;
   used = None;
-  removed = serials_purged asked es;
+  removed = removed_in_mode mode taken;
+  expired = expired_in_mode mode taken;
   purged = true;
 })
+
+-- A purge: what is held within the scope of its request goes, or is expired. Either way it is told how many those are.
+abbrev pub outcome_of_purge : List Stored → ℕ → Asked → Outcome
+outcome_of_purge es now asked = outcome_of_taking
+    (purge_reply_text (date_text_of now) (length (serials_purged asked es)) asked.close)
+    asked.close (mode_to_purge asked.fields) (serials_purged asked es)
 
 -- the bytes of a request that goes forward over a line; its own conditions and its range may stay with the proxy
 abbrev pub forward_text : Table → Route → Asked → Option Condition → List ℕ
@@ -237,6 +248,7 @@ outcome_of_passing_on table es now x r rule stored =
       stored = stored;
       used = None;
       removed = serials_removed_by_answer es x r stored;
+      expired = None;
       purged = false;
     })
 
@@ -267,6 +279,7 @@ outcome_of_sending_freshened table x r now e =
       stored = None;
       used = Some e.serial;
       removed = cond (freshened_may_be_kept table x r e) [] (e.serial ∷ []);
+      expired = None;
       purged = false;
     })
 

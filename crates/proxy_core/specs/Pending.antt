@@ -47,6 +47,7 @@ outcome_of_pending_reply p = Reply (record {
   stored = serial_stored_by_change p.change;
   used = serial_used_by_change p.change;
   removed = p.removed;
+  expired = None;
   purged = false;
 })
 

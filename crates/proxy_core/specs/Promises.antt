@@ -20,7 +20,8 @@ use Rattle.proxy_core.specs.declared.event.Event.{Event}
 use Rattle.proxy_core.specs.declared.event.Event.TheVariants.{Arrive, Answer, Fail, Wake, Abandon, Overdue}
 use Rattle.proxy_core.specs.Storing.{status_invalidates}
 use Rattle.proxy_core.specs.Outcomes.{exchange_id_of_event}
-use Rattle.proxy_core.specs.Scopes.{Scope, is_in_scope, scope_takes, target_alone}
+use Rattle.hx_allow.specs.PurgeModes.{mode_to_purge}
+use Rattle.proxy_core.specs.Scopes.{Scope, is_in_scope, scope_takes, scope_if_removing, target_alone}
 use Rattle.proxy_core.specs.State.{serial_stored_by_outcome, serial_used_by_outcome, scope_purged}
 use Rattle.proxy_core.specs.Starts.{StoreAtStart}
 use Rattle.proxy_core.specs.Traces.{Item}
@@ -107,18 +108,34 @@ reply_uses_no_stored_response WaitsNoMore = false
 abbrev pub key_invalidated_by_answer : Asked → Response → Option Key
 key_invalidated_by_answer asked r = cond (status_invalidates asked r.status) (Some asked.target.key) None
 
--- What an event with its outcome invalidates: where it is an answer, the target of an exchange with this request.
--- own: a request that purges invalidates what is within its scope, of that with a tag what names the tag ("A purge has
--- a key")
-abbrev pub scope_invalidated_by_event : Option Asked → Event → Outcome → Option Scope
-scope_invalidated_by_event (Some asked) (Answer now id r) outcome =
+-- What an event with its outcome overtakes: where it is an answer, the target of an exchange with this request.
+-- own: a request that purges overtakes what is within its scope ("A purge has a key")
+abbrev pub scope_overtaken_by_event : Option Asked → Event → Outcome → Option Scope
+scope_overtaken_by_event (Some asked) (Answer now id r) outcome =
     option_map target_alone (key_invalidated_by_answer asked r)
-scope_invalidated_by_event None (Answer now id r) outcome = None
-scope_invalidated_by_event asked (Arrive now id other) outcome = scope_purged other outcome
-scope_invalidated_by_event asked (Fail now id kind) outcome = None
-scope_invalidated_by_event asked (Wake now id) outcome = None
-scope_invalidated_by_event asked (Abandon id) outcome = None
-scope_invalidated_by_event asked (Overdue id) outcome = None
+scope_overtaken_by_event None (Answer now id r) outcome = None
+scope_overtaken_by_event asked (Arrive now id other) outcome = scope_purged other outcome
+scope_overtaken_by_event asked (Fail now id kind) outcome = None
+scope_overtaken_by_event asked (Wake now id) outcome = None
+scope_overtaken_by_event asked (Abandon id) outcome = None
+scope_overtaken_by_event asked (Overdue id) outcome = None
+
+-- Of that it invalidates what it is to remove.
+-- own: a purge that expires removes nothing ("A purge that expires")
+abbrev pub scope_invalidated_of : Event → Option Scope → Option Scope
+scope_invalidated_of (Arrive now id asked) scope = scope_if_removing (mode_to_purge asked.fields) scope
+scope_invalidated_of (Answer now id r) scope = scope
+scope_invalidated_of (Fail now id kind) scope = scope
+scope_invalidated_of (Wake now id) scope = scope
+scope_invalidated_of (Abandon id) scope = scope
+scope_invalidated_of (Overdue id) scope = scope
+
+-- What an event with its outcome invalidates: the target of an exchange with this request.
+-- own: a request that purges invalidates what is within its scope, of that with a tag what names the tag, unless it
+-- says that it stays ("A purge has a key")
+abbrev pub scope_invalidated_by_event : Option Asked → Event → Outcome → Option Scope
+scope_invalidated_by_event asked event outcome =
+    scope_invalidated_of event (scope_overtaken_by_event asked event outcome)
 
 abbrev pub is_overtaken_key : Option Scope → Key → Bool
 is_overtaken_key None key = false
@@ -128,7 +145,7 @@ is_overtaken_key (Some scope) key = is_in_scope scope key
 -- will name
 abbrev pub overtakes_key : Key → Item → List Item → Bool
 overtakes_key key i past = is_overtaken_key
-    (scope_invalidated_by_event (latest_request_of (exchange_id_of_event i.event) past) i.event i.outcome) key
+    (scope_overtaken_by_event (latest_request_of (exchange_id_of_event i.event) past) i.event i.outcome) key
 
 -- none of these items, after this past, does
 abbrev pub NoItemOvertakes : Key → List Item → List Item → Type 0

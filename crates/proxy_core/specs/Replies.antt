@@ -19,7 +19,7 @@ use Rattle.hx_policy.specs.declared.words.Policy.{Policy}
 use Rattle.hx_allow.specs.declared.verdicts.Route.{Route}
 use Rattle.hx_store.specs.Stored.{Stored}
 use Rattle.hx_reuse.specs.Conditions.{keeps_conditions}
-use Rattle.hx_reuse.specs.Lifetimes.{lifetime_under}
+use Rattle.hx_reuse.specs.Lifetimes.{lifetime_of_held, lifetime_under}
 use Rattle.hx_reuse.specs.FilledRanges.{fills_range}
 use Rattle.hx_validate.specs.Ranges.{fields_of_416_to_answer, fields_of_part, range_answer_of, response_in_range}
 use Rattle.hx_validate.specs.Room.{head_leaves_room}
@@ -48,9 +48,10 @@ is_head asked = bytes_eq asked.method (codes "HEAD")
 abbrev pub content_unless_head : Bool → List ℕ → List ℕ
 content_unless_head head content = cond head [] content
 
--- the seconds of freshness that are left of a stored response, by the line of the request that it is sent to
+-- the seconds of freshness that are left of a stored response, by the line of the request that it is sent to; none of
+-- one that a purge expired
 abbrev pub ttl_of_stored : Policy → Stored → ℕ → ℤ
-ttl_of_stored policy e now = ttl_of (lifetime_under policy e.status e.fields) (age_of e.times now)
+ttl_of_stored policy e now = ttl_of (lifetime_of_held policy e) (age_of e.times now)
 
 -- the status of the origin's answer, where another one is sent (RFC 9211, section 2.3)
 abbrev pub fwd_status_of : Option ℕ → ℕ → Option ℕ

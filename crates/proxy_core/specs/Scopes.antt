@@ -4,12 +4,17 @@
 -- is_in_scope: a key is within a scope        scope_takes: so is what is held for it, with these lines
 -- target_alone, scope_of_purge: the scopes of an answer and of a purge
 -- serials_within: what is held within a scope         serials_purged: that of a request that purges
-use Rattle.std.specs.Prelude.{ℕ, Bool, ◌&&◌, List, Option, None}
+-- serials_to_remove, serials_to_expire: what of it goes, and what stays and is expired
+-- scope_if_removing: a scope whose purge removes
+use Rattle.std.specs.Prelude.{ℕ, Bool, ◌&&◌, List, [], Option, None, Some}
 use Rattle.hx_fields.specs.declared.field_line.Field.{Field}
 use Rattle.hx_target.specs.declared.keys.Key.{Key}
 use Rattle.hx_hop.specs.declared.request_view.Asked.{Asked}
+use Rattle.hx_allow.specs.PurgeModes.{mode_to_purge}
 use Rattle.hx_allow.specs.Purges.{is_within_scope, scope_to_purge}
 use Rattle.hx_allow.specs.Tags.{names_tag_if_any, tag_to_purge}
+use Rattle.hx_allow.specs.declared.purge_modes.PurgeMode.{PurgeMode}
+use Rattle.hx_allow.specs.declared.purge_modes.PurgeMode.TheVariants.{Remove, Stale}
 use Rattle.hx_allow.specs.declared.purges.PurgeScope.{PurgeScope}
 use Rattle.hx_allow.specs.declared.purges.PurgeScope.TheVariants.{Target}
 use Rattle.hx_store.specs.Stored.{Stored}
@@ -55,3 +60,23 @@ is_purged asked e = scope_takes (scope_of_purge asked) e.key e.fields
 
 abbrev pub serials_purged : Asked → List Stored → List ℕ
 serials_purged asked es = serials_within (scope_of_purge asked) es
+
+-- own: what a purge takes goes, or it stays and is expired, as the purge says ("A purge that expires")
+abbrev pub removed_in_mode : PurgeMode → List ℕ → List ℕ
+removed_in_mode Remove taken = taken
+removed_in_mode Stale taken = []
+
+abbrev pub expired_in_mode : PurgeMode → List ℕ → Option (List ℕ)
+expired_in_mode Remove taken = None
+expired_in_mode Stale taken = Some taken
+
+abbrev pub serials_to_remove : Asked → List Stored → List ℕ
+serials_to_remove asked es = removed_in_mode (mode_to_purge asked.fields) (serials_purged asked es)
+
+abbrev pub serials_to_expire : Asked → List Stored → Option (List ℕ)
+serials_to_expire asked es = expired_in_mode (mode_to_purge asked.fields) (serials_purged asked es)
+
+-- the scope of a purge, if it removes what is held within it
+abbrev pub scope_if_removing : PurgeMode → Option Scope → Option Scope
+scope_if_removing Remove scope = scope
+scope_if_removing Stale scope = None

@@ -187,7 +187,7 @@ RequestIsTurnedAway table now asked outcome =
     ⊎ ((line : ℕ) × (verdict_of_asked table asked ≡ verdict.Looped line)
     × (outcome ≡ outcome_of_refusal now (Looped line) asked)))
 
--- one that purges: what is held within its scope goes, and it is told how many
+-- one that purges: what is held within its scope goes or is expired, and it is told how many those are
 abbrev pub RequestPurges : List Stored → ℕ → Asked → Outcome → Type 0
 RequestPurges held now asked outcome = outcome ≡ outcome_of_purge held now asked
 

@@ -6,7 +6,7 @@
 -- state_after: what a step leaves
 -- StepIsAccepted: a step that was done             StepIsRefusedWith: one that wasn't
 use Rattle.std.specs.Prelude.{◌≡◌, ◌⊎◌, ℕ, ◌+◌, ◌^◌, ◌≤◌, ◌==◌, nat_lt, not, Bool, true, false, List, [], ◌∷◌, ◌++◌}
-use Rattle.std.specs.Prelude.{filter, map, Option, Some, None, option_map, cond, ◌&&◌}
+use Rattle.std.specs.Prelude.{filter, map, Option, Some, None, option_map, cond, ◌&&◌, unwrap_or}
 use Rattle.hx_framing.specs.declared.messages.Response.{Response}
 use Rattle.hx_hop.specs.declared.request_view.Asked.{Asked}
 use Rattle.hx_allow.specs.TableLines.{Table}
@@ -16,7 +16,7 @@ use Rattle.hx_allow.specs.declared.verdicts.Route.{Route}
 use Rattle.hx_allow.specs.declared.verdicts.Verdict.{Verdict}
 use Rattle.hx_allow.specs.declared.verdicts.Verdict.TheVariants as verdict
 use Rattle.hx_store.specs.Stored.{Stored}
-use Rattle.hx_store.specs.Shelf.{holds_serial, find_entry, without_serials, with_in_front}
+use Rattle.hx_store.specs.Shelf.{holds_serial, find_entry, without_serials, with_in_front, expired_entry, with_expired}
 use Rattle.hx_store.specs.Weights.{StoreBounds, cut_to_bounds}
 use Rattle.hx_reuse.specs.Rules.{decision_of}
 use Rattle.hx_reuse.specs.declared.decision.Decision.{Decision}
@@ -36,7 +36,10 @@ use Rattle.proxy_core.specs.Leading.{waits_for, is_waiting, has_no_store}
 use Rattle.proxy_core.specs.LeadingOn.{exchanges_after_abandon}
 use Rattle.proxy_core.specs.Outcomes.{find_exchange, exchange_id_of_event, outcome_of_event, step_fault}
 use Rattle.proxy_core.specs.Storing.{stored_response_made, key_invalidated}
-use Rattle.proxy_core.specs.Scopes.{Scope, is_in_scope, target_alone, scope_of_purge}
+use Rattle.hx_allow.specs.PurgeModes.{mode_to_purge}
+use Rattle.hx_allow.specs.declared.purge_modes.PurgeMode.{PurgeMode}
+use Rattle.hx_allow.specs.declared.purge_modes.PurgeMode.TheVariants.{Remove, Stale}
+use Rattle.proxy_core.specs.Scopes.{Scope, is_in_scope, target_alone, scope_of_purge, serials_purged}
 use Rattle.proxy_core.specs.Validating.{condition_about_serial, stored_response_is_answered, freshened_by_304}
 
 -- the operator's table, the most responses that are held, those held, the latest stored or used first, the open
@@ -68,6 +71,17 @@ serials_removed_by_outcome (Forward line bytes) = []
 serials_removed_by_outcome (Waits leader) = []
 serials_removed_by_outcome Ended = []
 serials_removed_by_outcome WaitsNoMore = []
+
+-- what a purge expired, if it is one that expires
+abbrev pub expired_by_outcome : Outcome → Option (List ℕ)
+expired_by_outcome (Reply r) = r.expired
+expired_by_outcome (Forward line bytes) = None
+expired_by_outcome (Waits leader) = None
+expired_by_outcome Ended = None
+expired_by_outcome WaitsNoMore = None
+
+abbrev pub serials_expired_by_outcome : Outcome → List ℕ
+serials_expired_by_outcome outcome = unwrap_or (expired_by_outcome outcome) []
 
 -- the outcome is that of a purge
 abbrev pub outcome_purges : Outcome → Bool
@@ -125,11 +139,36 @@ cut_where_touched bounds None None es = es
 cut_where_touched bounds None (Some used) es = cut_to_bounds bounds es
 cut_where_touched bounds (Some stored) used es = cut_to_bounds bounds es
 
+-- What an event makes of a held response where it expires these serials: from the moment of the request that purges on
+-- it is stale (RFC 9111, section 4.2). No other event expires any.
+-- own: "A purge that expires"
+abbrev pub response_after_expiring : Event → List ℕ → Stored → Stored
+response_after_expiring (Arrive now id asked) expired e = expired_entry expired now e
+response_after_expiring (Answer now id r) expired e = e
+response_after_expiring (Fail now id kind) expired e = e
+response_after_expiring (Wake now id) expired e = e
+response_after_expiring (Abandon id) expired e = e
+response_after_expiring (Overdue id) expired e = e
+
+-- each stays where it is
+abbrev pub entries_after_expiring : Event → List ℕ → List Stored → List Stored
+entries_after_expiring event [] es = es
+entries_after_expiring event (s ∷ expired) es = map (response_after_expiring event (s ∷ expired)) es
+
 abbrev pub entries_after : StoreBounds → List Stored → Option Exchange → Event → Outcome → List Stored
 entries_after bounds es x event o =
-    cut_where_touched bounds (serial_stored_by_outcome o) (serial_used_by_outcome o)
+    entries_after_expiring event (serials_expired_by_outcome o)
+    (cut_where_touched bounds (serial_stored_by_outcome o) (serial_used_by_outcome o)
     (entries_after_storing x event (serial_stored_by_outcome o) (serials_removed_by_outcome o)
-    (entries_after_use x event (serial_used_by_outcome o) es))
+    (entries_after_use x event (serial_used_by_outcome o) es)))
+
+-- what is held once a purge took these serials at a moment, and once a request purged
+abbrev pub entries_after_taking : PurgeMode → List ℕ → ℕ → List Stored → List Stored
+entries_after_taking Remove taken now es = entries_without_serials taken es
+entries_after_taking Stale taken now es = with_expired taken now es
+
+abbrev pub entries_after_purge : Asked → ℕ → List Stored → List Stored
+entries_after_purge asked now es = entries_after_taking (mode_to_purge asked.fields) (serials_purged asked es) now es
 
 -- an exchange that waits for the one of this id waits no longer
 abbrev pub released_exchange : ℕ → Exchange → Exchange

@@ -6,7 +6,7 @@
 -- KeyStaysValidSinceItWent: nothing that was asked for under its key was overtaken meanwhile
 -- AnswerMayBeStored: all that is asked             IsAnswerThatMayBeStored: an item that stores it
 -- FreshenedMayBeKept: what is asked of a response that a 304 freshens
--- ThoseAreRemoved: what an item takes away
+-- ThoseAreRemoved, ThoseAreExpired: what an item takes away, and what it expires
 use Rattle.std.specs.Prelude.{◌≡◌, ◌⊎◌, ℕ, ◌≤◌, Bool, true, false, cond, bytes_eq, List, [], ◌∷◌, ◌++◌, length, codes}
 use Rattle.std.specs.Prelude.{is_some, All, Option, Some, None, IfSome}
 use Rattle.hx_fields.specs.declared.field_line.Field.{Field}
@@ -45,8 +45,8 @@ use Rattle.proxy_core.specs.Validating.{stored_response_validated, freshened_by_
 use Rattle.proxy_core.specs.Validating.{head_of_stored}
 use Rattle.proxy_core.specs.Outcomes.{find_exchange, exchange_id_of_event}
 use Rattle.proxy_core.specs.State.{serial_stored_by_outcome, serial_used_by_outcome, serials_removed_by_outcome}
-use Rattle.proxy_core.specs.Scopes.{serials_purged}
-use Rattle.proxy_core.specs.State.{outcome_purges}
+use Rattle.proxy_core.specs.Scopes.{serials_to_remove, serials_to_expire}
+use Rattle.proxy_core.specs.State.{outcome_purges, expired_by_outcome}
 use Rattle.proxy_core.specs.Allowing.{request_purges}
 use Rattle.proxy_core.specs.Starts.{StoreAtStart}
 use Rattle.proxy_core.specs.Traces.{Item}
@@ -176,17 +176,28 @@ RemovedByAnswer table held x now r (Some stored) gone = gone ≡ replaced_by hel
 RemovedByAnswer table held x now r None gone = RemovedByStatus table held x now r
     (key_invalidated_by_answer x.asked r) gone
 
--- a request that purges takes away all that is held within its scope; no other event takes anything away
+-- a request that purges takes away all that is held within its scope, unless it says that it stays; no other event
+-- takes anything away
 abbrev pub ThoseAreRemoved : Table → List Stored → Option Exchange → Event → Outcome → Type 0
 ThoseAreRemoved table held (Some x) (Answer now id r) outcome = RemovedByAnswer table held x now r
     (serial_stored_by_outcome outcome) (serials_removed_by_outcome outcome)
 ThoseAreRemoved table held None (Answer now id r) outcome = serials_removed_by_outcome outcome ≡ []
 ThoseAreRemoved table held x (Arrive now id asked) outcome = serials_removed_by_outcome outcome
-    ≡ cond (request_purges table asked) (serials_purged asked held) []
+    ≡ cond (request_purges table asked) (serials_to_remove asked held) []
 ThoseAreRemoved table held x (Fail now id kind) outcome = serials_removed_by_outcome outcome ≡ []
 ThoseAreRemoved table held x (Wake now id) outcome = serials_removed_by_outcome outcome ≡ []
 ThoseAreRemoved table held x (Abandon id) outcome = serials_removed_by_outcome outcome ≡ []
 ThoseAreRemoved table held x (Overdue id) outcome = serials_removed_by_outcome outcome ≡ []
+
+-- own: where it says so, that stays, and is expired; no other event expires anything ("A purge that expires")
+abbrev pub ThoseAreExpired : Table → List Stored → Event → Outcome → Type 0
+ThoseAreExpired table held (Arrive now id asked) outcome = expired_by_outcome outcome
+    ≡ cond (request_purges table asked) (serials_to_expire asked held) None
+ThoseAreExpired table held (Answer now id r) outcome = expired_by_outcome outcome ≡ None
+ThoseAreExpired table held (Fail now id kind) outcome = expired_by_outcome outcome ≡ None
+ThoseAreExpired table held (Wake now id) outcome = expired_by_outcome outcome ≡ None
+ThoseAreExpired table held (Abandon id) outcome = expired_by_outcome outcome ≡ None
+ThoseAreExpired table held (Overdue id) outcome = expired_by_outcome outcome ≡ None
 
 -- by the table an event purges
 abbrev pub event_purges : Table → Event → Bool
@@ -230,6 +241,13 @@ ItemPurgesWhereItsLineSaysSo =
     (table : Table) (start : StoreAtStart) (first : ℕ) (item : Item) (past : List Item)
     → IsGoodHistory table start first (item ∷ past) →
     outcome_purges item.outcome ≡ event_purges table item.event
+
+-- what an item expires
+abbrev pub ItemExpiresExactlyThese : Type 0
+ItemExpiresExactlyThese =
+    (table : Table) (start : StoreAtStart) (first : ℕ) (item : Item) (past : List Item)
+    → IsGoodHistory table start first (item ∷ past) →
+    ThoseAreExpired table (held_entries table start past) item.event item.outcome
 
 -- what the storing rules and the room of a head let be kept is what may be
 abbrev pub FreshenedIsKeptWhereItMayBe : Type 0

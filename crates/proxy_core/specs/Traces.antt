@@ -81,9 +81,9 @@ ArrivalIsDenied table (Wake now id) = ⊥
 ArrivalIsDenied table (Abandon id) = ⊥
 ArrivalIsDenied table (Overdue id) = ⊥
 
--- nothing is stored, used or removed, and no exchange opens
+-- nothing is stored, used, removed or expired, and no exchange opens
 abbrev pub OutcomeLeavesNoTrace : Outcome → Type 0
-OutcomeLeavesNoTrace (Reply r) = (r.stored ≡ None) × (r.used ≡ None) × (r.removed ≡ [])
+OutcomeLeavesNoTrace (Reply r) = (r.stored ≡ None) × (r.used ≡ None) × (r.removed ≡ []) × (r.expired ≡ None)
 OutcomeLeavesNoTrace (Forward line bytes) = ⊥
 OutcomeLeavesNoTrace (Waits leader) = ⊥
 OutcomeLeavesNoTrace Ended = ⊥

@@ -4,7 +4,7 @@
 -- is_304_to_own_conditions: a 304 to what it carried
 -- stored_response_is_answered: the 304 answers a held response
 -- without_cookies, stored_without_cookies: what is left where cookies are removed
--- freshened_by_304: what that becomes
+-- times_after_304, freshened_by_304: what that becomes
 -- freshened_may_be_kept: and whether it is kept, by the storing rules
 use Rattle.std.specs.Prelude.{ℕ, ◌==◌, nat_lt, ◌&&◌, ◌||◌, Bool, false, List, length, codes, Option, Some, None}
 use Rattle.std.specs.Prelude.{option_map, is_some, is_none, cond}
@@ -13,6 +13,7 @@ use Rattle.hx_fields.specs.declared.field_line.Field.{Field}
 use Rattle.hx_fields.specs.FieldLines.{without_named}
 use Rattle.hx_framing.specs.declared.messages.Response.{Response}
 use Rattle.hx_age.specs.Age.{times_of}
+use Rattle.hx_age.specs.declared.moments.Times.{Times}
 use Rattle.hx_vary.specs.Vary.{is_star}
 use Rattle.hx_hop.specs.Answering.{answered_of}
 use Rattle.hx_hop.specs.Stripping.{lists_cache_field}
@@ -87,11 +88,19 @@ without_cookies removes fields = cond removes (without_named fields (codes "Set-
 abbrev pub stored_without_cookies : Exchange → Stored → Stored
 stored_without_cookies x e = record e { fields = without_cookies x.removes_cookies e.fields }
 
--- what it becomes: the times are those of the 304 (RFC 9111, section 4.3.4), and what the line names for Vary counts
+-- The times that a 304 leaves a held response: its own (RFC 9111, section 4.3.4).
+-- own: to a request that was overtaken it says nothing of what was expired since, so that stays expired ("A purge that
+-- expires")
+abbrev pub times_after_304 : Exchange → Response → ℕ → Stored → Times
+times_after_304 x r now e = record (times_of (answered_of r now).fields x.request_time now) {
+  expired = cond x.overtaken e.times.expired None;
+}
+
+-- what it becomes: with the times that the 304 leaves it, and what the line names for Vary counts
 abbrev pub freshened_by_304 : Exchange → Response → ℕ → Stored → Stored
 freshened_by_304 x r now e =
     stored_without_cookies x
-    (freshened_of x.vary e (answered_of r now) x.asked (times_of (answered_of r now).fields x.request_time now))
+    (freshened_of x.vary e (answered_of r now) x.asked (times_after_304 x r now e))
 
 -- the same request, of method GET
 -- own: what a HEAD had validated is judged as if a GET had asked, and may be kept for one

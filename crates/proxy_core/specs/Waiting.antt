@@ -226,7 +226,7 @@ stage_of_waiter (Some leader) = Waiting leader
 abbrev pub leader_followed : Table → List Exchange → ℕ → ℕ → Option ℕ
 leader_followed table xs id leader =
     option_and_then (λ (x : Exchange). leader_of_stage
-    (stage_behind table (next_leader table leader (exchanges_without leader xs)) x))
+    (stage_behind table (next_leader table leader xs) x))
     (find_exchange id (exchanges_without leader xs))
 
 abbrev pub leader_after_end : Table → List Exchange → ℕ → ℕ → Event → Option ℕ

@@ -78,6 +78,11 @@ get_admin = get_of (codes "/admin")
 abbrev pub purge_admin : Asked
 purge_admin = get_or_other_request (codes "PURGE") (codes "/admin") (line (codes "Purge-Key") purge_key ∷ [])
 
+-- and one that says, of all that is held, that it stays
+abbrev pub purge_all_to_expire : Asked
+purge_all_to_expire = get_or_other_request (codes "PURGE") (codes "/admin") (line (codes "Purge-Key") purge_key
+    ∷ line (codes "Purge-Scope") (codes "all") ∷ line (codes "Purge-Mode") (codes "stale") ∷ [])
+
 abbrev pub get_raw : Asked
 get_raw = get_of (codes "/raw")
 
@@ -115,18 +120,46 @@ reply_without_store bytes = Reply (record {
   stored = None;
   used = None;
   removed = [];
+  expired = None;
   purged = false;
 })
 
 -- a reply of these bytes, which is stored as this and takes these away
 abbrev pub reply_that_stores : List ℕ → Option ℕ → List ℕ → Outcome
 reply_that_stores bytes stored removed =
-    Reply (record { bytes = bytes; close = false; stored = stored; used = None; removed = removed; purged = false })
+    Reply (record {
+      bytes = bytes;
+      close = false;
+      stored = stored;
+      used = None;
+      removed = removed;
+      expired = None;
+      purged = false;
+    })
+
+-- a reply that expires these
+abbrev pub reply_that_expires : List ℕ → Outcome
+reply_that_expires expired = Reply (record {
+  bytes = [];
+  close = false;
+  stored = None;
+  used = None;
+  removed = [];
+  expired = Some expired;
+  purged = true;
+})
 
 -- the stored response of this serial, in these bytes
 abbrev pub reply_that_sends_stored : ℕ → List ℕ → Outcome
-reply_that_sends_stored serial bytes = Reply
-    (record { bytes = bytes; close = false; stored = None; used = Some serial; removed = []; purged = false })
+reply_that_sends_stored serial bytes = Reply (record {
+  bytes = bytes;
+  close = false;
+  stored = None;
+  used = Some serial;
+  removed = [];
+  expired = None;
+  purged = false;
+})
 
 -- ---- what went before, the latest first
 
@@ -229,7 +262,15 @@ purge_of_tag tag = get_or_other_request (codes "PURGE") (codes "/admin") (line (
 -- its reply, which takes nothing away
 abbrev pub purge_item : List ℕ → Item
 purge_item tag = item_of (Arrive 110 2 (purge_of_tag tag))
-    (Reply (record { bytes = []; close = false; stored = None; used = None; removed = []; purged = true }))
+    (Reply (record {
+      bytes = [];
+      close = false;
+      stored = None;
+      used = None;
+      removed = [];
+      expired = None;
+      purged = true;
+    }))
 
 -- GET /a was stored as 1, and names two tags
 abbrev pub trace_stores_tagged : List Item
@@ -253,3 +294,9 @@ trace_stores_behind_a_purge tag =
 abbrev pub trace_sends_of_the_start_behind_a_purge : List ℕ → List Item
 trace_sends_of_the_start_behind_a_purge tag =
     item_of (Arrive 120 3 get_a) (reply_that_sends_stored 1 []) ∷ purge_item tag ∷ []
+
+-- ---- a purge that expires
+
+-- it takes all, and nothing away
+abbrev pub purge_item_that_expires : Item
+purge_item_that_expires = item_of (Arrive 110 2 purge_all_to_expire) (reply_that_expires (1 ∷ []))

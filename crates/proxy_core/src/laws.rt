@@ -39,7 +39,7 @@ ghost use Rattle.proxy_core.specs.Waiting.{WakeIsAcceptedExactlyWhereReady, Woke
 ghost use Rattle.proxy_core.specs.Waiting.{PlainLinesWaitForMisses};
 ghost use Rattle.proxy_core.specs.Awaiting.{WhoWaitedIsKeptBackByTheAnswerAlone};
 ghost use Rattle.proxy_core.specs.StoredAnswers.{ItemRemovesExactlyThese, ItemPurgesWhereItsLineSaysSo};
-ghost use Rattle.proxy_core.specs.StoredAnswers.{NothingElseIsStored};
+ghost use Rattle.proxy_core.specs.StoredAnswers.{ItemExpiresExactlyThese, NothingElseIsStored};
 ghost use Rattle.proxy_core.specs.StoredAnswers.{AnswerIsStoredWhereItMayBe, FreshenedIsKeptWhereItMayBe};
 ghost use Rattle.proxy_core.specs.StoredAnswers.{NothingElseIsKept};
 ghost use Rattle.proxy_core.specs.Uncached.{NothingIsStoredOverUncachedLine, NothingStoredIsSentOverUncachedLine};
@@ -48,10 +48,12 @@ ghost use Rattle.proxy_core.specs.Uncached.{RequestGoesForwardOverUncachedLine};
 mod bound_cases;
 mod cookie_cases;
 mod event_cases;
+mod expiring_cases;
 mod headline_cases;
 mod leader_cases;
 mod promise_cases;
 mod purge_cases;
+mod purged_cases;
 mod range_cases;
 mod tag_cases;
 mod worked_cases;
@@ -68,7 +70,7 @@ pub use headline_cases::{
     the_headline_refuses_what_the_table_forbids, the_headline_refuses_wrong_purges,
     the_headline_refuses_wrong_storing,
 };
-pub use leader_cases::{who_follows_the_next_leader, who_leads_on};
+pub use leader_cases::{how_many_are_led_on, who_follows_the_next_leader, who_leads_on};
 pub use promise_cases::{
     a_denied_request_leaves_no_trace, an_exchange_goes_twice_and_replies_once,
     no_run_stops_without_a_fault, sending_what_is_invalidated_is_refused,
@@ -77,6 +79,7 @@ pub use promise_cases::{
 pub use purge_cases::{
     a_purge_takes_what_is_within_its_scope, what_a_purge_takes, what_a_purge_with_a_tag_takes,
 };
+pub use purged_cases::what_is_told_of_what_was_purged;
 pub use range_cases::{worked_parts_of_answers, worked_ranges_that_lead};
 pub use tag_cases::{tags_stay_with_the_proxy, worked_tags_of_parts, worked_tags_that_are_hidden};
 pub use worked_cases::{
@@ -249,12 +252,14 @@ pub fn an_overdue_request_may_be_woken()
 /// In a good trace the answer to an open exchange is stored exactly where RFC 9111, section 3 lets
 /// it be, with the choices that the definition marks *own*, and no stored response is sent in its
 /// place: under the next serial. What goes with a step is what a stored answer takes the place of,
-/// what an unsafe request invalidates, what a 304 freshens and may not be kept, and what a request purges.
+/// what an unsafe request invalidates, what a 304 freshens and may not be kept, and what a request purges, which
+/// expires it instead where it says so.
 pub fn an_answer_is_stored_where_it_may_be()
     ensures every { AnswerIsStoredWhereItMayBe }
     ensures only { NothingElseIsStored }
     ensures removed { ItemRemovesExactlyThese }
     ensures purges { ItemPurgesWhereItsLineSaysSo }
+    ensures expired { ItemExpiresExactlyThese }
 {}
 
 /// What a 304 makes of a held response is kept exactly where a response with its lines could be

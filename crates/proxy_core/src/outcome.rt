@@ -18,6 +18,8 @@ pub struct Reply {
     pub used: Option<u64>,
     /// The serials that were taken out, ascending. An evicted one isn't among them.
     pub removed: Serials,
+    /// The serials that a purge expired, ascending, where it is one that expires. They are held still.
+    pub expired: Option<Serials>,
     /// Whether the request purged what was held within its scope.
     pub purged: bool,
 }

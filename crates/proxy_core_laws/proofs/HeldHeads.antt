@@ -11,6 +11,7 @@ use Rattle.hx_allow.specs.Matching.{policy_of}
 use Rattle.hx_hop.specs.Answering.{answered_of}
 use Rattle.hx_reuse.specs.Rules.{decision_of}
 use Rattle.hx_reuse.specs.declared.decision.Decision.{Decision}
+use Rattle.hx_age.specs.declared.moments.Times.{Times}
 use Rattle.hx_store.specs.Stored.{Stored}
 use Rattle.hx_store.specs.Serials.{serial_is_in}
 use Rattle.hx_store.specs.Shelf.{find_entry, holds_serial, serials}
@@ -30,11 +31,12 @@ use Rattle.proxy_core.specs.Histories.{IsGoodHistory, store_change_of, held_entr
 use Rattle.proxy_core.specs.Moments.{moment_too_late_fault}
 use Rattle.proxy_core.specs.Outcomes.{outcome_of_failure, fallback_for, fault_at_exchange, find_exchange, exchange_id_of_event, is_error_status, fault_if_not_forwarded, outcome_of, outcome_of_passing_on_or_stale, outcome_of_304}
 use Rattle.proxy_core.specs.ReadAnswers.{EventIsReadFromAStream}
-use Rattle.proxy_core.specs.State.{serials_removed_by_outcome, stored_response_by_answer, serial_stored_by_outcome, stored_response_as_used, serial_used_by_outcome}
+use Rattle.proxy_core.specs.State.{serials_expired_by_outcome, serials_removed_by_outcome, stored_response_by_answer, serial_stored_by_outcome, stored_response_as_used, serial_used_by_outcome}
 use Rattle.proxy_core.specs.Starts.{StoreAtStart, EachHeldAtFirst}
-use Rattle.proxy_core.specs.Storing.{is_304_without_condition}
+use Rattle.proxy_core.specs.Storing.{is_304_without_condition, stored_response_made}
 use Rattle.proxy_core.specs.Traces.{Item, initial_state, state_after_trace}
 use Rattle.proxy_core.specs.Validating.{as_get_request, head_of_stored, stored_response_if_answered, stored_response_is_answered, condition_is_answered, freshened_may_be_kept, is_304_to_own_conditions, storing_facts_of_freshened, freshened_by_304, serial_asked_about, stored_response_validated}
+use Rattle.proxy_core.proofs.ExpiredEntries.{was_there}
 use Rattle.proxy_core.proofs.HeldEntries.{EachIs-find, held_found}
 use Rattle.proxy_core.proofs.HeldLaw.{held_before_cut, entries_are_held, good_plain, stands_for}
 use Rattle.proxy_core.proofs.Leaving.{serial_stays, unanswered, validated_is}
@@ -141,6 +143,21 @@ module _ (table : Table) (es : List Stored) (xs : List Exchange) (next : Option 
 
 -- ---- what an answer makes
 
+as_made : (f e : Stored) → e ≡ f → e ≡ record f { times = e.times }
+as_made f e h = h ∙ ap (λ (g : Stored). record f { times = g.times }) (sym h)
+
+-- and what is so of whatever times
+with_times : (s : ℕ) (e : Stored) (t : Times) → LeavesRoomOrIsAsStored s e → LeavesRoomOrIsAsStored s (record e { times = t })
+with_times s e t (inl room) = inl room
+with_times s e t (inr stored) = inr (record {
+  exchange = stored.exchange;
+  response = stored.response;
+  now = stored.now;
+  was_read = stored.was_read;
+  early = stored.early;
+  is = ap (λ (g : Stored). record g { times = t }) stored.is;
+})
+
 made_so : (x : Option Exchange) (event : Event) (s : ℕ) (e : Stored) → fault_at_exchange x event ≡ None → EventIsReadFromAStream event → stored_response_by_answer x event s ≡ Some e → LeavesRoomOrIsAsStored s e
 made_so (Some x) (Answer now id r) s e allowed is h =
     inr (record {
@@ -149,7 +166,7 @@ made_so (Some x) (Answer now id r) s e allowed is h =
       now = now;
       was_read = is;
       early = in_time now (first_none (moment_too_late_fault now) (fault_if_not_forwarded x.stage) allowed);
-      is = some_same (sym h);
+      is = as_made (stored_response_made s x r now) e (some_same (sym h));
     })
 made_so (Some x) (Arrive now id asked) s e allowed is h = absurd cc
 made_so (Some x) (Fail now id kind) s e allowed is h = absurd cc
@@ -192,11 +209,14 @@ module _ (table : Table) (start : StoreAtStart) (first : ℕ) where
   abbrev Earlier : ℕ → List Item → Type 0
   Earlier s past = (f : Stored) → serial_is_in s (held_serials table start past) ≡ true → held_entry table start past s ≡ Some f → LeavesRoomOrIsAsStored s f
 
-  held_either : EachHeldAtFirst LeavesRoomOrIsAsStored start → (trace : List Item) → IsGoodHistory table start first trace → AllByRecursion (λ item. EventIsReadFromAStream item.event) trace → (s : ℕ) (e : Stored)
-      → serial_is_in s (held_serials table start trace) ≡ true → held_entry table start trace s ≡ Some e → LeavesRoomOrIsAsStored s e
-  held_either begins [] good read s e inside h = begins s e h
-  held_either begins (item ∷ past) good read s e inside h =
-      by_tests (λ f k look. held_either begins past good.1 read.1 s f k look) (is_that_serial (serial_stored_by_outcome item.outcome) s) refl (is_that_serial (serial_used_by_outcome item.outcome) s) refl h
+  -- before a purge may have ended its lifetime
+  held_after : (item : Item) (past : List Item) → IsGoodHistory table start first (item ∷ past) → AllByRecursion (λ item. EventIsReadFromAStream item.event) (item ∷ past) → (s : ℕ) (e : Stored)
+      → serial_is_in s (held_serials table start (item ∷ past)) ≡ true → Earlier s past
+      → cond (is_that_serial (serial_stored_by_outcome item.outcome) s) (stored_response_by_answer (find_exchange (exchange_id_of_event item.event) (open_exchanges table start past)) item.event s)
+      (cond (is_that_serial (serial_used_by_outcome item.outcome) s) (option_map (stored_response_as_used (find_exchange (exchange_id_of_event item.event) (open_exchanges table start past)) item.event) (held_entry table start past s)) (held_entry table start past s)) ≡ Some e
+      → LeavesRoomOrIsAsStored s e
+  held_after item past good read s e inside earlier h =
+      by_tests earlier (is_that_serial (serial_stored_by_outcome item.outcome) s) refl (is_that_serial (serial_used_by_outcome item.outcome) s) refl h
     where
       x : Option Exchange
       x = find_exchange (exchange_id_of_event item.event) (open_exchanges table start past)
@@ -219,8 +239,19 @@ module _ (table : Table) (start : StoreAtStart) (first : ℕ) where
       by_tests earlier false is true using k = by_used earlier (the_serial (serial_used_by_outcome item.outcome) s using) k
       by_tests earlier false is false using k = earlier e ((stays_in table start item past s inside).1 (both_false (is_that_serial (serial_stored_by_outcome item.outcome) s) (is_that_serial (serial_used_by_outcome item.outcome) s) is using)) k
 
+  held_either : EachHeldAtFirst LeavesRoomOrIsAsStored start → (trace : List Item) → IsGoodHistory table start first trace → AllByRecursion (λ item. EventIsReadFromAStream item.event) trace → (s : ℕ) (e : Stored)
+      → serial_is_in s (held_serials table start trace) ≡ true → held_entry table start trace s ≡ Some e → LeavesRoomOrIsAsStored s e
+  held_either begins [] good read s e inside h = begins s e h
+  held_either begins (item ∷ past) good read s e inside h =
+      let there = was_there item.event (serials_expired_by_outcome item.outcome) _ e h in
+      subst (LeavesRoomOrIsAsStored s) (sym there.is)
+      (with_times s there.response there.times (held_after item past good read s there.response inside (λ f k look. held_either begins past good.1 read.1 s f k look) there.was))
+
 pub holds_with_room : HeldHeadLeavesRoom
 holds_with_room table start first trace good begins read s e inside h = held_either table start first begins trace good read s e inside h
+
+bounded_with_times : (e : Stored) (t : Times) → HeadIsBounded e → HeadIsBounded (record e { times = t })
+bounded_with_times e t h = record { lines = h.lines; bytes = h.bytes }
 
 pub holds_bounded : HeldHeadIsBounded
 holds_bounded table start first trace good begins read s e inside h = by_case (held_either table start first begins trace good read s e inside h)
@@ -229,7 +260,8 @@ holds_bounded table start first trace good begins read s e inside h = by_case (h
     by_case (inl room) = roomy e room
     by_case (inr as_stored) =
         let read = as_stored.was_read in
-        subst HeadIsBounded (sym as_stored.is) (stores_bounded read.max_body s as_stored.now read.to_head read.ended read.bytes read.rest as_stored.exchange as_stored.response read.reads as_stored.early)
+        subst HeadIsBounded (sym as_stored.is) (bounded_with_times (stored_response_made s as_stored.exchange as_stored.response as_stored.now) e.times
+        (stores_bounded read.max_body s as_stored.now read.to_head read.ended read.bytes read.rest as_stored.exchange as_stored.response read.reads as_stored.early))
 
 -- ---- what was freshened
 

@@ -1,10 +1,12 @@
 -- Whatever is held can be sent as one response, where the answers of a history were read.
-use Rattle.std.proofs.Common.{◌≡◌, ◌<◌, ℕ, Bool, true, false, cond, [], ◌∷◌, refl, subst}
+use Rattle.std.proofs.Common.{◌≡◌, ◌<◌, ℕ, Bool, true, false, cond, [], ◌∷◌, refl, sym, subst}
 use Rattle.std.specs.Prelude.{Option, Some, None, option_map, nat_lt}
 use Rattle.std.proofs.lemmas.Bool.{ltb-true}
 use Rattle.hx_fields.specs.declared.limits.TheConstants.{END_OF_TIME}
+use Rattle.hx_age.specs.declared.moments.Times.{Times}
 use Rattle.hx_store.specs.Stored.{Stored}
 use Rattle.hx_store.specs.Recency.{is_that_serial}
+use Rattle.proxy_core.proofs.ExpiredEntries.{was_there}
 use Rattle.proxy_core.specs.declared.open.exchange.Exchange.{Exchange}
 use Rattle.proxy_core.specs.declared.event.Event.{Event}
 use Rattle.proxy_core.specs.declared.event.Event.TheVariants.{Arrive, Answer, Fail, Wake, Abandon, Overdue}
@@ -14,10 +16,9 @@ use Rattle.proxy_core.specs.Histories.{held_entry, open_exchanges}
 use Rattle.proxy_core.specs.Moments.{moment_too_late_fault}
 use Rattle.proxy_core.specs.Outcomes.{fault_at_exchange, find_exchange, exchange_id_of_event, or_fault, fault_if_not_forwarded}
 use Rattle.proxy_core.specs.ReadAnswers.{EventIsReadFromAStream}
-use Rattle.proxy_core.specs.State.{serial_stored_by_outcome, serial_used_by_outcome, stored_response_by_answer, stored_response_as_used}
+use Rattle.proxy_core.specs.State.{serials_expired_by_outcome, serial_stored_by_outcome, serial_used_by_outcome, stored_response_by_answer, stored_response_as_used}
 use Rattle.proxy_core.specs.Storing.{stored_response_made}
-use Rattle.proxy_core.specs.Validating.{stored_response_is_answered, freshened_by_304}
-use Rattle.hx_age.specs.Age.{times_of}
+use Rattle.proxy_core.specs.Validating.{times_after_304, stored_response_is_answered, freshened_by_304}
 use Rattle.hx_hop.specs.Answering.{answered_of}
 use Rattle.proxy_core_laws.specs.StoredReplies.{HeldIsSendable, StoredIsSendable}
 use Rattle.proxy_core_laws.proofs.StoredReplies.{freshens_sendable, stores_sendable}
@@ -51,7 +52,7 @@ pub left_so : (x : Option Exchange) (event : Event) (e : Stored) → fault_at_ex
 left_so (Some x) (Answer now id r) e allowed is sendable =
     let early = in_time now (first_none (moment_too_late_fault now) (fault_if_not_forwarded x.stage) allowed) in
     let fresh : StoredIsSendable (freshened_by_304 x r now e) =
-    freshens_sendable is.max_body now is.to_head is.ended is.bytes is.rest e r x.asked (times_of (answered_of r now).fields x.request_time now) x.vary x sendable is.reads early in
+    freshens_sendable is.max_body now is.to_head is.ended is.bytes is.rest e r x.asked (times_after_304 x r now e) x.vary x sendable is.reads early in
     elim (stored_response_is_answered x r now e) as (λ b. StoredIsSendable (cond b (freshened_by_304 x r now e) e)) [ true ↦ fresh | false ↦ sendable ]
 left_so (Some x) (Arrive now id asked) e allowed is sendable = sendable
 left_so (Some x) (Fail now id kind) e allowed is sendable = sendable
@@ -75,8 +76,15 @@ after_so x event true used s o e allowed is before h = made_so x event s e allow
 after_so x event false true s o e allowed is before h = used_so x event o e allowed is before h
 after_so x event false false s o e allowed is before h = before e h
 
+-- whatever the times
+with_times : (e : Stored) (t : Times) → StoredIsSendable e → StoredIsSendable (record e { times = t })
+with_times e t h = record { status = h.status; fields = h.fields; lengths = h.lengths; codings = h.codings; without = h.without }
+
 pub holds_sendable : HeldIsSendable
 holds_sendable table start first [] good begins read s e h = begins s e h
 holds_sendable table start first (item ∷ past) good begins read s e h =
-    after_so (find_exchange (exchange_id_of_event item.event) (open_exchanges table start past)) item.event (is_that_serial (serial_stored_by_outcome item.outcome) s) (is_that_serial (serial_used_by_outcome item.outcome) s)
-    s (held_entry table start past s) e good.0.allowed read.0 (holds_sendable table start first past good.1 begins read.1 s) h
+    let there = was_there item.event (serials_expired_by_outcome item.outcome) _ e h in
+    subst StoredIsSendable (sym there.is)
+    (with_times there.response there.times
+    (after_so (find_exchange (exchange_id_of_event item.event) (open_exchanges table start past)) item.event (is_that_serial (serial_stored_by_outcome item.outcome) s) (is_that_serial (serial_used_by_outcome item.outcome) s)
+    s (held_entry table start past s) there.response good.0.allowed read.0 (holds_sendable table start first past good.1 begins read.1 s) there.was))

@@ -22,7 +22,7 @@ use Rattle.proxy_core.specs.declared.event.Event.TheVariants.{Arrive, Answer, Fa
 use Rattle.proxy_core.specs.Histories.{IsGoodHistory, held_entry, open_exchanges}
 use Rattle.proxy_core.specs.Outcomes.{find_exchange, exchange_id_of_event}
 use Rattle.proxy_core.specs.ReadAnswers.{EventIsReadFromAStream}
-use Rattle.proxy_core.specs.State.{stored_response_by_answer, serial_stored_by_outcome, stored_response_as_used, serial_used_by_outcome}
+use Rattle.proxy_core.specs.State.{serials_expired_by_outcome, stored_response_by_answer, serial_stored_by_outcome, stored_response_as_used, serial_used_by_outcome}
 use Rattle.proxy_core.specs.Starts.{StoreAtStart, EachHeldAtFirst}
 use Rattle.proxy_core.specs.Storing.{stored_response_made}
 use Rattle.proxy_core.specs.Traces.{Item}
@@ -31,6 +31,7 @@ use Rattle.hx_allow.specs.Tables.{TableWasRead}
 use Rattle.proxy_core_laws.specs.SentMessages.{CanBeSent, ConditionsOfHistoryAreFieldValues, HeldContentFits}
 use Rattle.proxy_core_laws.proofs.HeldReplies.{holds_sendable}
 use Rattle.proxy_core_laws.proofs.ReadTables.{stores_none_too_long}
+use Rattle.proxy_core.proofs.ExpiredEntries.{was_there}
 use Rattle.proxy_core.proofs.StoredAnswers.{stores_nowhere_else}
 
 -- ---- validators
@@ -102,13 +103,14 @@ module _ (table : Table) (start : StoreAtStart) (first : ℕ) where
   used_fits most x event None e before h = absurd cc
   used_fits most x event (Some f) e before h = subst (λ (c : List ℕ). length c ≤ most) (sym (used_content x event f) ∙ ap (λ (g : Stored). g.content) (some_same h)) (before f refl)
 
-  -- within any bound that is no smaller than the table's, and that each keeps to that was held at first
-  pub fits_after : (most : ℕ) → table.max_stored ≤ most → EachHeldAtFirst (λ s e. length e.content ≤ most) start
-      → (trace : List Item) → IsGoodHistory table start first trace → AllByRecursion (λ item. EventIsReadFromAStream item.event) trace → (s : ℕ) (e : Stored)
-      → held_entry table start trace s ≡ Some e → length e.content ≤ most
-  fits_after most larger begins [] good read s e h = begins s e h
-  fits_after most larger begins (item ∷ past) good read s e h =
-      by_tests (is_that_serial (serial_stored_by_outcome item.outcome) s) refl (is_that_serial (serial_used_by_outcome item.outcome) s) (λ f k. fits_after most larger begins past good.1 read.1 s f k) h
+  -- the same before a purge may have ended its lifetime
+  fits_before : (most : ℕ) → table.max_stored ≤ most → (item : Item) (past : List Item) → IsGoodHistory table start first (item ∷ past) → AllByRecursion (λ item. EventIsReadFromAStream item.event) (item ∷ past) → (s : ℕ) (e : Stored)
+      → ((f : Stored) → held_entry table start past s ≡ Some f → length f.content ≤ most)
+      → cond (is_that_serial (serial_stored_by_outcome item.outcome) s) (stored_response_by_answer (find_exchange (exchange_id_of_event item.event) (open_exchanges table start past)) item.event s)
+      (cond (is_that_serial (serial_used_by_outcome item.outcome) s) (option_map (stored_response_as_used (find_exchange (exchange_id_of_event item.event) (open_exchanges table start past)) item.event) (held_entry table start past s)) (held_entry table start past s)) ≡ Some e
+      → length e.content ≤ most
+  fits_before most larger item past good read s e earlier h =
+      by_tests (is_that_serial (serial_stored_by_outcome item.outcome) s) refl (is_that_serial (serial_used_by_outcome item.outcome) s) earlier h
     where
       x : Option Exchange
       x = find_exchange (exchange_id_of_event item.event) (open_exchanges table start past)
@@ -118,6 +120,16 @@ module _ (table : Table) (start : StoreAtStart) (first : ℕ) where
       by_tests true is u before k = omega (arith, larger, made_fits item past s e good read.0 (the_serial (serial_stored_by_outcome item.outcome) s is) k)
       by_tests false is true before k = used_fits most x item.event (held_entry table start past s) e before k
       by_tests false is false before k = before e k
+
+  -- within any bound that is no smaller than the table's, and that each keeps to that was held at first
+  pub fits_after : (most : ℕ) → table.max_stored ≤ most → EachHeldAtFirst (λ s e. length e.content ≤ most) start
+      → (trace : List Item) → IsGoodHistory table start first trace → AllByRecursion (λ item. EventIsReadFromAStream item.event) trace → (s : ℕ) (e : Stored)
+      → held_entry table start trace s ≡ Some e → length e.content ≤ most
+  fits_after most larger begins [] good read s e h = begins s e h
+  fits_after most larger begins (item ∷ past) good read s e h =
+      let there = was_there item.event (serials_expired_by_outcome item.outcome) _ e h in
+      subst (λ (f : Stored). length f.content ≤ most) (sym there.is)
+      (fits_before most larger item past good read s there.response (λ f k. fits_after most larger begins past good.1 read.1 s f k) there.was)
 
 pub holds_what_fits : HeldContentFits
 holds_what_fits table start first trace good begins read serial e h = fits_after table start first table.max_stored (omega arith) begins trace good read serial e h

@@ -54,7 +54,7 @@ led_on-asked table ys q x = elim (waits_for q x.stage) as (λ b. (cond b (record
 
 abandoned_so : (table : Table) (id : ℕ) (xs : List Exchange) → All HasReadRequest xs → All HasReadRequest (exchanges_after_abandon table id xs)
 abandoned_so table id xs all =
-    mapped (led_on_exchange table (next_leader table id (exchanges_without id xs)) id) (led_on-asked table (exchanges_without id xs) id) (exchanges_without id xs)
+    mapped (led_on_exchange table (next_leader table id xs) id) (led_on-asked table xs id) (exchanges_without id xs)
     (All-filter (λ (x : Exchange). not (x.id == id)) HasReadRequest xs all)
 
 left_so : (key : Option Scope) (id : ℕ) (xs : List Exchange) → All HasReadRequest xs → All HasReadRequest (exchanges_after_end key id xs)

@@ -17,7 +17,6 @@ use Rattle.hx_storable.specs.declared.rule.StoreRule.{StoreRule}
 use Rattle.hx_store.specs.Stored.{Stored}
 use Rattle.hx_store.specs.Recency.{is_that_serial}
 use Rattle.hx_status.specs.declared.status.Status.{Status}
-use Rattle.hx_age.specs.Age.{times_of}
 use Rattle.hx_validate.specs.Answering.{freshened_of}
 use Rattle.hx_validate.specs.Ranges.{fields_of_416_to_answer, fields_of_part, is_carried_by_416, is_carried_by_416_to_asker}
 use Rattle.hx_validate.specs.Room.{head_leaves_room}
@@ -35,11 +34,12 @@ use Rattle.proxy_core.specs.Outcomes.{find_exchange, exchange_id_of_event}
 use Rattle.proxy_core.specs.Replies.{fields_of_answer_416, fields_of_answer_part, range_of_answer, cache_status_of_sent, client_has_answer, form_sent, not_modified_text, stored_text, text_in_form, without_tags}
 use Rattle.proxy_core.specs.Sending.{ReplyIsThatStoredResponse}
 use Rattle.proxy_core.specs.Starts.{StoreAtStart}
-use Rattle.proxy_core.specs.State.{serial_stored_by_outcome, serial_used_by_outcome, stored_response_as_used, stored_response_by_answer}
+use Rattle.proxy_core.specs.State.{serials_expired_by_outcome, serial_stored_by_outcome, serial_used_by_outcome, stored_response_as_used, stored_response_by_answer}
 use Rattle.proxy_core.specs.Storing.{stored_response_made}
 use Rattle.proxy_core.specs.Traces.{Item}
 use Rattle.proxy_core.specs.Uncached.{EventGoesOverLine}
-use Rattle.proxy_core.specs.Validating.{freshened_by_304, stored_response_is_answered, without_cookies}
+use Rattle.proxy_core.specs.Validating.{times_after_304, freshened_by_304, stored_response_is_answered, without_cookies}
+use Rattle.proxy_core.proofs.ExpiredEntries.{was_there}
 use Rattle.proxy_core.proofs.SentResponses.{sends_what_is_held}
 use Rattle.hx_hop.proofs.Lines.{list_any_fewer}
 use Rattle.proxy_core_laws.specs.OneResponse.{answer_in_range_sent, in_place_of_answer_sent, not_modified_answer_sent, passed_answer_sent, whole_answer_sent}
@@ -155,13 +155,18 @@ made_none s x r now removes =
     (removed_none x.removes_cookies (answered_of r now).fields removes)
 
 freshened_none : (x : Exchange) (r : Response) (now : ℕ) (e : Stored) → x.removes_cookies ≡ true → HasNone (freshened_by_304 x r now e).fields
-freshened_none x r now e removes = removed_none x.removes_cookies (freshened_of x.vary e (answered_of r now) x.asked (times_of (answered_of r now).fields x.request_time now)).fields removes
+freshened_none x r now e removes = removed_none x.removes_cookies (freshened_of x.vary e (answered_of r now) x.asked (times_after_304 x r now e)).fields removes
 
-pub leaves_no_cookie : NoCookieIsLeftInTheStore
-leaves_no_cookie table start [] s x e left removes held = absurd cc
-leaves_no_cookie table start (item ∷ past) s x e left removes held =
+-- before a purge may have ended its lifetime
+leaves_none_before : (table : Table) (start : StoreAtStart) (item : Item) (past : List Item) (s : ℕ) (x : Exchange) (e : Stored) → (policy_of table.lines x.line).removes_cookies ≡ true
+    → ((f : Stored) → exchange_that_left table start past s ≡ Some x → held_entry table start past s ≡ Some f → HasNone f.fields)
+    → exchange_that_left table start (item ∷ past) s ≡ Some x
+    → cond (is_that_serial (serial_stored_by_outcome item.outcome) s) (stored_response_by_answer (find_exchange (exchange_id_of_event item.event) (open_exchanges table start past)) item.event s)
+    (cond (is_that_serial (serial_used_by_outcome item.outcome) s) (option_map (stored_response_as_used (find_exchange (exchange_id_of_event item.event) (open_exchanges table start past)) item.event) (held_entry table start past s)) (held_entry table start past s)) ≡ Some e
+    → HasNone e.fields
+leaves_none_before table start item past s x e removes rest left held =
     by_event (find_exchange (exchange_id_of_event item.event) (open_exchanges table start past)) item.event
-    (λ y h. removes_so table start (exchange_id_of_event item.event) past y h) (held_entry table start past s) (λ f before found. leaves_no_cookie table start past s x f before removes found) left held
+    (λ y h. removes_so table start (exchange_id_of_event item.event) past y h) (held_entry table start past s) rest left held
   where
     before : Option Exchange
     before = exchange_that_left table start past s
@@ -207,6 +212,13 @@ leaves_no_cookie table start (item ∷ past) s x e left removes held =
     by_event (Some y) (Abandon id) own look earlier k h = unchanged (stored_response_as_used (Some y) (Abandon id)) (λ f. refl) stored used look earlier k h
     by_event (Some y) (Overdue id) own look earlier k h = unchanged (stored_response_as_used (Some y) (Overdue id)) (λ f. refl) stored used look earlier k h
     by_event None event own look earlier k h = unchanged (stored_response_as_used None event) (λ f. refl) stored used look earlier k h
+
+pub leaves_no_cookie : NoCookieIsLeftInTheStore
+leaves_no_cookie table start [] s x e left removes held = absurd cc
+leaves_no_cookie table start (item ∷ past) s x e left removes held =
+    let there = was_there item.event (serials_expired_by_outcome item.outcome) _ e held in
+    subst (λ (f : Stored). HasNone f.fields) (sym there.is)
+    (leaves_none_before table start item past s x there.response removes (λ f before found. leaves_no_cookie table start past s x f before removes found) left there.was)
 
 -- ---- who asked
 

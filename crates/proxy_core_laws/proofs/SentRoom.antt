@@ -12,9 +12,10 @@ use Rattle.hx_directives.specs.declared.names.Directive.TheVariants.{MaxAge, SMa
 use Rattle.hx_policy.specs.Policies.{given_lifetime}
 use Rattle.hx_policy.specs.declared.words.Policy.{Policy}
 use Rattle.hx_allow.specs.Matching.{policy_of}
-use Rattle.hx_reuse.specs.Lifetimes.{lifetime_at_most, lifetime_with_given, lifetime_under}
-use Rattle.hx_age.specs.Age.{age_of}
+use Rattle.hx_reuse.specs.Lifetimes.{lifetime_at_most, lifetime_of_held, lifetime_with_given, lifetime_under}
+use Rattle.hx_age.specs.Age.{age_of, lifetime_until}
 use Rattle.hx_age.specs.declared.lifetimes.Lifetime.{Lifetime}
+use Rattle.hx_age.specs.declared.moments.Times.{Times}
 use Rattle.hx_age.specs.Lifetime.{explicit_lifetime, lifetime_of, stated_seconds, until_expires}
 use Rattle.hx_framing.specs.declared.messages.Response.{Response}
 use Rattle.hx_framing.proofs.ReadResponses.{final_status}
@@ -103,9 +104,15 @@ lifetime_under_low policy status fields = by_given (lifetime_of fields).explicit
     by_given false None = lifetime_low fields
     by_given false (Some n) = min-le_right n 2147483648
 
+-- and what a purge left of it
+until_low : (purge : Option ℕ) (times : Times) (l : Lifetime) → l.seconds ≤ 2147483648 → (lifetime_until purge times l).seconds ≤ 2147483648
+until_low None times l low = low
+until_low (Some moment) times l low = let less = min-le_left l.seconds (age_of times moment) in omega (arith, low, less)
+
 left_counted : (policy : Policy) (e : Stored) (now : ℕ) → SecondsAreInRange (ttl_of_stored policy e now)
 left_counted policy e now =
-    counted (lifetime_under policy e.status e.fields).seconds (age_of e.times now) (lifetime_under_low policy e.status e.fields) (age_low e now)
+    counted (lifetime_of_held policy e).seconds (age_of e.times now)
+    (until_low e.times.expired e.times (lifetime_under policy e.status e.fields) (lifetime_under_low policy e.status e.fields)) (age_low e now)
 
 shown_of : (table : Table) (held : List Stored) (x : Option Exchange) (event : Event) (outcome : Outcome) (s : ℕ) (is : ReplyIsThatStoredResponse table held x event outcome s) → EventWasRead event
     → (status : ℕ) (e : Stored) → StatusIsInRange (cache_status_of_sent status e is.now is.info)

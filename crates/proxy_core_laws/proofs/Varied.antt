@@ -19,7 +19,6 @@ use Rattle.hx_store.specs.Shelf.{find_entry, serials}
 use Rattle.hx_reuse.specs.ChosenAndNamed.{ResponseIsChosen}
 use Rattle.hx_reuse.specs.declared.rule.ReuseRule.{ReuseRule}
 use Rattle.hx_reuse.proofs.Choice.{found_by_serial}
-use Rattle.hx_age.specs.Age.{times_of}
 use Rattle.hx_validate.specs.Answering.{freshened_of, nominated_or_none}
 use Rattle.hx_vary.specs.Vary.{both_have_same, both_select_alike, is_same_value, is_star, kept_values_with, vary_matches}
 use Rattle.hx_vary.specs.declared.nominated_values.NominatedValue.{NominatedValue}
@@ -39,10 +38,11 @@ use Rattle.proxy_core.specs.Sending.{IsStoredFallback, ReplyIsThatStoredResponse
 use Rattle.proxy_core.specs.Starts.{StoreAtStart}
 use Rattle.proxy_core.specs.Scopes.{Scope, is_in_scope}
 use Rattle.proxy_core.specs.LeadingOn.{next_leader, stage_behind, led_on_exchange, exchanges_without, exchanges_after_abandon}
-use Rattle.proxy_core.specs.State.{exchanges_after_close, exchanges_after_end, exchanges_after_purge, scope_purged, exchange_forwarded_again, open_exchanges_after, forwarded_exchange, overtaken_exchange, waiting_exchange, released_exchange, exchange_gone_forward, exchange_sent_forward, exchanges_after_wake, scope_invalidated_by_response, serial_stored_by_outcome, serial_used_by_outcome, serials_removed_by_outcome, stored_response_as_used, stored_response_by_answer, overdue_exchange, exchange_past_its_wait}
+use Rattle.proxy_core.specs.State.{serials_expired_by_outcome, exchanges_after_close, exchanges_after_end, exchanges_after_purge, scope_purged, exchange_forwarded_again, open_exchanges_after, forwarded_exchange, overtaken_exchange, waiting_exchange, released_exchange, exchange_gone_forward, exchange_sent_forward, exchanges_after_wake, scope_invalidated_by_response, serial_stored_by_outcome, serial_used_by_outcome, serials_removed_by_outcome, stored_response_as_used, stored_response_by_answer, overdue_exchange, exchange_past_its_wait}
 use Rattle.proxy_core.specs.Storing.{stored_response_made}
 use Rattle.proxy_core.specs.Traces.{Item}
-use Rattle.proxy_core.specs.Validating.{freshened_by_304, freshened_may_be_kept, stored_response_is_answered}
+use Rattle.proxy_core.specs.Validating.{times_after_304, freshened_by_304, freshened_may_be_kept, stored_response_is_answered}
+use Rattle.proxy_core.proofs.ExpiredEntries.{was_there}
 use Rattle.proxy_core.proofs.FirstRules.{held_distinct}
 use Rattle.proxy_core.proofs.Freshened.{may_be_kept}
 use Rattle.proxy_core.proofs.Leaving.{validated_is}
@@ -101,7 +101,7 @@ module _ (table : Table) where
 
   abandoned_so : (id : ℕ) (xs : List Exchange) → All (HasNames table) xs → All (HasNames table) (exchanges_after_abandon table id xs)
   abandoned_so id xs all =
-      mapped (led_on_exchange table (next_leader table id (exchanges_without id xs)) id) (led_on-names table (exchanges_without id xs) id) (exchanges_without id xs)
+      mapped (led_on_exchange table (next_leader table id xs) id) (led_on-names table xs id) (exchanges_without id xs)
       (All-filter (λ (x : Exchange). not (x.id == id)) (HasNames table) xs all)
 
   left_so : (key : Option Scope) (id : ℕ) (xs : List Exchange) → All (HasNames table) xs → All (HasNames table) (exchanges_after_end key id xs)
@@ -181,7 +181,7 @@ freshened_so : (table : Table) (x : Exchange) (r : Response) (now : ℕ) (e : St
 unfolding freshened_of
 freshened_so table x r now e kept =
     let f : Stored = freshened_by_304 x r now e in
-    let g : Stored = freshened_of x.vary e (answered_of r now) x.asked (times_of (answered_of r now).fields x.request_time now) in
+    let g : Stored = freshened_of x.vary e (answered_of r now) x.asked (times_after_304 x r now e) in
     let none : is_star f.fields ≡ false = star_absent f.fields (may_be_kept table x r f kept).names_fields in
     by_names x g (is_star g.fields) refl (sym (star_stays x.removes_cookies g.fields) ∙ none) refl
 
@@ -341,7 +341,9 @@ module _ (table : Table) (start : StoreAtStart) (first : ℕ) where
   held_so : (trace : List Item) → IsGoodHistory table start first trace → (s : ℕ) → Earlier s trace
   held_so [] good s x e inside h left = absurd cc
   held_so (item ∷ past) good s x e inside h left =
-      step_so o item.event item.outcome (held_entry table start past s) (exchange_that_left table start past s) s x e kept (earlier (held_so past good.1 s)) h left
+      let there = was_there item.event (serials_expired_by_outcome item.outcome) _ e h in
+      subst (ComparesNames x) (sym there.is)
+      (step_so o item.event item.outcome (held_entry table start past s) (exchange_that_left table start past s) s x there.response kept (earlier (held_so past good.1 s)) there.was left)
     where
       o : Option Exchange
       o = find_exchange (exchange_id_of_event item.event) (open_exchanges table start past)

@@ -89,14 +89,15 @@ FreshenedHeadLeavesRoom =
     ≡ true
     → head_leaves_room (freshened_by_304 x r now e).fields ≡ true
 
--- it is what was made of an answer that was read, as it was stored
+-- it is what was made of an answer that was read, as it was stored, but for the times, of which a purge may end the
+-- lifetime
 pub record ResponseIsAsStored (serial : ℕ) (e : Stored) : Type 0 where
   pub exchange : Exchange
   pub response : Response
   pub now : ℕ
   pub was_read : WasReadFromAStream response
   pub early : now < END_OF_TIME
-  pub is : e ≡ stored_response_made serial exchange response now
+  pub is : e ≡ record (stored_response_made serial exchange response now) { times = e.times }
 
 -- it leaves room, or is as it was stored
 abbrev pub LeavesRoomOrIsAsStored : ℕ → Stored → Type 0

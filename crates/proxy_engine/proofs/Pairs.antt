@@ -352,7 +352,7 @@ out_led_on table ys l id (x ∷ xs) = led_on_by (waits_for l x.stage) refl (find
     led_on_by false w o p h = out_by (x.id == id) x o p h
 
 find_abandoned : (table : Table) (id other : ℕ) (xs : List Exchange) → forwarded_or_waiting_at other (exchanges_after_abandon table id xs) ≡ forwarded_or_waiting_at other (exchanges_after_close id xs)
-find_abandoned table id other xs = out_led_on table (but id xs) id other (but id xs) ∙ sym (out_released id other (but id xs))
+find_abandoned table id other xs = out_led_on table xs id other (but id xs) ∙ sym (out_released id other (but id xs))
 
 pub paired_abandoned : (activities : List Activity) (owners : List (Option ℕ)) (xs : List Exchange) (table : Table) (id : ℕ) → ConnectionsAndLinksArePaired activities owners (exchanges_after_close id xs) → ConnectionsAndLinksArePaired activities owners (exchanges_after_abandon table id xs)
 paired_abandoned activities owners xs table id h = record {

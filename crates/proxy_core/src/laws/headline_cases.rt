@@ -13,6 +13,7 @@ ghost use Rattle.proxy_core.specs.declared.outcome.Outcome.TheVariants.{Reply, F
 ghost use Rattle.proxy_core.specs.Replies.{passed_answer_text};
 ghost use Rattle.proxy_core.specs.Outcomes.{forward_text, outcome_of_purge, outcome_of_refusal};
 ghost use Rattle.proxy_core.specs.Cases.{response_with, cache_control, etag_field, forwarded_on_miss};
+ghost use Rattle.proxy_core.specs.WrongTraces.{purge_all_to_expire, reply_that_expires};
 ghost use Rattle.proxy_core.specs.WrongTraces.{HeadlineRefuses, get_a_in_language, get_or_other_request};
 ghost use Rattle.proxy_core.specs.WrongTraces.{events_that_revalidate, varies_by_language, edge_table};
 ghost use Rattle.proxy_core.specs.WrongTraces.{fresh_for_a_minute};
@@ -55,6 +56,14 @@ pub fn the_headline_refuses_wrong_purges()
         (Arrive 110 2 purge_admin) (outcome_of_refusal 110 (Denied 1) purge_admin)) }
     ensures another_goes { HeadlineRefuses (trace_with_wrong_item events_that_store_a (Arrive 110 2 purge_admin)
         (reply_that_stores [] None (1 ∷ []))) }
+    ensures expires_without_the_word { HeadlineRefuses (trace_with_wrong_item events_that_store_a
+        (Arrive 110 2 purge_admin) (reply_that_expires [])) }
+    ensures goes_though_it_stays { HeadlineRefuses (trace_with_wrong_item events_that_store_a
+        (Arrive 110 2 purge_all_to_expire) (reply_that_stores [] None (1 ∷ []))) }
+    ensures expires_nothing { HeadlineRefuses (trace_with_wrong_item events_that_store_a
+        (Arrive 110 2 purge_all_to_expire) (reply_that_expires [])) }
+    ensures expires_by_a_get { HeadlineRefuses (trace_with_wrong_item events_that_store_a
+        (Arrive 110 2 get_a) (reply_that_expires (1 ∷ []))) }
 {}
 
 /// What goes forward is the client's request, to the origin of its line, with the proxy's
@@ -178,7 +187,15 @@ pub fn the_headline_refuses_what_may_not_be_sent()
     ensures other_bytes { HeadlineRefuses (trace_with_wrong_item events_that_store_a (Arrive 110 2 get_a)
         (reply_that_sends_stored 1 (codes "x"))) }
     ensures closing_its_connection { HeadlineRefuses (trace_with_wrong_item events_that_store_a (Arrive 110 2 get_a)
-        (Reply (record { bytes = []; close = true; stored = None; used = Some 1; removed = []; purged = false }))) }
+        (Reply (record {
+          bytes = [];
+          close = true;
+          stored = None;
+          used = Some 1;
+          removed = [];
+          expired = None;
+          purged = false;
+        }))) }
     ensures to_a_woken_one_that_it_may_not_answer { HeadlineRefuses (trace_with_wrong_item events_before_a_wake
         (Wake 102 2) (reply_that_sends_stored 1 (codes "x"))) }
 {}

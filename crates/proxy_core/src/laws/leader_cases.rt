@@ -1,12 +1,13 @@
 //! Who leads on where the client of a leader goes away, computed from the definitions: each function's contract is the
 //! cases, and its body is empty.
 
-ghost use Rattle.std.specs.Prelude.{◌≡◌, ◌∷◌, [], true, codes};
+ghost use Rattle.std.specs.Prelude.{◌≡◌, ◌∷◌, [], None, Some, true, codes};
 ghost use Rattle.hx_policy.specs.Policies.{plain};
-ghost use Rattle.proxy_core.specs.LeadingOn.{exchanges_after_abandon};
+ghost use Rattle.proxy_core.specs.LeadingOn.{exchanges_after_abandon, leading_on, next_leader};
 ghost use Rattle.proxy_core.specs.Cases.{crowd_behind, stages_of, table_with_policy, table_with_waits};
 ghost use Rattle.proxy_core.specs.Cases.{wait_for_stale_policy, fills_ranges_policy, get_a_for_range, get_a_if_changed};
 ghost use Rattle.proxy_core.specs.Cases.{get_a_with, get_a_with_authorization, get_a_with_no_store, waits_behind};
+ghost use Rattle.proxy_core.specs.Cases.{waits_in_a_row};
 ghost use Rattle.proxy_core.specs.Cases.{forwarded_on_miss};
 ghost use Rattle.proxy_core.specs.declared.open.stage.Stage.TheVariants.{Forwarded, Released, Waiting};
 
@@ -52,4 +53,16 @@ pub fn who_follows_the_next_leader()
         (crowd_behind (get_a_with []))) ≡ Released ∷ Released ∷ Waiting 7 ∷ Released ∷ [] }
     ensures who_waits_leaves { stages_of (exchanges_after_abandon (table_with_waits (plain true)) 3
         (crowd_behind (get_a_with []))) ≡ Forwarded ∷ Waiting 1 ∷ Waiting 7 ∷ Waiting 1 ∷ [] }
+{}
+
+/// Where 512 wait for the one that leaves, the first of them leads on, however many wait for another; where one more
+/// waits, nobody does.
+#[tactic(auto, unfolding(hx_allow::specs::Matching::policy_of))]
+pub fn how_many_are_led_on()
+    ensures most { next_leader (table_with_waits (plain true)) 1 (waits_in_a_row 512)
+        ≡ Some (leading_on (waits_behind 1 513 (get_a_with []))) }
+    ensures one_more { next_leader (table_with_waits (plain true)) 1 (waits_in_a_row 513) ≡ None }
+    ensures for_another { next_leader (table_with_waits (plain true)) 1
+        (waits_behind 7 4 (get_a_with []) ∷ waits_in_a_row 512)
+        ≡ Some (leading_on (waits_behind 1 513 (get_a_with []))) }
 {}

@@ -21,7 +21,7 @@ ghost use Rattle.proxy_core.specs.WrongTraces.{reply_that_stores, reply_that_sen
 ghost use Rattle.proxy_core.specs.WrongTraces.{trace_sends_invalidated, trace_sends_behind, response_304};
 ghost use Rattle.proxy_core.specs.WrongTraces.{trace_sends_of_the_start, trace_sends_of_the_start_behind_a_purge};
 ghost use Rattle.proxy_core.specs.WrongTraces.{trace_sends_behind_a_purge, trace_stores_behind_a_purge};
-ghost use Rattle.proxy_core.specs.WrongTraces.{trace_stores_tagged, purge_item};
+ghost use Rattle.proxy_core.specs.WrongTraces.{trace_stores_tagged, purge_item, purge_item_that_expires};
 ghost use Rattle.proxy_core.specs.WrongTraces.{trace_stores_invalidated, trace_with_three_forwards};
 ghost use Rattle.proxy_core.specs.WrongTraces.{trace_with_two_replies, GoingForwardIsWrong};
 ghost use Rattle.hx_allow.specs.Matching.{over_line};
@@ -103,6 +103,14 @@ pub fn what_a_purge_with_a_tag_invalidates()
         (purge_item (codes "sport")) trace_stores_tagged ≡ false }
     ensures on_its_way { overtakes_key (key_of_path (codes "/a")) (purge_item (codes "sport")) trace_stores_tagged
         ≡ true }
+{}
+
+/// A purge that expires invalidates nothing that is held: it is left to be sent as a stale one. What is on its way it
+/// overtakes as any purge.
+pub fn what_a_purge_that_expires_invalidates()
+    ensures held { invalidates_response edge_table (empty_store 2) 1 (key_of_path (codes "/a")) purge_item_that_expires
+        trace_stores_tagged ≡ false }
+    ensures on_its_way { overtakes_key (key_of_path (codes "/a")) purge_item_that_expires trace_stores_tagged ≡ true }
 {}
 
 /// No run stops behind its last event, nor at one that no fault stands against, but where memory runs out.

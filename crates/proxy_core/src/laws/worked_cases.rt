@@ -214,7 +214,7 @@ pub fn what_is_made_of_an_answer()
           status = 404;
           fields = vary_field (codes "Accept-Language") ∷ first_answer_fields;
           content = codes "hi";
-          times = record { date = 101; age_value = 5; request_time = 100; response_time = 102 };
+          times = record { date = 101; age_value = 5; request_time = 100; response_time = 102; expired = None };
         } }
     ensures varied { (stored_response_made 4 (varied_by_scheme (forwarded_on_miss (get_a_by_scheme (codes "https"))))
         (response_with 200 (vary_field (codes "Accept-Language") ∷ first_answer_fields)) 102).nominated
@@ -253,7 +253,7 @@ pub fn what_a_304_leaves()
     ensures not_asked_about { condition_about_stored (stored_with 3 (cache_control (codes "max-age=60") ∷ [])) ≡ None }
     ensures times { (freshened_by_304 (revalidates_e (get_a_with [])) (response_with 304 (date_101 ∷ [])) 105
         (stored_with 1 (etag_field (codes "\"e\"") ∷ []))).times
-        ≡ record { date = 101; age_value = 0; request_time = 100; response_time = 105 } }
+        ≡ record { date = 101; age_value = 0; request_time = 100; response_time = 105; expired = None } }
     ensures varied { (freshened_by_304 (varied_by_scheme (revalidates_e (get_a_by_scheme (codes "https"))))
         (response_with 304 (date_101 ∷ [])) 105
         (stored_with 1 (etag_field (codes "\"e\"") ∷ []))).nominated
@@ -527,6 +527,7 @@ pub fn what_an_arrival_gives()
           stored = None;
           used = None;
           removed = 1 ∷ [];
+          expired = None;
           purged = true;
         }) }
     ensures purges_nothing { serials_removed_by_outcome
@@ -644,6 +645,6 @@ pub fn what_a_step_leaves_stored()
     ensures freshened { entries_after_use (Some (revalidates_e (get_a_with [])))
         (Answer 105 1 (response_with 304 lines_of_304)) (Some 1)
         (stored_without_lifetime ∷ []) ≡ record (stored_with 1 lines_of_304) {
-          times = record { date = 101; age_value = 0; request_time = 100; response_time = 105 };
+          times = record { date = 101; age_value = 0; request_time = 100; response_time = 105; expired = None };
         } ∷ [] }
 {}

@@ -28,7 +28,8 @@ ghost use Rattle.proxy_core.specs.Scopes.{scope_of_keys, target_alone};
 ghost use Rattle.proxy_core.specs.State.{exchanges_after_close, released_exchange, overtaken_exchange};
 ghost use Rattle.proxy_core.specs.State.{exchanges_after_end, exchange_forwarded_again, exchange_sent_forward};
 ghost use Rattle.proxy_core.specs.State.{overdue_exchange};
-ghost use Rattle.proxy_core.specs.LeadingOn.{next_leader, exchanges_without, exchanges_after_abandon};
+ghost use Rattle.proxy_core.specs.LeadingOn.{next_leader, first_to_lead_on as first_of_list, exchanges_without};
+ghost use Rattle.proxy_core.specs.LeadingOn.{exchanges_after_abandon};
 ghost use Rattle.proxy_core.specs.LeadingOn.{led_on_exchange, follows_leader as is_follower};
 
 use crate::open::arrivals_by_key::ArrivalsByKey;
@@ -37,7 +38,7 @@ use crate::open::exchange::Exchange;
 use crate::open::ids::Ids;
 use crate::open::key_index::KeyIndex;
 use crate::open::leading::{is_released, is_waiting, leads_waiters};
-use crate::open::leading_on::{NextLeader, follows_leader, leads_on};
+use crate::open::leading_on::{MOST_LED_ON, NextLeader, follows_leader, leads_on};
 use crate::open::released::Released;
 use crate::open::stage::Stage;
 use crate::open::wait_index::WaitIndex;
@@ -206,13 +207,18 @@ impl Exchanges {
         Ok(())
     }
 
-    /// The first of those that wait for the exchange of an id that may lead on.
+    /// The first of those that wait for the exchange of an id that may lead on, where not too many wait.
     fn next_leader(&self, config: &Config, id: u64) -> Option<NextLeader>
-        ensures next { result ≡ next_leader config.now id (exchanges_without id self.now) }
+        ensures next { result ≡ next_leader config.now id self.now }
         ensures another { IfSome result (λ next. (next.id == id) ≡ false) }
     {
         match self.waiting.find(id) {
-            Some(waiting) => first_to_lead_on(&self.by_arrival, waiting, config, id),
+            Some(waiting) => {
+                if waiting.len() > MOST_LED_ON {
+                    return None;
+                }
+                first_to_lead_on(&self.by_arrival, waiting, config, id)
+            }
             None => None,
         }
     }
@@ -521,7 +527,7 @@ fn first_to_lead_on(
     id: u64,
 ) -> Option<NextLeader>
     requires { WaitingArrivalsPass id (contains nat_cmp waiting.now) by_arrival.now.entries }
-    ensures next { result ≡ next_leader config.now id (exchanges_without id (values by_arrival.now)) }
+    ensures next { result ≡ first_of_list config.now id (exchanges_without id (values by_arrival.now)) }
     ensures another { IfSome result (λ next. (next.id == id) ≡ false) }
 {
     // It is said of the length that the numbers ascend.

@@ -9,6 +9,9 @@ use crate::open::stage::Stage;
 use hx_allow::Config;
 use hx_reuse::{forwards_condition, forwards_range};
 
+/// So many are led on at most, since each is looked at.
+pub(crate) const MOST_LED_ON: usize = 512;
+
 /// What those that are to wait for the next leader have to know of it.
 #[derive(Clone, Copy)]
 pub(crate) struct NextLeader {

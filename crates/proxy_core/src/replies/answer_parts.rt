@@ -8,6 +8,7 @@ ghost use Rattle.hx_hop.specs.Answering.{answered_of};
 ghost use Rattle.hx_validate.specs.Ranges.{PartIsIn};
 ghost use Rattle.hx_validate.specs.declared.ranges.RangeAnswer.TheVariants.{Part, Unsatisfiable};
 ghost use Rattle.proxy_core.specs.Replies.{answer_in_range_text, range_of_answer, content_unless_head, is_head};
+ghost use Rattle.proxy_core.specs.Replies.{ttl_of_passed_answer};
 
 use crate::replies::origin_answer::OriginAnswer;
 use crate::replies::reply_text::{
@@ -71,6 +72,8 @@ fn part_text(
     requires head { head.now ≡ answered_of answer.now.response.now answer.now.response_time }
     requires order { first ≤ last }
     requires within { last < length answer.now.response.now.content }
+    requires ttl { shown.ttl ≡ ttl_of_passed_answer shown.policy answer.now.exchange.now head.now.status
+        head.now.fields answer.now.response_time shown.stored }
     ensures { IfOk result (λ text. text ≡ answer_in_range_text shown.policy name.now answer.now.exchange.now
         answer.now.response.now answer.now.response_time shown.stored shown.rule (Part first last)) }
 {
@@ -93,7 +96,9 @@ fn unsatisfied_text(
     head: &Answered,
     shown: PassedAnswerInfo,
 ) -> Result<Bytes, AllocError>
-    requires { head.now ≡ answered_of answer.now.response.now answer.now.response_time }
+    requires head { head.now ≡ answered_of answer.now.response.now answer.now.response_time }
+    requires ttl { shown.ttl ≡ ttl_of_passed_answer shown.policy answer.now.exchange.now head.now.status
+        head.now.fields answer.now.response_time shown.stored }
     ensures { IfOk result (λ text. text ≡ answer_in_range_text shown.policy name.now answer.now.exchange.now
         answer.now.response.now answer.now.response_time shown.stored shown.rule Unsatisfiable) }
 {
@@ -121,7 +126,9 @@ pub(crate) fn answer_in_range_text(
     head: &Answered,
     shown: PassedAnswerInfo,
 ) -> Result<Bytes, AllocError>
-    requires { head.now ≡ answered_of answer.now.response.now answer.now.response_time }
+    requires head { head.now ≡ answered_of answer.now.response.now answer.now.response_time }
+    requires ttl { shown.ttl ≡ ttl_of_passed_answer shown.policy answer.now.exchange.now head.now.status
+        head.now.fields answer.now.response_time shown.stored }
     ensures { IfOk result (λ text. text ≡ answer_in_range_text shown.policy name.now answer.now.exchange.now
         answer.now.response.now answer.now.response_time shown.stored shown.rule
         (range_of_answer shown.policy answer.now.exchange.now answer.now.response.now answer.now.response_time)) }

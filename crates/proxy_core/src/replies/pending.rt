@@ -77,6 +77,7 @@ impl PendingReply {
             stored: self.change.stored(),
             used: self.change.used(),
             removed: self.removed,
+            expired: None,
             purged: false,
         })
     }

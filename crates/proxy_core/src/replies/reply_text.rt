@@ -1,5 +1,6 @@
 //! The bytes of what the origin answered and of what the proxy answers by itself, and what all replies share.
-ghost use Rattle.std.specs.Prelude.{◌≡◌, ◌<◌, length, IfOk, Some, None};
+ghost use Rattle.std.specs.Prelude.{◌≡◌, ◌<◌, length, is_some, IfOk, IfSome, Some, None};
+ghost use Rattle.hx_directives.specs.Occurrences.{occurrences_of};
 ghost use Rattle.hx_framing.specs.Text.{response_text};
 ghost use Rattle.hx_hop.specs.Answering.{answered_of};
 ghost use Rattle.hx_hop.specs.Moments.{date_text_of};
@@ -61,28 +62,31 @@ pub(crate) struct PassedAnswerInfo {
     pub(crate) stored: bool,
     /// The first storing rule against it, where its line tells that.
     pub(crate) rule: Option<StoreRule>,
+    /// The seconds of freshness that it has left, where it was stored.
+    pub(crate) ttl: Option<i64>,
 }
 
-/// The seconds of freshness that an answer has left, where it was stored.
-fn ttl_of_passed_answer(
-    alloc: Global,
+/// The seconds of freshness that an answer has left, where it was stored with these directives.
+pub(crate) fn ttl_of_passed_answer(
     answer: &OriginAnswer<'_>,
     head: &Answered,
-    shown: PassedAnswerInfo,
-) -> Result<Option<i64>, AllocError>
-    ensures { IfOk result
-        (λ left. left ≡ ttl_of_passed_answer shown.policy answer.now.exchange.now head.now.status head.now.fields
-        answer.now.response_time shown.stored) }
+    policy: Policy,
+    stored: Option<&Directives>,
+) -> Option<i64>
+    requires { IfSome stored (λ directives. directives.now ≡ occurrences_of head.now.fields) }
+    ensures { result ≡ ttl_of_passed_answer policy answer.now.exchange.now head.now.status head.now.fields
+        answer.now.response_time (is_some stored.entry) }
 {
-    if !shown.stored {
-        return Ok(None);
+    match stored {
+        Some(directives) => {
+            let now = answer.response_time;
+            let times = Times::of(&head.fields, answer.exchange.request_time, now);
+            let age = current_age(&times, now);
+            let lifetime = lifetime_under(policy, head.status, &head.fields, directives);
+            Some(ttl(lifetime, age))
+        }
+        None => None,
     }
-    let now = answer.response_time;
-    let directives = Directives::of(alloc, &head.fields)?;
-    let times = Times::of(&head.fields, answer.exchange.request_time, now);
-    let age = current_age(&times, now);
-    let lifetime = lifetime_under(shown.policy, head.status, &head.fields, &directives);
-    Ok(Some(ttl(lifetime, age)))
 }
 
 /// The word of a request that goes past the store for its cookies.
@@ -105,6 +109,8 @@ fn member_of_passed_answer(
     shown: PassedAnswerInfo,
     fwd_status: Option<u16>,
 ) -> Result<Bytes, AllocError>
+    requires { shown.ttl ≡ ttl_of_passed_answer shown.policy answer.now.exchange.now head.now.status
+        head.now.fields answer.now.response_time shown.stored }
     ensures { IfOk result (λ text. text ≡ member_text name.now
         (record (cache_status_of_passed_answer shown.policy answer.now.exchange.now head.now.status head.now.fields
         answer.now.response_time shown.stored shown.rule) { fwd_status = fwd_status })) }
@@ -112,7 +118,7 @@ fn member_of_passed_answer(
     let status = Status {
         how: How::Fwd(answer.exchange.rule),
         fwd_status,
-        ttl: ttl_of_passed_answer(alloc, answer, head, shown)?,
+        ttl: shown.ttl,
         stored: shown.stored,
         collapsed: false,
         detail: detail_past_store(answer.exchange.line),
@@ -138,6 +144,8 @@ fn fields_of_passed_answer(
     head: &Answered,
     shown: PassedAnswerInfo,
 ) -> Result<Fields, AllocError>
+    requires { shown.ttl ≡ ttl_of_passed_answer shown.policy answer.now.exchange.now head.now.status
+        head.now.fields answer.now.response_time shown.stored }
     ensures { IfOk result (λ lines. lines ≡ fields_of_passed_answer shown.policy name.now answer.now.exchange.now
         head.now.status
         head.now.fields answer.now.response_time shown.stored shown.rule) }
@@ -158,6 +166,8 @@ pub(crate) fn fields_in_place_of_answer(
     shown: PassedAnswerInfo,
     own: Fields,
 ) -> Result<Fields, AllocError>
+    requires { shown.ttl ≡ ttl_of_passed_answer shown.policy answer.now.exchange.now head.now.status
+        head.now.fields answer.now.response_time shown.stored }
     ensures { IfOk result (λ lines. lines ≡ fields_in_place_of_answer shown.policy name.now answer.now.exchange.now
         head.now.status
         head.now.fields answer.now.response_time shown.stored shown.rule own) }
@@ -189,7 +199,9 @@ pub(crate) fn whole_answer_text(
     head: &Answered,
     shown: PassedAnswerInfo,
 ) -> Result<Bytes, AllocError>
-    requires { head.now ≡ answered_of answer.now.response.now answer.now.response_time }
+    requires head { head.now ≡ answered_of answer.now.response.now answer.now.response_time }
+    requires ttl { shown.ttl ≡ ttl_of_passed_answer shown.policy answer.now.exchange.now head.now.status
+        head.now.fields answer.now.response_time shown.stored }
     ensures { IfOk result (λ text. text ≡ whole_answer_text shown.policy name.now answer.now.exchange.now
         answer.now.response.now answer.now.response_time shown.stored shown.rule) }
 {
@@ -210,7 +222,9 @@ fn not_modified_answer_text(
     head: &Answered,
     shown: PassedAnswerInfo,
 ) -> Result<Bytes, AllocError>
-    requires { head.now ≡ answered_of answer.now.response.now answer.now.response_time }
+    requires head { head.now ≡ answered_of answer.now.response.now answer.now.response_time }
+    requires ttl { shown.ttl ≡ ttl_of_passed_answer shown.policy answer.now.exchange.now head.now.status
+        head.now.fields answer.now.response_time shown.stored }
     ensures { IfOk result (λ text. text ≡ not_modified_answer_text shown.policy name.now answer.now.exchange.now
         answer.now.response.now answer.now.response_time shown.stored shown.rule) }
 {
@@ -237,7 +251,9 @@ pub(crate) fn passed_answer_text(
     head: &Answered,
     shown: PassedAnswerInfo,
 ) -> Result<Bytes, AllocError>
-    requires { head.now ≡ answered_of answer.now.response.now answer.now.response_time }
+    requires head { head.now ≡ answered_of answer.now.response.now answer.now.response_time }
+    requires ttl { shown.ttl ≡ ttl_of_passed_answer shown.policy answer.now.exchange.now head.now.status
+        head.now.fields answer.now.response_time shown.stored }
     ensures { IfOk result (λ text. text ≡ passed_answer_text shown.policy name.now answer.now.exchange.now
         answer.now.response.now answer.now.response_time shown.stored shown.rule) }
 {

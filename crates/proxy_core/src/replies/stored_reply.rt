@@ -18,7 +18,7 @@ use hx_fields::{Bytes, Fields};
 use hx_framing::{AddedLine, ResponseLines, write_response_with};
 use hx_hop::Asked;
 use hx_policy::Policy;
-use hx_reuse::lifetime_under;
+use hx_reuse::lifetime_of_held;
 use hx_status::{Detail, How, Status, member};
 use hx_store::Entry;
 use hx_validate::{
@@ -246,7 +246,7 @@ impl StoredReply<'_> {
     {
         let entry = self.entry;
         let policy = self.info.policy;
-        let lifetime = lifetime_under(policy, entry.status, &entry.fields, &entry.directives);
+        let lifetime = lifetime_of_held(policy, entry);
         let shown = Status {
             how: self.info.how,
             fwd_status: fwd_status_of(self.info.came, status),

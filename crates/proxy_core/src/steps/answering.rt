@@ -1,5 +1,6 @@
 //! The origin of an exchange answers.
-ghost use Rattle.std.specs.Prelude.{◌≡◌, ◌<◌, Some, None, IfOk, IfErr, OnErr};
+ghost use Rattle.std.specs.Prelude.{◌≡◌, ◌<◌, Some, None, is_some, IfOk, IfErr, IfSome, OnErr};
+ghost use Rattle.hx_directives.specs.Occurrences.{occurrences_of};
 ghost use Rattle.hx_hop.specs.Answering.{answered_of};
 ghost use Rattle.hx_allow.specs.Matching.{policy_of};
 ghost use Rattle.hx_reuse.specs.Rules.{decision_of};
@@ -21,10 +22,11 @@ use crate::moments::moment_fault;
 use crate::outcome::Outcome;
 use crate::replies::origin_answer::OriginAnswer;
 use crate::replies::pending::{AfterAnswer, Change, PendingReply};
-use crate::replies::reply_text::{PassedAnswerInfo, passed_answer_text};
+use crate::replies::reply_text::{PassedAnswerInfo, passed_answer_text, ttl_of_passed_answer};
 use crate::replies::stored_reply::CacheStatusInfo;
 use crate::steps::fallback::{Fallback, fallback_for};
 use crate::steps::storing::{Admission, NewEntry, removed_unstored, replaced_by};
+use hx_directives::Directives;
 use hx_fields::Bytes;
 use hx_framing::Response;
 use hx_hop::Answered;
@@ -40,25 +42,29 @@ fn is_error_status(status: u16) -> bool
 }
 
 impl<S: Shelf> Core<S> {
-    /// The bytes of an answer that is passed on: its head is handed in as rules see it.
+    /// The bytes of an answer that is passed on, and stored with these directives where there are any: its head is
+    /// handed in as rules see it.
     fn passed_text(
         &self,
         alloc: Global,
         answer: &OriginAnswer<'_>,
         head: &Answered,
         rule: Option<StoreRule>,
-        stored: bool,
+        stored: Option<&Directives>,
     ) -> Result<Bytes, AllocError>
-        requires { head.now ≡ answered_of answer.now.response.now answer.now.response_time }
+        requires head { head.now ≡ answered_of answer.now.response.now answer.now.response_time }
+        requires directives { IfSome stored (λ directives. directives.now ≡ occurrences_of head.now.fields) }
         ensures { IfOk result (λ text. text ≡ passed_answer_text
             (policy_of self.now.table.lines answer.now.exchange.now.line)
-            self.now.table.name answer.now.exchange.now answer.now.response.now answer.now.response_time stored rule) }
+            self.now.table.name answer.now.exchange.now answer.now.response.now answer.now.response_time
+            (is_some stored.entry) rule) }
     {
         let policy = self.config.policy(answer.exchange.line);
         let shown = PassedAnswerInfo {
             policy,
-            stored,
+            stored: stored.is_some(),
             rule,
+            ttl: ttl_of_passed_answer(answer, head, policy, stored),
         };
         passed_answer_text(alloc, self.config.name(), answer, head, shown)
     }
@@ -78,7 +84,7 @@ impl<S: Shelf> Core<S> {
         ensures change { IfOk result (λ pending. pending.change ≡ Change.Keep) }
     {
         Ok(PendingReply {
-            bytes: self.passed_text(alloc, answer, head, rule, false)?,
+            bytes: self.passed_text(alloc, answer, head, rule, None)?,
             close: answer.exchange.asked.close,
             change: Change::Keep,
             removed: removed_unstored(alloc, &self.shelf, answer)?,
@@ -97,6 +103,7 @@ impl<S: Shelf> Core<S> {
         requires head { head ≡ answered_of answer.now.response.now answer.now.response_time }
         requires nominated { new_entry.nominated ≡ kept_values_with answer.now.exchange.now.vary head.fields
             answer.now.exchange.now.asked.fields }
+        requires directives { new_entry.directives ≡ occurrences_of head.fields }
         ensures outcome { IfOk result (λ pending. outcome_of_pending_reply pending
             ≡ outcome_of_passing_on self.now.table self.now.entries
             answer.now.response_time answer.now.exchange.now answer.now.response.now rule (Some new_entry.serial)) }
@@ -106,7 +113,7 @@ impl<S: Shelf> Core<S> {
             pending.change) }
     {
         let asked = &answer.exchange.asked;
-        let bytes = self.passed_text(alloc, answer, &head, rule, true)?;
+        let bytes = self.passed_text(alloc, answer, &head, rule, Some(&new_entry.directives))?;
         let removed = replaced_by(alloc, &self.shelf, asked)?;
         let entry = new_entry.into_entry(alloc, answer, head)?;
         Ok(PendingReply {

@@ -183,6 +183,7 @@ impl<S: Shelf> Core<S> {
             stored,
             used,
             removed,
+            expired: None,
             purged: false,
         }))
     }

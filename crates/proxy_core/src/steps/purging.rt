@@ -2,15 +2,15 @@
 ghost use Rattle.std.specs.Prelude.{◌≡◌, ◌<◌, map, IfOk, OnOk, OnErr, Some};
 ghost use Rattle.hx_allow.specs.Tags.{names_tag_if_any};
 ghost use Rattle.proxy_core.specs.Scopes.{scope_of_keys, scope_of_purge, serials_purged, serials_within};
-ghost use Rattle.proxy_core.specs.Outcomes.{outcome_of_purge};
-ghost use Rattle.proxy_core.specs.State.{entries_without_serials, overtaken_exchange};
+ghost use Rattle.proxy_core.specs.Outcomes.{outcome_of_purge, outcome_of_taking};
+ghost use Rattle.proxy_core.specs.State.{entries_after_purge, entries_after_taking, overtaken_exchange};
 
 use crate::core_state::Core;
 use crate::open::exchanges::Exchanges;
 use crate::outcome::{Outcome, Reply};
 use crate::replies::reply_text::purged;
 use crate::steps::finishing::remove_each;
-use hx_allow::{PurgeScope, names_tag, scope_to_purge, tag_to_purge};
+use hx_allow::{PurgeMode, PurgeScope, mode_to_purge, names_tag, scope_to_purge, tag_to_purge};
 use hx_fields::{Bytes, Fields};
 use hx_hop::Asked;
 use hx_store::{Entry, EntryTest, Serials, Shelf};
@@ -119,9 +119,39 @@ fn overtake_purged(exchanges: &mut Exchanges, asked: &Asked)
     exchanges.overtake_within(reach, &asked.target.key);
 }
 
+/// Removes what a purge takes, or expires it. No memory is taken.
+fn take_each<S: Shelf>(shelf: &mut S, mode: PurgeMode, taken: &[u64], now: u64)
+    ensures entries { S.entries shelf.new ≡ entries_after_taking mode taken.now now (S.entries shelf.old) }
+    ensures limit { S.limit shelf.new ≡ S.limit shelf.old }
+{
+    match mode {
+        PurgeMode::Remove => remove_each(shelf, taken),
+        PurgeMode::Stale => shelf.expire(taken, now),
+    }
+}
+
+/// The answer to a request that purges.
+fn purge_reply(alloc: Global, bytes: Bytes, close: bool, mode: PurgeMode, taken: Serials) -> Outcome
+    ensures { result ≡ outcome_of_taking bytes close mode taken }
+{
+    let (removed, expired) = match mode {
+        PurgeMode::Remove => (taken, None),
+        PurgeMode::Stale => (Serials::new(alloc), Some(taken)),
+    };
+    Outcome::Reply(Reply {
+        bytes,
+        close,
+        stored: None,
+        used: None,
+        removed,
+        expired,
+        purged: true,
+    })
+}
+
 impl<S: Shelf> Core<S> {
-    /// A request that purges: what is held within its scope and names its tag goes, and what was asked for within its
-    /// scope before isn't stored.
+    /// A request that purges: what is held within its scope and names its tag goes, or is expired, and what was asked
+    /// for within its scope before isn't stored.
     pub(crate) fn purge(
         &mut self,
         alloc: Global,
@@ -131,22 +161,16 @@ impl<S: Shelf> Core<S> {
         requires { now < 253_402_300_800 }
         ensures outcome { IfOk result (λ outcome. outcome ≡ outcome_of_purge self.old.entries now asked.now) }
         ensures after { OnOk result (self.new ≡ record self.old {
-          entries = entries_without_serials (serials_purged asked.now self.old.entries) self.old.entries;
+          entries = entries_after_purge asked.now now self.old.entries;
           exchanges = map (overtaken_exchange (scope_of_purge asked.now)) self.old.exchanges;
         }) }
         ensures unchanged { OnErr result (self.new ≡ self.old) }
     {
-        let removed = find_purged(&self.shelf, alloc, asked)?;
-        let bytes = purged(alloc, now, removed.as_slice().len(), asked.close)?;
-        remove_each(&mut self.shelf, removed.as_slice());
+        let taken = find_purged(&self.shelf, alloc, asked)?;
+        let bytes = purged(alloc, now, taken.as_slice().len(), asked.close)?;
+        let mode = mode_to_purge(&asked.fields);
+        take_each(&mut self.shelf, mode, taken.as_slice(), now);
         overtake_purged(&mut self.exchanges, asked);
-        Ok(Outcome::Reply(Reply {
-            bytes,
-            close: asked.close,
-            stored: None,
-            used: None,
-            removed,
-            purged: true,
-        }))
+        Ok(purge_reply(alloc, bytes, asked.close, mode, taken))
     }
 }

@@ -22,11 +22,12 @@ use hx_validate::has_validator;
 use hx_vary::{Nominated, Nomination};
 use std::alloc::{AllocError, Global};
 
-/// What a new stored response has beside the answer: its serial, and what it nominates.
+/// What a new stored response has beside the answer: its serial, what it nominates, and the directives of its head.
 #[derive(Drop)]
 pub(crate) struct NewEntry {
     pub(crate) serial: u64,
     pub(crate) nominated: Nominated,
+    pub(crate) directives: Directives,
 }
 
 /// Whether an answer is stored.
@@ -61,11 +62,16 @@ impl NewEntry {
         requires head { head ≡ answered_of answer.now.response.now answer.now.response_time }
         requires nominated { self.nominated ≡ kept_values_with answer.now.exchange.now.vary head.fields
             answer.now.exchange.now.asked.fields }
+        requires directives { self.directives ≡ occurrences_of head.fields }
         ensures { IfOk result (λ entry. entry
             ≡ stored_response_made self.serial answer.now.exchange.now answer.now.response.now
             answer.now.response_time) }
     {
-        let NewEntry { serial, nominated } = self;
+        let NewEntry {
+            serial,
+            nominated,
+            directives,
+        } = self;
         let Answered { status, mut fields } = head;
         let exchange = answer.exchange;
         let key = exchange.asked.target.key.detached(alloc)?;
@@ -77,7 +83,7 @@ impl NewEntry {
         fields.remove_named(b"Age");
         // What is stored stays long: its lists get room for just what they have.
         let fields = fields.copy(alloc)?;
-        let directives = Directives::of(alloc, &fields)?.copy(alloc)?;
+        let directives = directives.copy(alloc)?;
         Ok(Entry {
             serial,
             key,
@@ -171,15 +177,17 @@ impl<S: Shelf> Core<S> {
         }
     }
 
-    /// The least storing rule that stands.
+    /// The least storing rule that stands. The directives of the head are handed in.
     fn rule_against(
         &self,
         alloc: Global,
         answer: &OriginAnswer<'_>,
         head: &Answered,
+        directives: &Directives,
         nomination: &Nomination,
     ) -> Result<Option<StoreRule>, AllocError>
         requires head { head.now ≡ answered_of answer.now.response.now answer.now.response_time }
+        requires directives { directives.now ≡ occurrences_of head.now.fields }
         requires nomination { nomination.now ≡ nominated_with answer.now.exchange.now.vary head.now.fields
             answer.now.exchange.now.asked.fields }
         ensures { IfOk result (λ rule. rule ≡ storage_rule_of answer.now.exchange.now.asked head.now
@@ -188,10 +196,9 @@ impl<S: Shelf> Core<S> {
             self.now.next)) }
     {
         let asked = &answer.exchange.asked;
-        let directives = Directives::of(alloc, &head.fields)?;
         let asked_directives = Directives::of(alloc, &asked.fields)?;
-        let facts = self.facts(answer, head, &directives, nomination);
-        let rule = first_rule_against(asked, &asked_directives, head, &directives, facts);
+        let facts = self.facts(answer, head, directives, nomination);
+        let rule = first_rule_against(asked, &asked_directives, head, directives, facts);
         Ok(rule)
     }
 
@@ -210,7 +217,7 @@ impl<S: Shelf> Core<S> {
         }
     }
 
-    /// Whether an answer is stored: the serial and the nominated values of the stored response that
+    /// Whether an answer is stored: the serial, the nominated values and the directives of the stored response that
     /// it makes, or what is told of why it isn't.
     pub(crate) fn admit(
         &self,
@@ -228,6 +235,8 @@ impl<S: Shelf> Core<S> {
         ensures nominated { IfOk result (λ admission. IfSome admission.new_entry
             (λ n. n.nominated ≡ kept_values_with answer.now.exchange.now.vary head.now.fields
             answer.now.exchange.now.asked.fields)) }
+        ensures directives { IfOk result (λ admission. IfSome admission.new_entry
+            (λ n. n.directives ≡ occurrences_of head.now.fields)) }
     {
         let exchange = answer.exchange;
         let nomination = Nominated::with(
@@ -236,7 +245,8 @@ impl<S: Shelf> Core<S> {
             &head.fields,
             &exchange.asked.fields,
         )?;
-        let rule = self.rule_against(alloc, answer, head, &nomination)?;
+        let directives = Directives::of(alloc, &head.fields)?;
+        let rule = self.rule_against(alloc, answer, head, &directives, &nomination)?;
         let shown = self.rule_shown(answer, rule);
         if rule.is_some() {
             return Ok(Admission::not_stored(shown));
@@ -249,7 +259,11 @@ impl<S: Shelf> Core<S> {
         match nomination {
             Nomination::Names(nominated) => Ok(Admission {
                 rule: shown,
-                new_entry: Some(NewEntry { serial, nominated }),
+                new_entry: Some(NewEntry {
+                    serial,
+                    nominated,
+                    directives,
+                }),
             }),
             Nomination::Star => Ok(Admission::not_stored(shown)),
         }

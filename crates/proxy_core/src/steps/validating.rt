@@ -9,7 +9,8 @@ ghost use Rattle.proxy_core.specs.Outcomes.{outcome_of_sending_freshened, outcom
 ghost use Rattle.proxy_core.specs.Pending.{outcome_of_pending_reply, outcome_after, AnswerLeavesHeldAsStepDoes};
 ghost use Rattle.proxy_core.specs.Pending.{AnswerChangeFits, AnswerStoresNothing, IsChangeAfterFreshening};
 ghost use Rattle.proxy_core.specs.Validating.{stored_response_is_answered, stored_response_asked_about};
-ghost use Rattle.proxy_core.specs.Validating.{stored_response_validated, freshened_by_304, as_get_request};
+ghost use Rattle.proxy_core.specs.Validating.{stored_response_validated, times_after_304, freshened_by_304};
+ghost use Rattle.proxy_core.specs.Validating.{as_get_request};
 ghost use Rattle.proxy_core.specs.Validating.{head_of_stored, stored_without_cookies};
 ghost use Rattle.proxy_core.specs.Validating.{storing_facts_of_freshened, freshened_may_be_kept, stored_is_too_large};
 ghost use Rattle.proxy_core.specs.State.{bounds_of};
@@ -80,6 +81,24 @@ fn stored_response_validated<'a, S: Shelf>(
     }
 }
 
+/// The times that a 304 leaves a held response. One to a request that a purge overtook leaves it expired.
+fn times_after_304(answer: &OriginAnswer<'_>, head: &Answered, entry: &Entry) -> Times
+    requires { head.now ≡ answered_of answer.now.response.now answer.now.response_time }
+    ensures { result
+        ≡ times_after_304 answer.now.exchange.now answer.now.response.now answer.now.response_time entry.now }
+{
+    let exchange = answer.exchange;
+    let times = Times::of(&head.fields, exchange.request_time, answer.response_time);
+    Times {
+        expired: if exchange.overtaken {
+            entry.times.expired
+        } else {
+            None
+        },
+        ..times
+    }
+}
+
 /// What the held response becomes that a 304 answers.
 fn freshened_by_304(
     alloc: Global,
@@ -92,7 +111,7 @@ fn freshened_by_304(
         ≡ freshened_by_304 answer.now.exchange.now answer.now.response.now answer.now.response_time entry.now) }
 {
     let exchange = answer.exchange;
-    let times = Times::of(&head.fields, exchange.request_time, answer.response_time);
+    let times = times_after_304(answer, head, entry);
     let fresh = freshened(alloc, &exchange.vary, entry, head, &exchange.asked, times)?;
     without_cookies(alloc, exchange, fresh)
 }

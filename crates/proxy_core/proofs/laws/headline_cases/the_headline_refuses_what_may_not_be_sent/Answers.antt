@@ -83,7 +83,7 @@ returns-clause-other_bytes c = refuse events_that_store_a (Arrive 110 2 get_a) (
 
 pub returns-clause-closing_its_connection : goal.returns-clause-closing_its_connection
 unfolding digits httpdate_on_literals matches_line verdict_of verdict_of_request policy_of decision_of reuse_rule_of storage_rule_of forwarded_of part_holding_day freshened_of error_rule_on
-returns-clause-closing_its_connection c = refuse events_that_store_a (Arrive 110 2 get_a) (Reply (record { bytes = []; close = true; stored = None; used = Some 1; removed = []; purged = false })) closes refl refl refl
+returns-clause-closing_its_connection c = refuse events_that_store_a (Arrive 110 2 get_a) (Reply (record { bytes = []; close = true; stored = None; used = Some 1; removed = []; expired = None; purged = false })) closes refl refl refl
 
 pub returns-clause-to_a_woken_one_that_it_may_not_answer : goal.returns-clause-to_a_woken_one_that_it_may_not_answer
 unfolding digits httpdate_on_literals matches_line verdict_of verdict_of_request policy_of decision_of reuse_rule_of storage_rule_of forwarded_of part_holding_day freshened_of error_rule_on

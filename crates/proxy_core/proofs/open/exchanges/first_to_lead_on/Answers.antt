@@ -4,7 +4,7 @@ use Rattle.std.specs.Map.{values_of}
 use Rattle.proxy_core.specs.declared.open.leading_on.NextLeader.{NextLeader}
 use Rattle.proxy_core.specs.LeadingOn.{leading_on}
 use Rattle.proxy_core.proofs.FirstOf.{FirstIsLeft, it_is_first, none_left, not_there, not_passing}
-use Rattle.proxy_core.proofs.AskedArrivals.{leads_on_for, next_leaders, next_leader_is}
+use Rattle.proxy_core.proofs.AskedArrivals.{leads_on_for, next_leaders, first_to_lead_on_is}
 use Rattle.proxy_core.proofs.open.exchanges.first_to_lead_on.Goals as goal
 
 pub loop-arrival-init : goal.loop-arrival-init
@@ -20,7 +20,7 @@ returns-then-leads_on-clause-next c =
     ap (λ (n : NextLeader). Some n) c.of.ensures
     ∙ (ap (option_map leading_on) (it_is_first which c.in-Some.arrival.now c.in-Some-get.x.now c.next.new.self es c.len-open.ensures.ordered c.in-Some-get.ensures.value
     (sym c.leads_on.ensures ∙ c.if-leads_on.true) (subst (λ ns. FirstIsLeft which ns es) c.in-Some.ensures.steps c.loop-arrival.invariant))
-    ∙ sym (next_leader_is c.args.config.now c.args.id (values_of es)))
+    ∙ sym (first_to_lead_on_is c.args.config.now c.args.id (values_of es)))
 
 pub loop-arrival-preserved-else-leads_on : goal.loop-arrival-preserved-else-leads_on
 loop-arrival-preserved-else-leads_on c =
@@ -40,4 +40,4 @@ returns-clause-next c =
     let es = c.args.by_arrival.now.entries in
     let which = leads_on_for c.args.config.now c.args.id in
     ap (option_map leading_on) (sym (none_left which es (subst (λ ns. FirstIsLeft which ns es) c.in-None.ensures.steps.0 c.loop-arrival.invariant)))
-    ∙ sym (next_leader_is c.args.config.now c.args.id (values_of es))
+    ∙ sym (first_to_lead_on_is c.args.config.now c.args.id (values_of es))

@@ -7,4 +7,4 @@ returns c =
     let shown = c.args.shown in
     let answer = c.args.answer.now in
     subst (λ (t : List ℕ). IfOk c.text_in_place.result (λ text. text ≡ t))
-    (unsatisfied_in_place shown.policy c.args.name.now answer.exchange.now answer.response.now c.args.head.now answer.response_time shown.stored shown.rule c.requires _ _ c.in_ok-lines.ensures (sym c.head_leaves_room.ensures ∙ c.if-not-head_leaves_room.false) _ c.len-total.ensures c.in_ok-own.ensures) c.text_in_place.ensures
+    (unsatisfied_in_place shown.policy c.args.name.now answer.exchange.now answer.response.now c.args.head.now answer.response_time shown.stored shown.rule c.requires.head _ _ c.in_ok-lines.ensures (sym c.head_leaves_room.ensures ∙ c.if-not-head_leaves_room.false) _ c.len-total.ensures c.in_ok-own.ensures) c.text_in_place.ensures

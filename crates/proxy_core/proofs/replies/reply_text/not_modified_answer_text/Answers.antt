@@ -11,5 +11,5 @@ returns c =
     let now = c.args.answer.now.response_time in
     let shown = c.args.shown in
     let is_text : List Field → Type 0 = λ lines. IfOk c.write_response.result (λ text. text ≡ response_text 304 lines None x.asked.close []) in
-    subst (λ (h : Answered). is_text (fields_of_304_sent shown.policy c.args.name.now x h.status h.fields now shown.stored shown.rule)) c.requires
+    subst (λ (h : Answered). is_text (fields_of_304_sent shown.policy c.args.name.now x h.status h.fields now shown.stored shown.rule)) c.requires.head
     (subst is_text (c.in_ok-lines.ensures ∙ ap (fields_in_place_of_answer shown.policy c.args.name.now x c.args.head.now.status c.args.head.now.fields now shown.stored shown.rule) c.in_ok-own.ensures) c.write_response.ensures)

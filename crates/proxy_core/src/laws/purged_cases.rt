@@ -1,0 +1,27 @@
+//! What is told of a response that a purge expired, and who waits for it: the function's contract is the cases, and its
+//! body is empty.
+
+ghost use Rattle.std.specs.Prelude.{◌≡◌, ◌∷◌, [], Some, codes, negsuc, pos, true};
+ghost use Rattle.hx_policy.specs.Policies.{plain};
+ghost use Rattle.hx_reuse.specs.declared.rule.ReuseRule.TheVariants.{MustRevalidate, NoMaxStale};
+ghost use Rattle.proxy_core.specs.Cases.{first_stored, forwarded_on_stale, get_a_with, purged_at, stale_with};
+ghost use Rattle.proxy_core.specs.Cases.{stored_at_once, wait_for_stale_policy};
+ghost use Rattle.proxy_core.specs.Awaiting.{leader_of_request};
+ghost use Rattle.proxy_core.specs.Replies.{ttl_of_stored};
+
+/// A response of a minute that was purged 9 seconds after it was received, a second after it was asked for, has no
+/// second left then, and is 20 past its lifetime at 130. A request waits for it as for any that is over, also where the
+/// purge came at once.
+#[tactic(auto, unfolding(hx_age::specs::Lifetime::lifetime_of))]
+pub fn what_is_told_of_what_was_purged()
+    ensures not_purged { ttl_of_stored (plain true) first_stored 110 ≡ pos 50 }
+    ensures at_the_purge { ttl_of_stored (plain true) (purged_at 110 first_stored) 110 ≡ pos 0 }
+    ensures later { ttl_of_stored (plain true) (purged_at 110 first_stored) 130 ≡ negsuc 19 }
+    ensures awaited { leader_of_request wait_for_stale_policy (purged_at 110 first_stored ∷ [])
+        (forwarded_on_stale ∷ []) (get_a_with []) NoMaxStale ≡ Some 1 }
+    ensures awaited_at_once { leader_of_request wait_for_stale_policy (purged_at 101 (stored_at_once first_stored) ∷ [])
+        (forwarded_on_stale ∷ []) (get_a_with []) NoMaxStale ≡ Some 1 }
+    ensures never_sent_stale { leader_of_request wait_for_stale_policy
+        (purged_at 101 (stored_at_once (stale_with (codes "max-age=10, must-revalidate"))) ∷ [])
+        (forwarded_on_stale ∷ []) (get_a_with []) MustRevalidate ≡ Some 1 }
+{}
