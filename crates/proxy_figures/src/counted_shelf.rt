@@ -201,6 +201,11 @@ impl<'a, S: Shelf + Drop> Shelf for CountedShelf<'a, S> {
         count
     }
 
+    // What is expired stays held, and weighs what it did.
+    fn expire(&mut self, serials: &[u64], now: u64) {
+        self.shelf.expire(serials, now);
+    }
+
     fn shed(&mut self, most: u64) -> Option<Entry> {
         let out = self.shelf.shed(most);
         self.count_evicted(&out);

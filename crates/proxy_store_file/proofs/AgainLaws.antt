@@ -1,6 +1,6 @@
 -- A store that is spelled is read as it was.
 use Rattle.std.proofs.Common.{◌≡◌, ℕ, zero, suc, ◌+◌, ◌-◌, ◌<◌, ◌≤◌, ◌^◌, List, [], ◌∷◌, ◌++◌, length, take, refl, ap, sym, ◌∙◌, subst, Bool, true, false, cond, ◌==◌, ◌&&◌, ◌||◌, nat_le, nat_lt, Option, None, Some, Ok, Err, arith, append_assoc, add-one}
-use Rattle.std.specs.Prelude.{bytes_eq}
+use Rattle.std.specs.Prelude.{bytes_eq, option_map}
 use Rattle.std.specs.List.{flat_map, AllByRecursion}
 use Rattle.std.proofs.Math.Dec.{eqb-suc-zero}
 use Rattle.std.proofs.lemmas.Bool.{le-leb, lt-leb}
@@ -18,9 +18,9 @@ use Rattle.proxy_store_file.specs.declared.heads.Head.{Head}
 use Rattle.proxy_store_file.specs.declared.store_faults.EntryPart.{EntryPart}
 use Rattle.proxy_store_file.specs.declared.store_faults.StoreFault.{StoreFault}
 use Rattle.proxy_store_file.specs.Texts.{number_spelling, text_spelling, number_of, is_number, number_in_front, text_in_front, cut, after}
-use Rattle.proxy_store_file.specs.Heads.{times_spelling, key_spelling, value_spelling, kept_spelling, nominated_spelling, line_spelling, lines_spelling, numbers_spelling, head_spelling, below, number_below_in_front, times_with_response, times_with_request, times_with_age, times_with_date, times_in_front, key_with_path, key_with_host, key_with_port, key_in_front, some_value, value_behind, value_in_front, kept_with_value, kept_with_name, kept_in_front, values_behind, nominated_in_front, line_with_value, line_with_name, line_in_front, lines_behind, lines_in_front, whole, no_head, head_with_lines, head_with_nominated, head_with_key, head_with_times, head_with_length, head_with_status, head_with_serial, head_in, head_of}
+use Rattle.proxy_store_file.specs.Heads.{times_spelling, key_spelling, value_spelling, kept_spelling, nominated_spelling, line_spelling, lines_spelling, numbers_spelling, head_spelling, below, number_below_in_front, times_with_response, times_with_request, times_with_age, times_with_date, times_in_front, times_with_purge, times_at_end, purge_spelling, key_with_path, key_with_host, key_with_port, key_in_front, some_value, value_behind, value_in_front, kept_with_value, kept_with_name, kept_in_front, values_behind, nominated_in_front, line_with_value, line_with_name, line_in_front, lines_behind, lines_in_front, whole, no_head, head_with_lines, head_with_nominated, head_with_key, head_with_times, head_with_length, head_with_status, head_with_serial, head_in, head_of}
 use Rattle.proxy_store_file.specs.Parts.{most_head_bytes, part_at_fault}
-use Rattle.proxy_store_file.specs.Fits.{TextFits, ValueFits, KeptFits, LineFits, EntryFits, EntryCanStand, EntriesCanStand, StoreCanBeTold}
+use Rattle.proxy_store_file.specs.Fits.{TextFits, ValueFits, MomentFits, KeptFits, LineFits, EntryFits, EntryCanStand, EntriesCanStand, StoreCanBeTold}
 use Rattle.proxy_store_file.specs.Stores.{StoreContents, entry_spelling, entries_spelling, first_line, opening_spelling, body_spelling, digest_spelling, store_spelling, EntryRead, Found, entry_in_front, entry_fault, fault_of_part, standing_fault, is_too_heavy, StoreReading, or_short, digest_read, end_read, entry_taken, entry_read, entries_read, counted_read, line_read, read_store}
 use Rattle.proxy_store_file.proofs.TextLaws.{same_bytes, cut_again, length-number_spelling, number_of_spelled, is_number_spelled, number_again, text_again}
 use Rattle.proxy_store_file.proofs.EntryLaws.{entry_found}
@@ -34,7 +34,7 @@ times_regroup : (a b c d more : List ℕ) → (((a ++ b) ++ c) ++ d) ++ more ≡
 times_regroup a b c d more = simp append_assoc
 
 times_again : (t : Times) (more : List ℕ) → t.date < 2 ^ 64 → t.age_value < 2 ^ 32 → t.request_time < 2 ^ 64 → t.response_time < 2 ^ 64
-    → times_in_front (times_spelling t ++ more) ≡ Some (t, more)
+    → times_in_front (times_spelling t ++ more) ≡ Some (record t { expired = None }, more)
 times_again t more f1 f2 f3 f4 =
     let d = number_spelling t.date in let a = number_spelling t.age_value in
     let r = number_spelling t.request_time in let s = number_spelling t.response_time in
@@ -112,29 +112,40 @@ nominated_again ks more few fits =
     ∙ (ap (λ (o : Option (ℕ × List ℕ)). after o (values_behind [])) (number_again (length ks) (flat_map kept_spelling ks ++ more) few)
     ∙ values_behind_again [] ks more fits)
 
-head_regroup : (a b c t k n l : List ℕ) → (((((a ++ b) ++ c) ++ t) ++ k) ++ n) ++ l ≡ a ++ (b ++ (c ++ (t ++ (k ++ (n ++ (l ++ []))))))
-head_regroup a b c t k n l = rw (append-nil l) (simp append_assoc)
+purge_again : (purge : Option ℕ) (t : Times) → MomentFits purge → times_at_end (record t { expired = None }) (purge_spelling purge) ≡ Some (record t { expired = purge })
+purge_again None t fits = refl
+purge_again (Some moment) t fits =
+    let some : (length (number_spelling moment) == 0) ≡ false = ap (λ n. n == 0) (length-number_spelling moment) in
+    rw some (
+    ap (λ (bytes : List ℕ). after (number_in_front bytes) (times_with_purge (record t { expired = None }))) (sym (append-nil (number_spelling moment)))
+    ∙ ap (λ (o : Option (ℕ × List ℕ)). after o (times_with_purge (record t { expired = None }))) (number_again moment [] fits)
+    )
+
+head_regroup : (a b c t k n l p : List ℕ) → ((((((a ++ b) ++ c) ++ t) ++ k) ++ n) ++ l) ++ p ≡ a ++ (b ++ (c ++ (t ++ (k ++ (n ++ (l ++ p))))))
+head_regroup a b c t k n l p = simp append_assoc
 
 head_again : (e : Stored) → EntryFits e → head_in (head_spelling (head_of e)) ≡ Some (head_of e)
 unfolding head_in
 head_again e fits =
     let a = number_spelling e.serial in let b = number_spelling e.status in let c = number_spelling (length e.content) in
     let t = times_spelling e.times in let k = key_spelling e.key in let n = nominated_spelling e.nominated in let l = lines_spelling e.fields in
+    let p = purge_spelling e.times.expired in
     let h1 : Head = record no_head { serial = e.serial } in
     let h2 : Head = record h1 { status = e.status } in
     let h3 : Head = record h2 { content_length = length e.content } in
-    let h4 : Head = record h3 { times = e.times } in
+    let h4 : Head = record h3 { times = record e.times { expired = None } } in
     let h5 : Head = record h4 { key = e.key } in
     let h6 : Head = record h5 { nominated = e.nominated } in
     let wide : e.status < 2 ^ 64 = omega (arith, fits.status) in
-    ap (λ bytes. after (number_in_front bytes) head_with_serial) (head_regroup a b c t k n l)
-    ∙ (ap (λ (o : Option (ℕ × List ℕ)). after o head_with_serial) (number_again e.serial (b ++ (c ++ (t ++ (k ++ (n ++ (l ++ [])))))) fits.serial)
-    ∙ (ap (λ (o : Option (ℕ × List ℕ)). after o (head_with_status h1)) (below_again (2 ^ 16) e.status (c ++ (t ++ (k ++ (n ++ (l ++ []))))) fits.status wide)
-    ∙ (ap (λ (o : Option (ℕ × List ℕ)). after o (head_with_length h2)) (number_again (length e.content) (t ++ (k ++ (n ++ (l ++ [])))) fits.content)
-    ∙ (ap (λ (o : Option (Times × List ℕ)). after o (head_with_times h3)) (times_again e.times (k ++ (n ++ (l ++ []))) fits.date fits.age fits.request fits.response)
-    ∙ (ap (λ (o : Option (Key × List ℕ)). after o (head_with_key h4)) (key_again e.key (n ++ (l ++ [])) fits.port fits.host fits.path_query)
-    ∙ (ap (λ (o : Option (List NominatedValue × List ℕ)). after o (head_with_nominated h5)) (nominated_again e.nominated (l ++ []) fits.values fits.nominated)
-    ∙ ap (λ (o : Option (List Field × List ℕ)). after o (head_with_lines h6)) (lines_again e.fields [] fits.lines fits.fields)))))))
+    ap (λ bytes. after (number_in_front bytes) head_with_serial) (head_regroup a b c t k n l p)
+    ∙ (ap (λ (o : Option (ℕ × List ℕ)). after o head_with_serial) (number_again e.serial (b ++ (c ++ (t ++ (k ++ (n ++ (l ++ p)))))) fits.serial)
+    ∙ (ap (λ (o : Option (ℕ × List ℕ)). after o (head_with_status h1)) (below_again (2 ^ 16) e.status (c ++ (t ++ (k ++ (n ++ (l ++ p))))) fits.status wide)
+    ∙ (ap (λ (o : Option (ℕ × List ℕ)). after o (head_with_length h2)) (number_again (length e.content) (t ++ (k ++ (n ++ (l ++ p)))) fits.content)
+    ∙ (ap (λ (o : Option (Times × List ℕ)). after o (head_with_times h3)) (times_again e.times (k ++ (n ++ (l ++ p))) fits.date fits.age fits.request fits.response)
+    ∙ (ap (λ (o : Option (Key × List ℕ)). after o (head_with_key h4)) (key_again e.key (n ++ (l ++ p)) fits.port fits.host fits.path_query)
+    ∙ (ap (λ (o : Option (List NominatedValue × List ℕ)). after o (head_with_nominated h5)) (nominated_again e.nominated (l ++ p) fits.values fits.nominated)
+    ∙ (ap (λ (o : Option (List Field × List ℕ)). after o (head_with_lines h6)) (lines_again e.fields p fits.lines fits.fields)
+    ∙ ap (λ (o : Option Times). option_map (λ times. record h6 { times = times; fields = e.fields }) o) (purge_again e.times.expired e.times fits.purge))))))))
 
 entry_again : (e : Stored) (more : List ℕ) → EntryFits e → length (head_spelling (head_of e)) ≤ most_head_bytes → entry_in_front (entry_spelling e ++ more) ≡ Found e more
 entry_again e more fits short =

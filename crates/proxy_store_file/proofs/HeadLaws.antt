@@ -1,6 +1,7 @@
 -- A head that is spelled is read, and a head that is read is spelled so.
 use Rattle.std.proofs.Common.{◌≡◌, ℕ, zero, suc, ◌+◌, ◌-◌, ◌<◌, ◌≤◌, ◌^◌, List, [], ◌∷◌, ◌++◌, length, take, drop, refl, ap, sym, ◌∙◌, subst, Bool, true, false, cond, ◌==◌, nat_lt, Option, None, Some, arith, append_assoc, add-one}
 use Rattle.std.specs.List.{flat_map}
+use Rattle.std.specs.Prelude.{option_map}
 use Rattle.std.proofs.lemmas.List.{append-nil, length-append}
 use Rattle.std.proofs.lemmas.Bool.{eqb-true, ltb-true}
 use Rattle.hx_fields.specs.declared.field_line.Field.{Field}
@@ -9,7 +10,7 @@ use Rattle.hx_age.specs.declared.moments.Times.{Times}
 use Rattle.hx_vary.specs.declared.nominated_values.NominatedValue.{NominatedValue}
 use Rattle.proxy_store_file.specs.declared.heads.Head.{Head}
 use Rattle.proxy_store_file.specs.Texts.{number_spelling, text_spelling, number_in_front, text_in_front, cut, after}
-use Rattle.proxy_store_file.specs.Heads.{times_spelling, key_spelling, value_spelling, kept_spelling, nominated_spelling, line_spelling, lines_spelling, numbers_spelling, head_spelling, below, number_below_in_front, times_with_response, times_with_request, times_with_age, times_with_date, times_in_front, key_with_path, key_with_host, key_with_port, key_in_front, some_value, value_behind, value_in_front, kept_with_value, kept_with_name, kept_in_front, values_behind, nominated_in_front, line_with_value, line_with_name, line_in_front, lines_behind, lines_in_front, whole, no_head, head_with_lines, head_with_nominated, head_with_key, head_with_times, head_with_length, head_with_status, head_with_serial, head_in}
+use Rattle.proxy_store_file.specs.Heads.{times_spelling, key_spelling, value_spelling, kept_spelling, nominated_spelling, line_spelling, lines_spelling, numbers_spelling, head_spelling, below, number_below_in_front, times_with_response, times_with_request, times_with_age, times_with_date, times_in_front, times_with_purge, times_at_end, purge_spelling, key_with_path, key_with_host, key_with_port, key_in_front, some_value, value_behind, value_in_front, kept_with_value, kept_with_name, kept_in_front, values_behind, nominated_in_front, line_with_value, line_with_name, line_in_front, lines_behind, lines_in_front, whole, no_head, head_with_lines, head_with_nominated, head_with_key, head_with_times, head_with_length, head_with_status, head_with_serial, head_in}
 use Rattle.proxy_store_file.proofs.TextLaws.{same_pair, after_found, cut_found, number_found, text_found}
 
 -- one part more was found
@@ -32,12 +33,22 @@ times_found bytes more times e =
     let q = after_found (number_below_in_front (2 ^ 32) p.rest) (times_with_age p.read) (times, more) p.behind in
     let r = after_found (number_in_front q.rest) (times_with_request p.read q.read) (times, more) q.behind in
     let s = after_found (number_in_front r.rest) (times_with_response p.read q.read r.read) (times, more) r.behind in
-    let t : Times = record { date = p.read; age_value = q.read; request_time = r.read; response_time = s.read } in
+    let t : Times = record { date = p.read; age_value = q.read; request_time = r.read; response_time = s.read; expired = None } in
     let same = same_pair t times s.rest more s.behind in
     let d = more_front _ _ _ _ _ (number_found bytes p.rest p.read p.found) (below_found (2 ^ 32) p.rest q.rest q.read q.found) in
     let f = more_front _ _ _ _ _ d (number_found q.rest r.rest r.read r.found) in
     let g = more_front _ _ _ _ _ f (number_found r.rest s.rest s.read s.found) in
     g ∙ (ap (λ x. times_spelling x ++ s.rest) same.0 ∙ ap (λ x. times_spelling times ++ x) same.1)
+
+-- such times have no purge yet
+times_without_purge : (bytes more : List ℕ) (times : Times) → times_in_front bytes ≡ Some (times, more) → times.expired ≡ None
+times_without_purge bytes more times e =
+    let p = after_found (number_in_front bytes) times_with_date (times, more) e in
+    let q = after_found (number_below_in_front (2 ^ 32) p.rest) (times_with_age p.read) (times, more) p.behind in
+    let r = after_found (number_in_front q.rest) (times_with_request p.read q.read) (times, more) q.behind in
+    let s = after_found (number_in_front r.rest) (times_with_response p.read q.read r.read) (times, more) r.behind in
+    let t : Times = record { date = p.read; age_value = q.read; request_time = r.read; response_time = s.read; expired = None } in
+    sym (ap (λ (x : Times). x.expired) (same_pair t times s.rest more s.behind).0)
 
 pub key_found : (bytes more : List ℕ) (key : Key) → key_in_front bytes ≡ Some (key, more) → bytes ≡ key_spelling key ++ more
 key_found bytes more key e =
@@ -161,9 +172,30 @@ pub empty : (xs : List ℕ) → (length xs == 0) ≡ true → xs ≡ []
 empty [] e = refl
 empty (x ∷ xs) e = let none : suc (length xs) ≡ 0 = eqb-true (suc (length xs)) 0 e in absurd (omega arith)
 
-whole_found_by : (t : Bool) (read head : Head) → cond {A = Option Head} t (Some read) None ≡ Some head → (t ≡ true) × (read ≡ head)
-whole_found_by true read head e = (refl, cc)
-whole_found_by false read head e = absurd (cc)
+whole_found_by : (t : Bool) (read times : Times) → cond {A = Option Times} t (Some read) None ≡ Some times → (t ≡ true) × (read ≡ times)
+whole_found_by true read times e = (refl, cc)
+whole_found_by false read times e = absurd (cc)
+
+-- behind the lines stands the purge of the times that are read there, and nothing else
+end_found_by : (t : Bool) (rest : List ℕ) (before times : Times) → (t ≡ true → rest ≡ []) → before.expired ≡ None
+    → cond {A = Option Times} t (Some before) (after (number_in_front rest) (times_with_purge before)) ≡ Some times
+    → (rest ≡ purge_spelling times.expired) × (times_spelling before ≡ times_spelling times)
+end_found_by true rest before times nothing none e =
+    let same : before ≡ times = cc in
+    (nothing refl ∙ ap purge_spelling (sym none ∙ ap (λ (x : Times). x.expired) same), ap times_spelling same)
+end_found_by false rest before times nothing none e =
+    let p = after_found (number_in_front rest) (times_with_purge before) times e in
+    let marked : Times = record before { expired = Some p.read } in
+    let w = whole_found_by (length p.rest == 0) marked times p.behind in (
+      number_found rest p.rest p.read p.found
+          ∙ (ap (λ r. number_spelling p.read ++ r) (empty p.rest w.0)
+          ∙ (append-nil (number_spelling p.read) ∙ ap (λ (x : Times). purge_spelling x.expired) w.1)),
+      ap times_spelling w.1,
+    )
+
+mapped_found : (o : Option Times) (make : Times → Head) (head : Head) → option_map make o ≡ Some head → (times : Times) × (o ≡ Some times) × (make times ≡ head)
+mapped_found None make head e = absurd (cc)
+mapped_found (Some times) make head e = (times, refl, cc)
 
 pub head_found : (bytes : List ℕ) (head : Head) → head_in bytes ≡ Some head → bytes ≡ head_spelling head
 unfolding head_in
@@ -181,12 +213,15 @@ head_found bytes head e =
     let p6 = after_found (nominated_in_front p5.rest) (head_with_nominated h5) head p5.behind in
     let h6 : Head = record h5 { nominated = p6.read } in
     let p7 = after_found (lines_in_front p6.rest) (head_with_lines h6) head p6.behind in
-    let h7 : Head = record h6 { fields = p7.read } in
-    let w = whole_found_by (length p7.rest == 0) h7 head p7.behind in
+    let m = mapped_found (times_at_end p4.read p7.rest) (λ times. record h6 { times = times; fields = p7.read }) head p7.behind in
+    let w = end_found_by (length p7.rest == 0) p7.rest p4.read m.0 (empty p7.rest) (times_without_purge p3.rest p4.rest p4.read p4.found) m.1 in
+    let with_times : List ℕ → List ℕ = λ times.
+    number_spelling p1.read ++ number_spelling p2.read ++ number_spelling p3.read ++ times ++ key_spelling p5.read ++ nominated_spelling p6.read
+    ++ lines_spelling p7.read in
     let d2 = more_front _ _ _ _ _ (number_found bytes p1.rest p1.read p1.found) (below_found (2 ^ 16) p1.rest p2.rest p2.read p2.found) in
     let d3 = more_front _ _ _ _ _ d2 (number_found p2.rest p3.rest p3.read p3.found) in
     let d4 = more_front _ _ _ _ _ d3 (times_found p3.rest p4.rest p4.read p4.found) in
     let d5 = more_front _ _ _ _ _ d4 (key_found p4.rest p5.rest p5.read p5.found) in
     let d6 = more_front _ _ _ _ _ d5 (nominated_found p5.rest p6.rest p6.read p6.found) in
     let d7 = more_front _ _ _ _ _ d6 (lines_found p6.rest p7.rest p7.read p7.found) in
-    d7 ∙ (ap (λ r. head_spelling h7 ++ r) (empty p7.rest w.0) ∙ (append-nil (head_spelling h7) ∙ ap head_spelling w.1))
+    d7 ∙ (ap (λ r. with_times (times_spelling p4.read) ++ r) w.0 ∙ (ap (λ t. with_times t ++ purge_spelling m.0.expired) w.1 ∙ ap head_spelling m.2))

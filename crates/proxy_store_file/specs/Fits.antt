@@ -23,6 +23,10 @@ abbrev pub ValueFits : Option (List ℕ) → Type 0
 ValueFits None = Unit {0}
 ValueFits (Some value) = length value + 1 < 2 ^ 64
 
+abbrev pub MomentFits : Option ℕ → Type 0
+MomentFits None = Unit {0}
+MomentFits (Some moment) = moment < 2 ^ 64
+
 abbrev pub KeptFits : NominatedValue → Type 0
 KeptFits kept = TextFits kept.name × ValueFits kept.value
 
@@ -37,6 +41,7 @@ pub record EntryFits (e : Stored) : Type 0 where
   pub age : e.times.age_value < 2 ^ 32
   pub request : e.times.request_time < 2 ^ 64
   pub response : e.times.response_time < 2 ^ 64
+  pub purge : MomentFits e.times.expired
   pub port : e.key.port < 2 ^ 16
   pub host : TextFits e.key.host
   pub path_query : TextFits e.key.path_query

@@ -1,9 +1,9 @@
 -- The head of an entry in the file of a store: all of it but its content.
 --
--- times_spelling, key_spelling, kept_spelling, line_spelling: its parts       listed: a list, its length in front
+-- times_spelling, key_spelling, kept_spelling, line_spelling, purge_spelling: its parts
 -- head_spelling: the whole       head_in: the head that bytes spell, if they do
 use Rattle.std.specs.Prelude.{ℕ, ◌+◌, ◌-◌, ◌^◌, ◌==◌, nat_lt, zero, suc, if◌then◌else◌, List, [], ◌∷◌, ◌++◌, length}
-use Rattle.std.specs.Prelude.{Option, None, Some}
+use Rattle.std.specs.Prelude.{Option, None, Some, option_map}
 use Rattle.std.specs.List.{flat_map}
 use Rattle.hx_fields.specs.declared.field_line.Field.{Field}
 use Rattle.hx_target.specs.declared.keys.Key.{Key}
@@ -43,10 +43,17 @@ numbers_spelling head =
     number_spelling head.serial ++ number_spelling head.status ++ number_spelling head.content_length
     ++ times_spelling head.times
 
--- numbers of one length first, and then what has its length in front
+-- nothing, or the moment of the purge that expired the response
+abbrev pub purge_spelling : Option ℕ → List ℕ
+purge_spelling None = []
+purge_spelling (Some moment) = number_spelling moment
+
+-- numbers of one length first, then what has its length in front, and last the purge, where there was one
+-- own: so a response that no purge expired is spelled as before there were such purges ("A purge in a store's file")
 abbrev pub head_spelling : Head → List ℕ
 head_spelling head =
     numbers_spelling head ++ key_spelling head.key ++ nominated_spelling head.nominated ++ lines_spelling head.fields
+    ++ purge_spelling head.times.expired
 
 -- the number at the front, where it is below a bound
 abbrev pub below : ℕ → ℕ → List ℕ → Option (ℕ × List ℕ)
@@ -58,7 +65,10 @@ number_below_in_front bound bytes = after (number_in_front bytes) (below bound)
 -- the times behind those that were read
 abbrev pub times_with_response : ℕ → ℕ → ℕ → ℕ → List ℕ → Option (Times × List ℕ)
 times_with_response date age request response rest =
-    Some (record { date = date; age_value = age; request_time = request; response_time = response }, rest)
+    Some (
+      record { date = date; age_value = age; request_time = request; response_time = response; expired = None },
+      rest,
+    )
 
 abbrev pub times_with_request : ℕ → ℕ → ℕ → List ℕ → Option (Times × List ℕ)
 times_with_request date age request rest = after (number_in_front rest) (times_with_response date age request)
@@ -131,13 +141,21 @@ lines_in_front bytes = after (number_in_front bytes) (lines_behind [])
 abbrev pub whole : {A : Type 0} → A → List ℕ → Option A
 whole read rest = if length rest == 0 then Some read else None
 
+-- the times of a head behind whose lines this stands: nothing, or the moment of a purge
+abbrev pub times_with_purge : Times → ℕ → List ℕ → Option Times
+times_with_purge times moment rest = whole (record times { expired = Some moment }) rest
+
+abbrev pub times_at_end : Times → List ℕ → Option Times
+times_at_end times rest =
+    if length rest == 0 then Some times else after (number_in_front rest) (times_with_purge times)
+
 -- nothing of a head was read
 abbrev pub no_head : Head
 no_head = record {
   serial = 0;
   status = 0;
   content_length = 0;
-  times = record { date = 0; age_value = 0; request_time = 0; response_time = 0 };
+  times = record { date = 0; age_value = 0; request_time = 0; response_time = 0; expired = None };
   key = record { host = []; port = 0; path_query = [] };
   nominated = [];
   fields = [];
@@ -145,7 +163,8 @@ no_head = record {
 
 -- the head behind its parts that were read
 abbrev pub head_with_lines : Head → List Field → List ℕ → Option Head
-head_with_lines head fields rest = whole (record head { fields = fields }) rest
+head_with_lines head fields rest =
+    option_map (λ times. record head { times = times; fields = fields }) (times_at_end head.times rest)
 
 abbrev pub head_with_nominated : Head → List NominatedValue → List ℕ → Option Head
 head_with_nominated head nominated rest =

@@ -39,10 +39,14 @@ is_stored_key key = is_host key.host && nat_le (length key.host) 253 && not (has
 abbrev pub is_moment : ℕ → Bool
 is_moment seconds = nat_lt seconds 253402300800
 
+abbrev pub is_moment_if_any : Option ℕ → Bool
+is_moment_if_any None = true
+is_moment_if_any (Some seconds) = is_moment seconds
+
 -- and an age up to the cap (RFC 9111, section 1.2.2)
 abbrev pub are_stored_times : Times → Bool
 are_stored_times times = is_moment times.date && is_moment times.request_time && is_moment times.response_time
-    && nat_le times.age_value 2147483648
+    && nat_le times.age_value 2147483648 && is_moment_if_any times.expired
 
 -- field-vchar = VCHAR / obs-text; SP and HTAB stand between them (RFC 9110, section 5.5)
 abbrev pub is_value_byte : ℕ → Bool

@@ -2,7 +2,7 @@
 ghost use Rattle.std.specs.Prelude.{◌≡◌, ◌==◌, slice_index};
 ghost use Rattle.std.specs.List.{list_all};
 ghost use Rattle.proxy_store_file.specs.Parts.{part_at_fault, is_final_status, is_stored_key, is_moment};
-ghost use Rattle.proxy_store_file.specs.Parts.{are_stored_times};
+ghost use Rattle.proxy_store_file.specs.Parts.{are_stored_times, is_moment_if_any};
 ghost use Rattle.proxy_store_file.specs.Parts.{is_value_byte, are_value_bytes, is_stored_name, is_kept_value, is_kept};
 ghost use Rattle.proxy_store_file.specs.Parts.{are_nominated, is_stored_line, are_stored_lines, has_capital};
 
@@ -52,6 +52,15 @@ fn is_moment(seconds: u64) -> bool
     seconds < END_OF_TIME
 }
 
+fn is_moment_if_any(seconds: Option<u64>) -> bool
+    ensures { result ≡ is_moment_if_any seconds }
+{
+    match seconds {
+        Some(seconds) => is_moment(seconds),
+        None => true,
+    }
+}
+
 fn are_stored_times(times: Times) -> bool
     ensures { result ≡ are_stored_times times }
 {
@@ -59,6 +68,7 @@ fn are_stored_times(times: Times) -> bool
         && is_moment(times.request_time)
         && is_moment(times.response_time)
         && (times.age_value as u64) <= MOST_SECONDS
+        && is_moment_if_any(times.expired)
 }
 
 fn is_value_byte(b: u8) -> bool

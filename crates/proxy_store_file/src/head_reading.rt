@@ -3,7 +3,7 @@ ghost use Rattle.std.specs.Prelude.{◌≡◌, ◌∷◌, [], IfOk, IfErr, Match
 ghost use Rattle.proxy_store_file.specs.Heads.{times_in_front, key_in_front, value_in_front, kept_in_front};
 ghost use Rattle.proxy_store_file.specs.Heads.{nominated_in_front, line_in_front, lines_in_front, head_in};
 ghost use Rattle.proxy_store_file.specs.Heads.{values_behind};
-ghost use Rattle.proxy_store_file.specs.Heads.{lines_behind};
+ghost use Rattle.proxy_store_file.specs.Heads.{lines_behind, times_at_end};
 ghost use Rattle.proxy_store_file.specs.HeadStops.{IsStopOf, said_of_value};
 
 use crate::heads::Head;
@@ -55,6 +55,7 @@ fn times_in_front(bytes: &[u8]) -> Option<(Times, &[u8])>
         age_value: age_value as u32,
         request_time,
         response_time,
+        expired: None,
     };
     Some((times, rest))
 }
@@ -181,6 +182,22 @@ fn lines_in_front(alloc: Global, bytes: &[u8]) -> Result<(Fields, &[u8]), HeadSt
     Ok((lines, rest))
 }
 
+/// The times of a head behind whose lines nothing stands, or the moment of a purge.
+fn times_at_end(times: Times, rest: &[u8]) -> Option<Times>
+    ensures { result ≡ times_at_end times rest.now }
+{
+    if rest.is_empty() {
+        return Some(times);
+    }
+    match number_in_front(rest) {
+        Some((moment, behind)) if behind.is_empty() => Some(Times {
+            expired: Some(moment),
+            ..times
+        }),
+        _ => None,
+    }
+}
+
 /// The head that bytes spell.
 #[tactic(auto, unfolding(crate::specs::Heads::head_in))]
 pub(crate) fn head_in(alloc: Global, bytes: &[u8]) -> Result<Head, HeadStop>
@@ -211,9 +228,9 @@ pub(crate) fn head_in(alloc: Global, bytes: &[u8]) -> Result<Head, HeadStop>
         Ok(found) => found,
         Err(stop) => return Err(stop),
     };
-    if !rest.is_empty() {
+    let Some(times) = times_at_end(times, rest) else {
         return Err(HeadStop::Shapeless);
-    }
+    };
     Ok(Head {
         serial,
         status: status as u16,

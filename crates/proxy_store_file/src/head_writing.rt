@@ -4,7 +4,7 @@ ghost use Rattle.std.specs.List.{flat_map};
 ghost use Rattle.proxy_store_file.specs.Heads.{times_spelling, key_spelling, value_spelling, kept_spelling};
 ghost use Rattle.proxy_store_file.specs.Heads.{line_spelling};
 ghost use Rattle.proxy_store_file.specs.Heads.{nominated_spelling, lines_spelling, head_spelling, head_of};
-ghost use Rattle.proxy_store_file.specs.Heads.{numbers_spelling};
+ghost use Rattle.proxy_store_file.specs.Heads.{numbers_spelling, purge_spelling};
 
 use crate::texts::{push_number, push_text};
 use hx_age::Times;
@@ -90,6 +90,15 @@ fn push_lines(out: &mut Vec<u8>, lines: &[Field]) -> Result<(), AllocError>
     push_all_lines(out, lines)
 }
 
+fn push_purge(out: &mut Vec<u8>, expired: Option<u64>) -> Result<(), AllocError>
+    ensures { OnOk result (out.new.items ≡ out.old.items ++ purge_spelling expired) }
+{
+    match expired {
+        Some(moment) => push_number(out, moment),
+        None => Ok(()),
+    }
+}
+
 /// The numbers of an entry that have a place of their own.
 fn push_numbers(out: &mut Vec<u8>, entry: &Entry) -> Result<(), AllocError>
     ensures { OnOk result (out.new.items ≡ out.old.items ++ numbers_spelling (head_of entry.now)) }
@@ -109,5 +118,6 @@ pub(crate) fn head_text(alloc: Global, entry: &Entry) -> Result<Vec<u8>, AllocEr
     push_key(&mut out, &entry.key)?;
     push_nominated(&mut out, entry.nominated.as_slice())?;
     push_lines(&mut out, entry.fields.as_slice())?;
+    push_purge(&mut out, entry.times.expired)?;
     Ok(out)
 }

@@ -5,7 +5,7 @@ ghost use Rattle.hx_target.specs.declared.keys.Key.{Key};
 ghost use Rattle.hx_age.specs.declared.moments.Times.{Times};
 ghost use Rattle.proxy_store_file.specs.Texts.{number_spelling, text_spelling, number_in_front, text_in_front};
 ghost use Rattle.proxy_store_file.specs.Heads.{times_spelling, times_in_front, key_spelling, key_in_front};
-ghost use Rattle.proxy_store_file.specs.Heads.{line_spelling, value_spelling};
+ghost use Rattle.proxy_store_file.specs.Heads.{line_spelling, purge_spelling, value_spelling};
 ghost use Rattle.proxy_store_file.specs.Heads.{line_in_front, kept_spelling, kept_in_front, head_in, head_spelling};
 ghost use Rattle.hx_store.specs.Weights.{StoreBounds};
 ghost use Rattle.proxy_store_file.specs.Fits.{StoreCanBeTold, StoreStands};
@@ -61,14 +61,16 @@ pub fn read_stores_may_stand()
         → StoreStands bounds store }
 {}
 
-/// Worked spellings of numbers, texts and values, of a store without entries, and of two entries, of which the latest
-/// used stands last.
+/// Worked spellings of numbers, texts, values and purges, of a store without entries, and of two entries, of which the
+/// latest used stands last.
 #[tactic(auto, unfolding(crate::specs::Texts::number_spelling))]
 pub fn worked_bytes_are_spelled()
     ensures number { number_spelling 258 ≡ 0 ∷ 0 ∷ 0 ∷ 0 ∷ 0 ∷ 0 ∷ 1 ∷ 2 ∷ [] }
     ensures text { text_spelling (codes "ab") ≡ 0 ∷ 0 ∷ 0 ∷ 0 ∷ 0 ∷ 0 ∷ 0 ∷ 2 ∷ 97 ∷ 98 ∷ [] }
     ensures no_value { value_spelling None ≡ 0 ∷ 0 ∷ 0 ∷ 0 ∷ 0 ∷ 0 ∷ 0 ∷ 0 ∷ [] }
     ensures empty_value { value_spelling (Some []) ≡ 0 ∷ 0 ∷ 0 ∷ 0 ∷ 0 ∷ 0 ∷ 0 ∷ 1 ∷ [] }
+    ensures no_purge { purge_spelling None ≡ [] }
+    ensures purge { purge_spelling (Some 258) ≡ 0 ∷ 0 ∷ 0 ∷ 0 ∷ 0 ∷ 0 ∷ 1 ∷ 2 ∷ [] }
     ensures empty_store { body_spelling (record { entries = []; next_serial = 7 })
         ≡ codes "revcache store 1" ++ 10 ∷ 0 ∷ 0 ∷ 0 ∷ 0 ∷ 0 ∷ 0 ∷ 0 ∷ 7 ∷ 0 ∷ 0 ∷ 0 ∷ 0 ∷ 0 ∷ 0 ∷ 0 ∷ 0 ∷ [] }
     ensures latest_last { (latest earlier : Stored)
