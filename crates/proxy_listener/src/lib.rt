@@ -4,7 +4,7 @@
 
 mod listening;
 mod resetting;
-mod send_buffer;
+mod stream_options;
 
 pub use crate::listening::{ListenAt, listen};
 pub use crate::resetting::reset;

@@ -5,7 +5,7 @@
 ghost use Rattle.std.specs.Prelude.{IsErr};
 ghost use Rattle.proxy_listener.specs.HandedOn.{IsNoSocketsDescriptor, MustBeRefused};
 
-use crate::send_buffer::bound_send_buffers;
+use crate::stream_options::set_stream_options;
 use libc::net as c;
 use mio::net::TcpListener;
 use os::FromRawFd;
@@ -62,9 +62,9 @@ fn handed_on(fd: RawFd) -> io::Result<TcpListener>
     Ok(TcpListener::from_std(listener))
 }
 
-/// The socket that clients connect to, whose streams have bounded buffers. Fails with what the system says: the address
-/// is in use or isn't the machine's, the descriptor isn't open, no socket or one of another family; and, as an invalid
-/// input, where a socket that was handed on can't be listened on.
+/// The socket that clients connect to, whose streams have bounded buffers and send at once. Fails with what the system
+/// says: the address is in use or isn't the machine's, the descriptor isn't open, no socket or one of another family;
+/// and, as an invalid input, where a socket that was handed on can't be listened on.
 pub fn listen<R: Net>(net: &R, at: ListenAt) -> io::Result<TcpListener>
     ensures { MustBeRefused at → IsErr result }
 {
@@ -72,6 +72,6 @@ pub fn listen<R: Net>(net: &R, at: ListenAt) -> io::Result<TcpListener>
         ListenAt::Address(address) => TcpListener::bind(net, address)?,
         ListenAt::Descriptor(fd) => handed_on(fd)?,
     };
-    bound_send_buffers(&listener);
+    set_stream_options(&listener);
     Ok(listener)
 }

@@ -54,15 +54,14 @@ pub fn held_after(all: usize, before: usize, after: usize) -> usize
 }
 
 impl Peer<Socket> {
-    /// A stream whose connection is made; `now` in milliseconds of the clock that never goes back, here and below.
+    /// A stream of a listener, which has its options; `now` in milliseconds of the clock that never goes back, here and
+    /// below.
     pub fn new(alloc: Global, stream: TcpStream, now: u64) -> Peer<Socket>
         ensures peer { result ≡ new_peer (new_socket stream) result.unsent now }
         ensures unsent { result.unsent.bytes ≡ [] }
     {
-        let stream = Socket::new(stream);
-        stream.send_at_once();
         Peer {
-            stream,
+            stream: Socket::new(stream),
             connecting: false,
             readable: true,
             hung: false,
@@ -83,6 +82,7 @@ impl Peer<Socket> {
         ensures unsent { result.unsent.bytes ≡ [] }
     {
         let mut peer = Peer::new(alloc, stream, now);
+        peer.stream.send_at_once();
         peer.connecting = true;
         peer.readable = false;
         peer
