@@ -7,7 +7,8 @@ use crate::case_file::Case;
 use crate::field_lines::fields_of;
 use crate::lines::{Fault, Line};
 use crate::parts::Part;
-use hx_age::{Lifetime, Times, current_age, is_fresh, staleness, ttl};
+use crate::reuse::{before_purge, purged};
+use hx_age::{Lifetime, Times, current_age, is_fresh, lifetime_until_expired, staleness, ttl};
 use hx_directives::{Directive, Directives, MaxStale, Seconds};
 use hx_fields::Fields;
 use std::alloc::AllocError;
@@ -57,12 +58,15 @@ pub fn directives(text: &mut String, front: &[Line<'_>], case: &Case<'_>) -> Res
     write_directive(text, *which, &found)
 }
 
-/// When a response was asked for and when it came: `asked for at 105, came at 110`.
-fn moments_of(text: &str) -> Option<(u64, u64)> {
+/// When a response was asked for and when it came, and when a purge expired it: `asked for at 105, came at 110`, and
+/// perhaps `, purged at 120`.
+fn moments_of(text: &str) -> Option<(u64, u64, Option<u64>)> {
+    let (text, purged_at) = before_purge(text)?;
     let (asked, came) = text
         .strip_prefix("asked for at ")?
         .split_once(", came at ")?;
-    Some((asked.parse::<u64>().ok()?, came.parse::<u64>().ok()?))
+    let (asked, came) = (asked.parse::<u64>().ok()?, came.parse::<u64>().ok()?);
+    Some((asked, came, purged_at))
 }
 
 fn lifetime_of(fields: &Fields, directives: &Directives) -> Lifetime
@@ -86,16 +90,16 @@ fn write_age(text: &mut String, lifetime: Lifetime, age: u32) -> Result<(), Allo
 }
 
 fn write_age_at(text: &mut String, response: &Part<'_>, now: u64) -> Result<(), Fault> {
-    let Some((asked, came)) = moments_of(response.head.text) else {
+    let Some((asked, came, purged_at)) = moments_of(response.head.text) else {
         return Err(
             response
                 .head
                 .fault("not `asked for at SECOND, came at SECOND`"),
         );
     };
-    let times = Times::of(&response.fields, asked, came);
+    let times = purged(Times::of(&response.fields, asked, came), purged_at);
     let directives = Directives::of(*text.allocator(), &response.fields)?;
-    let lifetime = lifetime_of(&response.fields, &directives);
+    let lifetime = lifetime_until_expired(&times, lifetime_of(&response.fields, &directives));
     Ok(write_age(text, lifetime, current_age(&times, now))?)
 }
 

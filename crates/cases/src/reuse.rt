@@ -1,6 +1,6 @@
 //! Stored responses that may be sent. A case has them one by one: `stored 1 at 0`, with the number that is answered and
-//! the moment when it came, or `stored 1 at 2, asked for at 0`, and its lines; behind `for` the lines of the request
-//! that it answered. Last comes the request, as `at 59 GET`.
+//! the moment when it came, or `stored 1 at 2, asked for at 0`, and its lines; `, purged at 5` behind it where a purge
+//! expired it then; behind `for` the lines of the request that it answered. Last comes the request, as `at 59 GET`.
 //!
 //! `cache off` may stand in front of all: the request then goes over a line without cache; or `words` with the words of
 //! its line.
@@ -31,9 +31,27 @@ struct Stored {
     serial: u64,
     asked_at: u64,
     stored_at: u64,
+    purged_at: Option<u64>,
+}
+
+/// What stands in front of `, purged at SECOND`, and that second.
+pub fn before_purge(text: &str) -> Option<(&str, Option<u64>)> {
+    match text.split_once(", purged at ") {
+        Some((before, moment)) => Some((before, Some(moment.parse::<u64>().ok()?))),
+        None => Some((text, None)),
+    }
+}
+
+/// The times of a response that a purge expired at a moment, if any did.
+pub fn purged(times: Times, purged_at: Option<u64>) -> Times {
+    match purged_at {
+        Some(moment) => times.expired_at(moment),
+        None => times,
+    }
 }
 
 fn stored_line(text: &str) -> Option<Stored> {
+    let (text, purged_at) = before_purge(text)?;
     let (serial, moments) = text.strip_prefix("stored ")?.split_once(" at ")?;
     let (stored_at, asked_at) = moments
         .split_once(", asked for at ")
@@ -42,6 +60,7 @@ fn stored_line(text: &str) -> Option<Stored> {
         serial: serial.parse::<u64>().ok()?,
         asked_at: asked_at.parse::<u64>().ok()?,
         stored_at: stored_at.parse::<u64>().ok()?,
+        purged_at,
     })
 }
 
@@ -98,6 +117,7 @@ fn stored_of(alloc: Global, part: &Part<'_>, asked: &Fields) -> Result<Entry, Fa
     let asked = asked_of(alloc, line, "GET", asked)?;
     let fields = dated_at(alloc, line, &part.fields, stored.stored_at)?;
     let times = Times::of(&fields, stored.asked_at, stored.stored_at);
+    let times = purged(times, stored.purged_at);
     entry_of(alloc, line, stored.serial, &asked, fields, times)
 }
 

@@ -164,7 +164,18 @@ fn outcome_of(
     }
 }
 
-/// Writes what a reply stores, uses and removes.
+/// Writes these serials behind a word, where there are any.
+fn write_serials(text: &mut String, word: &str, serials: &[u64]) -> Result<(), AllocError> {
+    if !serials.is_empty() {
+        text.push_str(word)?;
+    }
+    for serial in serials {
+        write!(text, " {serial}")?;
+    }
+    Ok(())
+}
+
+/// Writes what a reply stores, uses, removes and expires.
 fn write_changes(text: &mut String, reply: &Reply) -> Result<(), AllocError> {
     text.push_str("gives reply")?;
     for (word, serial) in [(", stored ", reply.stored), (", used ", reply.used)] {
@@ -172,13 +183,11 @@ fn write_changes(text: &mut String, reply: &Reply) -> Result<(), AllocError> {
             write!(text, "{word}{serial}")?;
         }
     }
-    if !reply.removed.is_empty() {
-        text.push_str(", removed")?;
+    write_serials(text, ", removed", reply.removed.as_slice())?;
+    match &reply.expired {
+        None => Ok(()),
+        Some(expired) => write_serials(text, ", expired", expired.as_slice()),
     }
-    for serial in reply.removed.as_slice() {
-        write!(text, " {serial}")?;
-    }
-    Ok(())
 }
 
 /// Writes what a step gives. Its message is handed out, empty where there is none.

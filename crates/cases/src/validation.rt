@@ -23,6 +23,7 @@ fn times_at(moment: u64) -> Times {
         age_value: 0,
         request_time: moment,
         response_time: moment,
+        expired: None,
     }
 }
 

@@ -63,10 +63,19 @@ fn freshen<S: Shelf>(shelf: &mut S, entry: Entry) -> Result<u64, Stop> {
     Ok(shelf.freshen(entry).serial)
 }
 
+fn is_expired<S: Shelf>(shelf: &S, serial: u64) -> bool {
+    match shelf.peek(serial) {
+        Some(entry) => entry.times.expired == Some(100),
+        None => false,
+    }
+}
+
 fn call_shelf<S: Shelf>(shelf: &mut S, fresh: Entry, path: &Key) -> Result<(), Stop> {
     expect_that(shelf.promote(1))?;
     expect_that(!shelf.promote(9))?;
     expect_that(freshen(shelf, fresh)? == 2)?;
+    shelf.expire(&[3, 9], 100);
+    expect_that(is_expired(shelf, 3) && !is_expired(shelf, 1))?;
     expect_that(shelf.remove(4).is_some())?;
     expect_that(shelf.remove(4).is_none())?;
     expect_that(shelf.has_key(path))?;

@@ -14,6 +14,7 @@ const TIMES: Times = Times {
     age_value: 0,
     request_time: 100,
     response_time: 100,
+    expired: None,
 };
 
 pub fn key(alloc: Global, path: &str) -> Result<Key, AllocError> {

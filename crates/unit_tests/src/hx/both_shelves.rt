@@ -21,6 +21,7 @@ enum Call {
     Put(u64, u64),
     Freshen(u64),
     Promote(u64),
+    Expire(u64),
     Remove(u64),
     Invalidate(u64),
     Find(u64),
@@ -68,7 +69,8 @@ fn nth_call(n: u64, dice: u64) -> Call {
     match dice % 16 {
         0..=6 => Call::Put(n, serial),
         7 | 8 => Call::Freshen(serial),
-        9..=11 => Call::Promote(serial),
+        9 | 10 => Call::Promote(serial),
+        11 => Call::Expire(serial),
         12 => Call::Remove(serial),
         13 => Call::Invalidate(serial),
         14 => Call::Shed(dice / 16 % BYTES),
@@ -122,12 +124,30 @@ fn found<S: Shelf>(alloc: Global, shelf: &S, path: &str) -> Result<u64, AllocErr
     Ok(sum)
 }
 
+/// Expires three entries, where they are held, and gives when those of late were expired, in one number.
+fn expire<S: Shelf>(shelf: &mut S, serial: u64) -> u64 {
+    shelf.expire(
+        &[serial, serial.saturating_sub(3), serial.saturating_sub(1)],
+        serial,
+    );
+    let mut sum = 0u64;
+    for earlier in 0..12u64 {
+        let expired = match shelf.peek(serial.saturating_sub(earlier)) {
+            Some(entry) => entry.times.expired.unwrap_or(1),
+            None => 2,
+        };
+        sum = sum.wrapping_mul(6_007).wrapping_add(expired);
+    }
+    sum
+}
+
 /// What a call answers, as a number.
 fn answer<S: Shelf>(alloc: Global, shelf: &mut S, call: Call) -> Result<u64, Fail> {
     match call {
         Call::Put(serial, replaced) => put(alloc, shelf, serial, replaced),
         Call::Freshen(serial) => freshen(alloc, shelf, serial),
         Call::Promote(serial) => Ok(u64::from(shelf.promote(serial))),
+        Call::Expire(serial) => Ok(expire(shelf, serial)),
         Call::Remove(serial) => match shelf.remove(serial) {
             Some(entry) => Ok(entry.serial),
             None => Ok(0),

@@ -15,6 +15,7 @@ const TIMES: Times = Times {
     age_value: 0,
     request_time: 100,
     response_time: 100,
+    expired: None,
 };
 
 fn fields(alloc: Global) -> Result<Fields, AllocError> {

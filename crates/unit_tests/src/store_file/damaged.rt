@@ -123,6 +123,38 @@ fn the_earliest_fault_is_named(rt: HostRuntime) -> Result<(), Fail> {
     is_refused(&rt, alloc, longer.as_slice(), StoreFault::Long)
 }
 
+/// The file of two entries, of which the second was purged, and where the moment of that stands in it: in front of a
+/// content of five bytes and of the digest.
+fn with_purge(alloc: Global) -> Result<(Vec<u8>, usize), Fail> {
+    let text = file(alloc, &GIVEN[..2])?;
+    let at = text.len().saturating_sub(21);
+    Ok((text, at))
+}
+
+#[test]
+fn a_purge_that_cant_have_been_is_refused(rt: HostRuntime) -> Result<(), Fail> {
+    let alloc = rt.alloc();
+    let (mut text, at) = with_purge(alloc)?;
+    assert!(rt; text[at..].starts_with(&[0, 0, 0, 0, 101, 83, 241, 30]));
+    // Its year has five digits.
+    text[at.saturating_add(3)] = 59;
+    is_refused(
+        &rt,
+        alloc,
+        text.as_slice(),
+        StoreFault::Entry(2, EntryPart::Times),
+    )?;
+    // Behind the lines of the first stands one byte.
+    let mut longer = file(alloc, &GIVEN[..2])?;
+    longer[40] = longer[40].wrapping_add(1);
+    is_refused(
+        &rt,
+        alloc,
+        longer.as_slice(),
+        StoreFault::Entry(1, EntryPart::Head),
+    )
+}
+
 #[test]
 fn a_store_above_a_bound_is_refused(rt: HostRuntime) -> Result<(), Fail> {
     let alloc = rt.alloc();

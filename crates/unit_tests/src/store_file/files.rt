@@ -20,9 +20,12 @@ pub(super) struct Given {
     pub(super) status: u16,
     pub(super) language: Option<&'static str>,
     pub(super) content: usize,
+    /// When a purge expired it.
+    pub(super) purged: Option<u64>,
 }
 
-/// Three entries, in the order in which they are stored. The third is as long as one that is shared.
+/// Three entries, in the order in which they are stored. A purge expired the second; the third is as long as one that
+/// is shared.
 pub(super) const GIVEN: [Given; 3] = [
     Given {
         serial: 4,
@@ -32,6 +35,7 @@ pub(super) const GIVEN: [Given; 3] = [
         status: 200,
         language: None,
         content: 0,
+        purged: None,
     },
     Given {
         serial: 9,
@@ -41,6 +45,7 @@ pub(super) const GIVEN: [Given; 3] = [
         status: 404,
         language: Some(""),
         content: 5,
+        purged: Some(1_700_000_030),
     },
     Given {
         serial: 7,
@@ -50,6 +55,7 @@ pub(super) const GIVEN: [Given; 3] = [
         status: 203,
         language: Some("en, fr"),
         content: 40_000,
+        purged: None,
     },
 ];
 
@@ -103,6 +109,7 @@ pub(super) fn entry(alloc: Global, given: &Given) -> Result<Entry, Fail> {
             age_value: 3,
             request_time: 1_700_000_001,
             response_time: 1_700_000_002,
+            expired: given.purged,
         },
     })
 }

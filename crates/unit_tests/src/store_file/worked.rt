@@ -13,6 +13,19 @@ const GIVEN: [Given; 1] = [Given {
     status: 200,
     language: None,
     content: 3,
+    purged: None,
+}];
+
+/// The same once a purge expired it.
+const PURGED: [Given; 1] = [Given {
+    serial: 4,
+    host: "h",
+    port: 80,
+    path: "/a",
+    status: 200,
+    language: None,
+    content: 3,
+    purged: Some(1_700_000_060),
 }];
 
 /// The file of that entry.
@@ -30,6 +43,21 @@ const FILE: [u8; 279] = [
     0, 0, 0, 0, 0, 1, 2, 169, 61, 241, 237, 105, 103, 54, 237,
 ];
 
+/// And that once it was purged: the moment stands behind the lines.
+const PURGED_FILE: [u8; 287] = [
+    114, 101, 118, 99, 97, 99, 104, 101, 32, 115, 116, 111, 114, 101, 32, 49, 10, 0, 0, 0, 0, 0, 0,
+    0, 10, 0, 0, 0, 0, 0, 0, 0, 1, 0, 0, 0, 0, 0, 0, 0, 235, 0, 0, 0, 0, 0, 0, 0, 4, 0, 0, 0, 0, 0,
+    0, 0, 200, 0, 0, 0, 0, 0, 0, 0, 3, 0, 0, 0, 0, 101, 83, 241, 0, 0, 0, 0, 0, 0, 0, 0, 3, 0, 0,
+    0, 0, 101, 83, 241, 1, 0, 0, 0, 0, 101, 83, 241, 2, 0, 0, 0, 0, 0, 0, 0, 80, 0, 0, 0, 0, 0, 0,
+    0, 1, 104, 0, 0, 0, 0, 0, 0, 0, 2, 47, 97, 0, 0, 0, 0, 0, 0, 0, 1, 0, 0, 0, 0, 0, 0, 0, 15, 65,
+    99, 99, 101, 112, 116, 45, 76, 97, 110, 103, 117, 97, 103, 101, 0, 0, 0, 0, 0, 0, 0, 0, 0, 0,
+    0, 0, 0, 0, 0, 3, 0, 0, 0, 0, 0, 0, 0, 4, 86, 97, 114, 121, 0, 0, 0, 0, 0, 0, 0, 15, 65, 99,
+    99, 101, 112, 116, 45, 76, 97, 110, 103, 117, 97, 103, 101, 0, 0, 0, 0, 0, 0, 0, 13, 67, 97,
+    99, 104, 101, 45, 67, 111, 110, 116, 114, 111, 108, 0, 0, 0, 0, 0, 0, 0, 10, 109, 97, 120, 45,
+    97, 103, 101, 61, 54, 48, 0, 0, 0, 0, 0, 0, 0, 7, 88, 45, 69, 109, 112, 116, 121, 0, 0, 0, 0,
+    0, 0, 0, 0, 0, 0, 0, 0, 101, 83, 241, 60, 0, 1, 2, 132, 14, 164, 216, 31, 70, 146, 187,
+];
+
 /// The file of no entry, whose next serial is 7.
 const EMPTY: [u8; 41] = [
     114, 101, 118, 99, 97, 99, 104, 101, 32, 115, 116, 111, 114, 101, 32, 49, 10, 0, 0, 0, 0, 0, 0,
@@ -41,6 +69,8 @@ fn a_file_stands_as_it_is_described(rt: HostRuntime) -> Result<(), Fail> {
     let alloc = rt.alloc();
     assert!(rt; file(alloc, &GIVEN)?.as_slice() == FILE.as_slice());
     assert_eq!(rt; read(alloc, &FILE, 1, None)?, (Ok(NEXT), 1));
+    assert!(rt; file(alloc, &PURGED)?.as_slice() == PURGED_FILE.as_slice());
+    assert_eq!(rt; read(alloc, &PURGED_FILE, 1, None)?, (Ok(NEXT), 1));
     assert_eq!(rt; read(alloc, &EMPTY, 0, None)?, (Ok(7), 0));
     Ok(())
 }
