@@ -59,3 +59,18 @@ def a_chain_of_resets_brings_one_request_each(stage):
         clients, origin, go = behind_resets(stage, {**LONG, **words}, 4, 25, 5)
         expect_one_answer_for_all(clients, go)
         expect_asked(origin, 6)
+
+
+@scenario
+def a_crowd_of_more_than_512_goes_by_itself(stage):
+    """512 wait for the client that resets, and the first of them leads on: two requests at the origin. Where one more waits, each of the
+    513 goes there by itself."""
+    clients, origin, go = behind_resets(stage, LONG, 4, 513, 1)
+    expect_one_answer_for_all(clients, go)
+    expect_asked(origin, 2)
+    clients, origin, go = behind_resets(stage, LONG, 4, 514, 1)
+    origin.wait_for(514)
+    go.set()
+    for it in clients:
+        expect_answer(it.response(), 200, STORED, b"hello")
+    expect_asked(origin, 514)

@@ -4,16 +4,17 @@ import time
 
 from live.expect import expect, expect_answer, expect_refusal, expect_within
 from live.figures import expect_samples, figures_with, of
-from live.line_words import MINUTE, expect_asked
+from live.line_words import MINUTE, SECOND, expect_asked
 from live.origin import Origin, held_back, whole
 from live.scenario import scenario
 from live.stale_crowds import sent
-from live.waiting import READ
+from live.waiting import READ, asking
 
 KEY = "c2d9f1b07a5e4d38Z"
 SHOWN = f"Purge-Key: {KEY}"
 STORED = "edge;fwd=uri-miss;ttl=60;stored"
 DENIED = "denied by line 1"
+STALE_MODE, TAG = "Purge-Mode: stale", 'ETag: "v"'
 
 
 def purging(stage, answers, words=None, **more):
@@ -38,7 +39,7 @@ def what_is_held_for_a_target_is_purged_by_its_key(stage):
     client = proxy.client()
     for path, lines in (("/a", ("X-A: 1",)), ("/a", ("X-A: 2",)), ("/a/b", ()), ("/a?b", ())):
         expect("status", 200, client.ask(path, *lines).status)
-    others = ("Purge-Scope: site", "Purge-Scope: ALL", "purge-tag: a, b", "Purge-Mode: stale", "Purge-Anything: x")
+    others = ("Purge-Scope: site", "Purge-Scope: ALL", "purge-tag: a, b", "Purge-Mode: soft", "Purge-Anything: x")
     for lines in ((), (f"Purge-Key: {KEY[:-1]}z",), (f"Purge-Key: {KEY[:-1]}",), (f"Purge-Key: {KEY}x",), (f"Key: {KEY}",), *((SHOWN, it) for it in others)):
         expect_refusal(client.ask("/a", *lines, method="PURGE"), 403, DENIED)
     expect_answer(client.ask("/a", "X-A: 1"), 200, "edge;hit;ttl=60", b"page")
@@ -168,6 +169,60 @@ def what_was_asked_for_before_a_purge_is_not_stored(stage):
     expect_answer(first.response(), 200, "edge;fwd=uri-miss", b"old")
     expect_answer(proxy.client().ask("/a"), 200, "edge;hit;ttl=60", b"new")
     expect_asked(origin, 2)
+
+
+@scenario
+def what_is_purged_to_be_stale_is_sent_while_one_asks(stage):
+    """By Purge-Mode: stale what is held stays and is stale. Over a line with `wait` and `stale-while-revalidate` twenty clients at once cost its
+    origin one request, with its tag; nineteen are answered at once. Its 304 makes the page fresh. Two words are denied."""
+    go = threading.Event()
+    proxy, origin = purging(stage, {"/a": whole(200, MINUTE, TAG, content=b"old")}, {"wait": "missing-or-stale", "stale-while-revalidate": 60})
+    client = proxy.client()
+    expect_answer(client.ask("/a"), 200, STORED, b"old")
+    expect_refusal(client.ask("/a", SHOWN, STALE_MODE, STALE_MODE, method="PURGE"), 403, DENIED)
+    expect("a hit", b"old", client.ask("/a", "Cache-Control: only-if-cached").content)
+    expect_purged(client.ask("/a", SHOWN, STALE_MODE, method="PURGE"), 1)
+    origin.answers["/a"] = held_back(go, whole(304, MINUTE, TAG))
+    crowd = asking(proxy, 20, "/a")
+    begun = time.monotonic()
+    origin.wait_for(2)
+    while sum(not it.has_nothing_to_read(0) for it in crowd) < 19 and time.monotonic() - begun < 5:
+        time.sleep(0.01)
+    expect_within("the stale answers", 0, 1, time.monotonic() - begun)
+    waiting = [it for it in crowd if it.has_nothing_to_read(0)]
+    expect("clients that wait for the origin", 1, len(waiting))
+    for it in crowd:
+        if it not in waiting:
+            answer = it.response()
+            expect("a stale page", (200, b"old", True), (answer.status, answer.content, answer.value("Cache-Status").endswith(";detail=stale-while-revalidate")))
+    expect_asked(origin, 2, " so far")
+    go.set()
+    expect_answer(waiting[0].response(), 200, "edge;fwd=stale;fwd-status=304;ttl=60", b"old")
+    expect("the condition at the origin", '"v"', origin.fetches[1].value("If-None-Match"))
+    expect_answer(proxy.client().ask("/a"), 200, "edge;hit;ttl=60", b"old")
+    expect_purged(client.ask("/a", SHOWN, method="PURGE"), 1)
+    expect("without the word it goes", 504, client.ask("/a", "Cache-Control: only-if-cached").status)
+    expect_asked(origin, 2)
+
+
+@scenario
+def a_304_asked_for_before_a_purge_makes_nothing_fresh(stage):
+    """The 304 that was on its way when a page was purged to be stale is sent, and the page stays stale: the next client asks again. Its 304
+    makes it fresh."""
+    go = threading.Event()
+    proxy, origin = purging(stage, {"/a": whole(200, SECOND, "Age: 1", TAG, content=b"old")})
+    client = proxy.client()
+    expect("status", 200, client.ask("/a").status)
+    origin.answers["/a"] = held_back(go, whole(304, MINUTE, TAG))
+    first = sent(proxy, "/a")
+    origin.wait_for(2)
+    expect_purged(client.ask("/a", SHOWN, STALE_MODE, method="PURGE"), 1)
+    go.set()
+    answer = first.response()
+    expect("the 304 of before", (200, b"old"), (answer.status, answer.content))
+    expect_answer(client.ask("/a"), 200, "edge;fwd=stale;fwd-status=304;ttl=60", b"old")
+    expect_answer(client.ask("/a"), 200, "edge;hit;ttl=60", b"old")
+    expect_asked(origin, 3)
 
 
 @scenario
