@@ -135,6 +135,7 @@ fn with_purge(alloc: Global) -> Result<(Vec<u8>, usize), Fail> {
 fn a_purge_that_cant_have_been_is_refused(rt: HostRuntime) -> Result<(), Fail> {
     let alloc = rt.alloc();
     let (mut text, at) = with_purge(alloc)?;
+    assert!(rt; at <= text.len());
     assert!(rt; text[at..].starts_with(&[0, 0, 0, 0, 101, 83, 241, 30]));
     // Its year has five digits.
     text[at.saturating_add(3)] = 59;
@@ -146,6 +147,7 @@ fn a_purge_that_cant_have_been_is_refused(rt: HostRuntime) -> Result<(), Fail> {
     )?;
     // Behind the lines of the first stands one byte.
     let mut longer = file(alloc, &GIVEN[..2])?;
+    assert!(rt; 40 < longer.len());
     longer[40] = longer[40].wrapping_add(1);
     is_refused(
         &rt,
