@@ -1,11 +1,11 @@
 -- What is shorter than each directive's name spells none.
-use Rattle.std.proofs.Common.{◌≡◌, ℕ, ◌+◌, ◌-◌, ◌<◌, ◌≤◌, Bool, true, false, cond, List, [], ◌∷◌, ◌++◌, length, take, drop, Option, None, Some, refl, sym, ap, ◌∙◌, arith, inl, inr}
+use Rattle.std.proofs.Common.{◌≡◌, ℕ, ◌-◌, ◌<◌, ◌≤◌, true, false, cond, List, [], ◌∷◌, length, take, drop, Option, None, Some, refl, sym, ap, ◌∙◌, arith, inl, inr}
 use Rattle.std.specs.Prelude.{filter, find, position, unwrap_or, option_map}
 use Rattle.std.specs.List.{cons_option, filter_map, prefix_len, suffix_len}
 use Rattle.std.proofs.lemmas.Bool.{cases_Bool}
 use Rattle.std.proofs.lemmas.List.{length-drop, length-take}
 use Rattle.hx_fields.specs.LongMembers.{is_long, long_members}
-use Rattle.hx_fields.specs.Names.{is_blank, is_same_name, members_of_value, trimmed}
+use Rattle.hx_fields.specs.Names.{is_blank, is_same_name, members_of_value}
 use Rattle.hx_fields.specs.Tokens.{is_token}
 use Rattle.hx_fields.proofs.LongNames.{is_shorter, shorter_differs}
 use Rattle.hx_directives.specs.Arguments.{seconds_of_argument}

@@ -48,6 +48,14 @@ impl FirstBytes {
         self.are[usize::from(first_byte(name))] = true;
     }
 
+    /// Takes out that of a name.
+    pub fn remove(&mut self, name: &[u8])
+        ensures removed { self.new ≡ slice_set self.old (first_byte name.now) false }
+        ensures inside { first_byte name.now < length self.old }
+    {
+        self.are[usize::from(first_byte(name))] = false;
+    }
+
     /// Whether a text begins with one of them.
     pub fn has_first_of(&self, text: &[u8]) -> bool
         ensures { result ≡ begins_in self.now text.now }

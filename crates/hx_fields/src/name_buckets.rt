@@ -8,13 +8,13 @@ ghost use Rattle.hx_fields.specs.NameBuckets.{bucket_of, falls_in};
 
 use std::marker::Model;
 
-/// So many buckets there are.
-const BUCKETS: usize = 1024;
+/// 2^64 divided by the golden ratio: names that are alike fall far from each other.
+const SPREAD: u64 = 11_400_714_819_323_198_485;
 
-/// The buckets into which some names fall, without case. Contracts see which of the 1,024 they are.
+/// The buckets into which some names fall, without case. Contracts see which of the 4,096 they are.
 #[derive(Drop)]
 pub struct NameBuckets {
-    are: [bool; 1024],
+    are: [bool; 4096],
 }
 
 impl Model for NameBuckets {
@@ -39,25 +39,37 @@ fn folded_number(name: &[u8]) -> u64
 
 fn bucket_of(name: &[u8]) -> usize
     ensures value { result ≡ bucket_of name.now }
-    ensures small { result < 1024 }
+    ensures small { result < 4096 }
 {
-    folded_number(name) as usize % BUCKETS
+    (folded_number(name).wrapping_mul(SPREAD) >> 52) as usize
 }
 
 impl NameBuckets {
     /// Those of no name.
     pub fn none() -> NameBuckets
-        ensures { result ≡ replicate 1024 false }
+        ensures { result ≡ replicate 4096 false }
     {
-        NameBuckets { are: [false; 1024] }
+        NameBuckets { are: [false; 4096] }
     }
 
-    /// Adds that of a name.
-    pub fn add(&mut self, name: &[u8])
+    /// Adds that of a name. Whether it was there before.
+    pub fn add(&mut self, name: &[u8]) -> bool
+        ensures before { result ≡ falls_in self.old name.now }
         ensures added { self.new ≡ slice_set self.old (bucket_of name.now) true }
         ensures inside { bucket_of name.now < length self.old }
     {
-        self.are[bucket_of(name)] = true;
+        let bucket = bucket_of(name);
+        let was_there = self.are[bucket];
+        self.are[bucket] = true;
+        was_there
+    }
+
+    /// Takes out that of a name.
+    pub fn remove(&mut self, name: &[u8])
+        ensures removed { self.new ≡ slice_set self.old (bucket_of name.now) false }
+        ensures inside { bucket_of name.now < length self.old }
+    {
+        self.are[bucket_of(name)] = false;
     }
 
     /// Whether a text falls into one of them.

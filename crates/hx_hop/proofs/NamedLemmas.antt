@@ -1,6 +1,6 @@
 -- Names of lines that members of Connection give.
 use Rattle.std.proofs.Common.{◌≡◌, ℕ, suc, ◌+◌, ◌<◌, ◌++◌, length, get_or, drop, map, add-one, Bool, true, false, not, cond, ◌||◌, List, [], ◌∷◌, Option, None, Some, refl, sym, ◌∙◌, ap, BTreeMap, codes}
-use Rattle.std.specs.Prelude.{filter, bytes_eq, is_some}
+use Rattle.std.specs.Prelude.{filter, bytes_eq}
 use Rattle.std.specs.List.{list_any}
 use Rattle.std.specs.BTreeMap.{get, is_at}
 use Rattle.std.proofs.Math.Seq.{drop-cons}
@@ -130,27 +130,6 @@ pub one_marks : (member : List ℕ) (behind : List (List ℕ)) (all : List ℕ �
     MarksOn (gives_name (member ∷ behind)) old all start → MarksOn (gives_name behind) new all start
 one_marks member behind all start old new m h q =
     ap (mark_after_naming (gives_name behind q)) (m q) ∙ twice (bytes_eq (folded member) q) (gives_name behind q) (get folded_cmp old q) ∙ h q
-
--- marks leave the names that are here
-pub still_here : (left all : List ℕ → Bool) (now start : Marked) → MarksOn left now all start → (q : List ℕ) → is_some (get folded_cmp now q) ≡ is_some (get folded_cmp start q)
-still_here left all now start h q = sym (same (left q) (get folded_cmp now q)) ∙ ap is_some (h q) ∙ same (all q) (get folded_cmp start q)
-  where
-    same : (b : Bool) (g : Option Bool) → is_some (mark_after_naming b g) ≡ is_some g
-    same b None = refl
-    same b (Some true) = refl
-    same b (Some false) = refl
-
-unmarked_is_here : (g : Option Bool) → is_present_and_unmarked g ≡ true → is_some g ≡ true
-unmarked_is_here None h = absurd (false≢true h)
-unmarked_is_here (Some b) h = refl
-
--- a name that shows no signs isn't here
-pub isnt_here : (member : List ℕ) (names : Marked) → (is_some (get folded_cmp names (folded member)) ≡ true → ⊥) → is_present_and_unmarked (get folded_cmp names (folded member)) ≡ false
-isnt_here member names never = by (is_present_and_unmarked (get folded_cmp names (folded member))) refl
-  where
-    by : (t : Bool) → is_present_and_unmarked (get folded_cmp names (folded member)) ≡ t → is_present_and_unmarked (get folded_cmp names (folded member)) ≡ false
-    by true e = absurd (never (unmarked_is_here (get folded_cmp names (folded member)) e))
-    by false e = e
 
 -- the members of a line mark before those behind it
 pub line_marks : (members behind : List (List ℕ)) (all : List ℕ → Bool) (start old new : Marked) → NamesAreMarkedBy (gives_name members) old new →

@@ -1,9 +1,8 @@
 -- Members that can't be what is looked for may be passed over.
-use Rattle.std.proofs.Common.{◌≡◌, ℕ, ◌+◌, ◌<◌, ◌++◌, Bool, true, false, cond, ◌||◌, List, [], ◌∷◌, length, get_or, set, Option, None, Some, refl, sym, ◌∙◌, ap, subst, BTreeMap, codes, arith, inl, inr, ◌⊎◌, ◌≢◌}
-use Rattle.std.specs.Prelude.{filter, bytes_eq, is_some, slice_index_or, slice_set, ◌==◌, ◌%◌, ◌&&◌}
-use Rattle.std.specs.Char.{to_ascii_lowercase}
+use Rattle.std.proofs.Common.{◌≡◌, ℕ, ◌<◌, ◌++◌, Bool, true, false, cond, ◌||◌, List, [], ◌∷◌, length, get_or, set, Option, None, Some, not, refl, sym, ◌∙◌, ap, subst, codes, arith, inl, inr, ◌⊎◌, ◌≢◌}
+use Rattle.std.specs.Prelude.{filter, bytes_eq, is_none, slice_set, ◌==◌, ◌%◌, ◌*◌, ◌/◌, ◌^◌, ◌&&◌}
 use Rattle.std.specs.List.{list_any}
-use Rattle.std.specs.BTreeMap.{get}
+use Rattle.std.specs.BTreeMap.{get, is_at}
 use Rattle.std.proofs.lemmas.Bool.{cases_Bool, false≢true}
 use Rattle.std.proofs.lemmas.Grind.{common_steps}
 use Rattle.std.proofs.lemmas.List.{get_or-set_same, get_or-set_other}
@@ -12,14 +11,14 @@ use Rattle.std.proofs.lemmas.Slice.Eq.{bytes_eq-Decides}
 use Rattle.hx_fields.specs.FirstBytes.{begins_in, first_byte, members_beginning_in}
 use Rattle.hx_fields.specs.Folded.{folded, folded_cmp, number_of}
 use Rattle.hx_fields.specs.NameBuckets.{bucket_of, falls_in}
-use Rattle.hx_fields.specs.LongMembers.{is_long, long_members}
+use Rattle.hx_fields.specs.LongMembers.{long_members}
 use Rattle.hx_fields.specs.Names.{is_same_name, members_of_value}
 use Rattle.hx_fields.specs.declared.field_line.Field.{Field}
 use Rattle.hx_fields.proofs.LongNames.{long_ones_decide, shorter_differs}
 use Rattle.hx_hop.specs.Stripping.{cache_names}
-use Rattle.hx_hop.specs.NamedLines.{NamesOfLinesShow, NamesShow, shows_signs, SignsOfNameAreAdded, gives_name, is_looked_for, mark_after_naming, name_is_present}
+use Rattle.hx_hop.specs.NamedLines.{AreSignsOf, AreTaken, AreUnmarkedNames, gives_name, is_looked_for, is_present_and_unmarked, mark_after_naming, name_is_present, NamesAreMarkedBy, UnmarkedShow}
 use Rattle.hx_hop.specs.declared.named_lines.Signs.{Signs}
-use Rattle.hx_hop.proofs.NamedLemmas.{any_is_cache_name, Marked, MarksOn}
+use Rattle.hx_hop.proofs.NamedLemmas.{all_marked, any_is_cache_name, at_name, Marked, MarksOn, member_passes, one_marks}
 
 -- ---- shorter ones
 
@@ -64,30 +63,60 @@ module _ (firsts : List Bool) (q : List ℕ) (begin : (text : List ℕ) → fold
         | inr g ↦ g
       ]
 
-pub first_sign : (a b : Bool) → a && b ≡ true → a ≡ true
-first_sign true b h = refl
-first_sign false b h = absurd (false≢true h)
-
-pub second_sign : (a b : Bool) → a && b ≡ true → b ≡ true
-second_sign true b h = h
-second_sign false b h = absurd (false≢true h)
-
-pub both_signs : (a b : Bool) → a ≡ true → b ≡ true → a && b ≡ true
-both_signs true b h k = k
-both_signs false b h k = absurd (false≢true h)
+same_mark : (a b : Bool) (g : Option Bool) → (g ≡ Some false → a ≡ b) → mark_after_naming a g ≡ mark_after_naming b g
+same_mark a b None h = refl
+same_mark a b (Some true) h = refl
+same_mark a b (Some false) h = ap (λ z. mark_after_naming z (Some false)) (h refl)
 
 -- what is left out marks nothing that is here
-pub begun_mark : (signs : Signs) (names : Marked) (members : List (List ℕ)) → NamesShow signs names
-    → MarksOn (gives_name (filter (begins_in signs.firsts) members)) names (gives_name members) names
-begun_mark signs names members show q = by (get folded_cmp names q) refl
-  where
-    by : (g : Option Bool) → get folded_cmp names q ≡ g → mark_after_naming (gives_name (filter (begins_in signs.firsts) members) q) (get folded_cmp names q) ≡ mark_after_naming (gives_name members q) (get folded_cmp names q)
-    by None h = ap (mark_after_naming (gives_name (filter (begins_in signs.firsts) members) q)) h ∙ sym (ap (mark_after_naming (gives_name members q)) h)
-    by (Some marked) h =
-        ap (λ b. mark_after_naming b (get folded_cmp names q))
-        (begun_give signs.firsts q (λ text is. first_sign (begins_in signs.firsts text) (falls_in signs.buckets text) (show text (ap (λ z. is_some (get folded_cmp names z)) is ∙ ap is_some h))) members)
+pub begun_mark : (signs : Signs) (names : Marked) (members : List (List ℕ)) → UnmarkedShow signs names
+    → MarksOn (gives_name (filter (begins_in signs.firsts.taken) members)) names (gives_name members) names
+begun_mark signs names members show q =
+    same_mark (gives_name (filter (begins_in signs.firsts.taken) members) q) (gives_name members q) (get folded_cmp names q)
+    (λ here. begun_give signs.firsts.taken q (λ text is. show.firsts.shown text (ap (λ z. is_present_and_unmarked (get folded_cmp names z)) is ∙ ap is_present_and_unmarked here)) members)
+
+with_one : (a b c : Bool) (g : Option Bool) → mark_after_naming b g ≡ mark_after_naming c g → mark_after_naming (a || b) g ≡ mark_after_naming (a || c) g
+with_one true b c g h = refl
+with_one false b c g h = h
+
+module _ (signs : Signs) (names start : Marked) (all : List ℕ → Bool) (show : UnmarkedShow signs names) where
+  -- the next member that begins so is the next that may mark
+  pub next_marks : (value member behind : List ℕ)
+      → members_beginning_in signs.firsts.taken value ≡ member ∷ members_beginning_in signs.firsts.taken behind
+      → MarksOn (gives_name (members_of_value value)) names all start
+      → MarksOn (gives_name (member ∷ members_of_value behind)) names all start
+  next_marks value member behind is h q =
+      let g = get folded_cmp names q in
+      with_one (bytes_eq (folded member) q) (gives_name (members_of_value behind) q) (gives_name (members_beginning_in signs.firsts.taken behind) q) g
+      (sym (begun_mark signs names (members_of_value behind) show q))
+      ∙ ap (λ ms. mark_after_naming (gives_name ms q) g) (sym is)
+      ∙ begun_mark signs names (members_of_value value) show q
+      ∙ h q
+
+  pub none_marks : (value : List ℕ) → members_beginning_in signs.firsts.taken value ≡ []
+      → MarksOn (gives_name (members_of_value value)) names all start → NamesAreMarkedBy all start names
+  none_marks value is h = all_marked all start names (λ q.
+      ap (λ ms. mark_after_naming (gives_name ms q) (get folded_cmp names q)) (sym is)
+      ∙ begun_mark signs names (members_of_value value) show q
+      ∙ h q)
+
+  -- a member that falls into no bucket of these marks nothing
+  pub fallen_passes : (member behind : List ℕ) → falls_in signs.buckets.taken member ≡ false
+      → MarksOn (gives_name (member ∷ members_of_value behind)) names all start → MarksOn (gives_name (members_of_value behind)) names all start
+  fallen_passes member behind f h =
+      one_marks member (members_of_value behind) all start names names (member_passes member names unmarked) h
+    where
+      unmarked : is_present_and_unmarked (get folded_cmp names (folded member)) ≡ false
+      unmarked = elim (cases_Bool (is_present_and_unmarked (get folded_cmp names (folded member)))) [
+        | inl t ↦ absurd (false≢true (sym f ∙ show.buckets.shown member t))
+        | inr g ↦ g
+      ]
 
 -- ---- what names show
+
+one_of : (a b : Bool) → a || b ≡ true → (a ≡ true) ⊎ (b ≡ true)
+one_of true b e = inl refl
+one_of false b e = inr e
 
 set_or_before : (old : List Bool) (i j : ℕ) → i < length old → (get_or old j false ≡ true) ⊎ (j ≡ i) → get_or (set old i true) j false ≡ true
 set_or_before old i j within (inr same) = ap (λ k. get_or (set old i true) k false) same ∙ get_or-set_same old i true false within
@@ -103,70 +132,191 @@ set_or_before old i j within (inl was) = elim (cases_Bool (j == i)) [
     other a b h = grind (arith, common_steps)
 
 same_bucket : (a b : List ℕ) → folded a ≡ folded b → bucket_of a ≡ bucket_of b
-same_bucket a b h = ap (λ q. number_of q % 1024) h
+same_bucket a b h = ap (λ q. number_of q * 11400714819323198485 % 2 ^ 64 / 2 ^ 52) h
 
-module _ (name text : List ℕ) where
-  is_it : bytes_eq (folded name) (folded text) ≡ true → folded name ≡ folded text
-  is_it h = (bytes_eq-Decides (folded name) (folded text)).0 h
+module _ (place : List ℕ → ℕ) (same : (a b : List ℕ) → folded a ≡ folded b → place a ≡ place b) (name : List ℕ) (taken shared : List Bool) where
+  is_it : (text : List ℕ) → bytes_eq (folded name) (folded text) ≡ true → folded name ≡ folded text
+  is_it text h = (bytes_eq-Decides (folded name) (folded text)).0 h
 
-  pub first_added : (old new : List Bool) → new ≡ slice_set old (first_byte name) true → first_byte name < length old
-      → (begins_in old text ≡ true) ⊎ (bytes_eq (folded name) (folded text) ≡ true) → begins_in new text ≡ true
-  first_added old new put within before = ap (λ f. begins_in f text) put ∙ set_or_before old (first_byte name) (first_byte text) within (by before)
+  wasnt_shared : (t : Bool) (j : ℕ) → (t ≡ true → place name < length shared)
+      → get_or (cond t (set shared (place name) true) shared) j false ≡ false → get_or shared j false ≡ false
+  wasnt_shared false j within h = h
+  wasnt_shared true j within h = elim (cases_Bool (get_or shared j false)) [
+    | inl t ↦ absurd (false≢true (sym h ∙ set_or_before shared (place name) j (within refl) (inl t)))
+    | inr f ↦ f
+  ]
+
+  is_shared : (t : Bool) → t ≡ true → (t ≡ true → place name < length shared) → get_or (cond t (set shared (place name) true) shared) (place name) false ≡ true
+  is_shared true h within = set_or_before shared (place name) (place name) (within refl) (inr refl)
+  is_shared false h within = absurd (false≢true h)
+
+  module _ (names : List ℕ → Bool) (h : AreTaken place names taken shared) where
+    pub taken_for : place name < length taken → (get_or taken (place name) false ≡ true → place name < length shared)
+        → AreTaken place (λ q. names q || bytes_eq (folded name) q) (set taken (place name) true) (cond (get_or taken (place name) false) (set shared (place name) true) shared)
+    taken_for in_taken in_shared = record {
+      shown = λ text k. set_or_before taken (place name) (place text) in_taken (by text (one_of (names (folded text)) (bytes_eq (folded name) (folded text)) k));
+      alone = λ a b k l at f. both a b (one_of (names (folded a)) (bytes_eq (folded name) (folded a)) k) (one_of (names (folded b)) (bytes_eq (folded name) (folded b)) l) at f;
+    }
+      where
+        by : (text : List ℕ) → (names (folded text) ≡ true) ⊎ (bytes_eq (folded name) (folded text) ≡ true) → (get_or taken (place text) false ≡ true) ⊎ (place text ≡ place name)
+        by text (inl was) = inl (h.shown text was)
+        by text (inr it) = inr (sym (same name text (is_it text it)))
+
+        never : (j : ℕ) → get_or taken j false ≡ true → j ≡ place name → get_or (cond (get_or taken (place name) false) (set shared (place name) true) shared) j false ≡ false → ⊥
+        never j was at f =
+            false≢true (sym f ∙ ap (λ z. get_or (cond (get_or taken (place name) false) (set shared (place name) true) shared) z false) at
+            ∙ is_shared (get_or taken (place name) false) (sym (ap (λ z. get_or taken z false) at) ∙ was) in_shared)
+
+        both : (a b : List ℕ) → (names (folded a) ≡ true) ⊎ (bytes_eq (folded name) (folded a) ≡ true) → (names (folded b) ≡ true) ⊎ (bytes_eq (folded name) (folded b) ≡ true)
+            → place a ≡ place b → get_or (cond (get_or taken (place name) false) (set shared (place name) true) shared) (place a) false ≡ false → folded a ≡ folded b
+        both a b (inl k) (inl l) at f = h.alone a b k l at (wasnt_shared (get_or taken (place name) false) (place a) in_shared f)
+        both a b (inl k) (inr it) at f = absurd (never (place a) (h.shown a k) (at ∙ sym (same name b (is_it b it))) f)
+        both a b (inr it) (inl l) at f = absurd (never (place a) (ap (λ z. get_or taken z false) at ∙ h.shown b l) (sym (same name a (is_it a it))) f)
+        both a b (inr it) (inr too) at f = sym (is_it a it) ∙ is_it b too
+
+    pub given_up : names (folded name) ≡ true
+        → AreTaken place (λ q. names q && not (bytes_eq (folded name) q)) (cond (get_or shared (place name) false) taken (set taken (place name) false)) shared
+    given_up named = record {
+      shown = λ text k. by text (names_it text k) (isnt_it text k) (get_or shared (place name) false) refl;
+      alone = λ a b k l at f. h.alone a b (names_it a k) (names_it b l) at f;
+    }
+      where
+        left : (a b : Bool) → a && b ≡ true → a ≡ true
+        left true b e = refl
+        left false b e = absurd (false≢true e)
+
+        right : (a b : Bool) → a && not b ≡ true → b ≡ false
+        right true false e = refl
+        right true true e = absurd (false≢true e)
+        right false b e = absurd (false≢true e)
+
+        names_it : (text : List ℕ) → names (folded text) && not (bytes_eq (folded name) (folded text)) ≡ true → names (folded text) ≡ true
+        names_it text k = left (names (folded text)) (not (bytes_eq (folded name) (folded text))) k
+
+        isnt_it : (text : List ℕ) → names (folded text) && not (bytes_eq (folded name) (folded text)) ≡ true → bytes_eq (folded name) (folded text) ≡ false
+        isnt_it text k = right (names (folded text)) (bytes_eq (folded name) (folded text)) k
+
+        equal : (a b : ℕ) → (a == b) ≡ true → a ≡ b
+        equal a b e = grind (arith, common_steps)
+
+        other : (a b : ℕ) → (a == b) ≡ false → a ≢ b
+        other a b e = grind (arith, common_steps)
+
+        by : (text : List ℕ) → names (folded text) ≡ true → bytes_eq (folded name) (folded text) ≡ false → (s : Bool) → get_or shared (place name) false ≡ s
+            → get_or (cond s taken (set taken (place name) false)) (place text) false ≡ true
+        by text k n true e = h.shown text k
+        by text k n false e = elim (cases_Bool (place text == place name)) [
+          | inl t ↦ absurd (false≢true (sym n ∙ (bytes_eq-Decides (folded name) (folded text)).1
+              (h.alone name text named k (sym (equal (place text) (place name) t)) e)))
+          | inr f ↦ get_or-set_other taken (place name) (place text) false false (other (place text) (place name) f) ∙ h.shown text k
+        ]
+
+    pub for_fewer : (rest : List ℕ → Bool) → ((q : List ℕ) → rest q ≡ true → names q ≡ true) → AreTaken place rest taken shared
+    for_fewer rest of_these = record {
+      shown = λ text k. h.shown text (of_these (folded text) k);
+      alone = λ a b k l at f. h.alone a b (of_these (folded a) k) (of_these (folded b) l) at f;
+    }
+
+pub signs_for_fewer : (names rest : List ℕ → Bool) (signs : Signs) → ((q : List ℕ) → rest q ≡ true → names q ≡ true) → AreSignsOf names signs → AreSignsOf rest signs
+signs_for_fewer names rest signs of_these h = record {
+  firsts = for_fewer first_byte same_first [] signs.firsts.taken signs.firsts.shared names h.firsts rest of_these;
+  buckets = for_fewer bucket_of same_bucket [] signs.buckets.taken signs.buckets.shared names h.buckets rest of_these;
+}
+
+module _ (name : List ℕ) (old new : Signs) where
+  pub signs_added : new.firsts.taken ≡ slice_set old.firsts.taken (first_byte name) true → first_byte name < length old.firsts.taken
+      → new.firsts.shared ≡ cond (begins_in old.firsts.taken name) (slice_set old.firsts.shared (first_byte name) true) old.firsts.shared
+      → (begins_in old.firsts.taken name ≡ true → first_byte name < length old.firsts.shared)
+      → new.buckets.taken ≡ slice_set old.buckets.taken (bucket_of name) true → bucket_of name < length old.buckets.taken
+      → new.buckets.shared ≡ cond (falls_in old.buckets.taken name) (slice_set old.buckets.shared (bucket_of name) true) old.buckets.shared
+      → (falls_in old.buckets.taken name ≡ true → bucket_of name < length old.buckets.shared)
+      → (names : List ℕ → Bool) → AreSignsOf names old → AreSignsOf (λ q. names q || bytes_eq (folded name) q) new
+  signs_added first within first_shared inside bucket fits bucket_shared holds names h =
+      let all : List ℕ → Bool = λ q. names q || bytes_eq (folded name) q in
+      record {
+        firsts = subst (λ t. AreTaken first_byte all t new.firsts.shared) (sym first)
+            (subst (λ s. AreTaken first_byte all (slice_set old.firsts.taken (first_byte name) true) s) (sym first_shared)
+            (taken_for first_byte same_first name old.firsts.taken old.firsts.shared names h.firsts within inside));
+        buckets = subst (λ t. AreTaken bucket_of all t new.buckets.shared) (sym bucket)
+            (subst (λ s. AreTaken bucket_of all (slice_set old.buckets.taken (bucket_of name) true) s) (sym bucket_shared)
+            (taken_for bucket_of same_bucket name old.buckets.taken old.buckets.shared names h.buckets fits holds));
+      }
+
+  pub signs_removed : new.firsts.taken ≡ cond (begins_in old.firsts.shared name) old.firsts.taken (slice_set old.firsts.taken (first_byte name) false)
+      → new.firsts.shared ≡ old.firsts.shared
+      → new.buckets.taken ≡ cond (falls_in old.buckets.shared name) old.buckets.taken (slice_set old.buckets.taken (bucket_of name) false)
+      → new.buckets.shared ≡ old.buckets.shared
+      → (names : List ℕ → Bool) → names (folded name) ≡ true → AreSignsOf names old → AreSignsOf (λ q. names q && not (bytes_eq (folded name) q)) new
+  signs_removed first first_shared bucket bucket_shared names named h =
+      let left : List ℕ → Bool = λ q. names q && not (bytes_eq (folded name) q) in
+      record {
+        firsts = subst (λ t. AreTaken first_byte left t new.firsts.shared) (sym first)
+            (subst (λ s. AreTaken first_byte left (cond (begins_in old.firsts.shared name) old.firsts.taken (slice_set old.firsts.taken (first_byte name) false)) s) (sym first_shared)
+            (given_up first_byte same_first name old.firsts.taken old.firsts.shared names h.firsts named));
+        buckets = subst (λ t. AreTaken bucket_of left t new.buckets.shared) (sym bucket)
+            (subst (λ s. AreTaken bucket_of left (cond (falls_in old.buckets.shared name) old.buckets.taken (slice_set old.buckets.taken (bucket_of name) false)) s) (sym bucket_shared)
+            (given_up bucket_of same_bucket name old.buckets.taken old.buckets.shared names h.buckets named));
+      }
+
+-- ---- the signs of what is looked for, line by line
+
+in_other_order : (a b c : Bool) → (a || (b || false)) || c ≡ true → (a || c) || b ≡ true
+in_other_order true b c h = refl
+in_other_order false true true h = refl
+in_other_order false true false h = refl
+in_other_order false false true h = refl
+in_other_order false false false h = h
+
+without_it : (a b c : Bool) → (b ≡ true → a || c ≡ true) → (a || (b || false)) || c ≡ true → a || c ≡ true
+without_it true b c k h = refl
+without_it false true c k h = k refl
+without_it false false c k h = h
+
+module _ (done : List Field) (line : Field) where
+  lines_and_one : (q : List ℕ) → is_looked_for (done ++ line ∷ []) q ≡ (name_is_present done q || (bytes_eq (folded line.name) q || false)) || bytes_eq (folded (codes "close")) q
+  lines_and_one q = ap (λ b. b || bytes_eq (folded (codes "close")) q) (list_any-append (λ (l : Field). bytes_eq (folded l.name) q) done (line ∷ []))
+
+  pub new_name_shows : (signs : Signs) → AreSignsOf (λ q. is_looked_for done q || bytes_eq (folded line.name) q) signs → AreSignsOf (is_looked_for (done ++ line ∷ [])) signs
+  new_name_shows signs h = signs_for_fewer (λ q. is_looked_for done q || bytes_eq (folded line.name) q) (is_looked_for (done ++ line ∷ [])) signs
+      (λ q k. in_other_order (name_is_present done q) (bytes_eq (folded line.name) q) (bytes_eq (folded (codes "close")) q) (sym (lines_and_one q) ∙ k)) h
+
+  pub known_name_shows : (names : Marked) (signs : Signs) → AreUnmarkedNames done names → is_none (get folded_cmp names (folded line.name)) ≡ false
+      → AreSignsOf (is_looked_for done) signs → AreSignsOf (is_looked_for (done ++ line ∷ [])) signs
+  known_name_shows names signs are known h = signs_for_fewer (is_looked_for done) (is_looked_for (done ++ line ∷ [])) signs
+      (λ q k. without_it (name_is_present done q) (bytes_eq (folded line.name) q) (bytes_eq (folded (codes "close")) q) (here q) (sym (lines_and_one q) ∙ k)) h
     where
-      by : (begins_in old text ≡ true) ⊎ (bytes_eq (folded name) (folded text) ≡ true) → (get_or old (first_byte text) false ≡ true) ⊎ (first_byte text ≡ first_byte name)
-      by (inl was) = inl was
-      by (inr it) = inr (sym (same_first name text (is_it it)))
+      there : (b : Bool) → is_none (cond b (Some false) None) ≡ false → b ≡ true
+      there true e = refl
+      there false e = sym e
 
-  pub bucket_added : (old new : List Bool) → new ≡ slice_set old (bucket_of name) true → bucket_of name < length old
-      → (falls_in old text ≡ true) ⊎ (bytes_eq (folded name) (folded text) ≡ true) → falls_in new text ≡ true
-  bucket_added old new put within before = ap (λ f. falls_in f text) put ∙ set_or_before old (bucket_of name) (bucket_of text) within (by before)
-    where
-      by : (falls_in old text ≡ true) ⊎ (bytes_eq (folded name) (folded text) ≡ true) → (get_or old (bucket_of text) false ≡ true) ⊎ (bucket_of text ≡ bucket_of name)
-      by (inl was) = inl was
-      by (inr it) = inr (sym (same_bucket name text (is_it it)))
+      here : (q : List ℕ) → bytes_eq (folded line.name) q ≡ true → is_looked_for done q ≡ true
+      here q e = ap (is_looked_for done) (sym ((bytes_eq-Decides (folded line.name) q).0 e))
+          ∙ there (is_looked_for done (folded line.name)) (sym (ap is_none (are (folded line.name))) ∙ known)
 
-pub signs_added : (name : List ℕ) (old new : Signs) → new.firsts ≡ slice_set old.firsts (first_byte name) true → first_byte name < length old.firsts
-    → new.buckets ≡ slice_set old.buckets (bucket_of name) true → bucket_of name < length old.buckets → SignsOfNameAreAdded name old new
-signs_added name old new first inside bucket within text h =
-    both_signs (begins_in new.firsts text) (falls_in new.buckets text)
-    (first_added name text old.firsts new.firsts first inside (firsts parts))
-    (bucket_added name text old.buckets new.buckets bucket within (buckets parts))
+pub close_shows : (signs : Signs) → AreSignsOf (λ q. false || bytes_eq (folded (codes "close")) q) signs → AreSignsOf (is_looked_for []) signs
+close_shows signs h = h
+
+-- ---- the signs of what isn't marked
+
+pub unmarked_show : (fields : List Field) (names : Marked) (signs : Signs) → AreUnmarkedNames fields names → AreSignsOf (is_looked_for fields) signs → UnmarkedShow signs names
+unmarked_show fields names signs are h = signs_for_fewer (is_looked_for fields) (λ q. is_present_and_unmarked (get folded_cmp names q)) signs
+    (λ q k. by (is_looked_for fields q) (sym (ap is_present_and_unmarked (are q)) ∙ k)) h
   where
-    same : Bool
-    same = bytes_eq (folded name) (folded text)
+    by : (b : Bool) → is_present_and_unmarked (cond b (Some false) None) ≡ true → b ≡ true
+    by true e = refl
+    by false e = e
 
-    one_of : (a b : Bool) → a || b ≡ true → (a ≡ true) ⊎ (b ≡ true)
-    one_of true b e = inl refl
-    one_of false b e = inr e
-
-    parts : (shows_signs old text ≡ true) ⊎ (same ≡ true)
-    parts = one_of (shows_signs old text) same h
-
-    firsts : (shows_signs old text ≡ true) ⊎ (same ≡ true) → (begins_in old.firsts text ≡ true) ⊎ (same ≡ true)
-    firsts (inl was) = inl (first_sign (begins_in old.firsts text) (falls_in old.buckets text) was)
-    firsts (inr it) = inr it
-
-    buckets : (shows_signs old text ≡ true) ⊎ (same ≡ true) → (falls_in old.buckets text ≡ true) ⊎ (same ≡ true)
-    buckets (inl was) = inl (second_sign (begins_in old.firsts text) (falls_in old.buckets text) was)
-    buckets (inr it) = inr it
-
-more_names : (a b c s : Bool) → (a || c ≡ true → s ≡ true) → (a || (b || false)) || c ≡ true → s || b ≡ true
-more_names true b c s h k = rw (h refl) refl
-more_names false true c true h k = refl
-more_names false true c false h k = refl
-more_names false false c s h k = rw (h k) refl
-
-pub one_name_shows : (done : List Field) (line : Field) (old new : Signs) → SignsOfNameAreAdded line.name old new → NamesOfLinesShow done old → NamesOfLinesShow (done ++ line ∷ []) new
-one_name_shows done line old new added show text h =
-    added text (more_names (name_is_present done (folded text)) (bytes_eq (folded line.name) (folded text)) close (shows_signs old text) (show text)
-    (sym (ap (λ b. b || close) (list_any-append (λ (l : Field). bytes_eq (folded l.name) (folded text)) done (line ∷ []))) ∙ h))
+pub marked_shows_no_more : (member : List ℕ) (old new : Marked) (signs : Signs)
+    → ((q : List ℕ) → get folded_cmp new q ≡ cond (is_at (folded_cmp (folded member)) q) (Some true) (get folded_cmp old q))
+    → AreSignsOf (λ q. is_present_and_unmarked (get folded_cmp old q) && not (bytes_eq (folded member) q)) signs → UnmarkedShow signs new
+marked_shows_no_more member old new signs u h = signs_for_fewer (λ q. is_present_and_unmarked (get folded_cmp old q) && not (bytes_eq (folded member) q))
+    (λ q. is_present_and_unmarked (get folded_cmp new q)) signs
+    (λ q k. by (bytes_eq (folded member) q) (get folded_cmp old q) (sym (ap is_present_and_unmarked (at_name (folded member) true old new u q)) ∙ k)) h
   where
-    close : Bool
-    close = bytes_eq (folded (codes "close")) (folded text)
+    and_true : (p : Bool) → p ≡ true → p && true ≡ true
+    and_true true e = refl
+    and_true false e = e
 
-pub close_shows : (old new : Signs) → SignsOfNameAreAdded (codes "close") old new → NamesOfLinesShow [] new
-close_shows old new added text h = added text (second (shows_signs old text) (bytes_eq (folded (codes "close")) (folded text)) h)
-  where
-    second : (a b : Bool) → b ≡ true → a || b ≡ true
-    second true b e = refl
-    second false b e = e
+    by : (n : Bool) (g : Option Bool) → is_present_and_unmarked (cond n (Some true) g) ≡ true → is_present_and_unmarked g && not n ≡ true
+    by true g e = absurd (false≢true e)
+    by false g e = and_true (is_present_and_unmarked g) e

@@ -1,11 +1,11 @@
 -- Names of lines and `close`, and which of them members of Connection give, by folded names.
 use Rattle.std.specs.Prelude.{◌≡◌, ℕ, nat_lt, Bool, true, false, not, ◌||◌, ◌&&◌, if◌then◌else◌, List, length, codes}
-use Rattle.std.specs.Prelude.{bytes_eq, is_some, Option, Some, None}
+use Rattle.std.specs.Prelude.{bytes_eq, slice_index_or, Option, Some, None}
 use Rattle.std.specs.List.{list_any}
 use Rattle.std.specs.BTreeMap.{BTreeMap, get}
-use Rattle.hx_fields.specs.FirstBytes.{begins_in}
+use Rattle.hx_fields.specs.FirstBytes.{first_byte}
 use Rattle.hx_fields.specs.Folded.{folded, folded_cmp}
-use Rattle.hx_fields.specs.NameBuckets.{falls_in}
+use Rattle.hx_fields.specs.NameBuckets.{bucket_of}
 use Rattle.hx_fields.specs.FieldLines.{count_of, is_named, members_of}
 use Rattle.hx_fields.specs.Names.{members_of_value}
 use Rattle.hx_fields.specs.declared.field_line.Field.{Field}
@@ -57,21 +57,18 @@ abbrev pub is_present_and_marked : Option Bool → Bool
 is_present_and_marked None = false
 is_present_and_marked (Some marked) = marked
 
--- a text begins with one of these bytes, and falls into one of these buckets
-abbrev pub shows_signs : Signs → List ℕ → Bool
-shows_signs signs text = begins_in signs.firsts text && falls_in signs.buckets text
+-- Which texts show that they may be one of some names: two of one name have one place, and the place of each is
+-- taken. Two of the names have one place only where it is shared.
+pub record AreTaken (place : List ℕ → ℕ) (names : List ℕ → Bool) (taken shared : List Bool) : Type 0 where
+  pub shown : (text : List ℕ) → names (folded text) ≡ true → slice_index_or taken (place text) false ≡ true
+  pub alone : (a b : List ℕ) → names (folded a) ≡ true → names (folded b) ≡ true → place a ≡ place b
+      → slice_index_or shared (place a) false ≡ false → folded a ≡ folded b
 
--- what showed them does so still, and this name does but for its case
-abbrev pub SignsOfNameAreAdded : List ℕ → Signs → Signs → Type 0
-SignsOfNameAreAdded name old new = (text : List ℕ)
-    → (shows_signs old text || bytes_eq (folded name) (folded text)) ≡ true → shows_signs new text ≡ true
+-- by their first bytes, and by their buckets
+pub record AreSignsOf (names : List ℕ → Bool) (signs : Signs) : Type 0 where
+  pub firsts : AreTaken first_byte names signs.firsts.taken signs.firsts.shared
+  pub buckets : AreTaken bucket_of names signs.buckets.taken signs.buckets.shared
 
--- what is looked for shows them but for its case
-abbrev pub NamesOfLinesShow : List Field → Signs → Type 0
-NamesOfLinesShow fields signs = (text : List ℕ) → is_looked_for fields (folded text) ≡ true
-    → shows_signs signs text ≡ true
-
--- one that stands here does
-abbrev pub NamesShow : Signs → BTreeMap (List ℕ) Bool → Type 0
-NamesShow signs names = (text : List ℕ) → is_some (get folded_cmp names (folded text)) ≡ true
-    → shows_signs signs text ≡ true
+-- the names that are there and not marked show them
+abbrev pub UnmarkedShow : Signs → BTreeMap (List ℕ) Bool → Type 0
+UnmarkedShow signs names = AreSignsOf (λ q. is_present_and_unmarked (get folded_cmp names q)) signs

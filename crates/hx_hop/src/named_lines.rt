@@ -1,18 +1,22 @@
 //! Which lines members of Connection name, where members and lines may be many.
 //!
 //! Names are looked up, so the cost grows with the bytes and not with members times lines. A member that begins as no
-//! line's name does, or falls into none of their buckets, isn't looked up. `close` is looked for in the same walk.
+//! line's name does, or falls into none of their buckets, isn't looked up. Nor is mostly one whose name is marked
+//! already: with its mark a name loses the signs that it alone shows. `close` is looked for in the same walk.
 ghost use Rattle.std.specs.Prelude.{◌≡◌, ◌==◌, ◌||◌, not, ◌&&◌, codes, filter, nat_lt, length, bytes_eq, IfOk, OnOk};
+ghost use Rattle.std.specs.Prelude.{◌<◌, ℕ, Bool, true, false, List, if◌then◌else◌, slice_set};
 ghost use Rattle.std.specs.List.{list_any};
 ghost use Rattle.std.specs.BTreeMap.{get};
+ghost use Rattle.hx_fields.specs.FirstBytes.{begins_in, first_byte};
 ghost use Rattle.hx_fields.specs.Folded.{folded, folded_cmp};
+ghost use Rattle.hx_fields.specs.NameBuckets.{bucket_of, falls_in};
 ghost use Rattle.hx_fields.specs.FieldLines.{count_of, is_named};
 ghost use Rattle.hx_fields.specs.Names.{members_of_value};
 ghost use Rattle.hx_hop.specs.Stripping.{connection_names, is_hop_name, stripped};
 ghost use Rattle.hx_hop.specs.NamedLines.{AreUnmarkedNames, NamesAreMarkedBy, is_present_and_marked};
-ghost use Rattle.hx_hop.specs.NamedLines.{is_present_and_unmarked, has_many_members};
-ghost use Rattle.hx_hop.specs.NamedLines.{names_in_connection, names_in_value, NamesOfLinesShow, NamesShow};
-ghost use Rattle.hx_hop.specs.NamedLines.{SignsOfNameAreAdded};
+ghost use Rattle.hx_hop.specs.NamedLines.{is_looked_for, is_present_and_unmarked, has_many_members};
+ghost use Rattle.hx_hop.specs.NamedLines.{names_in_connection, names_in_value};
+ghost use Rattle.hx_hop.specs.NamedLines.{AreSignsOf, UnmarkedShow};
 
 use crate::stripping::is_hop_name;
 use hx_fields::{
@@ -38,28 +42,113 @@ fn has_long_line(lines: &[Field]) -> bool
         && is_same_name(line.name.as_slice(), b"Connection"))
 }
 
+/// What names begin with, and with which of these bytes more than one of them does.
+#[derive(Drop)]
+pub(crate) struct Beginnings {
+    taken: FirstBytes,
+    shared: FirstBytes,
+}
+
+impl Beginnings {
+    /// Adds that of a name.
+    fn add(&mut self, name: &[u8])
+        ensures taken { self.new.taken ≡ slice_set self.old.taken (first_byte name.now) true }
+        ensures within { first_byte name.now < length self.old.taken }
+        ensures shared { self.new.shared ≡ (if begins_in self.old.taken name.now
+            then slice_set self.old.shared (first_byte name.now) true else self.old.shared) }
+        ensures inside { begins_in self.old.taken name.now ≡ true → first_byte name.now < length self.old.shared }
+    {
+        if self.taken.has_first_of(name) {
+            self.shared.add(name);
+        }
+        self.taken.add(name);
+    }
+
+    /// Takes out that of a name, where it isn't shared.
+    fn remove(&mut self, name: &[u8])
+        ensures taken { self.new.taken ≡ (if begins_in self.old.shared name.now
+            then self.old.taken else slice_set self.old.taken (first_byte name.now) false) }
+        ensures shared { self.new.shared ≡ self.old.shared }
+    {
+        if !self.shared.has_first_of(name) {
+            self.taken.remove(name);
+        }
+    }
+}
+
+/// The buckets into which names fall, and into which of them more than one does.
+#[derive(Drop)]
+pub(crate) struct Falls {
+    taken: NameBuckets,
+    shared: NameBuckets,
+}
+
+impl Falls {
+    /// Adds that of a name.
+    fn add(&mut self, name: &[u8])
+        ensures taken { self.new.taken ≡ slice_set self.old.taken (bucket_of name.now) true }
+        ensures within { bucket_of name.now < length self.old.taken }
+        ensures shared { self.new.shared ≡ (if falls_in self.old.taken name.now
+            then slice_set self.old.shared (bucket_of name.now) true else self.old.shared) }
+        ensures inside { falls_in self.old.taken name.now ≡ true → bucket_of name.now < length self.old.shared }
+    {
+        if self.taken.add(name) {
+            self.shared.add(name);
+        }
+    }
+
+    /// Takes out that of a name, where it isn't shared.
+    fn remove(&mut self, name: &[u8])
+        ensures taken { self.new.taken ≡ (if falls_in self.old.shared name.now
+            then self.old.taken else slice_set self.old.taken (bucket_of name.now) false) }
+        ensures shared { self.new.shared ≡ self.old.shared }
+    {
+        if !self.shared.has(name) {
+            self.taken.remove(name);
+        }
+    }
+}
+
 /// What a text has to show to be one of some names.
 #[derive(Drop)]
 pub(crate) struct Signs {
-    firsts: FirstBytes,
-    buckets: NameBuckets,
+    firsts: Beginnings,
+    buckets: Falls,
 }
 
 impl Signs {
     /// Those of no name.
-    fn none() -> Signs {
+    fn none() -> Signs
+        ensures { AreSignsOf (λ q. false) result }
+    {
         Signs {
-            firsts: FirstBytes::none(),
-            buckets: NameBuckets::none(),
+            firsts: Beginnings {
+                taken: FirstBytes::none(),
+                shared: FirstBytes::none(),
+            },
+            buckets: Falls {
+                taken: NameBuckets::none(),
+                shared: NameBuckets::none(),
+            },
         }
     }
 
     /// Adds those of a name.
     fn add(&mut self, name: &[u8])
-        ensures { SignsOfNameAreAdded name.now self.old self.new }
+        ensures { (names : List ℕ → Bool) → AreSignsOf names self.old
+            → AreSignsOf (λ q. names q || bytes_eq (folded name.now) q) self.new }
     {
         self.firsts.add(name);
         self.buckets.add(name);
+    }
+
+    /// Takes out those of a name, but for what another name shows as well.
+    fn remove(&mut self, name: &[u8])
+        ensures { (names : List ℕ → Bool) → names (folded name.now) ≡ true → AreSignsOf names self.old
+            → AreSignsOf (λ q. names q && not (bytes_eq (folded name.now) q)) self.new }
+    {
+        self.firsts.remove(name);
+        self.buckets.remove(name);
     }
 }
 
@@ -75,9 +164,9 @@ pub(crate) fn strip_many(alloc: Global, fields: &Fields) -> Result<Stripped, All
     ensures lines { IfOk result (λ kept. kept.fields ≡ stripped fields.now) }
     ensures closes { IfOk result (λ kept. kept.closes ≡ connection_names fields.now (codes "close")) }
 {
-    let mut names = names_looked_for(alloc, fields)?;
-    let signs = signs_of_names(fields);
-    mark_members(alloc, &mut names, &signs, fields)?;
+    let mut signs = Signs::none();
+    let mut names = names_looked_for(alloc, &mut signs, fields)?;
+    mark_members(alloc, &mut names, &mut signs, fields)?;
     let closes = is_present_and_marked(&names, &FoldedName::of(alloc, b"close")?);
     Ok(Stripped {
         fields: keep_unmarked(alloc, &names, fields)?,
@@ -85,41 +174,37 @@ pub(crate) fn strip_many(alloc: Global, fields: &Fields) -> Result<Stripped, All
     })
 }
 
-/// The names of the lines and `close`, none of them marked yet.
+/// The names of the lines and `close`, none of them marked yet, and their signs.
 fn names_looked_for(
     alloc: Global,
+    signs: &mut Signs,
     fields: &Fields,
 ) -> Result<BTreeMap<FoldedName, bool>, AllocError>
-    ensures { IfOk result (λ names. AreUnmarkedNames fields.now names) }
+    requires { AreSignsOf (λ q. false) signs.old }
+    ensures names { IfOk result (λ names. AreUnmarkedNames fields.now names) }
+    ensures signs { OnOk result (AreSignsOf (is_looked_for fields.now) signs.new) }
 {
     let mut names = BTreeMap::new(alloc);
     names.insert(FoldedName::of(alloc, b"close")?, false)?;
-    for line in fields.as_slice() {
-        names.insert(FoldedName::of(alloc, line.name.as_slice())?, false)?;
-    }
-    Ok(names)
-}
-
-/// What these names show.
-fn signs_of_names(fields: &Fields) -> Signs
-    ensures { NamesOfLinesShow fields.now result }
-{
-    let mut signs = Signs::none();
     signs.add(b"close");
     for line in fields.as_slice() {
-        signs.add(line.name.as_slice());
+        let name = line.name.as_slice();
+        // A name that stands twice doesn't share its signs.
+        if names.insert(FoldedName::of(alloc, name)?, false)?.is_none() {
+            signs.add(name);
+        }
     }
-    signs
+    Ok(names)
 }
 
 /// Marks the names that members of Connection give.
 fn mark_members(
     alloc: Global,
     names: &mut BTreeMap<FoldedName, bool>,
-    signs: &Signs,
+    signs: &mut Signs,
     fields: &Fields,
 ) -> Result<(), AllocError>
-    requires { NamesShow signs.now names.old }
+    requires { UnmarkedShow signs.old names.old }
     ensures { OnOk result (NamesAreMarkedBy (names_in_connection fields.now) names.old names.new) }
 {
     let mut name = FoldedName::new(alloc);
@@ -135,35 +220,40 @@ fn mark_members(
 fn mark_value(
     alloc: Global,
     names: &mut BTreeMap<FoldedName, bool>,
-    signs: &Signs,
+    signs: &mut Signs,
     name: &mut FoldedName,
     value: &[u8],
 ) -> Result<(), AllocError>
-    requires { NamesShow signs.now names.old }
-    ensures { OnOk result (NamesAreMarkedBy (names_in_value value.now) names.old names.new) }
+    requires { UnmarkedShow signs.old names.old }
+    ensures marked { OnOk result (NamesAreMarkedBy (names_in_value value.now) names.old names.new) }
+    ensures signs { OnOk result (UnmarkedShow signs.new names.new) }
 {
     let mut rest = value;
-    while let Some((member, behind)) = next_member_beginning_in(rest, &signs.firsts) {
-        if signs.buckets.has(member) {
-            mark_member(alloc, names, name, member)?;
+    while let Some((member, behind)) = next_member_beginning_in(rest, &signs.firsts.taken) {
+        if signs.buckets.taken.has(member) {
+            mark_member(alloc, names, signs, name, member)?;
         }
         rest = behind;
     }
     Ok(())
 }
 
-/// Marks the name that a member gives.
+/// Marks the name that a member gives. Nothing shows its signs any more but for those of other names.
 fn mark_member(
     alloc: Global,
     names: &mut BTreeMap<FoldedName, bool>,
+    signs: &mut Signs,
     name: &mut FoldedName,
     member: &[u8],
 ) -> Result<(), AllocError>
-    ensures { OnOk result (NamesAreMarkedBy (bytes_eq (folded member.now)) names.old names.new) }
+    requires { UnmarkedShow signs.old names.old }
+    ensures marked { OnOk result (NamesAreMarkedBy (bytes_eq (folded member.now)) names.old names.new) }
+    ensures signs { OnOk result (UnmarkedShow signs.new names.new) }
 {
     name.set(member)?;
     if is_present_and_unmarked(names, name) {
         names.insert(FoldedName::of(alloc, member)?, true)?;
+        signs.remove(member);
     }
     Ok(())
 }

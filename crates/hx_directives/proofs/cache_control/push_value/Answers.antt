@@ -1,4 +1,4 @@
-use Rattle.std.proofs.Common.{rules, ◌≡◌, ◌++◌, ap, sym, ◌∙◌}
+use Rattle.std.proofs.Common.{rules}
 use Rattle.hx_directives.proofs.ShortMembers.{short_members_spell_none}
 use Rattle.hx_directives.proofs.cache_control.push_value.Goals as goal
 

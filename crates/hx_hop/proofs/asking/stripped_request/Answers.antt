@@ -1,4 +1,4 @@
-use Rattle.std.proofs.Common.{rules, ◌≡◌, ℕ, List, ap, sym, ◌∙◌, codes}
+use Rattle.std.proofs.Common.{rules, ◌≡◌, ap, ◌∙◌, codes}
 use Rattle.std.specs.Prelude.{filter}
 use Rattle.hx_fields.specs.FieldLines.{members_of}
 use Rattle.hx_hop.specs.LinesThatGoOn.{line_goes_on}

@@ -1,11 +1,9 @@
-use Rattle.std.proofs.Common.{rules, ◌≡◌, ◌<◌, length, get_or, ℕ, true, false, ◌+◌, ◌++◌, List, drop, ap, subst, sym, ◌∙◌, codes}
-use Rattle.std.specs.Prelude.{is_some}
-use Rattle.std.specs.BTreeMap.{get}
-use Rattle.hx_fields.specs.Folded.{folded, folded_cmp}
+use Rattle.std.proofs.Common.{rules, ◌≡◌, ◌<◌, length, get_or, true, false, ◌+◌, List, ℕ, drop, subst, sym, codes}
 use Rattle.hx_fields.specs.FieldLines.{members_of}
 use Rattle.hx_fields.specs.Names.{is_same_name, members_of_value}
-use Rattle.hx_hop.specs.NamedLines.{gives_name, names_in_connection, NamesAreMarkedBy}
-use Rattle.hx_hop.proofs.NamedLemmas.{line_marks, members_here, no_members_here, Marked, MarksOn, still_here}
+use Rattle.hx_hop.specs.NamedLines.{gives_name, names_in_connection, NamesAreMarkedBy, UnmarkedShow}
+use Rattle.hx_hop.specs.declared.named_lines.Signs.{Signs}
+use Rattle.hx_hop.proofs.NamedLemmas.{line_marks, members_here, no_members_here, Marked, MarksOn}
 use Rattle.hx_hop.proofs.named_lines.mark_members.Goals as goal
 use Rattle.hx_hop.proofs.named_lines.mark_members.Goals.{then-is_same_name+in_ok-mark_value, else-is_same_name}
 
@@ -15,6 +13,7 @@ loop-line-preserved c =
     let start = c.args.names.now in
     let old = c.loop-line.names in
     let new = c.if-is_same_name.names in
+    let signs = c.if-is_same_name.signs in
     let i = c.loop-line.line-index in
     let line = c.line-item.result in
     let all = names_in_connection fields in
@@ -26,7 +25,7 @@ loop-line-preserved c =
           let named : is_same_name line.name (codes "Connection") ≡ true = search rules in
           let value : w.as_slice-then-is_same_name.result.now ≡ line.value = search rules in
           let marked : NamesAreMarkedBy (gives_name (members_of_value line.value)) old w.mark_value.new.names =
-          subst (λ v. NamesAreMarkedBy (gives_name (members_of_value v)) old w.mark_value.new.names) value w.in_ok-mark_value.ensures in
+          subst (λ v. NamesAreMarkedBy (gives_name (members_of_value v)) old w.mark_value.new.names) value w.in_ok-mark_value.ensures.marked in
           subst (λ (n : Marked). MarksOn (gives_name rest) n all start) (sym w.names-is)
           (line_marks (members_of_value line.value) rest all start old w.mark_value.new.names marked
           (subst (λ ms. MarksOn (gives_name ms) old all start) (members_here fields i line here at named) c.loop-line.invariant.marks))
@@ -37,7 +36,17 @@ loop-line-preserved c =
           (subst (λ ms. MarksOn (gives_name ms) old all start) (no_members_here fields i line here at other) c.loop-line.invariant.marks)
           )
     ] in
+    let show : UnmarkedShow signs new = elim c.if-is_same_name.branch [
+      | then-is_same_name+in_ok-mark_value w ↦ (
+          subst (λ (s : Signs). UnmarkedShow s new) (sym w.signs-is)
+          (subst (λ (n : Marked). UnmarkedShow w.mark_value.new.signs n) (sym w.names-is) w.in_ok-mark_value.ensures.signs)
+          )
+      | else-is_same_name w ↦ (
+          subst (λ (s : Signs). UnmarkedShow s new) (sym w.signs-is)
+          (subst (λ (n : Marked). UnmarkedShow c.loop-line.signs n) (sym w.names-is) c.loop-line.invariant.show)
+          )
+    ] in
     record {
       marks = marks;
-      show = λ text h. c.requires text (sym (still_here (gives_name rest) all new start marks (folded text)) ∙ h);
+      show = show;
     }

@@ -1,11 +1,14 @@
 use Rattle.std.proofs.Common.{length}
-use Rattle.hx_fields.specs.FirstBytes.{members_beginning_in}
-use Rattle.hx_hop.specs.NamedLines.{gives_name, names_in_value}
+use Rattle.hx_fields.specs.Names.{members_of_value}
+use Rattle.hx_hop.specs.NamedLines.{gives_name, names_in_value, UnmarkedShow}
 use Rattle.hx_hop.proofs.NamedLemmas.{MarksOn}
 use Rattle.hx_hop.proofs.named_lines.mark_value.Given as goal
 
 abbrev pub invariant-loop-member : goal.invariant-loop-member
-invariant-loop-member l = MarksOn (gives_name (members_beginning_in l.signs.firsts l.rest)) l.names (names_in_value l.value) l.fn.names
+invariant-loop-member l = record {
+  marks : MarksOn (gives_name (members_of_value l.rest)) l.names (names_in_value l.value) l.fn.names;
+  show : UnmarkedShow l.signs l.names;
+}
 
 abbrev pub decreases-loop-member : goal.decreases-loop-member
 decreases-loop-member l = length l.rest

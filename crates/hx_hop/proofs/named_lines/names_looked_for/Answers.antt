@@ -1,10 +1,14 @@
-use Rattle.std.proofs.Common.{rules, ◌≡◌, ℕ, ◌+◌, ◌++◌, false, cond, List, [], ◌∷◌, Some, take, subst, sym}
+use Rattle.std.proofs.Common.{rules, ◌≡◌, ℕ, ◌+◌, ◌++◌, false, cond, ◌||◌, List, [], ◌∷◌, Some, take, subst, sym}
+use Rattle.std.specs.Prelude.{bytes_eq, is_none}
 use Rattle.std.specs.BTreeMap.{get, is_at}
 use Rattle.std.proofs.lemmas.List.{take_more}
 use Rattle.hx_fields.specs.Folded.{folded, folded_cmp}
-use Rattle.hx_hop.specs.NamedLines.{AreUnmarkedNames}
+use Rattle.hx_hop.specs.NamedLines.{AreSignsOf, AreUnmarkedNames, is_looked_for}
+use Rattle.hx_hop.specs.declared.named_lines.Signs.{Signs}
 use Rattle.hx_hop.proofs.NamedLemmas.{one_name_more}
+use Rattle.hx_hop.proofs.Passed.{known_name_shows, new_name_shows}
 use Rattle.hx_hop.proofs.named_lines.names_looked_for.Goals as goal
+use Rattle.hx_hop.proofs.named_lines.names_looked_for.Goals.{then-is_none, else-is_none}
 
 pub loop-line-preserved : goal.loop-line-preserved
 loop-line-preserved c =
@@ -18,4 +22,21 @@ loop-line-preserved c =
     let u : (q : List ℕ) → get folded_cmp new q ≡ cond (is_at (folded_cmp (folded line.name)) q) (Some false) (get folded_cmp old q) =
     subst (λ k. (q : List ℕ) → get folded_cmp new q ≡ cond (is_at (folded_cmp k) q) (Some false) (get folded_cmp old q)) key
     c.in_ok-insert-2.ensures.updates.0 in
-    subst (λ z. AreUnmarkedNames z new) (sym next) (one_name_more done line old new u c.loop-line.invariant)
+    let show : AreSignsOf (is_looked_for (done ++ line ∷ [])) c.if-is_none.signs = elim c.if-is_none.branch [
+      | then-is_none w ↦ (
+          let name : c.as_slice-name.result.now ≡ line.name = search rules in
+          subst (λ (s : Signs). AreSignsOf (is_looked_for (done ++ line ∷ [])) s) (sym w.signs-is)
+          (new_name_shows done line w.add-then-is_none.new.self
+          (subst (λ n. AreSignsOf (λ q. is_looked_for done q || bytes_eq (folded n) q) w.add-then-is_none.new.self) name
+          (w.add-then-is_none.ensures (is_looked_for done) c.loop-line.invariant.signs)))
+          )
+      | else-is_none w ↦ (
+          let known : is_none (get folded_cmp old (folded line.name)) ≡ false = search rules in
+          subst (λ (s : Signs). AreSignsOf (is_looked_for (done ++ line ∷ [])) s) (sym w.signs-is)
+          (known_name_shows done line old c.loop-line.signs c.loop-line.invariant.names known c.loop-line.invariant.signs)
+          )
+    ] in
+    record {
+      names = subst (λ z. AreUnmarkedNames z new) (sym next) (one_name_more done line old new u c.loop-line.invariant.names);
+      signs = subst (λ z. AreSignsOf (is_looked_for z) c.if-is_none.signs) (sym next) show;
+    }
