@@ -1,3 +1,4 @@
 pub mod Member
 pub mod Refusals
+pub mod Abouts
 pub mod Cases

@@ -3,6 +3,7 @@ ghost use Rattle.std.specs.Prelude.{◌≡◌, ◌++◌, IfOk, OnOk, Bool, optio
 ghost use Rattle.std.specs.Fmt.{decimal, signed_decimal};
 ghost use Rattle.hx_reuse.specs.RuleNames.{reuse_rule_reason, reuse_rule_detail};
 ghost use Rattle.hx_status.specs.Member.{member_text, hit_or_forward_text, fwd_status_text, ttl_text, flag_text};
+ghost use Rattle.hx_status.specs.Abouts.{handled_text, handling_text};
 ghost use Rattle.hx_status.specs.Member.{detail_word_text};
 ghost use Rattle.hx_status.specs.Member.{detail_of_step_or_rule, detail_of_status, detail_word, not_stored_word};
 
@@ -22,6 +23,19 @@ fn push_how(out: &mut Vec<u8>, how: How) -> Result<(), AllocError>
         How::Hit => out.extend_from_slice(b";hit"),
         How::Fwd(rule) => {
             out.extend_from_slice(b";fwd=")?;
+            out.extend_from_slice(rule.reason().as_bytes())
+        }
+    }
+}
+
+/// A hit, or the reason for going forward, with no semicolon in front.
+fn push_handling(out: &mut Vec<u8>, how: How) -> Result<(), AllocError>
+    ensures { OnOk result (out.new.items ≡ out.old.items ++ handling_text how) }
+{
+    match how {
+        How::Hit => out.extend_from_slice(b"hit"),
+        How::Fwd(rule) => {
+            out.extend_from_slice(b"fwd=")?;
             out.extend_from_slice(rule.reason().as_bytes())
         }
     }
@@ -151,4 +165,16 @@ pub fn member(alloc: Global, name: &str, status: &Status) -> Result<Bytes, Alloc
     push_flag(&mut out, status.collapsed, ";collapsed")?;
     push_detail(&mut out, detail_of_status(status))?;
     Ok(Bytes::from_vec(out))
+}
+
+/// Adds the parameters of a member, with no semicolon in front.
+pub(crate) fn push_handled(out: &mut Vec<u8>, status: &Status) -> Result<(), AllocError>
+    ensures { OnOk result (out.new.items ≡ out.old.items ++ handled_text status.now) }
+{
+    push_handling(out, status.how)?;
+    push_fwd_status(out, status.fwd_status)?;
+    push_ttl(out, status.ttl)?;
+    push_flag(out, status.stored, ";stored")?;
+    push_flag(out, status.collapsed, ";collapsed")?;
+    push_detail(out, detail_of_status(status))
 }

@@ -1,4 +1,5 @@
 //! What the texts tell their reader.
+ghost use Rattle.hx_status.specs.Abouts.{TheMemberIsTold, TheRefusalIsTold};
 ghost use Rattle.hx_status.specs.Member.{NotStoredNamesTheRule};
 ghost use Rattle.hx_status.specs.Refusals.{FrameWordsDiffer, FailKindWordsDiffer, OnlyTheTableForbids, OnlyALoopHas508};
 ghost use Rattle.hx_status.specs.Refusals.{TargetWordsDiffer, TextsOfRulesDiffer, TheTableForbids};
@@ -34,4 +35,11 @@ pub fn only_the_table_forbids()
 /// An answer that isn't stored tells its rule by `not-stored-` and the word of that rule.
 pub fn not_stored_names_the_rule()
     ensures { NotStoredNamesTheRule }
+{}
+
+/// What is told of a reply as data is what its own line says: the member of Cache-Status has it behind the proxy's
+/// name, and Refusal as it stands.
+pub fn what_is_told_is_what_the_line_says()
+    ensures member { TheMemberIsTold }
+    ensures refusal { TheRefusalIsTold }
 {}

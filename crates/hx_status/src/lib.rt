@@ -4,6 +4,7 @@
 //! `specs/Member.antt` and `specs/Refusals.antt` say each text to the byte. No other crate makes one.
 #![tactic(auto)]
 
+mod about;
 mod cache_status;
 mod cause;
 pub mod laws;
@@ -11,6 +12,7 @@ mod own_replies;
 mod status;
 mod worked_cases;
 
+pub use crate::about::{About, Told, push_reason};
 pub use crate::cache_status::member;
 pub use crate::cause::{Cause, FailKind};
 pub use crate::own_replies::refusal;

@@ -1,5 +1,6 @@
 //! The proxy's own answers.
 ghost use Rattle.std.specs.Prelude.{◌≡◌, ◌++◌, IfOk, OnOk};
+ghost use Rattle.std.specs.Fmt.{decimal};
 ghost use Rattle.hx_status.specs.Refusals.{refusal_status, refusal_text, fwd_parameters_of_rule, error_rule_text};
 ghost use Rattle.hx_status.specs.Refusals.{fail_kind_word, origin_text};
 ghost use Rattle.hx_status.specs.Refusals.{origin_status, frame_word, frame_status, target_word, target_status};
@@ -10,6 +11,7 @@ use hx_fields::Bytes;
 use hx_framing::FrameFault;
 use hx_reuse::{ErrorRule, ReuseRule};
 use hx_target::TargetFault;
+use itoa::Buffer;
 use std::alloc::{AllocError, Global};
 
 fn fail_kind_word(kind: FailKind) -> &'static str
@@ -74,7 +76,7 @@ fn frame_status(fault: FrameFault) -> u16
     }
 }
 
-fn refusal_status(cause: Cause) -> u16
+pub(crate) fn refusal_status(cause: Cause) -> u16
     ensures { result ≡ refusal_status cause }
 {
     match cause {
@@ -112,31 +114,37 @@ fn push_error(out: &mut Vec<u8>, rule: Option<ErrorRule>) -> Result<(), AllocErr
     }
 }
 
-fn refusal_text(alloc: Global, cause: Cause) -> Result<Bytes, AllocError>
-    ensures { IfOk result (λ text. text ≡ refusal_text cause) }
+/// Adds the number of a line of the table.
+fn push_line_number(out: &mut Vec<u8>, line: u16) -> Result<(), AllocError>
+    ensures { OnOk result (out.new.items ≡ out.old.items ++ decimal line) }
 {
-    let mut out = Vec::new(alloc);
+    let mut digits = Buffer::new();
+    out.extend_from_slice(digits.format(line).as_bytes())
+}
+
+/// Adds the text of Refusal.
+pub(crate) fn push_refusal(out: &mut Vec<u8>, cause: Cause) -> Result<(), AllocError>
+    ensures { OnOk result (out.new.items ≡ out.old.items ++ refusal_text cause) }
+{
     match cause {
         Cause::Denied(line) => {
-            let digits = line.to_string(alloc)?;
             out.extend_from_slice(b"denied by line ")?;
-            out.extend_from_slice(digits.as_str().as_bytes())?;
+            push_line_number(out, line)?;
         }
         Cause::NoLine => out.extend_from_slice(b"no line allows it")?,
         Cause::Looped(line) => {
-            let digits = line.to_string(alloc)?;
             out.extend_from_slice(b"loop refused by line ")?;
-            out.extend_from_slice(digits.as_str().as_bytes())?;
+            push_line_number(out, line)?;
         }
         Cause::OnlyIfCached(rule) => {
             out.extend_from_slice(b"only-if-cached")?;
-            push_rule(&mut out, rule)?;
+            push_rule(out, rule)?;
         }
         Cause::Origin(kind, rule, error) => {
             out.extend_from_slice(b"origin ")?;
             out.extend_from_slice(fail_kind_word(kind).as_bytes())?;
-            push_rule(&mut out, rule)?;
-            push_error(&mut out, error)?;
+            push_rule(out, rule)?;
+            push_error(out, error)?;
         }
         Cause::Frame(fault) => {
             out.extend_from_slice(b"refused: ")?;
@@ -147,6 +155,14 @@ fn refusal_text(alloc: Global, cause: Cause) -> Result<Bytes, AllocError>
             out.extend_from_slice(target_word(fault).as_bytes())?;
         }
     }
+    Ok(())
+}
+
+fn refusal_text(alloc: Global, cause: Cause) -> Result<Bytes, AllocError>
+    ensures { IfOk result (λ text. text ≡ refusal_text cause) }
+{
+    let mut out = Vec::new(alloc);
+    push_refusal(&mut out, cause)?;
     Ok(Bytes::from_vec(out))
 }
 

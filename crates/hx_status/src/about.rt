@@ -1,0 +1,71 @@
+//! What a reply is, as data.
+ghost use Rattle.std.specs.Prelude.{◌≡◌, ◌++◌, OnOk};
+ghost use Rattle.hx_status.specs.Abouts.{about_refusal, about_purge, reason_text};
+
+use crate::cache_status::push_handled;
+use crate::cause::Cause;
+use crate::own_replies::{push_refusal, refusal_status};
+use crate::status::Status;
+use itoa::Buffer;
+use std::alloc::AllocError;
+
+/// What a reply tells of itself, in the one of three lines that the proxy adds.
+#[derive(Clone, Copy, Debug, PartialEq, Eq)]
+pub enum Told {
+    /// In Cache-Status: how its request was handled (RFC 9211, section 2).
+    Handled(Status),
+    /// In Refusal: why the proxy answers by itself.
+    Refused(Cause),
+    /// In Purged: how many stored responses a purge took.
+    Purged(u64),
+}
+
+/// What a reply is. Whoever counts or logs replies goes by this, and reads none of their bytes.
+#[derive(Clone, Copy, Debug, PartialEq, Eq)]
+pub struct About {
+    /// The status of the reply itself (RFC 9110, section 15).
+    pub status: u16,
+    pub told: Told,
+    /// The line of the operator's table whose origin was asked for it, from 1; none where no origin was asked.
+    pub origin_line: Option<u16>,
+}
+
+impl About {
+    /// The proxy answers by itself for this cause, and asked no origin.
+    pub fn refusal(cause: Cause) -> About
+        ensures { result ≡ about_refusal cause }
+    {
+        About {
+            status: refusal_status(cause),
+            told: Told::Refused(cause),
+            origin_line: None,
+        }
+    }
+
+    /// The answer to a purge that took so many (RFC 9110, section 15.3.5).
+    pub fn purge(count: u64) -> About
+        ensures { result ≡ about_purge count }
+    {
+        About {
+            status: 204,
+            told: Told::Purged(count),
+            origin_line: None,
+        }
+    }
+}
+
+/// Adds what a reply tells, as a line of a log has it: the parameters of its member of Cache-Status, the text of
+/// Refusal, or the line of Purged. Its only error is out of memory.
+pub fn push_reason(out: &mut Vec<u8>, told: &Told) -> Result<(), AllocError>
+    ensures { OnOk result (out.new.items ≡ out.old.items ++ reason_text told.now) }
+{
+    match told {
+        Told::Handled(status) => push_handled(out, status),
+        Told::Refused(cause) => push_refusal(out, *cause),
+        Told::Purged(count) => {
+            let mut digits = Buffer::new();
+            out.extend_from_slice(b"Purged: ")?;
+            out.extend_from_slice(digits.format(*count).as_bytes())
+        }
+    }
+}
