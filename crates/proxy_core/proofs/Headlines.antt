@@ -40,6 +40,7 @@ use Rattle.proxy_core.specs.Moments.{moment_too_late_fault}
 use Rattle.proxy_core.specs.Leading.{is_forwarded, is_released}
 use Rattle.proxy_core.specs.Storing.{is_304_without_condition}
 use Rattle.proxy_core.specs.Validating.{condition_about_serial, is_304_to_own_conditions, stored_response_validated}
+use Rattle.proxy_core.specs.Abouts.{about_by_outcome}
 use Rattle.proxy_core.specs.Outcomes.{find_exchange, exchange_id_of_event, outcome_of_event, outcome_of, fallback_for, outcome_of_wake, outcome_of_arrival, outcome_of_allowed_request, outcome_without_stored_response, outcome_of_waiting_or_forwarding, outcome_of_failure, outcome_of_passing_on_or_stale, outcome_of_304, outcome_of_answer, is_error_status, is_only_if_cached, forward_text, or_fault, fault_if_not_forwarded, fault_if_not_released, fault_at_exchange}
 use Rattle.proxy_core.specs.State.{serial_used_by_outcome, bounds_of}
 use Rattle.proxy_core.specs.Starts.{StoreAtStart, StartStands}
@@ -48,7 +49,7 @@ use Rattle.proxy_core.specs.Histories.{held_entries, open_exchanges, next_serial
 use Rattle.proxy_core.specs.Promises.{outcome_goes_forward, request_after_event, latest_request_of}
 use Rattle.proxy_core.specs.Sending.{StoredResponseMayBeSentAt, RequestReachesCacheOrOrigin}
 use Rattle.proxy_core.specs.GoingOn.{EventMayCome, NeedsSecondForward, IsClientReply, ExchangeGoesOnBy, IsConditionOfEvent}
-use Rattle.proxy_core.specs.Headline.{HoldsAtEachItem, EventComesWhereItMay, RequestReachesExactlyWhereAllowed, RequestGoesForwardWhereAllowed, ExchangeGoesOnToItsAnswer, StoredResponseIsSentExactlyWhereItMayBe, SentResponseIsTheStoredOne, OtherAnswerNamesTheFirstRule, AnswerIsStoredExactlyWhereItMayBe, StoredResponsesAreRemovedExactlyWhereTheyMustBe, ConnectionClosesAsAsked, Headline, EveryGoodTraceHasTheHeadline}
+use Rattle.proxy_core.specs.Headline.{HoldsAtEachItem, EventComesWhereItMay, RequestReachesExactlyWhereAllowed, RequestGoesForwardWhereAllowed, ExchangeGoesOnToItsAnswer, StoredResponseIsSentExactlyWhereItMayBe, SentResponseIsTheStoredOne, OtherAnswerNamesTheFirstRule, AnswerIsStoredExactlyWhereItMayBe, StoredResponsesAreRemovedExactlyWhereTheyMustBe, ConnectionClosesAsAsked, OutcomeIsToldAsItIs, Headline, EveryGoodTraceHasTheHeadline}
 use Rattle.proxy_core.proofs.SentBeside.{led_over, sent_over, unless_sent}
 use Rattle.proxy_core.proofs.Carries.{IsAgain, again_by, carries_its_arrival}
 use Rattle.proxy_core.proofs.FirstRules.{held_distinct, names_first_rules}
@@ -432,6 +433,7 @@ module _ (table : Table) (start : StoreAtStart) (first : ℕ) where
         stores_where_it_may = each (AnswerIsStoredExactlyWhereItMayBe table start first) stores trace g;
         removes_what_goes = each (StoredResponsesAreRemovedExactlyWhereTheyMustBe table start) (λ item past g. (removes_just_that table start first item past g, purges_where_said table start first item past g, expires_just_that table start first item past g)) trace g;
         closes_as_asked = each ConnectionClosesAsAsked closes trace g;
+        tells_what_it_is = each (OutcomeIsToldAsItIs table start first) (λ item past g. ap about_by_outcome g.0.outcome_is) trace g;
         nothing_invalidated_is_sent = nothing_invalidated_is_sent table start first trace plain;
         nothing_invalidated_since = nothing_invalidated_since table start first trace plain;
         twice_forward_one_reply = twice_forward_one_reply (initial_state table start first) trace plain;

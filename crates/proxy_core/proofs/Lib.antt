@@ -40,6 +40,7 @@ pub mod Headlines
 pub mod OneOutcome
 pub mod Purged
 pub mod Expiring
+pub mod Told
 mod PurgesExpire
 mod PurgeSteps
 mod Refusals

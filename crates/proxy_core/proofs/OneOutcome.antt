@@ -45,7 +45,9 @@ use Rattle.proxy_core.specs.Moments.{moment_too_late_fault}
 use Rattle.proxy_core.specs.Storing.{storing_rule_to_explain, is_304_without_condition}
 use Rattle.proxy_core.specs.Validating.{condition_about_serial, is_304_to_own_conditions, stored_response_validated}
 use Rattle.proxy_core.specs.Replies.{stored_text, passed_answer_text, refusal_reply_text, is_head}
-use Rattle.proxy_core.specs.Outcomes.{hit_status_info, find_exchange, exchange_id_of_event, outcome_of_event, outcome_of_refusal, forwarded_status_info, forward_text, or_fault, fault_if_not_forwarded, fault_if_not_released, fault_at_exchange, step_fault}
+use Rattle.hx_status.specs.declared.about.About.{About}
+use Rattle.proxy_core.specs.Abouts.{about_by_outcome}
+use Rattle.proxy_core.specs.Outcomes.{hit_status_info, find_exchange, exchange_id_of_event, outcome_of, outcome_of_event, outcome_of_refusal, forwarded_status_info, forward_text, or_fault, fault_if_not_forwarded, fault_if_not_released, fault_at_exchange, step_fault}
 use Rattle.proxy_core.specs.State.{expired_by_outcome, outcome_purges, serial_stored_by_outcome, serial_used_by_outcome, serials_removed_by_outcome, stored_response_as_used, bounds_of}
 use Rattle.proxy_core.specs.Starts.{StoreAtStart, StartStands}
 use Rattle.proxy_core.specs.Traces.{Item}
@@ -54,7 +56,7 @@ use Rattle.proxy_core.specs.Sending.{StoredResponseIsReusable, StoredResponseMay
 use Rattle.proxy_core.specs.GoingOn.{EventMayCome, IsClientReply, ExchangeGoesOnBy}
 use Rattle.proxy_core.specs.Naming.{AnswerNamesErrorRule, AnswerAfterFailureNames, AnswerNamesByEvent, AnswerNamesFirstRule}
 use Rattle.proxy_core.specs.StoredAnswers.{ThoseAreExpired, ThoseAreRemoved, event_purges}
-use Rattle.proxy_core.specs.Headline.{HoldsAtEachItem, ExchangeGoesOnToItsAnswer, RequestReachesExactlyWhereAllowed, StoredResponseIsSentExactlyWhereItMayBe, SentResponseIsTheStoredOne, OtherAnswerNamesTheFirstRule, AnswerIsStoredExactlyWhereItMayBe, StoredResponsesAreRemovedExactlyWhereTheyMustBe, ConnectionClosesAsAsked, Headline, AnswerHasFinalStatus, NoOtherTraceHasTheHeadline}
+use Rattle.proxy_core.specs.Headline.{HoldsAtEachItem, ExchangeGoesOnToItsAnswer, RequestReachesExactlyWhereAllowed, StoredResponseIsSentExactlyWhereItMayBe, SentResponseIsTheStoredOne, OtherAnswerNamesTheFirstRule, AnswerIsStoredExactlyWhereItMayBe, StoredResponsesAreRemovedExactlyWhereTheyMustBe, ConnectionClosesAsAsked, OutcomeIsToldAsItIs, Headline, AnswerHasFinalStatus, NoOtherTraceHasTheHeadline}
 use Rattle.proxy_core.proofs.FirstRules.{held_distinct}
 use Rattle.proxy_core.proofs.Leads.{leads_for_none, leads_for}
 use Rattle.proxy_core.proofs.Awaits.{one_rule, one_named}
@@ -228,15 +230,16 @@ module _ (table : Table) (es : List Stored) (distinct : Distinct (serials es)) w
 
 -- ---- replies
 
-reply_same : (a b : Reply) → a.bytes ≡ b.bytes → a.close ≡ b.close → a.stored ≡ b.stored → a.used ≡ b.used → a.removed ≡ b.removed → a.expired ≡ b.expired → a.purged ≡ b.purged → a ≡ b
-reply_same a b bytes close stored used removed expired purged =
-    ap (λ (z : List ℕ). record { bytes = z; close = a.close; stored = a.stored; used = a.used; removed = a.removed; expired = a.expired; purged = a.purged }) bytes
-    ∙ ap (λ (z : Bool). record { bytes = b.bytes; close = z; stored = a.stored; used = a.used; removed = a.removed; expired = a.expired; purged = a.purged }) close
-    ∙ ap (λ (z : Option ℕ). record { bytes = b.bytes; close = b.close; stored = z; used = a.used; removed = a.removed; expired = a.expired; purged = a.purged }) stored
-    ∙ ap (λ (z : Option ℕ). record { bytes = b.bytes; close = b.close; stored = b.stored; used = z; removed = a.removed; expired = a.expired; purged = a.purged }) used
-    ∙ ap (λ (z : List ℕ). record { bytes = b.bytes; close = b.close; stored = b.stored; used = b.used; removed = z; expired = a.expired; purged = a.purged }) removed
-    ∙ ap (λ (z : Option (List ℕ)). record { bytes = b.bytes; close = b.close; stored = b.stored; used = b.used; removed = b.removed; expired = z; purged = a.purged }) expired
-    ∙ ap (λ (z : Bool). record { bytes = b.bytes; close = b.close; stored = b.stored; used = b.used; removed = b.removed; expired = b.expired; purged = z }) purged
+reply_same : (a b : Reply) → a.bytes ≡ b.bytes → a.close ≡ b.close → a.about ≡ b.about → a.stored ≡ b.stored → a.used ≡ b.used → a.removed ≡ b.removed → a.expired ≡ b.expired → a.purged ≡ b.purged → a ≡ b
+reply_same a b bytes close about stored used removed expired purged =
+    ap (λ (z : List ℕ). record { bytes = z; close = a.close; about = a.about; stored = a.stored; used = a.used; removed = a.removed; expired = a.expired; purged = a.purged }) bytes
+    ∙ ap (λ (z : Bool). record { bytes = b.bytes; close = z; about = a.about; stored = a.stored; used = a.used; removed = a.removed; expired = a.expired; purged = a.purged }) close
+    ∙ ap (λ (z : About). record { bytes = b.bytes; close = b.close; about = z; stored = a.stored; used = a.used; removed = a.removed; expired = a.expired; purged = a.purged }) about
+    ∙ ap (λ (z : Option ℕ). record { bytes = b.bytes; close = b.close; about = b.about; stored = z; used = a.used; removed = a.removed; expired = a.expired; purged = a.purged }) stored
+    ∙ ap (λ (z : Option ℕ). record { bytes = b.bytes; close = b.close; about = b.about; stored = b.stored; used = z; removed = a.removed; expired = a.expired; purged = a.purged }) used
+    ∙ ap (λ (z : List ℕ). record { bytes = b.bytes; close = b.close; about = b.about; stored = b.stored; used = b.used; removed = z; expired = a.expired; purged = a.purged }) removed
+    ∙ ap (λ (z : Option (List ℕ)). record { bytes = b.bytes; close = b.close; about = b.about; stored = b.stored; used = b.used; removed = b.removed; expired = z; purged = a.purged }) expired
+    ∙ ap (λ (z : Bool). record { bytes = b.bytes; close = b.close; about = b.about; stored = b.stored; used = b.used; removed = b.removed; expired = b.expired; purged = z }) purged
 
 removed_same : (table : Table) (es : List Stored) (x : Option Exchange) (event : Event) (a b : Reply) → a.stored ≡ b.stored → a.used ≡ b.used →
     serials_removed_at table es x event (Replied a) ≡ serials_removed_at table es x event (Replied b)
@@ -269,6 +272,7 @@ record Fits (table : Table) (start : StoreAtStart) (first : ℕ) (past : List It
   reaches : RequestReachesExactlyWhereAllowed table start (record { event = event; outcome = o }) past
   stores : AnswerIsStoredExactlyWhereItMayBe table start first (record { event = event; outcome = o }) past
   closes : ConnectionClosesAsAsked (record { event = event; outcome = o }) past
+  tells : about_by_outcome o ≡ about_by_outcome (outcome_of table (held_entries table start past) (open_exchanges table start past) x (next_serial first past) event)
 
 module _ (table : Table) (start : StoreAtStart) (first : ℕ) (past : List Item) (distinct : Distinct (serials (held_entries table start past))) where
   abbrev es : List Stored
@@ -311,7 +315,8 @@ module _ (table : Table) (start : StoreAtStart) (first : ℕ) (past : List Item)
         in
         let purged : m.purged ≡ n.purged = sym (ap outcome_purges h) ∙ a.purges ∙ sym b.purges ∙ ap outcome_purges k in
         let expired : m.expired ≡ n.expired = sym (ap expired_by_outcome h) ∙ expired_same table es event o p a.expires b.expires ∙ ap expired_by_outcome k in
-        h ∙ ap (λ (r : Reply). Replied r) (reply_same m n bytes close stored used removed expired purged) ∙ sym k
+        let about : m.about ≡ n.about = same_Some m.about n.about (sym (ap about_by_outcome h) ∙ a.tells ∙ sym b.tells ∙ ap about_by_outcome k) in
+        h ∙ ap (λ (r : Reply). Replied r) (reply_same m n bytes close about stored used removed expired purged) ∙ sym k
 
     both_send : (s : ℕ) → serial_used_by_outcome o ≡ Some s → o ≡ p
     both_send s h =
@@ -446,6 +451,7 @@ module _ (table : Table) (start : StoreAtStart) (first : ℕ) where
     reaches = h.reaches_where_allowed.0;
     stores = h.stores_where_it_may.0;
     closes = h.closes_as_asked.0;
+    tells = h.tells_what_it_is.0;
   }
 
   -- the steps alone
@@ -474,14 +480,14 @@ module _ (table : Table) (start : StoreAtStart) (first : ℕ) where
 
   each_fits : (trace : List Item) (h : Headline table start first trace) → HoldsAtEachItem (λ item past. Fits table start first past (find_exchange (exchange_id_of_event item.event) (open_exchanges table start past)) item.event item.outcome) trace
   each_fits trace h =
-      zip trace h.goes_on_to_its_answer h.sends_where_one_may_be h.sends_that_response h.names_the_first_rule h.removes_what_goes h.reaches_where_allowed h.stores_where_it_may h.closes_as_asked
+      zip trace h.goes_on_to_its_answer h.sends_where_one_may_be h.sends_that_response h.names_the_first_rule h.removes_what_goes h.reaches_where_allowed h.stores_where_it_may h.closes_as_asked h.tells_what_it_is
     where
       zip : (trace : List Item) → HoldsAtEachItem (ExchangeGoesOnToItsAnswer table start) trace → HoldsAtEachItem (StoredResponseIsSentExactlyWhereItMayBe table start) trace → HoldsAtEachItem (SentResponseIsTheStoredOne table start) trace → HoldsAtEachItem (OtherAnswerNamesTheFirstRule table start first) trace →
-          HoldsAtEachItem (StoredResponsesAreRemovedExactlyWhereTheyMustBe table start) trace → HoldsAtEachItem (RequestReachesExactlyWhereAllowed table start) trace → HoldsAtEachItem (AnswerIsStoredExactlyWhereItMayBe table start first) trace → HoldsAtEachItem ConnectionClosesAsAsked trace →
+          HoldsAtEachItem (StoredResponsesAreRemovedExactlyWhereTheyMustBe table start) trace → HoldsAtEachItem (RequestReachesExactlyWhereAllowed table start) trace → HoldsAtEachItem (AnswerIsStoredExactlyWhereItMayBe table start first) trace → HoldsAtEachItem ConnectionClosesAsAsked trace → HoldsAtEachItem (OutcomeIsToldAsItIs table start first) trace →
           HoldsAtEachItem (λ item past. Fits table start first past (find_exchange (exchange_id_of_event item.event) (open_exchanges table start past)) item.event item.outcome) trace
-      zip [] a b c d e f g i = tt
-      zip (item ∷ past) a b c d e f g i =
-          (record { goes_on = a.0; sends = b.0; that = c.0; names = d.0; removes = e.0.0; purges = e.0.1; expires = e.0.2; reaches = f.0; stores = g.0; closes = i.0 }, zip past a.1 b.1 c.1 d.1 e.1 f.1 g.1 i.1)
+      zip [] a b c d e f g i j = tt
+      zip (item ∷ past) a b c d e f g i j =
+          (record { goes_on = a.0; sends = b.0; that = c.0; names = d.0; removes = e.0.0; purges = e.0.1; expires = e.0.2; reaches = f.0; stores = g.0; closes = i.0; tells = j.0 }, zip past a.1 b.1 c.1 d.1 e.1 f.1 g.1 i.1 j.1)
 
 pub no_other_trace_has_it : NoOtherTraceHasTheHeadline
 no_other_trace_has_it table start first trace h final = good table start first trace (record { begins = h.begins_as_it_may; comes = h.comes_where_it_may; fit = each_fits table start first trace h; final = final })

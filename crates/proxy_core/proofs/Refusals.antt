@@ -1,6 +1,6 @@
 -- How a wrong trace is refused: by what its last item should have been, or since its event can't come.
 use Rattle.std.proofs.Common.{◌≡◌, ℕ, ◌≤◌, Bool, true, false, cond, ◌&&◌, Option, None, Some, List, [], ◌∷◌, refl, sym, ◌∙◌, ap, subst, arith}
-use Rattle.std.specs.Prelude.{nat_le, bytes_eq, is_some, length, ◌==◌}
+use Rattle.std.specs.Prelude.{nat_le, bytes_eq, is_none, is_some, length, ◌==◌}
 use Rattle.std.proofs.lemmas.Bool.{eq-eqb, false≢true}
 use Rattle.std.proofs.lemmas.Bool.Decides.{nat_tests}
 use Rattle.std.proofs.lemmas.Option.{same_Some}
@@ -15,6 +15,9 @@ use Rattle.hx_reuse.specs.Rules.{decision_of}
 use Rattle.hx_reuse.specs.declared.rule.ReuseRule.{ReuseRule}
 use Rattle.hx_reuse.specs.declared.decision.Decision.TheVariants as decision
 use Rattle.hx_reuse.proofs.MeaningLemmas.{names_the_least}
+use Rattle.hx_status.specs.declared.about.About.{About}
+use Rattle.hx_status.specs.declared.about.Told.{Told}
+use Rattle.hx_status.specs.declared.about.Told.TheVariants.{Handled, Purged, Refused}
 use Rattle.proxy_core.specs.declared.steps.condition.Condition.{Condition}
 use Rattle.proxy_core.specs.declared.outcome.Outcome.{Outcome}
 use Rattle.proxy_core.specs.declared.outcome.Outcome.TheVariants.{Reply, Forward, Waits, Ended, WaitsNoMore}
@@ -122,6 +125,30 @@ closes (Forward line bytes) = false
 closes (Waits leader) = false
 closes Ended = false
 closes WaitsNoMore = false
+
+abbrev tells : (About → Bool) → Outcome → Bool
+tells test (Reply r) = test r.about
+tells test (Forward line bytes) = false
+tells test (Waits leader) = false
+tells test Ended = false
+tells test WaitsNoMore = false
+
+abbrev pub tells_status : ℕ → Outcome → Bool
+tells_status status o = tells (λ (a : About). a.status == status) o
+
+abbrev is_refused : Told → Bool
+is_refused (Refused cause) = true
+is_refused (Handled status) = false
+is_refused (Purged count) = false
+
+abbrev pub tells_refused : Outcome → Bool
+tells_refused o = tells (λ (a : About). is_refused a.told) o
+
+abbrev pub tells_an_origin : Outcome → Bool
+tells_an_origin o = tells (λ (a : About). is_some a.origin_line) o
+
+abbrev pub tells_no_origin : Outcome → Bool
+tells_no_origin o = tells (λ (a : About). is_none a.origin_line) o
 
 -- ---- what goes forward at an arrival
 

@@ -110,7 +110,7 @@ module _ (table : Table) (es : List Stored) (distinct : Distinct (serials es)) w
     about = about;
     info = info;
     shows_how = how;
-    reply = record { bytes = sent_stored_text table.name (find_entry s es) now info asked; close = asked.close; stored = None; used = Some s; removed = _; expired = _; purged = false };
+    reply = record { bytes = sent_stored_text table.name (find_entry s es) now info asked; close = asked.close; about = _; stored = None; used = Some s; removed = _; expired = _; purged = false };
     outcome_is = refl;
     bytes_are = ap (λ (o : Option Stored). sent_stored_text table.name o now info asked) f.1 ∙ ap (λ (e : Stored). stored_text table.name e now info asked) (sym same);
   }
@@ -221,6 +221,7 @@ module _ (table : Table) (es : List Stored) (distinct : Distinct (serials es)) w
           reply = record {
             bytes = stored_text table.name (freshened_by_304 x r now e) now (forwarded_status_info (policy_of table.lines x.line) x (Some r.status) None) x.asked;
             close = x.asked.close;
+            about = _;
             stored = None;
             used = Some (freshened_by_304 x r now e).serial;
             removed = _;

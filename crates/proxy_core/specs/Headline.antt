@@ -9,6 +9,7 @@
 -- StoredResponsesAreRemovedExactlyWhereTheyMustBe: the second
 -- OtherAnswerNamesTheFirstRule: the third
 -- EventComesWhereItMay, ConnectionClosesAsAsked: which events, and what ends a connection
+-- OutcomeIsToldAsItIs: what is told of it as data
 -- Headline: all of them, of each step of a trace               docs/THE_PROMISE.md goes through them
 use Rattle.std.specs.Prelude.{◌≡◌, ◌≢◌, ℕ, true, false, List, [], ◌∷◌, Option, Some, None}
 use Rattle.hx_framing.specs.declared.messages.Response.{Response}
@@ -25,7 +26,8 @@ use Rattle.proxy_core.specs.declared.open.exchange.Exchange.{Exchange}
 use Rattle.proxy_core.specs.declared.outcome.Reply.{Reply}
 use Rattle.proxy_core.specs.declared.outcome.Outcome.TheVariants.{Reply as Replied, Forward}
 use Rattle.proxy_core.specs.declared.event.Event.TheVariants.{Arrive, Answer}
-use Rattle.proxy_core.specs.Outcomes.{find_exchange, exchange_id_of_event, forward_text}
+use Rattle.proxy_core.specs.Abouts.{about_by_outcome}
+use Rattle.proxy_core.specs.Outcomes.{about_of_event, find_exchange, exchange_id_of_event, forward_text}
 use Rattle.proxy_core.specs.State.{serial_stored_by_outcome, serial_used_by_outcome, outcome_purges, bounds_of}
 use Rattle.proxy_core.specs.Starts.{StoreAtStart, StartStands}
 use Rattle.proxy_core.specs.Traces.{Item, DeniedRequestsLeaveNoTrace}
@@ -135,6 +137,12 @@ ConnectionClosesAsAsked item past = (reply : Reply) → item.outcome ≡ Replied
     → (asked : Asked) × (latest_request_of (exchange_id_of_event item.event) (item ∷ past)
     ≡ Some asked) × (reply.close ≡ asked.close)
 
+-- and what is told of the outcome is what it is: its status, its rule or cause, the line whose origin was asked
+abbrev pub OutcomeIsToldAsItIs : Table → StoreAtStart → ℕ → Item → List Item → Type 0
+OutcomeIsToldAsItIs table start first item past = about_by_outcome item.outcome
+    ≡ about_of_event table (held_entries table start past) (open_exchanges table start past) (next_serial first past)
+    item.event
+
 pub record Headline (table : Table) (start : StoreAtStart) (first : ℕ) (trace : List Item) : Type 0 where
   pub begins_as_it_may : StartStands (bounds_of table start.limit) (Some first) start.entries
   pub comes_where_it_may : HoldsAtEachItem (EventComesWhereItMay table start) trace
@@ -147,6 +155,7 @@ pub record Headline (table : Table) (start : StoreAtStart) (first : ℕ) (trace 
   pub stores_where_it_may : HoldsAtEachItem (AnswerIsStoredExactlyWhereItMayBe table start first) trace
   pub removes_what_goes : HoldsAtEachItem (StoredResponsesAreRemovedExactlyWhereTheyMustBe table start) trace
   pub closes_as_asked : HoldsAtEachItem ConnectionClosesAsAsked trace
+  pub tells_what_it_is : HoldsAtEachItem (OutcomeIsToldAsItIs table start first) trace
   pub nothing_invalidated_is_sent : NothingInvalidatedIsSent table start trace
   pub nothing_invalidated_since : NothingInvalidatedSinceTheStartIsSent table start trace
   pub twice_forward_one_reply : TwiceForwardOneReply trace

@@ -1,5 +1,6 @@
 pub mod Moments
 pub mod Replies
+pub mod Abouts
 pub mod Storing
 pub mod Leading
 pub mod LeadingOn

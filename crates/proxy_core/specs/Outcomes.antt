@@ -35,6 +35,9 @@ use Rattle.hx_reuse.specs.declared.rule.ErrorRule.{ErrorRule}
 use Rattle.hx_reuse.specs.declared.decision.Decision.{Decision}
 use Rattle.hx_reuse.specs.declared.decision.Decision.TheVariants as decision
 use Rattle.hx_storable.specs.declared.rule.StoreRule.{StoreRule}
+use Rattle.hx_status.specs.Abouts.{about_purge, about_refusal}
+use Rattle.hx_status.specs.declared.about.About.{About}
+use Rattle.hx_status.specs.declared.about.Told.TheVariants.{Purged}
 use Rattle.hx_status.specs.declared.status.How.TheVariants.{Hit, Fwd}
 use Rattle.hx_status.specs.declared.status.Detail.{Detail}
 use Rattle.hx_status.specs.declared.status.Detail.TheVariants.{StaleIfError, ReuseAfterError, ReuseAfter304}
@@ -62,6 +65,7 @@ use Rattle.proxy_core.specs.Awaiting.{awaited_of, leader_of_request}
 use Rattle.proxy_core.specs.Revalidating.{sent_beside}
 use Rattle.proxy_core.specs.Scopes.{serials_purged, removed_in_mode, expired_in_mode}
 use Rattle.proxy_core.specs.Replies.{stored_text, passed_answer_text, refusal_reply_text, purge_reply_text, is_head}
+use Rattle.proxy_core.specs.Abouts.{about_by_outcome, about_passed_answer, about_stored}
 use Rattle.proxy_core.specs.Validating.{conditions_to_send, condition_about_serial, is_304_to_own_conditions}
 use Rattle.proxy_core.specs.Validating.{stored_response_validated, freshened_by_304, freshened_may_be_kept}
 use Rattle.proxy_core.specs.Storing.{is_storable, storing_rule_to_explain, replaced_by, is_304_without_condition}
@@ -77,12 +81,18 @@ abbrev pub sent_stored_text : List ℕ → Option Stored → ℕ → CacheStatus
 sent_stored_text name None now info asked = []
 sent_stored_text name (Some e) now info asked = stored_text name e now info asked
 
+-- and what is told of it; nothing is told where none is held
+abbrev pub about_sent_stored : Option Stored → ℕ → CacheStatusInfo → Asked → About
+about_sent_stored None now info asked = record { status = 0; told = Purged 0; origin_line = None }
+about_sent_stored (Some e) now info asked = about_stored e now info asked
+
 -- the stored response of a serial is sent
 abbrev pub outcome_of_sending_stored : Table → List Stored → ℕ → ℕ → CacheStatusInfo → Asked → Outcome
 outcome_of_sending_stored table es serial now info asked =
     Reply (record {
       bytes = sent_stored_text table.name (find_entry serial es) now info asked;
       close = asked.close;
+      about = about_sent_stored (find_entry serial es) now info asked;
       stored = None;
       used = Some serial;
       removed = [];
@@ -95,6 +105,7 @@ abbrev pub outcome_of_refusal : ℕ → Cause → Asked → Outcome
 outcome_of_refusal now cause asked = Reply (record {
   bytes = refusal_reply_text (date_text_of now) cause asked.close (is_head asked);
   close = asked.close;
+  about = about_refusal cause;
   stored = None;
   used = None;
   removed = [];
@@ -102,11 +113,12 @@ outcome_of_refusal now cause asked = Reply (record {
   purged = false;
 })
 
--- a purge, by these bytes, that takes these serials
+-- a purge, by these bytes, that takes these serials, and tells how many
 abbrev pub outcome_of_taking : List ℕ → Bool → PurgeMode → List ℕ → Outcome
 outcome_of_taking bytes close mode taken = Reply (record {
   bytes = bytes;
   close = close;
+  about = about_purge (length taken);
   stored = None;
   used = None;
   removed = removed_in_mode mode taken;
@@ -139,7 +151,14 @@ outcome_of_waiting_or_forwarding table line asked condition None = Forward line
 -- what is told of a stale response that is sent while one asks the origin about it
 abbrev pub revalidating_status_info : Policy → CacheStatusInfo
 revalidating_status_info policy =
-    record { policy = policy; how = Hit; came = None; detail = Some StaleWhileRevalidate; collapsed = false }
+    record {
+      policy = policy;
+      how = Hit;
+      came = None;
+      detail = Some StaleWhileRevalidate;
+      collapsed = false;
+      origin_line = None;
+    }
 
 -- the stale response that is sent beside the exchange that leads, or where none is what follows otherwise
 abbrev pub outcome_unless_sent_beside : Table → List Stored → Route → ℕ → Asked → Option ℕ → Outcome → Outcome
@@ -160,7 +179,14 @@ outcome_without_stored_response table es xs line now asked rule condition false 
     (leader_of_request (policy_of table.lines line) es (exchanges_to_wait_for table line asked xs) asked rule))
 
 abbrev pub hit_status_info : Policy → CacheStatusInfo
-hit_status_info policy = record { policy = policy; how = Hit; came = None; detail = None; collapsed = false }
+hit_status_info policy = record {
+  policy = policy;
+  how = Hit;
+  came = None;
+  detail = None;
+  collapsed = false;
+  origin_line = None;
+}
 
 -- an allowed request: the stored response that no rule keeps back is sent, else one that may be sent while another
 -- asks, else the request waits or goes forward
@@ -183,12 +209,19 @@ outcome_of_arrival table es xs now asked (verdict.Purged line) = outcome_of_purg
 -- that came, and the word of the step
 abbrev pub forwarded_status_info : Policy → Exchange → Option ℕ → Option Detail → CacheStatusInfo
 forwarded_status_info policy x came detail =
-    record { policy = policy; how = Fwd x.rule; came = came; detail = detail; collapsed = false }
+    record {
+      policy = policy;
+      how = Fwd x.rule;
+      came = came;
+      detail = detail;
+      collapsed = false;
+      origin_line = Some x.line.number;
+    }
 
 -- and of one that is sent to a request that waited for another's answer (RFC 9211, section 2.6)
 abbrev pub collapsed_status_info : Policy → Exchange → CacheStatusInfo
 collapsed_status_info policy x =
-    record { policy = policy; how = Fwd x.rule; came = None; detail = None; collapsed = true }
+    record { policy = policy; how = Fwd x.rule; came = None; detail = None; collapsed = true; origin_line = None }
 
 -- the error rule against the held response of a serial
 abbrev pub error_rule_at : Policy → List Stored → ℕ → Asked → ℕ → Option ErrorRule
@@ -213,13 +246,16 @@ serials_removed_by_status es asked None = []
 serials_removed_by_status es asked (Some status) =
     cond (status_invalidates asked status) (serials_of asked.target.key es) []
 
--- a reply by which these are held no longer
-abbrev pub outcome_that_removes : List ℕ → Outcome → Outcome
-outcome_that_removes removed (Reply r) = Reply (record r { removed = removed })
-outcome_that_removes removed (Forward line bytes) = Forward line bytes
-outcome_that_removes removed (Waits leader) = Waits leader
-outcome_that_removes removed Ended = Ended
-outcome_that_removes removed WaitsNoMore = WaitsNoMore
+-- a reply after the origin of this line was asked, by which these are held no longer
+abbrev pub outcome_after_origin : Route → List ℕ → Outcome → Outcome
+outcome_after_origin line removed (Reply r) = Reply (record r {
+  removed = removed;
+  about = record r.about { origin_line = Some line.number };
+})
+outcome_after_origin line removed (Forward other bytes) = Forward other bytes
+outcome_after_origin line removed (Waits leader) = Waits leader
+outcome_after_origin line removed Ended = Ended
+outcome_after_origin line removed WaitsNoMore = WaitsNoMore
 
 -- A failure sends such a response, else it is named with the rules that keep it back. A status may have come with it.
 abbrev pub outcome_of_failure : Table → List Stored → ℕ → Exchange → FailKind → Option ℕ → Fallback → Outcome
@@ -227,7 +263,7 @@ outcome_of_failure table es now x kind came (Sends serial detail) =
     outcome_of_sending_stored table es serial now (forwarded_status_info (policy_of table.lines x.line) x came
     (Some detail)) x.asked
 outcome_of_failure table es now x kind came (Refuses rule error) =
-    outcome_that_removes (serials_removed_by_status es x.asked came)
+    outcome_after_origin x.line (serials_removed_by_status es x.asked came)
     (outcome_of_refusal now (Origin kind rule error) x.asked)
 
 -- the serial under which an answer is stored, if it is
@@ -245,6 +281,7 @@ outcome_of_passing_on table es now x r rule stored =
     Reply (record {
       bytes = passed_answer_text (policy_of table.lines x.line) table.name x r now (is_some stored) rule;
       close = x.asked.close;
+      about = about_passed_answer (policy_of table.lines x.line) x r now (is_some stored) rule;
       stored = stored;
       used = None;
       removed = serials_removed_by_answer es x r stored;
@@ -276,6 +313,7 @@ outcome_of_sending_freshened table x r now e =
       bytes = stored_text table.name e now
           (forwarded_status_info (policy_of table.lines x.line) x (Some r.status) None) x.asked;
       close = x.asked.close;
+      about = about_stored e now (forwarded_status_info (policy_of table.lines x.line) x (Some r.status) None) x.asked;
       stored = None;
       used = Some e.serial;
       removed = cond (freshened_may_be_kept table x r e) [] (e.serial ∷ []);
@@ -343,6 +381,10 @@ outcome_of table es xs x next (Overdue id) = WaitsNoMore
 abbrev pub outcome_of_event : Table → List Stored → List Exchange → Option ℕ → Event → Outcome
 outcome_of_event table es xs next event = outcome_of table es xs
     (find_exchange (exchange_id_of_event event) xs) next event
+
+-- what is told of that outcome, if it is a reply
+abbrev pub about_of_event : Table → List Stored → List Exchange → Option ℕ → Event → Option About
+about_of_event table es xs next event = about_by_outcome (outcome_of_event table es xs next event)
 
 abbrev pub or_fault : Option CoreFault → Option CoreFault → Option CoreFault
 or_fault (Some fault) later = Some fault

@@ -44,6 +44,7 @@ abbrev pub outcome_of_pending_reply : PendingReply → Outcome
 outcome_of_pending_reply p = Reply (record {
   bytes = p.bytes;
   close = p.close;
+  about = p.about;
   stored = serial_stored_by_change p.change;
   used = serial_used_by_change p.change;
   removed = p.removed;

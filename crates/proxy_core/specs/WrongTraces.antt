@@ -13,9 +13,13 @@ use Rattle.hx_hop.specs.declared.request_view.Asked.{Asked}
 use Rattle.hx_allow.specs.Examples.{purge_key}
 use Rattle.hx_allow.specs.TableLines.{Table}
 use Rattle.hx_allow.specs.Matching.{over_line}
+use Rattle.hx_status.specs.Abouts.{about_refusal}
+use Rattle.hx_status.specs.declared.about.About.{About}
+use Rattle.hx_status.specs.declared.about.Told.TheVariants.{Refused}
+use Rattle.hx_status.specs.declared.cause.Cause.TheVariants.{NoLine}
 use Rattle.proxy_core.specs.declared.steps.condition.Condition.{Condition}
 use Rattle.proxy_core.specs.declared.outcome.Outcome.{Outcome}
-use Rattle.proxy_core.specs.declared.outcome.Outcome.TheVariants.{Reply, Forward}
+use Rattle.proxy_core.specs.declared.outcome.Outcome.TheVariants.{Reply, Forward, Waits, Ended, WaitsNoMore}
 use Rattle.proxy_core.specs.declared.event.Event.{Event}
 use Rattle.proxy_core.specs.declared.event.Event.TheVariants.{Arrive, Answer}
 use Rattle.proxy_core.specs.Outcomes.{outcome_of_event}
@@ -112,11 +116,42 @@ varies_by_language = response_with 200 (cache_control (codes "max-age=60") ∷ v
 abbrev pub response_304 : List Field → Response
 response_304 fields = response_with 304 fields
 
+-- what wrong replies tell of themselves, where that isn't asked
+abbrev pub some_about : About
+some_about = about_refusal NoLine
+
+-- the right outcome of an event, of which something else is told
+abbrev pub outcome_told_as : (About → About) → Outcome → Outcome
+outcome_told_as other (Reply r) = Reply (record r { about = other r.about })
+outcome_told_as other (Forward line bytes) = Forward line bytes
+outcome_told_as other (Waits leader) = Waits leader
+outcome_told_as other Ended = Ended
+outcome_told_as other WaitsNoMore = WaitsNoMore
+
+abbrev pub right_outcome_told_as : (About → About) → List Event → Event → Outcome
+right_outcome_told_as other before event = outcome_told_as other (outcome_of_event edge_table
+    (held_entries edge_table (empty_store 2) (trace_of_good_events before))
+    (open_exchanges edge_table (empty_store 2) (trace_of_good_events before))
+    (next_serial 1 (trace_of_good_events before)) event)
+
+abbrev pub with_status_304 : About → About
+with_status_304 about = record about { status = 304 }
+
+abbrev pub as_refused : About → About
+as_refused about = record about { told = Refused NoLine }
+
+abbrev pub over_origin_of_line_3 : About → About
+over_origin_of_line_3 about = record about { origin_line = Some 3 }
+
+abbrev pub over_no_origin : About → About
+over_no_origin about = record about { origin_line = None }
+
 -- a reply of these bytes, that the store has no part in
 abbrev pub reply_without_store : List ℕ → Outcome
 reply_without_store bytes = Reply (record {
   bytes = bytes;
   close = false;
+  about = some_about;
   stored = None;
   used = None;
   removed = [];
@@ -130,6 +165,7 @@ reply_that_stores bytes stored removed =
     Reply (record {
       bytes = bytes;
       close = false;
+      about = some_about;
       stored = stored;
       used = None;
       removed = removed;
@@ -142,6 +178,7 @@ abbrev pub reply_that_expires : List ℕ → Outcome
 reply_that_expires expired = Reply (record {
   bytes = [];
   close = false;
+  about = some_about;
   stored = None;
   used = None;
   removed = [];
@@ -154,6 +191,7 @@ abbrev pub reply_that_sends_stored : ℕ → List ℕ → Outcome
 reply_that_sends_stored serial bytes = Reply (record {
   bytes = bytes;
   close = false;
+  about = some_about;
   stored = None;
   used = Some serial;
   removed = [];
@@ -265,6 +303,7 @@ purge_item tag = item_of (Arrive 110 2 (purge_of_tag tag))
     (Reply (record {
       bytes = [];
       close = false;
+      about = some_about;
       stored = None;
       used = None;
       removed = [];

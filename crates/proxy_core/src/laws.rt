@@ -45,6 +45,7 @@ ghost use Rattle.proxy_core.specs.StoredAnswers.{NothingElseIsKept};
 ghost use Rattle.proxy_core.specs.Uncached.{NothingIsStoredOverUncachedLine, NothingStoredIsSentOverUncachedLine};
 ghost use Rattle.proxy_core.specs.Uncached.{RequestGoesForwardOverUncachedLine};
 
+mod about_cases;
 mod bound_cases;
 mod cookie_cases;
 mod event_cases;
@@ -58,6 +59,7 @@ mod range_cases;
 mod tag_cases;
 mod worked_cases;
 
+pub use about_cases::a_reply_says_what_it_is;
 pub use bound_cases::{
     what_an_answer_weighs, what_is_held_at_first, what_is_held_by_weight, what_is_too_heavy_alone,
 };
@@ -66,9 +68,9 @@ pub use event_cases::{worked_counts_of_traces, worked_kinds_of_events, worked_ki
 pub use headline_cases::{
     the_headline_refuses_no_answer, the_headline_refuses_other_names,
     the_headline_refuses_other_requests, the_headline_refuses_other_waits,
-    the_headline_refuses_what_may_not_be_sent, the_headline_refuses_what_never_comes,
-    the_headline_refuses_what_the_table_forbids, the_headline_refuses_wrong_purges,
-    the_headline_refuses_wrong_storing,
+    the_headline_refuses_what_is_told_otherwise, the_headline_refuses_what_may_not_be_sent,
+    the_headline_refuses_what_never_comes, the_headline_refuses_what_the_table_forbids,
+    the_headline_refuses_wrong_purges, the_headline_refuses_wrong_storing,
 };
 pub use leader_cases::{how_many_are_led_on, who_follows_the_next_leader, who_leads_on};
 pub use promise_cases::{

@@ -3,6 +3,7 @@
 use crate::core_fault::CoreFault;
 use hx_allow::Route;
 use hx_fields::Bytes;
+use hx_status::About;
 use hx_store::Serials;
 
 /// An answer to the client, with what the step did to the store.
@@ -12,6 +13,8 @@ pub struct Reply {
     pub bytes: Bytes,
     /// Whether the connection closes behind it.
     pub close: bool,
+    /// What it is: who counts or logs replies reads none of its bytes.
+    pub about: About,
     /// The serial that was stored.
     pub stored: Option<u64>,
     /// The serial that was sent.

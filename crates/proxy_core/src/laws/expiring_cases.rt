@@ -9,6 +9,7 @@ ghost use Rattle.hx_reuse.specs.Rules.{decision_of};
 ghost use Rattle.hx_reuse.specs.declared.decision.Decision.TheVariants.{Forward, Hit};
 ghost use Rattle.hx_reuse.specs.declared.rule.ReuseRule.TheVariants.{NoMaxStale, PastMaxStale};
 ghost use Rattle.hx_store.specs.Stored.{Stored};
+ghost use Rattle.hx_status.specs.Abouts.{about_purge};
 ghost use Rattle.proxy_core.specs.Cases.{date_101, etag_field, purged_at, first_stored, get_a_to_expire, get_a_with};
 ghost use Rattle.proxy_core.specs.Cases.{as_overtaken, key_of_path, post_exchange, response_with, revalidates_e};
 ghost use Rattle.proxy_core.specs.Cases.{stored_with, table, tagged_held};
@@ -54,6 +55,7 @@ pub fn what_a_purge_that_expires_leaves()
         ≡ Reply (record {
           bytes = codes "HTTP/1.1 204 \r\nDate: Thu, 01 Jan 1970 00:02:10 GMT\r\nPurged: 1\r\n\r\n";
           close = false;
+          about = about_purge 1;
           stored = None;
           used = None;
           removed = [];

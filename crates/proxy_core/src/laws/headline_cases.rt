@@ -13,7 +13,7 @@ ghost use Rattle.proxy_core.specs.declared.outcome.Outcome.TheVariants.{Reply, F
 ghost use Rattle.proxy_core.specs.Replies.{passed_answer_text};
 ghost use Rattle.proxy_core.specs.Outcomes.{forward_text, outcome_of_purge, outcome_of_refusal};
 ghost use Rattle.proxy_core.specs.Cases.{response_with, cache_control, etag_field, forwarded_on_miss};
-ghost use Rattle.proxy_core.specs.WrongTraces.{purge_all_to_expire, reply_that_expires};
+ghost use Rattle.proxy_core.specs.WrongTraces.{purge_all_to_expire, reply_that_expires, some_about};
 ghost use Rattle.proxy_core.specs.WrongTraces.{HeadlineRefuses, get_a_in_language, get_or_other_request};
 ghost use Rattle.proxy_core.specs.WrongTraces.{events_that_revalidate, varies_by_language, edge_table};
 ghost use Rattle.proxy_core.specs.WrongTraces.{fresh_for_a_minute};
@@ -24,7 +24,8 @@ ghost use Rattle.proxy_core.specs.WrongTraces.{events_before_a_wake, response_30
 ghost use Rattle.proxy_core.specs.WrongTraces.{get_a_only_if_cached, post_a, reply_that_stores, reply_without_store};
 ghost use Rattle.proxy_core.specs.WrongTraces.{events_with_second_forward, reply_that_sends_stored};
 ghost use Rattle.proxy_core.specs.WrongTraces.{events_that_invalidate_a_by_a_304, delete_a};
-ghost use Rattle.proxy_core.specs.WrongTraces.{trace_with_wrong_item};
+ghost use Rattle.proxy_core.specs.WrongTraces.{as_refused, over_no_origin, over_origin_of_line_3};
+ghost use Rattle.proxy_core.specs.WrongTraces.{right_outcome_told_as, trace_with_wrong_item, with_status_304};
 ghost use Rattle.hx_allow.specs.Matching.{over_line};
 
 /// A request that the table denies reaches neither origin nor store, and is told its line; one that
@@ -190,6 +191,7 @@ pub fn the_headline_refuses_what_may_not_be_sent()
         (Reply (record {
           bytes = [];
           close = true;
+          about = some_about;
           stored = None;
           used = Some 1;
           removed = [];
@@ -222,6 +224,20 @@ pub fn the_headline_refuses_other_names()
         (Answer 101 1 (response_with 200 []))
         (reply_without_store (passed_answer_text (plain true) (codes "edge") (forwarded_on_miss get_a)
         (response_with 200 []) 101 true None))) }
+{}
+
+/// What is told of a reply as data is what it is: its status, why it is sent, and whose origin was asked.
+pub fn the_headline_refuses_what_is_told_otherwise()
+    ensures another_status { HeadlineRefuses (trace_with_wrong_item events_that_store_a (Arrive 110 2 get_a)
+        (right_outcome_told_as with_status_304 events_that_store_a (Arrive 110 2 get_a))) }
+    ensures a_hit_told_as_refused { HeadlineRefuses (trace_with_wrong_item events_that_store_a (Arrive 110 2 get_a)
+        (right_outcome_told_as as_refused events_that_store_a (Arrive 110 2 get_a))) }
+    ensures an_origin_that_was_not_asked { HeadlineRefuses
+        (trace_with_wrong_item events_that_store_a (Arrive 110 2 get_a)
+        (right_outcome_told_as over_origin_of_line_3 events_that_store_a (Arrive 110 2 get_a))) }
+    ensures no_origin_that_failed { HeadlineRefuses
+        (trace_with_wrong_item (Arrive 100 1 get_a ∷ []) (Fail 101 1 kinds.Refused)
+        (right_outcome_told_as over_no_origin (Arrive 100 1 get_a ∷ []) (Fail 101 1 kinds.Refused))) }
 {}
 
 /// What is stored may be, under the next serial; what may be is; and what has to go goes.

@@ -17,6 +17,7 @@ ghost use Rattle.hx_reuse.specs.declared.rule.ErrorRule.TheVariants as on_error;
 ghost use Rattle.hx_status.specs.declared.status.Detail.TheVariants.{StaleIfError, ReuseAfterError};
 ghost use Rattle.hx_status.specs.declared.cause.FailKind.TheVariants.{BadAnswer, Refused};
 ghost use Rattle.hx_status.specs.declared.cause.Cause.TheVariants.{Denied, NoLine, Looped, OnlyIfCached, Origin};
+ghost use Rattle.hx_status.specs.Abouts.{about_purge};
 ghost use Rattle.proxy_core.specs.declared.steps.fallback.Fallback.TheVariants.{Sends, Refuses};
 ghost use Rattle.proxy_core.specs.declared.event.Event.TheVariants.{Arrive, Answer, Fail, Wake, Abandon, Overdue};
 ghost use Rattle.proxy_core.specs.declared.outcome.Outcome.TheVariants.{Reply, Forward, Waits, Ended, WaitsNoMore};
@@ -34,7 +35,7 @@ ghost use Rattle.proxy_core.specs.Awaiting.{leader_of_request};
 ghost use Rattle.proxy_core.specs.Outcomes.{outcome_of_answer, outcome_of_arrival, hit_status_info, fallback_for};
 ghost use Rattle.proxy_core.specs.Outcomes.{fault_at_exchange, forwarded_status_info};
 ghost use Rattle.proxy_core.specs.Outcomes.{is_error_status, outcome_of_passing_on_or_stale, outcome_of_refusal};
-ghost use Rattle.proxy_core.specs.Outcomes.{outcome_of_purge};
+ghost use Rattle.proxy_core.specs.Outcomes.{outcome_after_origin, outcome_of_purge};
 ghost use Rattle.proxy_core.specs.Outcomes.{serials_removed_by_answer, outcome_of_sending_freshened, outcome_of_wake};
 ghost use Rattle.proxy_core.specs.State.{next_serial_after, serial_after_this, open_exchanges_after};
 ghost use Rattle.proxy_core.specs.State.{serials_removed_by_outcome, serial_stored_by_outcome, entries_after_storing};
@@ -524,6 +525,7 @@ pub fn what_an_arrival_gives()
         ≡ Reply (record {
           bytes = codes "HTTP/1.1 204 \r\nDate: Thu, 01 Jan 1970 00:02:10 GMT\r\nPurged: 1\r\n\r\n";
           close = false;
+          about = about_purge 1;
           stored = None;
           used = None;
           removed = 1 ∷ [];
@@ -575,7 +577,8 @@ pub fn what_an_answer_gives()
         (record stored_without_lifetime { serial = 2 }) ≡ false }
     ensures unasked { outcome_of_answer table [] 105 (forwarded_on_miss (get_a_with [])) (response_with 304 [])
         (Some 4) (decision.Forward UriMiss None)
-        ≡ outcome_of_refusal 105 (Origin BadAnswer UriMiss None) (get_a_with []) }
+        ≡ outcome_after_origin (forwarded_on_miss (get_a_with [])).line []
+        (outcome_of_refusal 105 (Origin BadAnswer UriMiss None) (get_a_with [])) }
     ensures error { serial_used_by_outcome (outcome_of_passing_on_or_stale table (first_stored ∷ []) 130
         (forwarded_on_miss (get_a_with [])) (response_with 503 []) (Some 4) true
         (Sends 1 StaleIfError)) ≡ Some 1 }

@@ -7,14 +7,16 @@ ghost use Rattle.hx_framing.specs.Text.{response_text};
 ghost use Rattle.hx_hop.specs.Answering.{answered_of};
 ghost use Rattle.hx_validate.specs.Ranges.{PartIsIn};
 ghost use Rattle.hx_validate.specs.declared.ranges.RangeAnswer.TheVariants.{Part, Unsatisfiable};
+ghost use Rattle.proxy_core.specs.Abouts.{about_answer_in_range};
 ghost use Rattle.proxy_core.specs.Replies.{answer_in_range_text, range_of_answer, content_unless_head, is_head};
 ghost use Rattle.proxy_core.specs.Replies.{ttl_of_passed_answer};
 
 use crate::replies::origin_answer::OriginAnswer;
 use crate::replies::reply_text::{
-    PassedAnswerInfo, content_unless_head, fields_in_place_of_answer, is_head, whole_answer_text,
+    PassedAnswerInfo, about_in_place_of_answer, content_unless_head, fields_in_place_of_answer,
+    is_head, whole_answer_text,
 };
-use crate::replies::stored_reply::{PARTIAL_CONTENT, RANGE_NOT_SATISFIABLE};
+use crate::replies::stored_reply::{PARTIAL_CONTENT, RANGE_NOT_SATISFIABLE, Written};
 use hx_age::Times;
 use hx_fields::{Bytes, Fields};
 use hx_framing::write_response;
@@ -68,14 +70,17 @@ fn part_text(
     shown: PassedAnswerInfo,
     first: usize,
     last: usize,
-) -> Result<Bytes, AllocError>
+) -> Result<Written, AllocError>
     requires head { head.now ≡ answered_of answer.now.response.now answer.now.response_time }
     requires order { first ≤ last }
     requires within { last < length answer.now.response.now.content }
     requires ttl { shown.ttl ≡ ttl_of_passed_answer shown.policy answer.now.exchange.now head.now.status
         head.now.fields answer.now.response_time shown.stored }
-    ensures { IfOk result (λ text. text ≡ answer_in_range_text shown.policy name.now answer.now.exchange.now
+    ensures text { IfOk result (λ sent. sent.bytes ≡ answer_in_range_text shown.policy name.now answer.now.exchange.now
         answer.now.response.now answer.now.response_time shown.stored shown.rule (Part first last)) }
+    ensures about { IfOk result (λ sent. sent.about ≡ about_answer_in_range shown.policy answer.now.exchange.now
+        answer.now.response.now answer.now.response_time shown.stored shown.rule
+        (Part first last)) }
 {
     let response = answer.response;
     let content = response.content.as_slice();
@@ -85,7 +90,9 @@ fn part_text(
     }
     let lines = fields_in_place_of_answer(alloc, name, answer, head, shown, own)?;
     let part = &content[first..last + 1];
-    text_in_place(alloc, &answer.exchange.asked, PARTIAL_CONTENT, &lines, part)
+    let bytes = text_in_place(alloc, &answer.exchange.asked, PARTIAL_CONTENT, &lines, part)?;
+    let about = about_in_place_of_answer(answer, head, shown, PARTIAL_CONTENT);
+    Ok(Written { bytes, about })
 }
 
 /// That none of the bytes which are asked for is there, where its head has room for the line that tells it.
@@ -95,12 +102,15 @@ fn unsatisfied_text(
     answer: &OriginAnswer<'_>,
     head: &Answered,
     shown: PassedAnswerInfo,
-) -> Result<Bytes, AllocError>
+) -> Result<Written, AllocError>
     requires head { head.now ≡ answered_of answer.now.response.now answer.now.response_time }
     requires ttl { shown.ttl ≡ ttl_of_passed_answer shown.policy answer.now.exchange.now head.now.status
         head.now.fields answer.now.response_time shown.stored }
-    ensures { IfOk result (λ text. text ≡ answer_in_range_text shown.policy name.now answer.now.exchange.now
+    ensures text { IfOk result (λ sent. sent.bytes ≡ answer_in_range_text shown.policy name.now answer.now.exchange.now
         answer.now.response.now answer.now.response_time shown.stored shown.rule Unsatisfiable) }
+    ensures about { IfOk result (λ sent. sent.about ≡ about_answer_in_range shown.policy answer.now.exchange.now
+        answer.now.response.now answer.now.response_time shown.stored shown.rule
+        Unsatisfiable) }
 {
     let response = answer.response;
     let total = response.content.len();
@@ -109,13 +119,10 @@ fn unsatisfied_text(
         return whole_answer_text(alloc, name, answer, head, shown);
     }
     let lines = fields_in_place_of_answer(alloc, name, answer, head, shown, own)?;
-    text_in_place(
-        alloc,
-        &answer.exchange.asked,
-        RANGE_NOT_SATISFIABLE,
-        &lines,
-        &[],
-    )
+    let asked = &answer.exchange.asked;
+    let bytes = text_in_place(alloc, asked, RANGE_NOT_SATISFIABLE, &lines, &[])?;
+    let about = about_in_place_of_answer(answer, head, shown, RANGE_NOT_SATISFIABLE);
+    Ok(Written { bytes, about })
 }
 
 /// An answer of the origin, as much of it as its client asked for: its head is handed in as rules see it.
@@ -125,11 +132,14 @@ pub(crate) fn answer_in_range_text(
     answer: &OriginAnswer<'_>,
     head: &Answered,
     shown: PassedAnswerInfo,
-) -> Result<Bytes, AllocError>
+) -> Result<Written, AllocError>
     requires head { head.now ≡ answered_of answer.now.response.now answer.now.response_time }
     requires ttl { shown.ttl ≡ ttl_of_passed_answer shown.policy answer.now.exchange.now head.now.status
         head.now.fields answer.now.response_time shown.stored }
-    ensures { IfOk result (λ text. text ≡ answer_in_range_text shown.policy name.now answer.now.exchange.now
+    ensures text { IfOk result (λ sent. sent.bytes ≡ answer_in_range_text shown.policy name.now answer.now.exchange.now
+        answer.now.response.now answer.now.response_time shown.stored shown.rule
+        (range_of_answer shown.policy answer.now.exchange.now answer.now.response.now answer.now.response_time)) }
+    ensures about { IfOk result (λ sent. sent.about ≡ about_answer_in_range shown.policy answer.now.exchange.now
         answer.now.response.now answer.now.response_time shown.stored shown.rule
         (range_of_answer shown.policy answer.now.exchange.now answer.now.response.now answer.now.response_time)) }
 {

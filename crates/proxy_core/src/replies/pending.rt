@@ -4,6 +4,7 @@ ghost use Rattle.proxy_core.specs.Pending.{serial_stored_by_change, serial_used_
 
 use crate::outcome::{Outcome, Reply};
 use hx_fields::Bytes;
+use hx_status::About;
 use hx_store::{Entry, Serials};
 
 /// What becomes of the store.
@@ -52,6 +53,7 @@ pub(crate) struct PendingReply {
     pub(crate) bytes: Bytes,
     /// Whether the connection closes behind it.
     pub(crate) close: bool,
+    pub(crate) about: About,
     pub(crate) change: Change,
     /// The serials that go, ascending.
     pub(crate) removed: Serials,
@@ -74,6 +76,7 @@ impl PendingReply {
         Outcome::Reply(Reply {
             bytes: self.bytes,
             close: self.close,
+            about: self.about,
             stored: self.change.stored(),
             used: self.change.used(),
             removed: self.removed,

@@ -4,7 +4,8 @@ ghost use Rattle.hx_directives.specs.Occurrences.{occurrences_of};
 ghost use Rattle.hx_framing.specs.Text.{response_text};
 ghost use Rattle.hx_hop.specs.Answering.{answered_of};
 ghost use Rattle.hx_hop.specs.Moments.{date_text_of};
-ghost use Rattle.hx_status.specs.Member.{member_text};
+ghost use Rattle.proxy_core.specs.Abouts.{about_answer, about_in_place_of_answer, about_passed_answer};
+ghost use Rattle.proxy_core.specs.Abouts.{about_whole_answer};
 ghost use Rattle.proxy_core.specs.Replies.{passed_answer_text, fields_of_passed_answer, length_of_passed_answer};
 ghost use Rattle.proxy_core.specs.Replies.{whole_answer_text, client_has_answer, fields_in_place_of_answer};
 ghost use Rattle.proxy_core.specs.Replies.{not_modified_answer_text};
@@ -14,6 +15,7 @@ ghost use Rattle.proxy_core.specs.Replies.{fields_of_refusal, content_unless_hea
 
 use crate::replies::answer_parts::answer_in_range_text;
 use crate::replies::origin_answer::OriginAnswer;
+use crate::replies::stored_reply::Written;
 use http::Method;
 use hx_age::{Times, current_age, ttl};
 use hx_allow::Route;
@@ -23,7 +25,7 @@ use hx_framing::{Response, write_response};
 use hx_hop::{Answered, Asked, date_text};
 use hx_policy::Policy;
 use hx_reuse::{keeps_conditions, lifetime_under};
-use hx_status::{Cause, Detail, How, Status, member, refusal};
+use hx_status::{About, Cause, Detail, How, Status, Told, member, refusal};
 use hx_storable::StoreRule;
 use hx_validate::{answer_not_modified, client_has_answer};
 use itoa::Buffer;
@@ -100,22 +102,19 @@ fn detail_past_store(route: Route) -> Option<Detail>
     }
 }
 
-/// The member of Cache-Status of an answer that is passed on, with the status that came where another one is sent.
-fn member_of_passed_answer(
-    alloc: Global,
-    name: &str,
+/// What Cache-Status tells of an answer that is passed on, with the status that came where another one is sent.
+fn cache_status_of_answer(
     answer: &OriginAnswer<'_>,
     head: &Answered,
     shown: PassedAnswerInfo,
     fwd_status: Option<u16>,
-) -> Result<Bytes, AllocError>
+) -> Status
     requires { shown.ttl ≡ ttl_of_passed_answer shown.policy answer.now.exchange.now head.now.status
         head.now.fields answer.now.response_time shown.stored }
-    ensures { IfOk result (λ text. text ≡ member_text name.now
-        (record (cache_status_of_passed_answer shown.policy answer.now.exchange.now head.now.status head.now.fields
-        answer.now.response_time shown.stored shown.rule) { fwd_status = fwd_status })) }
+    ensures { result ≡ record (cache_status_of_passed_answer shown.policy answer.now.exchange.now head.now.status
+        head.now.fields answer.now.response_time shown.stored shown.rule) { fwd_status = fwd_status } }
 {
-    let status = Status {
+    Status {
         how: How::Fwd(answer.exchange.rule),
         fwd_status,
         ttl: shown.ttl,
@@ -123,8 +122,47 @@ fn member_of_passed_answer(
         collapsed: false,
         detail: detail_past_store(answer.exchange.line),
         not_stored: shown.rule,
-    };
-    member(alloc, name, &status)
+    }
+}
+
+/// What is told of a response that is sent under a status, where the origin answered.
+fn about_answer(answer: &OriginAnswer<'_>, status: u16, shown: Status) -> About
+    ensures { result ≡ about_answer answer.now.exchange.now status shown }
+{
+    About {
+        status,
+        told: Told::Handled(shown),
+        origin_line: Some(answer.exchange.line.number),
+    }
+}
+
+/// What is told of the answer itself.
+fn about_whole_answer(answer: &OriginAnswer<'_>, head: &Answered, shown: PassedAnswerInfo) -> About
+    requires head { head.now ≡ answered_of answer.now.response.now answer.now.response_time }
+    requires ttl { shown.ttl ≡ ttl_of_passed_answer shown.policy answer.now.exchange.now head.now.status
+        head.now.fields answer.now.response_time shown.stored }
+    ensures { result ≡ about_whole_answer shown.policy answer.now.exchange.now answer.now.response.now
+        answer.now.response_time shown.stored shown.rule }
+{
+    let status = cache_status_of_answer(answer, head, shown, None);
+    about_answer(answer, answer.response.status, status)
+}
+
+/// What is told of another response that is sent in its place.
+pub(crate) fn about_in_place_of_answer(
+    answer: &OriginAnswer<'_>,
+    head: &Answered,
+    shown: PassedAnswerInfo,
+    status: u16,
+) -> About
+    requires head { head.now ≡ answered_of answer.now.response.now answer.now.response_time }
+    requires ttl { shown.ttl ≡ ttl_of_passed_answer shown.policy answer.now.exchange.now head.now.status
+        head.now.fields answer.now.response_time shown.stored }
+    ensures { result ≡ about_in_place_of_answer shown.policy answer.now.exchange.now answer.now.response.now
+        answer.now.response_time shown.stored shown.rule status }
+{
+    let shown = cache_status_of_answer(answer, head, shown, Some(head.status));
+    about_answer(answer, status, shown)
 }
 
 /// Takes the tags out, over a line that hides them.
@@ -150,7 +188,8 @@ fn fields_of_passed_answer(
         head.now.status
         head.now.fields answer.now.response_time shown.stored shown.rule) }
 {
-    let member = member_of_passed_answer(alloc, name, answer, head, shown, None)?;
+    let status = cache_status_of_answer(answer, head, shown, None);
+    let member = member(alloc, name, &status)?;
     let mut lines = head.fields.copy(alloc)?;
     hide_tags(shown.policy, &mut lines);
     lines.push(b"Cache-Status", member.as_slice())?;
@@ -172,8 +211,8 @@ pub(crate) fn fields_in_place_of_answer(
         head.now.status
         head.now.fields answer.now.response_time shown.stored shown.rule own) }
 {
-    let came = Some(head.status);
-    let member = member_of_passed_answer(alloc, name, answer, head, shown, came)?;
+    let status = cache_status_of_answer(answer, head, shown, Some(head.status));
+    let member = member(alloc, name, &status)?;
     let mut lines = own;
     hide_tags(shown.policy, &mut lines);
     lines.push(b"Cache-Status", member.as_slice())?;
@@ -198,11 +237,13 @@ pub(crate) fn whole_answer_text(
     answer: &OriginAnswer<'_>,
     head: &Answered,
     shown: PassedAnswerInfo,
-) -> Result<Bytes, AllocError>
+) -> Result<Written, AllocError>
     requires head { head.now ≡ answered_of answer.now.response.now answer.now.response_time }
     requires ttl { shown.ttl ≡ ttl_of_passed_answer shown.policy answer.now.exchange.now head.now.status
         head.now.fields answer.now.response_time shown.stored }
-    ensures { IfOk result (λ text. text ≡ whole_answer_text shown.policy name.now answer.now.exchange.now
+    ensures text { IfOk result (λ sent. sent.bytes ≡ whole_answer_text shown.policy name.now answer.now.exchange.now
+        answer.now.response.now answer.now.response_time shown.stored shown.rule) }
+    ensures about { IfOk result (λ sent. sent.about ≡ about_whole_answer shown.policy answer.now.exchange.now
         answer.now.response.now answer.now.response_time shown.stored shown.rule) }
 {
     let asked = &answer.exchange.asked;
@@ -211,7 +252,9 @@ pub(crate) fn whole_answer_text(
     let lines = fields_of_passed_answer(alloc, name, answer, head, shown)?;
     let length = length_of_passed_answer(to_head, response);
     let content = content_unless_head(to_head, response.content.as_slice());
-    write_response(alloc, response.status, &lines, length, asked.close, content)
+    let bytes = write_response(alloc, response.status, &lines, length, asked.close, content)?;
+    let about = about_whole_answer(answer, head, shown);
+    Ok(Written { bytes, about })
 }
 
 /// The 304 that is sent in its place.
@@ -221,16 +264,20 @@ fn not_modified_answer_text(
     answer: &OriginAnswer<'_>,
     head: &Answered,
     shown: PassedAnswerInfo,
-) -> Result<Bytes, AllocError>
+) -> Result<Written, AllocError>
     requires head { head.now ≡ answered_of answer.now.response.now answer.now.response_time }
     requires ttl { shown.ttl ≡ ttl_of_passed_answer shown.policy answer.now.exchange.now head.now.status
         head.now.fields answer.now.response_time shown.stored }
-    ensures { IfOk result (λ text. text ≡ not_modified_answer_text shown.policy name.now answer.now.exchange.now
-        answer.now.response.now answer.now.response_time shown.stored shown.rule) }
+    ensures text { IfOk result (λ sent. sent.bytes ≡ not_modified_answer_text shown.policy name.now
+        answer.now.exchange.now answer.now.response.now answer.now.response_time shown.stored shown.rule) }
+    ensures about { IfOk result (λ sent. sent.about ≡ about_in_place_of_answer shown.policy answer.now.exchange.now
+        answer.now.response.now answer.now.response_time shown.stored shown.rule 304) }
 {
     let own = answer_not_modified(alloc, &head.fields)?;
     let lines = fields_in_place_of_answer(alloc, name, answer, head, shown, own)?;
-    write_response(alloc, 304, &lines, None, answer.exchange.asked.close, &[])
+    let bytes = write_response(alloc, 304, &lines, None, answer.exchange.asked.close, &[])?;
+    let about = about_in_place_of_answer(answer, head, shown, 304);
+    Ok(Written { bytes, about })
 }
 
 /// Whether the client has the answer already: the condition that it set stayed with the proxy, and is false of it.
@@ -250,11 +297,13 @@ pub(crate) fn passed_answer_text(
     answer: &OriginAnswer<'_>,
     head: &Answered,
     shown: PassedAnswerInfo,
-) -> Result<Bytes, AllocError>
+) -> Result<Written, AllocError>
     requires head { head.now ≡ answered_of answer.now.response.now answer.now.response_time }
     requires ttl { shown.ttl ≡ ttl_of_passed_answer shown.policy answer.now.exchange.now head.now.status
         head.now.fields answer.now.response_time shown.stored }
-    ensures { IfOk result (λ text. text ≡ passed_answer_text shown.policy name.now answer.now.exchange.now
+    ensures text { IfOk result (λ sent. sent.bytes ≡ passed_answer_text shown.policy name.now answer.now.exchange.now
+        answer.now.response.now answer.now.response_time shown.stored shown.rule) }
+    ensures about { IfOk result (λ sent. sent.about ≡ about_passed_answer shown.policy answer.now.exchange.now
         answer.now.response.now answer.now.response_time shown.stored shown.rule) }
 {
     if client_has_it(answer, head, shown.policy) {

@@ -4,7 +4,7 @@ ghost use Rattle.hx_validate.specs.Ranges.{fields_of_part, in_form_of, response_
 ghost use Rattle.hx_validate.specs.declared.ranges.RangeAnswer.TheVariants.{Part, Unsatisfiable};
 ghost use Rattle.hx_age.specs.Age.{age_of};
 ghost use Rattle.hx_framing.specs.Text.{response_text};
-ghost use Rattle.hx_status.specs.Member.{member_text};
+ghost use Rattle.proxy_core.specs.Abouts.{about_sent, about_stored};
 ghost use Rattle.proxy_core.specs.Outcomes.{forwarded_status_info, collapsed_status_info};
 ghost use Rattle.proxy_core.specs.Replies.{cache_status_of_sent, stored_text, whole_stored_text, not_modified_text};
 ghost use Rattle.proxy_core.specs.Replies.{content_unless_head, fields_of_sent_response, fields_with_age_and_status};
@@ -19,7 +19,7 @@ use hx_framing::{AddedLine, ResponseLines, write_response_with};
 use hx_hop::Asked;
 use hx_policy::Policy;
 use hx_reuse::lifetime_of_held;
-use hx_status::{Detail, How, Status, member};
+use hx_status::{About, Detail, How, Status, Told, member};
 use hx_store::Entry;
 use hx_validate::{
     RangeAnswer, client_wants_304, head_leaves_room, not_modified, part_fields, range_answer,
@@ -45,6 +45,8 @@ pub(crate) struct CacheStatusInfo {
     pub(crate) detail: Option<Detail>,
     /// Whether its request waited for the answer to another.
     pub(crate) collapsed: bool,
+    /// The line whose origin was asked in this step, or before it for this request.
+    pub(crate) origin_line: Option<u16>,
 }
 
 impl CacheStatusInfo {
@@ -63,6 +65,7 @@ impl CacheStatusInfo {
             came,
             detail,
             collapsed: false,
+            origin_line: Some(exchange.line.number),
         }
     }
 
@@ -76,8 +79,16 @@ impl CacheStatusInfo {
             came: None,
             detail: None,
             collapsed: true,
+            origin_line: None,
         }
     }
+}
+
+/// The bytes of a reply, and what it is.
+#[derive(Drop)]
+pub(crate) struct Written {
+    pub(crate) bytes: Bytes,
+    pub(crate) about: About,
 }
 
 /// A stored response that is sent to a request.
@@ -107,9 +118,11 @@ fn fields_of_part(
 
 impl StoredReply<'_> {
     /// Its bytes: the whole response, the part of it that is asked for, or a 304 to a client that has it already.
-    pub(crate) fn text(&self, alloc: Global) -> Result<Bytes, AllocError>
-        ensures { IfOk result (λ text. text
+    pub(crate) fn text(&self, alloc: Global) -> Result<Written, AllocError>
+        ensures text { IfOk result (λ sent. sent.bytes
             ≡ stored_text self.now.name.now self.now.entry.now self.now.sent_at self.now.info self.now.asked.now) }
+        ensures about { IfOk result (λ sent. sent.about
+            ≡ about_stored self.now.entry.now self.now.sent_at self.now.info self.now.asked.now) }
     {
         if client_wants_304(self.asked, self.entry) {
             self.not_modified_text(alloc)
@@ -121,10 +134,13 @@ impl StoredReply<'_> {
     }
 
     /// What the request asks for of it, for a range or not.
-    fn text_in_range(&self, alloc: Global) -> Result<Bytes, AllocError>
-        ensures { IfOk result (λ text. text ≡ text_in_form self.now.name.now
+    fn text_in_range(&self, alloc: Global) -> Result<Written, AllocError>
+        ensures text { IfOk result (λ sent. sent.bytes ≡ text_in_form self.now.name.now
             (response_in_range self.now.asked.now self.now.entry.now) self.now.entry.now self.now.sent_at self.now.info
             self.now.asked.now) }
+        ensures about { IfOk result (λ sent. sent.about
+            ≡ about_sent (response_in_range self.now.asked.now self.now.entry.now).status
+            self.now.entry.now self.now.sent_at self.now.info) }
     {
         match range_answer(self.asked, self.entry) {
             RangeAnswer::Whole => self.whole_text(alloc),
@@ -134,12 +150,15 @@ impl StoredReply<'_> {
     }
 
     /// Its bytes from the first to the last, where its head has room for the line that tells them.
-    fn part_text(&self, alloc: Global, first: usize, last: usize) -> Result<Bytes, AllocError>
+    fn part_text(&self, alloc: Global, first: usize, last: usize) -> Result<Written, AllocError>
         requires order { first ≤ last }
         requires within { last < length self.now.entry.now.content }
-        ensures { IfOk result (λ text. text ≡ text_in_form self.now.name.now
+        ensures text { IfOk result (λ sent. sent.bytes ≡ text_in_form self.now.name.now
             (in_form_of (Part first last) self.now.entry.now) self.now.entry.now self.now.sent_at self.now.info
             self.now.asked.now) }
+        ensures about { IfOk result (λ sent. sent.about
+            ≡ about_sent (in_form_of (Part first last) self.now.entry.now).status
+            self.now.entry.now self.now.sent_at self.now.info) }
     {
         let fields = fields_of_part(alloc, self.entry, first, last)?;
         if head_leaves_room(&fields) {
@@ -156,31 +175,32 @@ impl StoredReply<'_> {
         fields: Fields,
         first: usize,
         last: usize,
-    ) -> Result<Bytes, AllocError>
+    ) -> Result<Written, AllocError>
         requires order { first ≤ last }
         requires within { last < length self.now.entry.now.content }
-        ensures { IfOk result (λ text. text ≡ response_text 206
+        ensures text { IfOk result (λ sent. sent.bytes ≡ response_text 206
             (fields_of_sent_response self.now.name.now 206
             (without_cookies self.now.info.policy.removes_cookies fields)
             self.now.entry.now self.now.sent_at self.now.info)
             (Some (length (slice_range self.now.entry.now.content first (last + 1)))) self.now.asked.now.close
             (content_unless_head (is_head self.now.asked.now)
             (slice_range self.now.entry.now.content first (last + 1)))) }
+        ensures about { IfOk result (λ sent. sent.about
+            ≡ about_sent 206 self.now.entry.now self.now.sent_at self.now.info) }
     {
         let entry = self.entry;
         let content = &entry.content.as_slice()[first..last + 1];
-        let length = Some(content.len() as u64);
-        let content = content_unless_head(is_head(self.asked), content);
-        let mut fields = fields;
-        self.remove_cookies(&mut fields);
-        self.written(alloc, PARTIAL_CONTENT, &fields, length, content)
+        self.written_in_form(alloc, PARTIAL_CONTENT, fields, content)
     }
 
     /// That none of the bytes which are asked for is there, where its head has room for the line that tells it.
-    fn unsatisfied_text(&self, alloc: Global) -> Result<Bytes, AllocError>
-        ensures { IfOk result (λ text. text ≡ text_in_form self.now.name.now
+    fn unsatisfied_text(&self, alloc: Global) -> Result<Written, AllocError>
+        ensures text { IfOk result (λ sent. sent.bytes ≡ text_in_form self.now.name.now
             (in_form_of Unsatisfiable self.now.entry.now) self.now.entry.now self.now.sent_at self.now.info
             self.now.asked.now) }
+        ensures about { IfOk result (λ sent. sent.about
+            ≡ about_sent (in_form_of Unsatisfiable self.now.entry.now).status
+            self.now.entry.now self.now.sent_at self.now.info) }
     {
         let fields = unsatisfied_fields(alloc, self.entry)?;
         if head_leaves_room(&fields) {
@@ -191,17 +211,39 @@ impl StoredReply<'_> {
     }
 
     /// A 416 of these lines, which has no content.
-    fn text_of_416(&self, alloc: Global, fields: Fields) -> Result<Bytes, AllocError>
-        ensures { IfOk result (λ text. text ≡ response_text 416
+    fn text_of_416(&self, alloc: Global, fields: Fields) -> Result<Written, AllocError>
+        ensures text { IfOk result (λ sent. sent.bytes ≡ response_text 416
             (fields_of_sent_response self.now.name.now 416
             (without_cookies self.now.info.policy.removes_cookies fields)
             self.now.entry.now self.now.sent_at self.now.info) (Some 0) self.now.asked.now.close
             (content_unless_head (is_head self.now.asked.now) [])) }
+        ensures about { IfOk result (λ sent. sent.about
+            ≡ about_sent 416 self.now.entry.now self.now.sent_at self.now.info) }
     {
-        let content = content_unless_head(is_head(self.asked), &[]);
+        self.written_in_form(alloc, RANGE_NOT_SATISFIABLE, fields, &[])
+    }
+
+    /// A response of these lines under a status, with this content, of which HEAD is sent the length alone.
+    fn written_in_form(
+        &self,
+        alloc: Global,
+        status: u16,
+        fields: Fields,
+        content: &[u8],
+    ) -> Result<Written, AllocError>
+        ensures text { IfOk result (λ sent. sent.bytes ≡ response_text status
+            (fields_of_sent_response self.now.name.now status
+            (without_cookies self.now.info.policy.removes_cookies fields)
+            self.now.entry.now self.now.sent_at self.now.info) (Some (length content.now)) self.now.asked.now.close
+            (content_unless_head (is_head self.now.asked.now) content.now)) }
+        ensures about { IfOk result (λ sent. sent.about
+            ≡ about_sent status self.now.entry.now self.now.sent_at self.now.info) }
+    {
+        let length = Some(content.len() as u64);
+        let content = content_unless_head(is_head(self.asked), content);
         let mut fields = fields;
         self.remove_cookies(&mut fields);
-        self.written(alloc, RANGE_NOT_SATISFIABLE, &fields, Some(0), content)
+        self.written(alloc, status, &fields, length, content)
     }
 
     /// Takes out the lines of Set-Cookie, over a line that removes them.
@@ -214,9 +256,12 @@ impl StoredReply<'_> {
     }
 
     #[tactic(auto, using(crate::proofs::Cookies::none_removed))]
-    fn whole_text(&self, alloc: Global) -> Result<Bytes, AllocError>
-        ensures { IfOk result (λ text. text ≡ whole_stored_text self.now.name.now self.now.entry.now self.now.sent_at
-            self.now.info self.now.asked.now) }
+    fn whole_text(&self, alloc: Global) -> Result<Written, AllocError>
+        ensures text { IfOk result (λ sent. sent.bytes ≡ whole_stored_text self.now.name.now self.now.entry.now
+            self.now.sent_at self.now.info self.now.asked.now) }
+        ensures about { IfOk result (λ sent. sent.about
+            ≡ about_sent self.now.entry.now.status
+            self.now.entry.now self.now.sent_at self.now.info) }
     {
         let entry = self.entry;
         let length = length_unless_forbidden(entry.status, Some(entry.content.len() as u64));
@@ -229,25 +274,25 @@ impl StoredReply<'_> {
         self.written(alloc, entry.status, &entry.fields, length, content)
     }
 
-    fn not_modified_text(&self, alloc: Global) -> Result<Bytes, AllocError>
-        ensures { IfOk result (λ text. text ≡ not_modified_text self.now.name.now self.now.entry.now self.now.sent_at
-            self.now.info self.now.asked.now) }
+    fn not_modified_text(&self, alloc: Global) -> Result<Written, AllocError>
+        ensures text { IfOk result (λ sent. sent.bytes ≡ not_modified_text self.now.name.now self.now.entry.now
+            self.now.sent_at self.now.info self.now.asked.now) }
+        ensures about { IfOk result (λ sent. sent.about
+            ≡ about_sent 304 self.now.entry.now self.now.sent_at self.now.info) }
     {
         let fields = not_modified(alloc, self.entry)?;
         self.written_with(alloc, 304, &fields, None, &[])
     }
 
     /// What Cache-Status tells under a status, of a response of this age in seconds.
-    fn member(&self, alloc: Global, status: u16, age: u32) -> Result<Bytes, AllocError>
+    fn shown(&self, status: u16, age: u32) -> Status
         requires { age ≡ age_of self.now.entry.now.times self.now.sent_at }
-        ensures { IfOk result (λ text. text
-            ≡ member_text self.now.name.now (cache_status_of_sent status self.now.entry.now self.now.sent_at
-            self.now.info)) }
+        ensures { result ≡ cache_status_of_sent status self.now.entry.now self.now.sent_at self.now.info }
     {
         let entry = self.entry;
         let policy = self.info.policy;
         let lifetime = lifetime_of_held(policy, entry);
-        let shown = Status {
+        Status {
             how: self.info.how,
             fwd_status: fwd_status_of(self.info.came, status),
             ttl: Some(ttl(lifetime, age)),
@@ -255,8 +300,7 @@ impl StoredReply<'_> {
             collapsed: self.info.collapsed,
             detail: self.info.detail,
             not_stored: None,
-        };
-        member(alloc, self.name, &shown)
+        }
     }
 
     /// A response of these lines of its own under a status, without tags where those are hidden: then come Age and
@@ -269,10 +313,12 @@ impl StoredReply<'_> {
         fields: &Fields,
         length: Option<u64>,
         content: &[u8],
-    ) -> Result<Bytes, AllocError>
-        ensures { IfOk result (λ text. text ≡ response_text status
+    ) -> Result<Written, AllocError>
+        ensures text { IfOk result (λ sent. sent.bytes ≡ response_text status
             (fields_of_sent_response self.now.name.now status fields.now
             self.now.entry.now self.now.sent_at self.now.info) length self.now.asked.now.close content.now) }
+        ensures about { IfOk result (λ sent. sent.about
+            ≡ about_sent status self.now.entry.now self.now.sent_at self.now.info) }
     {
         if self.info.policy.hides_tags && fields.has(b"Cache-Tag") {
             let mut others = fields.copy(alloc)?;
@@ -291,14 +337,17 @@ impl StoredReply<'_> {
         fields: &Fields,
         length: Option<u64>,
         content: &[u8],
-    ) -> Result<Bytes, AllocError>
-        ensures { IfOk result (λ text. text ≡ response_text status
+    ) -> Result<Written, AllocError>
+        ensures text { IfOk result (λ sent. sent.bytes ≡ response_text status
             (fields_with_age_and_status self.now.name.now status fields.now
             self.now.entry.now self.now.sent_at self.now.info) length self.now.asked.now.close content.now) }
+        ensures about { IfOk result (λ sent. sent.about
+            ≡ about_sent status self.now.entry.now self.now.sent_at self.now.info) }
     {
         let entry = self.entry;
         let age = current_age(&entry.times, self.sent_at);
-        let member = self.member(alloc, status, age)?;
+        let shown = self.shown(status, age);
+        let member = member(alloc, self.name, &shown)?;
         let mut digits = Buffer::new();
         let added = [
             AddedLine {
@@ -316,7 +365,13 @@ impl StoredReply<'_> {
             length,
             close: self.asked.close,
         };
-        write_response_with(alloc, status, &lines, content)
+        let bytes = write_response_with(alloc, status, &lines, content)?;
+        let about = About {
+            status,
+            told: Told::Handled(shown),
+            origin_line: self.info.origin_line,
+        };
+        Ok(Written { bytes, about })
     }
 }
 

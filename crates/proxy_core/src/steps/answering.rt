@@ -5,6 +5,7 @@ ghost use Rattle.hx_hop.specs.Answering.{answered_of};
 ghost use Rattle.hx_allow.specs.Matching.{policy_of};
 ghost use Rattle.hx_reuse.specs.Rules.{decision_of};
 ghost use Rattle.hx_vary.specs.Vary.{kept_values_with};
+ghost use Rattle.proxy_core.specs.Abouts.{about_passed_answer};
 ghost use Rattle.proxy_core.specs.Replies.{passed_answer_text};
 ghost use Rattle.proxy_core.specs.Storing.{storing_rule_to_explain};
 ghost use Rattle.proxy_core.specs.Outcomes.{is_error_status, outcome_of_passing_on, outcome_of_passing_on_or_stale};
@@ -23,11 +24,10 @@ use crate::outcome::Outcome;
 use crate::replies::origin_answer::OriginAnswer;
 use crate::replies::pending::{AfterAnswer, Change, PendingReply};
 use crate::replies::reply_text::{PassedAnswerInfo, passed_answer_text, ttl_of_passed_answer};
-use crate::replies::stored_reply::CacheStatusInfo;
+use crate::replies::stored_reply::{CacheStatusInfo, Written};
 use crate::steps::fallback::{Fallback, fallback_for};
 use crate::steps::storing::{Admission, NewEntry, removed_unstored, replaced_by};
 use hx_directives::Directives;
-use hx_fields::Bytes;
 use hx_framing::Response;
 use hx_hop::Answered;
 use hx_status::FailKind;
@@ -42,7 +42,7 @@ fn is_error_status(status: u16) -> bool
 }
 
 impl<S: Shelf> Core<S> {
-    /// The bytes of an answer that is passed on, and stored with these directives where there are any: its head is
+    /// An answer that is passed on, and stored with these directives where there are any: its head is
     /// handed in as rules see it.
     fn passed_text(
         &self,
@@ -51,13 +51,16 @@ impl<S: Shelf> Core<S> {
         head: &Answered,
         rule: Option<StoreRule>,
         stored: Option<&Directives>,
-    ) -> Result<Bytes, AllocError>
+    ) -> Result<Written, AllocError>
         requires head { head.now ≡ answered_of answer.now.response.now answer.now.response_time }
         requires directives { IfSome stored (λ directives. directives.now ≡ occurrences_of head.now.fields) }
-        ensures { IfOk result (λ text. text ≡ passed_answer_text
+        ensures text { IfOk result (λ sent. sent.bytes ≡ passed_answer_text
             (policy_of self.now.table.lines answer.now.exchange.now.line)
             self.now.table.name answer.now.exchange.now answer.now.response.now answer.now.response_time
             (is_some stored.entry) rule) }
+        ensures about { IfOk result (λ sent. sent.about ≡ about_passed_answer
+            (policy_of self.now.table.lines answer.now.exchange.now.line)
+            answer.now.exchange.now answer.now.response.now answer.now.response_time (is_some stored.entry) rule) }
     {
         let policy = self.config.policy(answer.exchange.line);
         let shown = PassedAnswerInfo {
@@ -83,9 +86,11 @@ impl<S: Shelf> Core<S> {
             answer.now.response_time answer.now.exchange.now answer.now.response.now rule None) }
         ensures change { IfOk result (λ pending. pending.change ≡ Change.Keep) }
     {
+        let sent = self.passed_text(alloc, answer, head, rule, None)?;
         Ok(PendingReply {
-            bytes: self.passed_text(alloc, answer, head, rule, None)?,
+            bytes: sent.bytes,
             close: answer.exchange.asked.close,
+            about: sent.about,
             change: Change::Keep,
             removed: removed_unstored(alloc, &self.shelf, answer)?,
         })
@@ -113,12 +118,13 @@ impl<S: Shelf> Core<S> {
             pending.change) }
     {
         let asked = &answer.exchange.asked;
-        let bytes = self.passed_text(alloc, answer, &head, rule, Some(&new_entry.directives))?;
+        let sent = self.passed_text(alloc, answer, &head, rule, Some(&new_entry.directives))?;
         let removed = replaced_by(alloc, &self.shelf, asked)?;
         let entry = new_entry.into_entry(alloc, answer, head)?;
         Ok(PendingReply {
-            bytes,
+            bytes: sent.bytes,
             close: asked.close,
+            about: sent.about,
             change: Change::Store(entry),
             removed,
         })

@@ -60,6 +60,7 @@ fn hit_status_info(policy: Policy) -> CacheStatusInfo
         came: None,
         detail: None,
         collapsed: false,
+        origin_line: None,
     }
 }
 
@@ -73,6 +74,7 @@ fn revalidating_status_info(policy: Policy) -> CacheStatusInfo
         came: None,
         detail: Some(Detail::StaleWhileRevalidate),
         collapsed: false,
+        origin_line: None,
     }
 }
 

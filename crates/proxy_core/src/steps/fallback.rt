@@ -4,7 +4,7 @@ ghost use Rattle.hx_directives.specs.Occurrences.{occurrences_of};
 ghost use Rattle.hx_allow.specs.Matching.{policy_of};
 ghost use Rattle.hx_reuse.specs.Rules.{decision_of};
 ghost use Rattle.proxy_core.specs.Outcomes.{error_rule_at, fallback_with_error_rule, fallback_for, outcome_of_failure};
-ghost use Rattle.proxy_core.specs.Outcomes.{serials_removed_by_status, outcome_that_removes, outcome_of_refusal};
+ghost use Rattle.proxy_core.specs.Outcomes.{serials_removed_by_status, outcome_after_origin, outcome_of_refusal};
 ghost use Rattle.proxy_core.specs.Pending.{outcome_of_pending_reply, ChangeStoresNothing};
 
 use crate::core_state::Core;
@@ -17,7 +17,7 @@ use hx_directives::Directives;
 use hx_hop::Asked;
 use hx_policy::Policy;
 use hx_reuse::{Decision, ErrorRule, ReuseRule, decide, may_serve_on_error};
-use hx_status::{Cause, Detail, FailKind};
+use hx_status::{About, Cause, Detail, FailKind};
 use hx_store::{Serials, Shelf};
 use std::alloc::{AllocError, Global};
 
@@ -96,28 +96,34 @@ fn removed_by_status<S: Shelf>(
     Ok(Serials::new(alloc))
 }
 
-/// The proxy's own reply, by which these are held no longer.
-fn refuse_and_remove(
+/// The proxy's own reply after the origin of a line was asked, by which these are held no longer.
+fn refuse_after_origin(
     alloc: Global,
     now: u64,
     cause: Cause,
-    asked: &Asked,
+    exchange: &Exchange,
     removed: Serials,
 ) -> Result<PendingReply, AllocError>
     requires { now < 253_402_300_800 }
     ensures outcome { IfOk result (λ pending. outcome_of_pending_reply pending
-        ≡ outcome_that_removes removed (outcome_of_refusal now cause asked.now)) }
+        ≡ outcome_after_origin exchange.now.line removed (outcome_of_refusal now cause exchange.now.asked)) }
     ensures change { IfOk result (λ pending. pending.change ≡ Change.Keep) }
 {
     let PendingReply {
         bytes,
         close,
+        about,
         change,
         removed: _,
-    } = refuse(alloc, now, cause, asked)?;
+    } = refuse(alloc, now, cause, &exchange.asked)?;
+    let about = About {
+        origin_line: Some(exchange.line.number),
+        ..about
+    };
     Ok(PendingReply {
         bytes,
         close,
+        about,
         change,
         removed,
     })
@@ -149,7 +155,8 @@ impl<S: Shelf> Core<S> {
             }
             Fallback::Refuses(rule, error) => {
                 let removed = removed_by_status(alloc, &self.shelf, asked, came)?;
-                refuse_and_remove(alloc, now, Cause::Origin(kind, rule, error), asked, removed)
+                let cause = Cause::Origin(kind, rule, error);
+                refuse_after_origin(alloc, now, cause, exchange, removed)
             }
         }
     }

@@ -165,6 +165,7 @@ impl<S: Shelf> Core<S> {
         let PendingReply {
             bytes,
             close,
+            about,
             change,
             removed,
         } = pending;
@@ -180,6 +181,7 @@ impl<S: Shelf> Core<S> {
         Ok(Outcome::Reply(Reply {
             bytes,
             close,
+            about,
             stored,
             used,
             removed,

@@ -13,6 +13,7 @@ use crate::steps::finishing::remove_each;
 use hx_allow::{PurgeMode, PurgeScope, mode_to_purge, names_tag, scope_to_purge, tag_to_purge};
 use hx_fields::{Bytes, Fields};
 use hx_hop::Asked;
+use hx_status::About;
 use hx_store::{Entry, EntryTest, Serials, Shelf};
 use hx_target::Key;
 use std::alloc::{AllocError, Global};
@@ -134,6 +135,7 @@ fn take_each<S: Shelf>(shelf: &mut S, mode: PurgeMode, taken: &[u64], now: u64)
 fn purge_reply(alloc: Global, bytes: Bytes, close: bool, mode: PurgeMode, taken: Serials) -> Outcome
     ensures { result ≡ outcome_of_taking bytes close mode taken }
 {
+    let about = About::purge(taken.as_slice().len() as u64);
     let (removed, expired) = match mode {
         PurgeMode::Remove => (taken, None),
         PurgeMode::Stale => (Serials::new(alloc), Some(taken)),
@@ -141,6 +143,7 @@ fn purge_reply(alloc: Global, bytes: Bytes, close: bool, mode: PurgeMode, taken:
     Outcome::Reply(Reply {
         bytes,
         close,
+        about,
         stored: None,
         used: None,
         removed,

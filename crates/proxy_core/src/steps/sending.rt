@@ -1,5 +1,6 @@
 //! What is sent without an answer to pass on: a stored response, the proxy's own reply, a request.
-ghost use Rattle.std.specs.Prelude.{◌≡◌, ◌<◌, IfOk, option_copied};
+ghost use Rattle.std.specs.Prelude.{◌≡◌, ◌<◌, [], None, IfOk, option_copied};
+ghost use Rattle.hx_status.specs.declared.about.Told.TheVariants.{Purged};
 ghost use Rattle.proxy_core.specs.Outcomes.{outcome_of_sending_stored, outcome_of_refusal, forward_text};
 ghost use Rattle.hx_framing.specs.Text.{request_text};
 ghost use Rattle.hx_hop.specs.Forwarding.{forwarded_of};
@@ -9,16 +10,31 @@ ghost use Rattle.proxy_core.specs.Pending.{outcome_of_pending_reply};
 use crate::core_state::Core;
 use crate::replies::pending::{Change, PendingReply};
 use crate::replies::reply_text::{is_head, refused};
-use crate::replies::stored_reply::{CacheStatusInfo, StoredReply};
+use crate::replies::stored_reply::{CacheStatusInfo, StoredReply, Written};
 use crate::steps::condition::Condition;
 use hx_allow::{Config, Route};
 use hx_fields::Bytes;
 use hx_framing::write_request;
 use hx_hop::{Asked, Conditions, forward_request};
 use hx_reuse::{fills_range, keeps_conditions, without_range};
-use hx_status::Cause;
+use hx_status::{About, Cause, Told};
 use hx_store::{Serials, Shelf};
 use std::alloc::{AllocError, Global};
+
+/// What would be sent of a response that isn't held: no decision names one.
+fn nothing_to_send(alloc: Global) -> Written
+    ensures text { result.bytes ≡ [] }
+    ensures about { result.about ≡ record { status = 0; told = Purged 0; origin_line = None } }
+{
+    Written {
+        bytes: Bytes::new(alloc),
+        about: About {
+            status: 0,
+            told: Told::Purged(0),
+            origin_line: None,
+        },
+    }
+}
 
 impl<S: Shelf> Core<S> {
     /// The reply that sends the stored response of a serial.
@@ -34,7 +50,7 @@ impl<S: Shelf> Core<S> {
             ≡ outcome_of_sending_stored self.now.table self.now.entries serial now info asked.now) }
         ensures change { IfOk result (λ pending. pending.change ≡ Change.Use serial) }
     {
-        let bytes = match self.shelf.peek(serial) {
+        let sent = match self.shelf.peek(serial) {
             Some(entry) => {
                 let reply = StoredReply {
                     name: self.config.name(),
@@ -45,11 +61,12 @@ impl<S: Shelf> Core<S> {
                 };
                 reply.text(alloc)?
             }
-            None => Bytes::new(alloc),
+            None => nothing_to_send(alloc),
         };
         Ok(PendingReply {
-            bytes,
+            bytes: sent.bytes,
             close: asked.close,
+            about: sent.about,
             change: Change::Use(serial),
             removed: Serials::new(alloc),
         })
@@ -71,6 +88,7 @@ pub(crate) fn refuse(
     Ok(PendingReply {
         bytes: refused(alloc, now, cause, asked.close, is_head(asked))?,
         close: asked.close,
+        about: About::refusal(cause),
         change: Change::Keep,
         removed: Serials::new(alloc),
     })

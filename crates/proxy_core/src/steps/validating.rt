@@ -270,10 +270,11 @@ impl<S: Shelf> Core<S> {
             info: CacheStatusInfo::forwarded(policy, exchange, Some(response.status), None),
             sent_at: answer.response_time,
         };
-        let bytes = reply.text(alloc)?;
+        let sent = reply.text(alloc)?;
         Ok(PendingReply {
-            bytes,
+            bytes: sent.bytes,
             close: exchange.asked.close,
+            about: sent.about,
             change: change_after(entry, kept),
             removed,
         })

@@ -18,7 +18,7 @@ use Rattle.proxy_core.specs.Promises.{outcome_goes_forward}
 use Rattle.proxy_core.specs.Cases.{response_with, cache_control, forwarded_on_miss}
 use Rattle.proxy_core.specs.WrongTraces.{get_a_in_language, get_or_other_request, events_that_revalidate, varies_by_language, edge_table, fresh_for_a_minute, fresh_or_stale_if_error, get_a, get_b, get_c, get_raw, events_that_store_a, events_that_store_english_and_default, events_before_a_wake, post_a, reply_without_store, reply_that_sends_stored}
 use Rattle.proxy_core.proofs.Refusals.{closes, has_bytes, refuse, uses}
-use Rattle.proxy_core.specs.WrongTraces.{delete_a, response_304}
+use Rattle.proxy_core.specs.WrongTraces.{delete_a, response_304, some_about}
 use Rattle.proxy_core.proofs.laws.headline_cases.the_headline_refuses_what_may_not_be_sent.Goals as goal
 
 pub returns-clause-stale : goal.returns-clause-stale
@@ -83,7 +83,7 @@ returns-clause-other_bytes c = refuse events_that_store_a (Arrive 110 2 get_a) (
 
 pub returns-clause-closing_its_connection : goal.returns-clause-closing_its_connection
 unfolding digits httpdate_on_literals matches_line verdict_of verdict_of_request policy_of decision_of reuse_rule_of storage_rule_of forwarded_of part_holding_day freshened_of error_rule_on
-returns-clause-closing_its_connection c = refuse events_that_store_a (Arrive 110 2 get_a) (Reply (record { bytes = []; close = true; stored = None; used = Some 1; removed = []; expired = None; purged = false })) closes refl refl refl
+returns-clause-closing_its_connection c = refuse events_that_store_a (Arrive 110 2 get_a) (Reply (record { bytes = []; close = true; about = some_about; stored = None; used = Some 1; removed = []; expired = None; purged = false })) closes refl refl refl
 
 pub returns-clause-to_a_woken_one_that_it_may_not_answer : goal.returns-clause-to_a_woken_one_that_it_may_not_answer
 unfolding digits httpdate_on_literals matches_line verdict_of verdict_of_request policy_of decision_of reuse_rule_of storage_rule_of forwarded_of part_holding_day freshened_of error_rule_on

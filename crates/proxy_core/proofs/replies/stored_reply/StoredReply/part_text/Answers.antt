@@ -1,9 +1,16 @@
 use Rattle.std.proofs.Common.{◌≡◌, ℕ, List, subst, sym, ◌∙◌, IfOk}
-use Rattle.proxy_core.proofs.RangeReplies.{text_of_part_is}
+use Rattle.proxy_core.specs.Abouts.{about_sent}
+use Rattle.proxy_core.proofs.RangeReplies.{status_of_part_is, text_of_part_is}
 use Rattle.proxy_core.proofs.replies.stored_reply.StoredReply.part_text.Goals as goal
 
-pub returns-then-head_leaves_room : goal.returns-then-head_leaves_room
-returns-then-head_leaves_room c =
+pub returns-then-head_leaves_room-clause-text : goal.returns-then-head_leaves_room-clause-text
+returns-then-head_leaves_room-clause-text c =
     let reply = c.args.self.now in
-    subst (λ (t : List ℕ). IfOk c.text_of_part.result (λ text. text ≡ t))
-    (text_of_part_is reply.name.now reply.entry.now reply.sent_at reply.info reply.asked.now c.args.first c.args.last _ c.in_ok-fields.ensures (sym c.head_leaves_room.ensures ∙ c.if-head_leaves_room.true)) c.text_of_part.ensures
+    subst (λ (t : List ℕ). IfOk c.text_of_part.result (λ sent. sent.bytes ≡ t))
+    (text_of_part_is reply.name.now reply.entry.now reply.sent_at reply.info reply.asked.now c.args.first c.args.last _ c.in_ok-fields.ensures (sym c.head_leaves_room.ensures ∙ c.if-head_leaves_room.true)) c.text_of_part.ensures.text
+
+pub returns-then-head_leaves_room-clause-about : goal.returns-then-head_leaves_room-clause-about
+returns-then-head_leaves_room-clause-about c =
+    let reply = c.args.self.now in
+    subst (λ (n : ℕ). IfOk c.text_of_part.result (λ sent. sent.about ≡ about_sent n reply.entry.now reply.sent_at reply.info))
+    (status_of_part_is reply.entry.now c.args.first c.args.last _ c.in_ok-fields.ensures (sym c.head_leaves_room.ensures ∙ c.if-head_leaves_room.true)) c.text_of_part.ensures.about
