@@ -25,8 +25,8 @@ abbrev IsPlain : List Effect → Type 0
 IsPlain emitted = (length emitted ≤ 2) × EffectsDropNoLink emitted
 
 on_plain : (i n : ℕ) (q : OutcomeOnConnection) → IsPlain (effects_of_outcome i n q)
-on_plain i n (Replies bytes true) = (omega arith, (refl, (refl, tt)))
-on_plain i n (Replies bytes false) = (omega arith, (refl, tt))
+on_plain i n (Replies bytes about true) = (omega arith, (refl, (refl, tt)))
+on_plain i n (Replies bytes about false) = (omega arith, (refl, tt))
 on_plain i n (Forwards address bytes) = (omega arith, (refl, tt))
 on_plain i n Queues = (omega arith, tt)
 on_plain i n Nothing = (omega arith, tt)
@@ -107,7 +107,7 @@ dropped_push (k ∷ ks) y zero e h = (omega arith, h.1)
 dropped_push (k ∷ ks) y (suc j) e h = let d = dropped_push ks y j e (let below = h.0 in omega (arith, below), h.1) in (let below = d.0 in omega (arith, below), d.1)
 
 dropped_on : (i : ℕ) (to_head : Bool) (q : OutcomeOnConnection) (s : EngineModel) (j : ℕ) → IsDropped (model_after_outcome i to_head q s).links j → IsDropped s.links j
-dropped_on i to_head (Replies bytes close) s j h = h
+dropped_on i to_head (Replies bytes about close) s j h = h
 dropped_on i to_head (Forwards address bytes) s j h = dropped_push s.links (new_link_model s.core.table.max_body to_head i) j refl h
 dropped_on i to_head Queues s j h = h
 dropped_on i to_head Nothing s j h = h

@@ -30,4 +30,5 @@ pub mod SendingEnds
 pub mod Failures
 pub mod FinalAnswers
 pub mod OneRun
+pub mod Telling
 pub mod FewOpen

@@ -32,7 +32,7 @@ module _ (table : Table) where
       ((item : Item) × IsItemOfAct table s now act item emitted after) ⊎ ((after.core ≡ s.core) × ActAsksCoreNothing act × IsEffectsWithoutCoreStep now (connection_place_of_act s act) emitted)
 
   core_after : (i : ℕ) (to_head : Bool) (q : OutcomeOnConnection) (s : EngineModel) → (model_after_outcome i to_head q s).core ≡ s.core
-  core_after i to_head (Replies bytes close) s = refl
+  core_after i to_head (Replies bytes about close) s = refl
   core_after i to_head (Forwards address bytes) s = refl
   core_after i to_head Queues s = refl
   core_after i to_head Nothing s = refl

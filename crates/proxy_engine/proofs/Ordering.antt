@@ -10,6 +10,7 @@ use Rattle.hx_framing.specs.declared.messages.Next.TheVariants as next
 use Rattle.hx_framing.specs.Progress.{stream_with_piece, stream_finished}
 use Rattle.hx_hop.specs.declared.request_view.Asked.{Asked}
 use Rattle.proxy_engine.specs.Admitted.{Refusal, asked_on_connection}
+use Rattle.hx_status.specs.declared.about.About.{About}
 use Rattle.hx_status.specs.declared.cause.Cause.{Cause}
 use Rattle.proxy_core.specs.declared.open.exchange.Exchange.{Exchange}
 use Rattle.proxy_core.specs.declared.event.Event.TheVariants as events
@@ -208,9 +209,9 @@ or_true false c e = e
 shut_there : (cs : List ConnectionModel) (i : ℕ) (c : ConnectionModel) (close : Bool) → i < length cs → close ≡ true → (get_or (set cs i (with_closed close c)) i no_connection).closed ≡ true
 shut_there cs i c close here e = ap (λ (c : ConnectionModel). c.closed) (get_or-set_same cs i (with_closed close c) no_connection here) ∙ or_true c.closed close e
 
-names_reply : (s after : EngineModel) (i n : ℕ) (bytes : List ℕ) (close : Bool) → ConnectionIsOpen s (i + 1) → (close ≡ true → (connection_at after i).closed ≡ true) → EffectsNameOpenEnds s after (effects_of_outcome i n (Replies bytes close))
-names_reply s after i n bytes true unshut shut = (unshut, (unshut, (i, refl, shut refl), refl))
-names_reply s after i n bytes false unshut shut = (unshut, tt)
+names_reply : (s after : EngineModel) (i n : ℕ) (bytes : List ℕ) (about : About) (close : Bool) → ConnectionIsOpen s (i + 1) → (close ≡ true → (connection_at after i).closed ≡ true) → EffectsNameOpenEnds s after (effects_of_outcome i n (Replies bytes about close))
+names_reply s after i n bytes about true unshut shut = (unshut, (unshut, (i, refl, shut refl), refl))
+names_reply s after i n bytes about false unshut shut = (unshut, tt)
 
 both_moved : (s now after : EngineModel) (emitted said : List Effect) → after ≡ now → emitted ≡ said → ModelIsOrderly now → EffectsNameOpenEnds s now said → ModelIsOrderly after × EffectsNameOpenEnds s after emitted
 both_moved s now after emitted said a t h names =
@@ -319,9 +320,9 @@ finished_order s i j o core to_head emitted after h within_links here link_open 
     by_outcome : (o : Outcome) → Remains o (i + 1) s.core.exchanges core.exchanges → emitted ≡ effects.Drop (s.first + j) ∷ effects_of_outcome i (next_link_number s) (outcome_by_table s.core.table o) → after ≡ model_after_outcome i to_head (outcome_by_table s.core.table o) base → ModelIsOrderly after × EffectsNameOpenEnds s after emitted
     by_outcome (outcomes.Reply r) left emitted_is after_is =
         let now = with_connection base i (with_closed r.close) in
-        both_moved s now after emitted (effects.Drop (s.first + j) ∷ effects_of_outcome i (next_link_number s) (Replies r.bytes r.close)) after_is emitted_is
+        both_moved s now after emitted (effects.Drop (s.first + j) ∷ effects_of_outcome i (next_link_number s) (Replies r.bytes r.about r.close)) after_is emitted_is
         (orderly now (closing_order cs ks core.exchanges i r.close none (free left.0 left.1)))
-        (drops now [] (sym (append-nil ks)), names_reply s now i (next_link_number s) r.bytes r.close unshut (λ shut. shut_there cs i (get_or cs i no_connection) r.close inside_now shut))
+        (drops now [] (sym (append-nil ks)), names_reply s now i (next_link_number s) r.bytes r.about r.close unshut (λ shut. shut_there cs i (get_or cs i no_connection) r.close inside_now shut))
     by_outcome (outcomes.Forward line bytes) left emitted_is after_is =
         let behind = model_after_outcome i to_head (outcome_by_table s.core.table (outcomes.Forward line bytes)) base in
         both_moved s behind after emitted (effects.Drop (s.first + j) ∷ effects_of_outcome i (next_link_number s) (outcome_by_table s.core.table (outcomes.Forward line bytes))) after_is emitted_is
@@ -490,9 +491,9 @@ wakes_order s now i emitted after h due d = by_outcome d.1.outcome (woken_remain
     by_outcome : (o : Outcome) → Remains o (i + 1) xs d.1.core.exchanges → emitted ≡ effects_of_outcome i (next_link_number s) (outcome_by_table s.core.table o) → after ≡ model_after_outcome i to_head (outcome_by_table s.core.table o) base → ModelIsOrderly after × EffectsNameOpenEnds s after emitted
     by_outcome (outcomes.Reply r) left emitted_is after_is =
         let behind = with_connection base i (with_closed r.close) in
-        both_moved s behind after emitted (effects_of_outcome i (next_link_number s) (Replies r.bytes r.close)) after_is emitted_is
+        both_moved s behind after emitted (effects_of_outcome i (next_link_number s) (Replies r.bytes r.about r.close)) after_is emitted_is
         (orderly behind (closing_order cs s.links d.1.core.exchanges i r.close none (free left.0 left.1)))
-        (names_reply s behind i (next_link_number s) r.bytes r.close unshut (λ shut. shut_there cs i (get_or cs i no_connection) r.close inside_now shut))
+        (names_reply s behind i (next_link_number s) r.bytes r.about r.close unshut (λ shut. shut_there cs i (get_or cs i no_connection) r.close inside_now shut))
     by_outcome (outcomes.Forward line bytes) left emitted_is after_is =
         let behind = model_after_outcome i to_head (outcome_by_table s.core.table (outcomes.Forward line bytes)) base in
         both_moved s behind after emitted (effects_of_outcome i (next_link_number s) (outcome_by_table s.core.table (outcomes.Forward line bytes))) after_is emitted_is
@@ -535,9 +536,9 @@ arrived_order s now i m asked o core to_head emitted after h inside unshut unclo
         let key = scope_purged asked (outcomes.Reply r) in
         let same : core.exchanges ≡ exchanges_after_purge key s.core.exchanges = ap (λ (k : CoreState). k.exchanges) steps.leaves in
         let purged : Order cs s.links (exchanges_after_purge key s.core.exchanges) = (paired_purged (map activity_of_model cs) (map owner_of_model s.links) s.core.exchanges key passed.0, passed.1) in
-        both_moved s (with_connection base i (with_closed r.close)) after emitted (effects_of_outcome i (next_link_number s) (Replies r.bytes r.close)) after_is emitted_is
+        both_moved s (with_connection base i (with_closed r.close)) after emitted (effects_of_outcome i (next_link_number s) (Replies r.bytes r.about r.close)) after_is emitted_is
         (orderly (with_connection base i (with_closed r.close)) (closing_order cs s.links core.exchanges i r.close none_now (subst (λ (xs : List Exchange). Order cs s.links xs) (sym same) purged)))
-        (names_reply s (with_connection base i (with_closed r.close)) i (next_link_number s) r.bytes r.close unshut (λ shut. shut_there cs i (get_or cs i no_connection) r.close inside_now shut))
+        (names_reply s (with_connection base i (with_closed r.close)) i (next_link_number s) r.bytes r.about r.close unshut (λ shut. shut_there cs i (get_or cs i no_connection) r.close inside_now shut))
     by_outcome (outcomes.Forward line bytes) steps emitted_is after_is =
         let x = opened_exchange s.core.table s.core.entries now (i + 1) asked line in
         let more : core.exchanges ≡ s.core.exchanges ++ x ∷ [] = ap (λ (k : CoreState). k.exchanges) steps.leaves in

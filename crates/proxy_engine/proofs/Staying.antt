@@ -141,7 +141,7 @@ stays_opened s i to_head =
     }
 
 stays_after : (s : EngineModel) (i : ℕ) (to_head : Bool) (o : OutcomeOnConnection) → EndedStaysEnded s (model_after_outcome i to_head o s)
-stays_after s i to_head (Replies bytes close) = stays_closing s i close
+stays_after s i to_head (Replies bytes about close) = stays_closing s i close
 stays_after s i to_head (Forwards address bytes) = stays_opened s i to_head
 stays_after s i to_head Queues = stays_connection s i (with_activity Waiting) (λ c e. e) (λ c e. e) (λ c e. e)
 stays_after s i to_head Nothing = stays_here s s.core

@@ -17,6 +17,8 @@ use Rattle.hx_allow.specs.TableLines.{Table}
 use Rattle.hx_allow.specs.Addresses.{address_of_numbers}
 use Rattle.hx_allow.specs.Matching.{origin_address_of}
 use Rattle.hx_allow.specs.declared.verdicts.Route.{Route}
+use Rattle.hx_status.specs.Abouts.{about_refusal}
+use Rattle.hx_status.specs.declared.about.About.{About}
 use Rattle.hx_status.specs.declared.cause.Cause.{Cause}
 use Rattle.hx_status.specs.declared.cause.Cause.TheVariants as cause
 use Rattle.hx_hop.specs.Moments.{date_text_of}
@@ -39,9 +41,9 @@ use Rattle.proxy_engine.specs.Due.{LinkResult, Gives, Breaks, Act, Abandons, Fin
 use Rattle.proxy_engine.specs.declared.endpoints.activities.Activity.{Activity}
 use Rattle.proxy_engine.specs.declared.endpoints.activities.Activity.TheVariants.{Free, Forwarded, Waiting}
 
--- an answer to the client, a request to the origin at an address, a request that waits, or nothing
+-- an answer to the client and what it is, a request to the origin at an address, a request that waits, or nothing
 pub data OutcomeOnConnection : Type 0 where
-  Replies : (bytes : List ℕ) (close : Bool) → OutcomeOnConnection
+  Replies : (bytes : List ℕ) (about : About) (close : Bool) → OutcomeOnConnection
   Forwards : (address : SocketAddrV4) (bytes : List ℕ) → OutcomeOnConnection
   Queues : OutcomeOnConnection
   Nothing : OutcomeOnConnection
@@ -52,7 +54,7 @@ origin_address_of_line table line = unwrap_or (origin_address_of table.lines lin
 
 -- an outcome by this table
 abbrev pub outcome_by_table : Table → Outcome → OutcomeOnConnection
-outcome_by_table table (outcomes.Reply r) = Replies r.bytes r.close
+outcome_by_table table (outcomes.Reply r) = Replies r.bytes r.about r.close
 outcome_by_table table (outcomes.Forward line bytes) = Forwards (origin_address_of_line table line) bytes
 outcome_by_table table (outcomes.Waits leader) = Queues
 outcome_by_table table outcomes.Ended = Nothing
@@ -100,14 +102,15 @@ exchange_asks_head (Some x) = is_head x.asked
 
 -- for the connection at i; the next link has this number
 abbrev pub effects_of_outcome : ℕ → ℕ → OutcomeOnConnection → List Effect
-effects_of_outcome i number (Replies bytes close) =
-    effects.Client (connection_number i) bytes ∷ (if close then effects.Close (connection_number i) ∷ [] else [])
+effects_of_outcome i number (Replies bytes about close) =
+    effects.Client (connection_number i) bytes (Some about)
+    ∷ (if close then effects.Close (connection_number i) ∷ [] else [])
 effects_of_outcome i number (Forwards address bytes) = effects.Forward number address bytes ∷ []
 effects_of_outcome i number Queues = []
 effects_of_outcome i number Nothing = []
 
 abbrev pub model_after_outcome : ℕ → Bool → OutcomeOnConnection → EngineModel → EngineModel
-model_after_outcome i to_head (Replies bytes close) s = with_connection s i (with_closed close)
+model_after_outcome i to_head (Replies bytes about close) s = with_connection s i (with_closed close)
 model_after_outcome i to_head (Forwards address bytes) s = with_opened_link s i to_head
 model_after_outcome i to_head Queues s = with_connection s i (with_activity Waiting)
 model_after_outcome i to_head Nothing s = s
@@ -130,6 +133,7 @@ pub record CoreIsStepped (s t : EngineModel) (i : ℕ) (to_head : Bool) (event :
 pub record RequestIsRefused (s : EngineModel) (now i : ℕ) (why : Cause) (head : Bool) (emitted : List Effect)
     (after : EngineModel) : Type 0 where
   pub emitted_is : emitted ≡ effects.Client (connection_number i) (refusal_reply_text (date_text_of now) why true head)
+      (Some (about_refusal why))
       ∷ effects.Close (connection_number i)
       ∷ []
   pub after_is : after ≡ with_connection s i (with_closed true)
@@ -150,7 +154,7 @@ RequestArrives s now i r (Err refusal) emitted after = RequestIsRefused s now i 
 abbrev pub ConnectionIsServed : EngineModel → ℕ → ℕ → Next Request → List Effect → EngineModel → Type 0
 ConnectionIsServed s now i next.More emitted after = ⊥
 ConnectionIsServed s now i next.NeedsContinue emitted after =
-    (emitted ≡ effects.Client (connection_number i) continue_text ∷ [])
+    (emitted ≡ effects.Client (connection_number i) continue_text None ∷ [])
     × (after ≡ with_connection s i (with_next_passed next.NeedsContinue))
 ConnectionIsServed s now i (next.Message r) emitted after =
     (judged : Result Asked Refusal) × RequestIsAdmittedOrRefused r judged

@@ -13,6 +13,7 @@ use Rattle.hx_framing.specs.declared.messages.Next.TheVariants as next
 use Rattle.hx_framing.specs.Text.{continue_text}
 use Rattle.hx_hop.specs.declared.request_view.Asked.{Asked}
 use Rattle.hx_hop.specs.Moments.{date_text_of}
+use Rattle.hx_status.specs.Abouts.{about_refusal}
 use Rattle.hx_status.specs.declared.cause.Cause.{Cause}
 use Rattle.proxy_core.specs.Driving.{KeepsThePromises}
 use Rattle.proxy_core.specs.Replies.{refusal_reply_text}
@@ -111,10 +112,11 @@ pub record IsItemOfAct (table : Table) (s : EngineModel) (now : ℕ) (act : Act)
 -- effects without a step of the core, on the connection at a place: a continue, the proxy's answer to what is no
 -- request, or a close
 pub data IsEffectsWithoutCoreStep (now place : ℕ) (emitted : List Effect) : Type 0 where
-  Continues : emitted ≡ effects.Client (connection_number place) continue_text ∷ []
+  Continues : emitted ≡ effects.Client (connection_number place) continue_text None ∷ []
       → IsEffectsWithoutCoreStep now place emitted
   Refuses : (why : Cause) (head : Bool) → emitted
       ≡ effects.Client (connection_number place) (refusal_reply_text (date_text_of now) why true head)
+      (Some (about_refusal why))
       ∷ effects.Close (connection_number place) ∷ []
       → IsEffectsWithoutCoreStep now place emitted
   Closes : emitted ≡ effects.Close (connection_number place) ∷ [] → IsEffectsWithoutCoreStep now place emitted

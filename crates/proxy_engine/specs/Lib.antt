@@ -26,6 +26,7 @@ pub mod Beginnings
 pub mod Executions
 pub mod FinalAnswers
 pub mod OneRun
+pub mod ToldReplies
 pub mod Retired
 pub mod ModelCases
 pub mod EndCases

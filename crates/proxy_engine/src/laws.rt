@@ -28,7 +28,7 @@ pub use model_cases::{
     worked_addresses_of_outcomes, worked_due_acts, worked_effects_of_acts, worked_effects_of_steps,
     worked_faults_of_happenings, worked_happenings,
 };
-pub use run_laws::a_run_refuses_what_was_not_done;
+pub use run_laws::{a_run_refuses_what_was_not_done, replies_are_told_as_they_are};
 
 /// One act is due first, or none is: so `work` has no choice.
 pub fn one_act_is_due_first()

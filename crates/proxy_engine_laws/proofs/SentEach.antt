@@ -15,6 +15,7 @@ use Rattle.hx_hop.specs.Asking.{asked_with_judged_target, asked_with_target}
 use Rattle.hx_hop.specs.Moments.{date_text_of}
 use Rattle.hx_target.specs.declared.target_fault.TargetFault.{TargetFault}
 use Rattle.hx_target.specs.declared.targets.Target.{Target}
+use Rattle.hx_status.specs.Abouts.{about_refusal}
 use Rattle.hx_status.specs.declared.cause.Cause.{Cause}
 use Rattle.hx_status.specs.declared.cause.Cause.TheVariants as cause
 use Rattle.hx_status.specs.declared.cause.FailKind.{FailKind}
@@ -115,23 +116,23 @@ module _ (table : Table) (now : ℕ) (h : Bool) where
 
   came_sent : (i number : ℕ) (outcome : Outcome) → OutcomeIsOneMessage table.name h outcome → All (IsSent table.name now h) (effects_of_outcome i number (outcome_by_table table outcome))
   came_sent i number (outcomes.Reply r) one =
-      All-cons (IsSent table.name now h) (effects.Client (i + 1) r.bytes) (cond r.close (effects.Close (i + 1) ∷ []) []) (record { forwarded = tt; answered = λ early. inr one }) (closes_or_not (i + 1) r.close)
+      All-cons (IsSent table.name now h) (effects.Client (i + 1) r.bytes (Some r.about)) (cond r.close (effects.Close (i + 1) ∷ []) []) (record { forwarded = tt; answered = λ early. inr one }) (closes_or_not (i + 1) r.close)
   came_sent i number (outcomes.Forward line bytes) one =
       All-cons (IsSent table.name now h) (effects.Forward number (origin_address_of_line table line) bytes) [] (record { forwarded = one; answered = λ early. tt }) (All-nil (IsSent table.name now h))
   came_sent i number (outcomes.Waits leader) one = All-nil (IsSent table.name now h)
   came_sent i number outcomes.Ended one = All-nil (IsSent table.name now h)
   came_sent i number outcomes.WaitsNoMore one = All-nil (IsSent table.name now h)
 
-  continue_sent : (n : ℕ) (emitted : List Effect) → emitted ≡ effects.Client n continue_text ∷ [] → All (IsSent table.name now h) emitted
+  continue_sent : (n : ℕ) (emitted : List Effect) → emitted ≡ effects.Client n continue_text None ∷ [] → All (IsSent table.name now h) emitted
   continue_sent n emitted is =
       subst (All (IsSent table.name now h)) (sym is)
-      (All-cons (IsSent table.name now h) (effects.Client n continue_text) [] (record { forwarded = tt; answered = λ early. inl refl }) (All-nil (IsSent table.name now h)))
+      (All-cons (IsSent table.name now h) (effects.Client n continue_text None) [] (record { forwarded = tt; answered = λ early. inl refl }) (All-nil (IsSent table.name now h)))
 
-  refused_sent : (n : ℕ) (why : Cause) (head : Bool) (emitted : List Effect) → head ≡ h → emitted ≡ effects.Client n (refusal_reply_text (date_text_of now) why true head) ∷ effects.Close n ∷ []
+  refused_sent : (n : ℕ) (why : Cause) (head : Bool) (emitted : List Effect) → head ≡ h → emitted ≡ effects.Client n (refusal_reply_text (date_text_of now) why true head) (Some (about_refusal why)) ∷ effects.Close n ∷ []
       → All (IsSent table.name now h) emitted
   refused_sent n why head emitted same is =
       subst (All (IsSent table.name now h)) (sym is)
-      (All-cons (IsSent table.name now h) (effects.Client n (refusal_reply_text (date_text_of now) why true head)) (effects.Close n ∷ [])
+      (All-cons (IsSent table.name now h) (effects.Client n (refusal_reply_text (date_text_of now) why true head) (Some (about_refusal why))) (effects.Close n ∷ [])
       (record { forwarded = tt; answered = λ early. inr (subst (λ (g : Bool). BytesAreOneResponse g (refusal_reply_text (date_text_of now) why true head)) same (one_refusal now why true head early)) })
       (close_sent n))
 
@@ -206,14 +207,14 @@ module _ (table : Table) (read : TableWasRead table) (start : StoreAtStart) (fir
 
   -- a continue, or one response to a HEAD or not
   abbrev Gets : Effect → Type 0
-  Gets (effects.Client n bytes) = (bytes ≡ continue_text) ⊎ ((to_head : Bool) × BytesAreOneResponse to_head bytes)
+  Gets (effects.Client n bytes about) = (bytes ≡ continue_text) ⊎ ((to_head : Bool) × BytesAreOneResponse to_head bytes)
   Gets (effects.Forward l address bytes) = Unit {0}
   Gets (effects.Close n) = Unit {0}
   Gets (effects.Drop l) = Unit {0}
 
   gets : (h : Bool) (e : Effect) → ReplyIsOneResponse h e → Gets e
-  gets h (effects.Client n bytes) (inl is) = inl is
-  gets h (effects.Client n bytes) (inr is) = inr (h, is)
+  gets h (effects.Client n bytes about) (inl is) = inl is
+  gets h (effects.Client n bytes about) (inr is) = inr (h, is)
   gets h (effects.Forward l address bytes) is = tt
   gets h (effects.Close n) is = tt
   gets h (effects.Drop l) is = tt
@@ -235,5 +236,5 @@ answers_one_response_each table start first link now past s t act emitted read s
     (sent_by table read start first link sound past s executed now emitted t act leads)
 
 pub gets_one_response_each : ClientsGetOneResponseEach
-gets_one_response_each table start first link steps t read sound executed early n bytes has =
-    contained (Gets table read start first link sound) (effects_of_steps steps) (effects.Client n bytes) (all_got table read start first link sound steps t executed early) has
+gets_one_response_each table start first link steps t read sound executed early n bytes about has =
+    contained (Gets table read start first link sound) (effects_of_steps steps) (effects.Client n bytes about) (all_got table read start first link sound steps t executed early) has

@@ -6,12 +6,14 @@
 -- ForwardIsOneRequest, ReplyIsOneResponse: an effect that is one message
 -- CoreIsHandedWhatWasRead: what its core is handed
 -- EachForwardIsOneRequest, EachReplyIsOneResponse, ClientsGetOneResponseEach: the statements
-use Rattle.std.specs.Prelude.{◌≡◌, ◌⊎◌, ℕ, ◌+◌, ◌<◌, Bool, false, bytes_eq, List, [], ◌∷◌, codes, All, Contains, Some}
+use Rattle.std.specs.Prelude.{◌≡◌, ◌⊎◌, ℕ, ◌+◌, ◌<◌, Bool, false, bytes_eq, List, [], ◌∷◌, codes, All, Contains}
+use Rattle.std.specs.Prelude.{Option, Some}
 use Rattle.std.specs.declared.net.socket_addr.SocketAddrV4.{SocketAddrV4}
 use Rattle.hx_fields.specs.declared.limits.TheConstants.{END_OF_TIME}
 use Rattle.hx_allow.specs.TableLines.{Table}
 use Rattle.hx_framing.specs.declared.messages.Next.TheVariants as next
 use Rattle.hx_framing.specs.Text.{continue_text}
+use Rattle.hx_status.specs.declared.about.About.{About}
 use Rattle.proxy_core.specs.Outcomes.{find_exchange}
 use Rattle.proxy_core.specs.State.{bounds_of}
 use Rattle.proxy_core.specs.Traces.{Item, initial_state as core_begun}
@@ -49,13 +51,14 @@ act_answers_head s (Serves i next.End) = false
 -- a forward is one request, by a proxy of this name
 abbrev pub ForwardIsOneRequest : List ℕ → Effect → Type 0
 ForwardIsOneRequest name (effects.Forward l address bytes) = BytesAreOneRequest name bytes
-ForwardIsOneRequest name (effects.Client n bytes) = Unit {0}
+ForwardIsOneRequest name (effects.Client n bytes about) = Unit {0}
 ForwardIsOneRequest name (effects.Close n) = Unit {0}
 ForwardIsOneRequest name (effects.Drop l) = Unit {0}
 
 -- what a client gets is the 25 bytes of a continue, or one response
 abbrev pub ReplyIsOneResponse : Bool → Effect → Type 0
-ReplyIsOneResponse to_head (effects.Client n bytes) = (bytes ≡ continue_text) ⊎ BytesAreOneResponse to_head bytes
+ReplyIsOneResponse to_head (effects.Client n bytes about) =
+    (bytes ≡ continue_text) ⊎ BytesAreOneResponse to_head bytes
 ReplyIsOneResponse to_head (effects.Forward l address bytes) = Unit {0}
 ReplyIsOneResponse to_head (effects.Close n) = Unit {0}
 ReplyIsOneResponse to_head (effects.Drop l) = Unit {0}
@@ -103,5 +106,5 @@ ClientsGetOneResponseEach =
     → TableWasRead table
     → StartCanBeServed table start first → StepsLead (new_engine_model (core_begun table start first) link) steps t
     → ActsAreInTime steps
-    → (n : ℕ) (bytes : List ℕ) → Contains (effects_of_steps steps) (effects.Client n bytes)
+    → (n : ℕ) (bytes : List ℕ) (about : Option About) → Contains (effects_of_steps steps) (effects.Client n bytes about)
     → (bytes ≡ continue_text) ⊎ ((to_head : Bool) × BytesAreOneResponse to_head bytes)

@@ -4,6 +4,7 @@ ghost use Rattle.std.specs.Net.Text.{socket_v4_text};
 ghost use Rattle.proxy_script.specs.Effects.{block_text, effect_text, effects_text};
 
 use hx_fields::Bytes;
+use hx_status::About;
 use itoa::Buffer;
 use std::alloc::{AllocError, Global};
 use std::net::SocketAddrV4;
@@ -17,8 +18,9 @@ const MOST_ADDRESS: usize = 21;
 /// What a proxy does.
 #[derive(Drop)]
 pub enum Effect {
-    /// Bytes go to a client.
-    Client(u64, Bytes),
+    /// Bytes go to a client, with what reply they are; none for an interim response (RFC 9110, section 15.2), which is
+    /// no reply. It isn't told in the text.
+    Client(u64, Bytes, Option<About>),
     /// A link is opened to an address, and bytes go to it.
     Forward(u64, SocketAddrV4, Bytes),
     /// A client's connection is closed.
@@ -62,7 +64,7 @@ fn push_effect(text: &mut Vec<u8>, effect: &Effect) -> Result<(), AllocError>
     ensures { OnOk result (text.new.items ≡ text.old.items ++ effect_text effect.now) }
 {
     match effect {
-        Effect::Client(n, bytes) => {
+        Effect::Client(n, bytes, _) => {
             text.extend_from_slice(b"client ")?;
             push_number(text, *n)?;
             text.extend_from_slice(b" ")?;
@@ -95,7 +97,7 @@ fn length_bound_of_effects(effects: &[Effect]) -> usize {
     let mut room = 0usize;
     for effect in effects {
         room = room.saturating_add(MOST_LINE).saturating_add(match effect {
-            Effect::Client(_, bytes) => bytes.len(),
+            Effect::Client(_, bytes, _) => bytes.len(),
             Effect::Forward(_, _, bytes) => MOST_ADDRESS.saturating_add(bytes.len()),
             Effect::Close(_) => 0,
             Effect::Drop(_) => 0,

@@ -1,5 +1,6 @@
 //! Worked cases of scripts and effects, computed from the definitions. The format is told in docs/OPERATIONS.md.
-ghost use Rattle.std.specs.Prelude.{◌≡◌, ◌∷◌, [], codes, true, false};
+ghost use Rattle.std.specs.Prelude.{◌≡◌, ◌∷◌, [], None, Some, codes, true, false};
+ghost use Rattle.hx_status.specs.Abouts.{about_purge};
 ghost use Rattle.hx_status.specs.declared.cause.FailKind.TheVariants.{Refused, TimedOut, Closed};
 ghost use Rattle.proxy_script.specs.declared.effect_list.Effect.TheVariants as effect;
 ghost use Rattle.proxy_script.specs.Effects.{effect_text, effects_text};
@@ -88,8 +89,9 @@ pub fn wrong_items_are_refused()
 /// How each effect is told.
 pub fn worked_effects_are_spelled()
     ensures closes { effects_text (effect.Close 1 ∷ effect.Drop 2 ∷ []) ≡ codes "close 1\ndrop 2\n" }
-    ensures bytes { effects_text (effect.Client 3 (codes "hi") ∷ effect.Close 3 ∷ [])
+    ensures bytes { effects_text (effect.Client 3 (codes "hi") None ∷ effect.Close 3 ∷ [])
         ≡ codes "client 3 2\nhi\nclose 3\n" }
+    ensures reply { effect_text (effect.Client 3 (codes "hi") (Some (about_purge 7))) ≡ codes "client 3 2\nhi\n" }
     ensures forward { effect_text
         (effect.Forward 7 (record { ip = record { octets = 127 ∷ 0 ∷ 0 ∷ 1 ∷ [] }; port = 80 }) (codes "GET"))
         ≡ codes "forward 7 127.0.0.1:80 3\nGET\n" }

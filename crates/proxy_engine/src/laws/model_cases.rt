@@ -4,6 +4,7 @@
 ghost use Rattle.std.specs.Prelude.{◌≡◌, ◌∷◌, [], length, map, Some, None, true, false, codes};
 ghost use Rattle.hx_framing.specs.declared.messages.Next.TheVariants as next;
 ghost use Rattle.hx_framing.specs.declared.frame_fault.FrameFault.TheVariants as frame;
+ghost use Rattle.hx_status.specs.Abouts.{about_purge};
 ghost use Rattle.hx_status.specs.declared.cause.FailKind.TheVariants as kinds;
 ghost use Rattle.hx_allow.specs.Addresses.{address_of_numbers};
 ghost use Rattle.hx_allow.specs.Matching.{over_line};
@@ -124,13 +125,13 @@ pub fn worked_addresses_of_outcomes()
     ensures no_line { origin_address_of_line table_of_two_origins (over_line 3) ≡ address_of_numbers 0 0 0 0 0 }
 {}
 
-/// What acts tell: a reply to its connection, with a close behind it where it says so; a forward on the next link;
-/// nothing of one that waits. And what they leave.
+/// What acts tell: a reply to its connection, with what it is, and a close behind it where it says so; a forward on the
+/// next link; nothing of one that waits. And what they leave.
 pub fn worked_effects_of_acts()
-    ensures reply { effects_of_outcome 2 7 (Replies (codes "x") false) ≡ effects.Client 3 (codes "x") ∷ [] }
-    ensures last_reply { effects_of_outcome 2 7 (Replies (codes "x") true) ≡ effects.Client 3 (codes "x")
-        ∷ effects.Close 3
-        ∷ [] }
+    ensures reply { effects_of_outcome 2 7 (Replies (codes "x") (about_purge 4) false)
+        ≡ effects.Client 3 (codes "x") (Some (about_purge 4)) ∷ [] }
+    ensures last_reply { effects_of_outcome 2 7 (Replies (codes "x") (about_purge 4) true)
+        ≡ effects.Client 3 (codes "x") (Some (about_purge 4)) ∷ effects.Close 3 ∷ [] }
     ensures forward { effects_of_outcome 2 7 (Forwards (address_of_numbers 127 0 0 1 80) (codes "x"))
         ≡ effects.Forward 7 (address_of_numbers 127 0 0 1 80) (codes "x") ∷ [] }
     ensures waits { effects_of_outcome 2 7 Queues ≡ [] }
@@ -143,10 +144,10 @@ pub fn worked_effects_of_acts()
     ensures on_its_link { (connection_at (model_after_outcome 0 false
         (Forwards (address_of_numbers 127 0 0 1 80) []) model_with_connection) 0).activity ≡ Forwarded 0 }
     ensures queued { (connection_at (model_after_outcome 0 false Queues model_with_connection) 0).activity ≡ Waiting }
-    ensures closes { (connection_at (model_after_outcome 0 false (Replies [] true) model_with_connection) 0).closed
-        ≡ true }
+    ensures closes { (connection_at (model_after_outcome 0 false
+        (Replies [] (about_purge 4) true) model_with_connection) 0).closed ≡ true }
     ensures stays_open { (connection_at (model_after_outcome 0 false
-        (Replies [] false) model_with_connection) 0).closed ≡ false }
+        (Replies [] (about_purge 4) false) model_with_connection) 0).closed ≡ false }
     ensures frees { (connection_at (model_after_link_freed model_with_link 0 0) 0).activity ≡ Free }
     ensures drops_its_link { (link_at (model_after_link_freed model_with_link 0 0) 0).dropped ≡ true }
 {}

@@ -1,7 +1,9 @@
-//! Laws that a run refuses what wasn't done. Each function's contract is a law, and its body is empty.
+//! Laws on what a run tells, and that it refuses what wasn't done. Each function's contract is a law, and its body is
+//! empty.
 ghost use Rattle.proxy_engine.specs.OneRun.{RunHasNoOtherEffects, RunHasNoOtherAct, RunHasNoOtherMoment};
 ghost use Rattle.proxy_engine.specs.OneRun.{RunHasNoUntakenHappening, RunHasNoMoreItems};
 ghost use Rattle.proxy_engine.specs.OneRun.{RunHasNoItemWithoutStep};
+ghost use Rattle.proxy_engine.specs.ToldReplies.{EachReplyIsToldAsItIs, EachRunTellsItsReplies};
 
 use hx_hop::laws::a_request_is_asked_in_one_way;
 
@@ -18,3 +20,12 @@ pub fn a_run_refuses_what_was_not_done()
 {
     a_request_is_asked_in_one_way();
 }
+
+/// What an effect tells of a reply is what that reply is. Its bytes, and what they are said to be, are those of its own
+/// step's outcome of the core, with the same serial, rule and cause; or it is the proxy's own answer to what is no
+/// request, and has the cause that stands in it. Of an interim response nothing is told, and of nothing else. So no
+/// figure and no line of a log is one of another reply.
+pub fn replies_are_told_as_they_are()
+    ensures step { EachReplyIsToldAsItIs }
+    ensures run { EachRunTellsItsReplies }
+{}

@@ -29,6 +29,7 @@ use crate::endpoints::peeked::Peeked;
 use hx_allow::{Config, Route};
 use hx_fields::Bytes;
 use hx_framing::ResponseReader;
+use hx_status::About;
 use proxy_core::{CoreFault, Outcome};
 use proxy_script::Effect;
 use std::alloc::{AllocError, Global};
@@ -67,17 +68,18 @@ pub(crate) fn as_alloc_error(fault: CoreFault) -> AllocError
     }
 }
 
-/// Bytes go to the client, and the connection closes behind them or doesn't.
+/// A reply goes to the client, with what it is, and the connection closes behind it or doesn't.
 pub(crate) fn send_reply(
     connections: &mut Connections,
     effects: &mut Vec<Effect>,
     i: ConnectionPlace,
     bytes: Bytes,
+    about: About,
     close: bool,
 )
     requires free { connection_is_free_at (slice_index_or connections.old.items i None) ≡ true }
     requires room { vec_len effects.old + 2 ≤ vec_capacity effects.old }
-    ensures effects { effects.new.items ≡ effects.old.items ++ effects_of_outcome i 0 (Replies bytes close) }
+    ensures effects { effects.new.items ≡ effects.old.items ++ effects_of_outcome i 0 (Replies bytes about close) }
     ensures represents { ConnectionsChangeAt i connections.old.items connections.new.items (with_closed close) }
     ensures activities { activities_of connections.new.items ≡ activities_of connections.old.items }
     ensures load { sum_by connection_load connections.new.items ≤ sum_by connection_load connections.old.items }
@@ -86,7 +88,7 @@ pub(crate) fn send_reply(
 {
     let number = connections.number_at(i);
     marks::close_at(connections, i, close);
-    put(effects, Effect::Client(number, bytes));
+    put(effects, Effect::Client(number, bytes, Some(about)));
     if close {
         put(effects, Effect::Close(number));
     }
@@ -235,7 +237,14 @@ impl Ends {
     {
         match outcome {
             Outcome::Reply(reply) => {
-                send_reply(&mut self.connections, effects, i, reply.bytes, reply.close);
+                send_reply(
+                    &mut self.connections,
+                    effects,
+                    i,
+                    reply.bytes,
+                    reply.about,
+                    reply.close,
+                );
             }
             Outcome::Forward(line, bytes) => {
                 let number = self.number_at(self.links.next_place());

@@ -29,7 +29,7 @@ use crate::work::EngineFault;
 use hx_fields::Bytes;
 use hx_framing::write_continue;
 use hx_hop::Asked;
-use hx_status::Cause;
+use hx_status::{About, Cause};
 use hx_store::Shelf;
 use proxy_core::{is_head, refused};
 use proxy_script::Effect;
@@ -56,7 +56,7 @@ fn send_continue(
     let number = connections.number_at(i);
     let bytes = write_continue(alloc)?;
     marks::pass_next_at(connections, i);
-    put(&mut effects, Effect::Client(number, bytes));
+    put(&mut effects, Effect::Client(number, bytes, None));
     Ok(effects)
 }
 
@@ -90,7 +90,14 @@ fn refuse(
 {
     let mut effects = room(alloc)?;
     let bytes = proxys_own_answer(alloc, now, why, head)?;
-    send_reply(connections, &mut effects, i, bytes, true);
+    send_reply(
+        connections,
+        &mut effects,
+        i,
+        bytes,
+        About::refusal(why),
+        true,
+    );
     Ok(effects)
 }
 

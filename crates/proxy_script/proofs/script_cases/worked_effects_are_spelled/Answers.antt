@@ -10,6 +10,10 @@ pub returns-clause-bytes : goal.returns-clause-bytes
 unfolding digits
 returns-clause-bytes c = refl
 
+pub returns-clause-reply : goal.returns-clause-reply
+unfolding digits
+returns-clause-reply c = refl
+
 pub returns-clause-forward : goal.returns-clause-forward
 unfolding digits
 returns-clause-forward c = refl

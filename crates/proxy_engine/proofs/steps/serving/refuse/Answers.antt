@@ -1,4 +1,6 @@
-use Rattle.std.proofs.Common.{true, ap, ◌∙◌, ◌+◌, ◌++◌, List, ℕ, ◌∷◌, [], refl}
+use Rattle.std.proofs.Common.{true, Some, ap, ◌∙◌, ◌+◌, ◌++◌, List, ℕ, ◌∷◌, [], refl}
+use Rattle.hx_status.specs.Abouts.{about_refusal}
+use Rattle.hx_status.specs.declared.about.About.{About}
 use Rattle.proxy_script.specs.declared.effect_list.Effect.{Effect}
 use Rattle.proxy_script.specs.declared.effect_list.Effect.TheVariants.{Client, Close}
 use Rattle.proxy_engine.specs.EngineModel.{with_connection}
@@ -13,7 +15,10 @@ returns-clause-ok c = λ s links core first a w h.
     record {
       after = with_connection s i (with_closed true);
       does = refused_served s c.args.now i a c.args.why c.args.head c.send_reply.new.effects.items (with_connection s i (with_closed true)) w record {
-        emitted_is = c.send_reply.ensures.effects ∙ (ap (λ (b : List Effect). b ++ Client (i + 1) c.in_ok-bytes.bytes ∷ Close (i + 1) ∷ []) c.in_ok-effects.ensures.items ∙ ap (λ (b : List ℕ). Client (i + 1) b ∷ Close (i + 1) ∷ []) text);
+        emitted_is = c.send_reply.ensures.effects
+            ∙ (ap (λ (es : List Effect). es ++ Client (i + 1) c.in_ok-bytes.bytes (Some c.refusal.result) ∷ Close (i + 1) ∷ []) c.in_ok-effects.ensures.items
+            ∙ (ap (λ (a : About). Client (i + 1) c.in_ok-bytes.bytes (Some a) ∷ Close (i + 1) ∷ []) c.refusal.ensures
+            ∙ ap (λ (b : List ℕ). Client (i + 1) b (Some (about_refusal c.args.why)) ∷ Close (i + 1) ∷ []) text));
         after_is = refl;
       };
       represents = c.send_reply.ensures.represents s links core first h;

@@ -1,4 +1,4 @@
-use Rattle.std.proofs.Common.{◌+◌, List, ℕ, ◌∷◌, [], refl, ap, ◌∙◌, arith}
+use Rattle.std.proofs.Common.{◌+◌, None, List, ℕ, ◌∷◌, [], refl, ap, ◌∙◌, arith}
 use Rattle.hx_framing.specs.declared.messages.Next.TheVariants.{NeedsContinue}
 use Rattle.proxy_script.specs.declared.effect_list.Effect.TheVariants.{Client}
 use Rattle.proxy_engine.specs.EngineModel.{with_connection}
@@ -15,7 +15,7 @@ number_at-number-requires c = inside c.args.connections.now.items c.args.i (free
 pub returns-clause-ok : goal.returns-clause-ok
 returns-clause-ok c = λ s links core first now due h. record {
   after = with_connection s c.args.i (with_next_passed NeedsContinue);
-  does = (emitted_one c.in_ok-effects.effects.items c.put.new.effects.items _ (rw c.number_at-number.ensures at c.put.ensures.items) c.in_ok-effects.ensures.items ∙ ap (λ (b : List ℕ). Client (c.args.i + 1) b ∷ []) c.in_ok-bytes.ensures, refl);
+  does = (emitted_one c.in_ok-effects.effects.items c.put.new.effects.items _ (rw c.number_at-number.ensures at c.put.ensures.items) c.in_ok-effects.ensures.items ∙ ap (λ (b : List ℕ). Client (c.args.i + 1) b None ∷ []) c.in_ok-bytes.ensures, refl);
   represents = c.pass_next_at.ensures.represents s NeedsContinue links core first due h;
 }
 
