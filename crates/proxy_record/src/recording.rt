@@ -21,6 +21,7 @@ ghost use Rattle.proxy_turn.specs.Counts.{CountRisesBy, failed};
 ghost use Rattle.proxy_reads.specs.Received.{FitsTheBuffer};
 
 use crate::recorder::{RecordFault, Recorder};
+use hx_status::About;
 use proxy_script::Happening;
 use proxy_turn::{End, Received, SocketFailed, Sockets, happening_of_read};
 use std::io::Write;
@@ -284,8 +285,8 @@ impl<K: Sockets + Drop, W: Write + Drop> Sockets for Recording<K, W> {
         received
     }
 
-    fn write(&mut self, end: End, bytes: &[u8]) -> Result<(), SocketFailed> {
-        let written = self.sockets.write(end, bytes);
+    fn write(&mut self, end: End, bytes: &[u8], about: Option<&About>) -> Result<(), SocketFailed> {
+        let written = self.sockets.write(end, bytes, about);
         self.pass_on(written)
     }
 

@@ -53,7 +53,7 @@ steps_keep s t i to_head event before emitted after steps =
     ap kept steps.after_is ∙ (by (outcome_by_table s.core.table steps.outcome) ∙ ap kept_core steps.steps.leaves)
   where
     by : (c : OutcomeOnConnection) → kept (model_after_outcome i to_head c (with_core t steps.core)) ≡ kept_core steps.core
-    by (Replies bytes close) = refl
+    by (Replies bytes about close) = refl
     by (Forwards address bytes) = refl
     by Queues = refl
     by Nothing = refl

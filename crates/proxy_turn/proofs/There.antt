@@ -8,6 +8,7 @@ use Rattle.hx_framing.specs.declared.messages.Next.{Next}
 use Rattle.hx_framing.specs.declared.messages.Next.TheVariants as next
 use Rattle.hx_framing.specs.declared.messages.Request.{Request}
 use Rattle.hx_hop.specs.declared.request_view.Asked.{Asked}
+use Rattle.hx_status.specs.declared.about.About.{About}
 use Rattle.proxy_core.specs.declared.event.Event.{Event}
 use Rattle.proxy_core.specs.declared.event.Event.TheVariants as events
 use Rattle.proxy_script.specs.declared.effect_list.Effect.{Effect}
@@ -125,7 +126,7 @@ there_at s (e ∷ es) (suc i) end there l is = there_at s es i end there.1 (omeg
 -- a request goes forward among them
 abbrev forwards : List Effect → Bool
 forwards [] = false
-forwards (effects.Client n bytes ∷ rest) = forwards rest
+forwards (effects.Client n bytes about ∷ rest) = forwards rest
 forwards (effects.Close n ∷ rest) = forwards rest
 forwards (effects.Forward l address bytes ∷ rest) = true
 forwards (effects.Drop l ∷ rest) = forwards rest
@@ -134,9 +135,9 @@ not_both : {A : Type 0} (b : Bool) → b ≡ true → b ≡ false → A
 not_both true e f = absurd cc
 not_both false e f = absurd cc
 
-replies_none : (i number : ℕ) (bytes : List ℕ) (close : Bool) → forwards (effects_of_outcome i number (Replies bytes close)) ≡ false
-replies_none i number bytes true = refl
-replies_none i number bytes false = refl
+replies_none : (i number : ℕ) (bytes : List ℕ) (about : About) (close : Bool) → forwards (effects_of_outcome i number (Replies bytes about close)) ≡ false
+replies_none i number bytes about true = refl
+replies_none i number bytes about false = refl
 
 -- a step whose effects name a new link opens it
 steps_open : (s t : EngineModel) (i : ℕ) (to_head : Bool) (event : Event) (before emitted : List Effect) (after : EngineModel) → length t.links ≡ length s.links → ((more : List Effect) → forwards (before ++ more) ≡ forwards more)
@@ -144,7 +145,7 @@ steps_open : (s t : EngineModel) (i : ℕ) (to_head : Bool) (event : Event) (bef
 steps_open s t i to_head event before emitted after same apart steps e = by (outcome_by_table s.core.table steps.outcome) steps.emitted_is steps.after_is
   where
     by : (c : OutcomeOnConnection) → emitted ≡ before ++ effects_of_outcome i (next_link_number s) c → after ≡ model_after_outcome i to_head c (with_core t steps.core) → length s.links < length after.links
-    by (Replies bytes close) emitted_is after_is = not_both (forwards emitted) e (ap forwards emitted_is ∙ (apart (effects_of_outcome i (next_link_number s) (Replies bytes close)) ∙ replies_none i (next_link_number s) bytes close))
+    by (Replies bytes about close) emitted_is after_is = not_both (forwards emitted) e (ap forwards emitted_is ∙ (apart (effects_of_outcome i (next_link_number s) (Replies bytes about close)) ∙ replies_none i (next_link_number s) bytes about close))
     by (Forwards address bytes) emitted_is after_is =
         let long = ap (λ (u : EngineModel). length u.links) after_is ∙ length-append t.links (new_link_model steps.core.table.max_body to_head i ∷ []) in
         omega (arith, same, long)
@@ -231,7 +232,7 @@ module _ (s after : EngineModel) (stays : EndedStaysEnded s after) where
 
   named : (emitted : List Effect) → EffectsNameOpenEnds s after emitted → (forwards emitted ≡ true → length s.links < length after.links) → EndsWereNumbered after (map end_of_effect emitted)
   named [] names long = tt
-  named (effects.Client n bytes ∷ rest) names long = (client_named n names.0, named rest names.1 long)
+  named (effects.Client n bytes about ∷ rest) names long = (client_named n names.0, named rest names.1 long)
   named (effects.Close n ∷ rest) names long = (client_named n names.0, named_last rest names.2)
     where
       named_last : (rest : List Effect) → rest ≡ [] → EndsWereNumbered after (map end_of_effect rest)

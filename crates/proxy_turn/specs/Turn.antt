@@ -128,14 +128,14 @@ abbrev pub end_is_lost : List End → End → Bool
 end_is_lost gone end = list_any (λ other. same_end other end) gone
 
 abbrev pub end_of_effect : Effect → End
-end_of_effect (effects.Client n bytes) = ends.Client n
+end_of_effect (effects.Client n bytes about) = ends.Client n
 end_of_effect (effects.Close n) = ends.Client n
 end_of_effect (effects.Forward l address bytes) = ends.Link l
 end_of_effect (effects.Drop l) = ends.Link l
 
 -- A link that can't be opened counts as refused by the origin, a write that fails as its closing.
 abbrev pub EffectFailsAs : Effect → FailKind → Type 0
-EffectFailsAs (effects.Client n bytes) kind = kind ≡ kinds.Closed
+EffectFailsAs (effects.Client n bytes about) kind = kind ≡ kinds.Closed
 EffectFailsAs (effects.Close n) kind = kind ≡ kinds.Closed
 EffectFailsAs (effects.Forward l address bytes) kind = (kind ≡ kinds.Refused) ⊎ (kind ≡ kinds.Closed)
 EffectFailsAs (effects.Drop l) kind = kind ≡ kinds.Closed
@@ -191,18 +191,19 @@ calls_of_reads reads = map (λ (r : EndRead). call.Read r.end r.given) reads
 -- A link is told as refused where its connect failed; then nothing is written. Otherwise the write failed.
 abbrev pub calls_of_failed_forward : ℕ → SocketAddrV4 → List ℕ → FailKind → List Call
 calls_of_failed_forward l address bytes kinds.Refused = call.Connect l address false ∷ []
-calls_of_failed_forward l address bytes other = call.Connect l address true ∷ call.Write (ends.Link l) bytes false ∷ []
+calls_of_failed_forward l address bytes other =
+    call.Connect l address true ∷ call.Write (ends.Link l) bytes None false ∷ []
 
--- An effect's calls, once and with its bytes whole. Of one that was lost the last call failed; for one that was passed
--- over none is made.
+-- An effect's calls, once, with its bytes whole, and with what reply they are. Of one that was lost the last call
+-- failed; for one that was passed over none is made.
 abbrev pub calls_of_effect : Effect → EffectFate → List Call
 calls_of_effect effect Passed = []
-calls_of_effect (effects.Client n bytes) Carried = call.Write (ends.Client n) bytes true ∷ []
-calls_of_effect (effects.Client n bytes) (Lost kind) = call.Write (ends.Client n) bytes false ∷ []
+calls_of_effect (effects.Client n bytes about) Carried = call.Write (ends.Client n) bytes about true ∷ []
+calls_of_effect (effects.Client n bytes about) (Lost kind) = call.Write (ends.Client n) bytes about false ∷ []
 calls_of_effect (effects.Close n) Carried = call.Shut (ends.Client n) true ∷ []
 calls_of_effect (effects.Close n) (Lost kind) = call.Shut (ends.Client n) false ∷ []
 calls_of_effect (effects.Forward l address bytes) Carried =
-    call.Connect l address true ∷ call.Write (ends.Link l) bytes true ∷ []
+    call.Connect l address true ∷ call.Write (ends.Link l) bytes None true ∷ []
 calls_of_effect (effects.Forward l address bytes) (Lost kind) = calls_of_failed_forward l address bytes kind
 calls_of_effect (effects.Drop l) Carried = call.Shut (ends.Link l) true ∷ []
 calls_of_effect (effects.Drop l) (Lost kind) = call.Shut (ends.Link l) false ∷ []

@@ -47,7 +47,7 @@ fn end_of_effect(effect: &Effect) -> End
     ensures { result ≡ end_of_effect effect.now }
 {
     match effect {
-        Effect::Client(n, _) => End::Client(*n),
+        Effect::Client(n, _, _) => End::Client(*n),
         Effect::Forward(l, _, _) => End::Link(*l),
         Effect::Close(n) => End::Client(*n),
         Effect::Drop(l) => End::Link(*l),
@@ -78,7 +78,7 @@ fn open<K: Sockets>(
     if sockets.connect(link, address).is_err() {
         return Err(FailKind::Refused);
     }
-    if sockets.write(End::Link(link), bytes).is_err() {
+    if sockets.write(End::Link(link), bytes, None).is_err() {
         return Err(FailKind::Closed);
     }
     Ok(())
@@ -93,7 +93,9 @@ fn call<K: Sockets>(sockets: &mut K, effect: &Effect) -> Result<(), FailKind>
     ensures failures { CountRisesBy (K.failures sockets.old) (K.failures sockets.new) (failed result) }
 {
     let done = match effect {
-        Effect::Client(n, bytes) => sockets.write(End::Client(*n), bytes.as_slice()),
+        Effect::Client(n, bytes, about) => {
+            sockets.write(End::Client(*n), bytes.as_slice(), about.as_ref())
+        }
         Effect::Forward(l, address, bytes) => {
             return open(sockets, *l, *address, bytes.as_slice());
         }

@@ -1,5 +1,5 @@
 //! Sockets that keep a log of the calls made on them: what contracts say of calls, seen at run time.
-ghost use Rattle.std.specs.Prelude.{◌≡◌, ◌<◌, [], ◌∷◌, ◌++◌, map, false};
+ghost use Rattle.std.specs.Prelude.{◌≡◌, ◌<◌, [], ◌∷◌, ◌++◌, map, false, option_copied};
 ghost use Rattle.hx_fields.specs.declared.limits.TheConstants.{END_OF_TIME};
 ghost use Rattle.proxy_engine.specs.EngineModel.{EngineModel};
 ghost use Rattle.proxy_engine.specs.State.{EngineRepresents};
@@ -14,6 +14,7 @@ use crate::report::{Report, TurnFault};
 use crate::sockets::{SocketFailed, Sockets};
 use crate::turns::turn;
 use hx_fields::Bytes;
+use hx_status::About;
 use hx_store::Shelf;
 use proxy_engine::{End, Engine};
 use proxy_reads::Received;
@@ -29,12 +30,13 @@ pub enum LoggedReadOutcome {
     Failed,
 }
 
-/// A call, with its bytes and what came of it; the last of a write, a connect and a shut says that it didn't fail.
+/// A call, with its bytes, what reply they are, and what came of it; the last of a write, a connect and a shut says
+/// that it didn't fail.
 #[derive(Drop)]
 pub enum LoggedCall {
     Accept(u64, Result<bool, SocketFailed>),
     Read(End, LoggedReadOutcome),
-    Write(End, Bytes, bool),
+    Write(End, Bytes, Option<About>, bool),
     Connect(u64, SocketAddrV4, bool),
     Shut(End, bool),
 }
@@ -108,13 +110,13 @@ impl<K: Sockets + Drop> LoggedSockets<K> {
         self.keep_call(LoggedCall::Read(end, gave));
     }
 
-    fn keep_write(&mut self, end: End, bytes: &[u8], done: bool)
+    fn keep_write(&mut self, end: End, bytes: &[u8], about: Option<&About>, done: bool)
         ensures sockets { self.new.sockets ≡ self.old.sockets }
         ensures kept { LogGrewByCalls self.old.lost self.old.calls.items self.new.lost self.new.calls.items
-            (call.Write end bytes.now done ∷ []) }
+            (call.Write end bytes.now (option_copied about.entry) done ∷ []) }
     {
         match Bytes::copy_of(self.alloc, bytes) {
-            Ok(bytes) => self.keep_call(LoggedCall::Write(end, bytes, done)),
+            Ok(bytes) => self.keep_call(LoggedCall::Write(end, bytes, about.copied(), done)),
             Err(_) => self.lost = true,
         }
     }
@@ -146,9 +148,9 @@ impl<K: Sockets + Drop> Sockets for LoggedSockets<K> {
         received
     }
 
-    fn write(&mut self, end: End, bytes: &[u8]) -> Result<(), SocketFailed> {
-        let written = self.sockets.write(end, bytes);
-        self.keep_write(end, bytes, written.is_ok());
+    fn write(&mut self, end: End, bytes: &[u8], about: Option<&About>) -> Result<(), SocketFailed> {
+        let written = self.sockets.write(end, bytes, about);
+        self.keep_write(end, bytes, about, written.is_ok());
         written
     }
 

@@ -1,9 +1,10 @@
 //! The ends of a proxy as calls that may fail.
-ghost use Rattle.std.specs.Prelude.{◌≡◌, ℕ, List, [], ◌∷◌, ◌++◌, length, IfOk, is_ok};
+ghost use Rattle.std.specs.Prelude.{◌≡◌, ℕ, List, [], ◌∷◌, ◌++◌, length, IfOk, is_ok, option_copied};
 ghost use Rattle.proxy_turn.specs.Calls.{Call, Accept, Read, Write, Connect, Shut, accept_outcome_of, read_outcome_of};
 ghost use Rattle.proxy_turn.specs.Counts.{CountRisesBy, failed};
 ghost use Rattle.proxy_reads.specs.Received.{FitsTheBuffer};
 
+use hx_status::About;
 use proxy_engine::End;
 use proxy_reads::Received;
 use std::net::SocketAddrV4;
@@ -42,9 +43,10 @@ pub trait Sockets {
         ensures reads { CountRisesBy (reads self.old) (reads self.new) 1 }
         ensures failures { CountRisesBy (failures self.old) (failures self.new) (failed result) };
 
-    /// Writes all of the bytes to a client or on a link, or fails.
-    fn write(&mut self, end: End, bytes: &[u8]) -> Result<(), SocketFailed>
-        ensures did { Did self.old (Write end bytes.now (is_ok result) ∷ []) self.new }
+    /// Writes all of the bytes to a client or on a link, or fails. To a client it says with them what reply they are,
+    /// unless they are an interim response; on a link it says nothing.
+    fn write(&mut self, end: End, bytes: &[u8], about: Option<&About>) -> Result<(), SocketFailed>
+        ensures did { Did self.old (Write end bytes.now (option_copied about.entry) (is_ok result) ∷ []) self.new }
         ensures accepts { accepts self.new ≡ accepts self.old }
         ensures reads { reads self.new ≡ reads self.old }
         ensures failures { CountRisesBy (failures self.old) (failures self.new) (failed result) };

@@ -3,6 +3,7 @@
 
 ghost use Rattle.std.specs.Prelude.{◌≡◌, ◌∷◌, [], Some, None, true, false, codes};
 ghost use Rattle.hx_allow.specs.Addresses.{address_of_numbers};
+ghost use Rattle.hx_status.specs.Abouts.{about_purge};
 ghost use Rattle.hx_status.specs.declared.cause.FailKind.TheVariants as kinds;
 ghost use Rattle.proxy_script.specs.declared.effect_list.Effect.TheVariants as effects;
 ghost use Rattle.proxy_engine.specs.Happenings.{Accepts, Sends, Hears, Ends, Leaves, Retires, Overdues, Shuts, Fails};
@@ -21,27 +22,31 @@ ghost use Rattle.proxy_turn.specs.TurnCases.{ReportedTurnLeavesNoEndOut, Reporte
 ghost use Rattle.proxy_turn.specs.TurnCases.{ListenerFaultNeedsAFailedAccept, NoCallOnALostEnd};
 ghost use Rattle.proxy_turn.specs.TurnCases.{NoEffectIsPassedOverWithoutLoss, NoClientWriteCountsAsRefused};
 
-/// The calls of an effect: its bytes go to its end, whole and once, and behind a failed call none is made. Of a forward
-/// that failed as refused the connect failed, of any other the write.
+/// The calls of an effect: its bytes go to its end, whole and once, with what reply they are, and behind a failed call
+/// none is made. Of a forward that failed as refused the connect failed, of any other the write.
 pub fn worked_calls_of_effects()
-    ensures reply { calls_of_effect (effects.Client 1 (codes "x")) Carried ≡ call.Write (ends.Client 1) (codes "x") true
-        ∷ [] }
-    ensures failed_reply { calls_of_effect (effects.Client 1 (codes "x")) (Lost kinds.Closed)
-        ≡ call.Write (ends.Client 1) (codes "x") false ∷ [] }
+    ensures reply { calls_of_effect (effects.Client 1 (codes "x") (Some (about_purge 4))) Carried
+        ≡ call.Write (ends.Client 1) (codes "x") (Some (about_purge 4)) true ∷ [] }
+    ensures failed_reply { calls_of_effect (effects.Client 1 (codes "x") (Some (about_purge 4))) (Lost kinds.Closed)
+        ≡ call.Write (ends.Client 1) (codes "x") (Some (about_purge 4)) false ∷ [] }
+    ensures interim { calls_of_effect (effects.Client 1 (codes "x") None) Carried
+        ≡ call.Write (ends.Client 1) (codes "x") None true ∷ [] }
     ensures close { calls_of_effect (effects.Close 1) Carried ≡ call.Shut (ends.Client 1) true ∷ [] }
     ensures forward { calls_of_effect (effects.Forward 5 (address_of_numbers 127 0 0 1 80) (codes "x")) Carried
-        ≡ call.Connect 5 (address_of_numbers 127 0 0 1 80) true ∷ call.Write (ends.Link 5) (codes "x") true ∷ [] }
+        ≡ call.Connect 5 (address_of_numbers 127 0 0 1 80) true ∷ call.Write (ends.Link 5) (codes "x") None true ∷ [] }
     ensures refused { calls_of_effect (effects.Forward 5 (address_of_numbers 127 0 0 1 80) (codes "x"))
         (Lost kinds.Refused)
         ≡ call.Connect 5 (address_of_numbers 127 0 0 1 80) false ∷ [] }
     ensures cut { calls_of_effect (effects.Forward 5 (address_of_numbers 127 0 0 1 80) (codes "x")) (Lost kinds.Closed)
-        ≡ call.Connect 5 (address_of_numbers 127 0 0 1 80) true ∷ call.Write (ends.Link 5) (codes "x") false ∷ [] }
+        ≡ call.Connect 5 (address_of_numbers 127 0 0 1 80) true ∷ call.Write (ends.Link 5) (codes "x") None false
+        ∷ [] }
     ensures drop { calls_of_effect (effects.Drop 5) Carried ≡ call.Shut (ends.Link 5) true ∷ [] }
-    ensures passed { calls_of_effect (effects.Client 1 (codes "x")) Passed ≡ [] }
-    ensures in_order { calls_of_effects (effects.Client 1 (codes "x") ∷ effects.Close 1 ∷ []) (Carried ∷ Carried ∷ [])
-        ≡ call.Write (ends.Client 1) (codes "x") true ∷ call.Shut (ends.Client 1) true ∷ [] }
-    ensures none_behind { calls_of_effects (effects.Client 1 (codes "x") ∷ effects.Close 1 ∷ [])
-        (Lost kinds.Closed ∷ Passed ∷ []) ≡ call.Write (ends.Client 1) (codes "x") false ∷ [] }
+    ensures passed { calls_of_effect (effects.Client 1 (codes "x") None) Passed ≡ [] }
+    ensures in_order { calls_of_effects (effects.Client 1 (codes "x") None ∷ effects.Close 1 ∷ [])
+        (Carried ∷ Carried ∷ [])
+        ≡ call.Write (ends.Client 1) (codes "x") None true ∷ call.Shut (ends.Client 1) true ∷ [] }
+    ensures none_behind { calls_of_effects (effects.Client 1 (codes "x") None ∷ effects.Close 1 ∷ [])
+        (Lost kinds.Closed ∷ Passed ∷ []) ≡ call.Write (ends.Client 1) (codes "x") None false ∷ [] }
     ensures one_is_lost { end_is_lost (ends.Client 1 ∷ []) (ends.Client 1) ≡ true }
     ensures another_is_not { end_is_lost (ends.Client 1 ∷ []) (ends.Client 2) ≡ false }
     ensures a_link_is_no_client { end_is_lost (ends.Client 1 ∷ []) (ends.Link 1) ≡ false }

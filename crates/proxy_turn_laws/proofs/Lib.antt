@@ -1,3 +1,4 @@
 pub mod Carrying
 pub mod Speaking
+pub mod Telling
 pub mod Writing

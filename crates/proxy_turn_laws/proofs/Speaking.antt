@@ -19,6 +19,7 @@ use Rattle.hx_reuse.specs.Rules.{decision_of}
 use Rattle.hx_reuse.specs.declared.rule.ReuseRule.{ReuseRule}
 use Rattle.hx_reuse.specs.declared.decision.Decision.{Decision}
 use Rattle.hx_reuse.specs.declared.decision.Decision.TheVariants as decision
+use Rattle.hx_status.specs.declared.about.About.{About}
 use Rattle.hx_status.specs.declared.cause.Cause.{Cause}
 use Rattle.hx_status.specs.declared.cause.Cause.TheVariants as cause
 use Rattle.hx_status.specs.declared.cause.FailKind.{FailKind}
@@ -82,19 +83,19 @@ closing : (n m : ℕ) (close : Bool) → replies_to n (cond close (effects.Close
 closing n m true = refl
 closing n m false = refl
 
-client_told : (n m : ℕ) (bytes : List ℕ) (close b : Bool) → (m == n) ≡ b → replies_to n (effects.Client m bytes ∷ cond close (effects.Close m ∷ []) []) ≡ cond b (ReplyWent bytes ∷ []) []
-client_told n m bytes close b test =
+client_told : (n m : ℕ) (bytes : List ℕ) (about : Option About) (close b : Bool) → (m == n) ≡ b → replies_to n (effects.Client m bytes about ∷ cond close (effects.Close m ∷ []) []) ≡ cond b (ReplyWent bytes ∷ []) []
+client_told n m bytes about close b test =
     ap (λ (xs : List Said). xs ++ cond (m == n) (ReplyWent bytes ∷ []) []) (closing n m close) ∙ ap (λ (c : Bool). cond c (ReplyWent bytes ∷ []) []) test
 
 told_here : (i n : ℕ) (table : Table) (o : Outcome) → replies_to (i + 1) (effects_of_outcome i n (outcome_by_table table o)) ≡ told_by o
-told_here i n table (outcomes.Reply r) = client_told (i + 1) (i + 1) r.bytes r.close true (eq-eqb (i + 1) (i + 1) refl)
+told_here i n table (outcomes.Reply r) = client_told (i + 1) (i + 1) r.bytes (Some r.about) r.close true (eq-eqb (i + 1) (i + 1) refl)
 told_here i n table (outcomes.Forward line bytes) = refl
 told_here i n table (outcomes.Waits leader) = refl
 told_here i n table outcomes.Ended = refl
 told_here i n table outcomes.WaitsNoMore = refl
 
 told_away : (i p n : ℕ) (table : Table) (o : Outcome) → (p == i) ≡ false → replies_to (i + 1) (effects_of_outcome p n (outcome_by_table table o)) ≡ []
-told_away i p n table (outcomes.Reply r) off = client_told (i + 1) (p + 1) r.bytes r.close false (off_more p i off)
+told_away i p n table (outcomes.Reply r) off = client_told (i + 1) (p + 1) r.bytes (Some r.about) r.close false (off_more p i off)
 told_away i p n table (outcomes.Forward line bytes) off = refl
 told_away i p n table (outcomes.Waits leader) off = refl
 told_away i p n table outcomes.Ended off = refl
@@ -361,7 +362,7 @@ away_here G id event o v x y said off here (lapses z ev xi st f yi) = absurd (fa
 -- ---- the model of an engine
 
 core_after : (i : ℕ) (to_head : Bool) (q : OutcomeOnConnection) (s : EngineModel) → (model_after_outcome i to_head q s).core ≡ s.core
-core_after i to_head (Replies bytes close) s = refl
+core_after i to_head (Replies bytes about close) s = refl
 core_after i to_head (Forwards address bytes) s = refl
 core_after i to_head Queues s = refl
 core_after i to_head Nothing s = refl
@@ -491,9 +492,9 @@ module _ (i : ℕ) where
           (subst (λ (xs : List Said). Here G (xs ++ said) (open_at t)) none (away_step s base t p (is_head asked) event [] emitted said d refl (λ es. refl) G off here)))
 
   -- the proxy answers what is no request that it passes on, and closes
-  refused_step : (G : Type 0) (s t : EngineModel) (p : ℕ) (what : Next Request) (bytes : List ℕ) (emitted : List Effect) (said : List Said) → emitted ≡ effects.Client (p + 1) bytes ∷ effects.Close (p + 1) ∷ [] → t.core ≡ s.core
+  refused_step : (G : Type 0) (s t : EngineModel) (p : ℕ) (what : Next Request) (bytes : List ℕ) (about : Option About) (emitted : List Effect) (said : List Said) → emitted ≡ effects.Client (p + 1) bytes about ∷ effects.Close (p + 1) ∷ [] → t.core ≡ s.core
       → (p ≡ i → StandsAt Answered said × (open_at s ≡ None)) → Here G said (open_at s) → Here G ((replies_to (i + 1) emitted ++ cond (p == i) (RequestCame what ∷ []) []) ++ said) (open_at t)
-  refused_step G s t p what bytes emitted said emitted_is core ready here = by_place (cases_Bool (p == i))
+  refused_step G s t p what bytes about emitted said emitted_is core ready here = by_place (cases_Bool (p == i))
     where
       on : (xs : List Said) → Here G xs (open_at s) → Here G xs (open_at t)
       on xs h = subst (λ (c : CoreState). Here G xs (find_exchange (i + 1) c.exchanges)) (sym core) h
@@ -553,10 +554,10 @@ module _ (i : ℕ) where
 
     arrives : (p : ℕ) (r : Request) (judged : Result Asked Refusal) → IsDueFirst s (Some (Serves p (next.Message r))) → RequestIsAdmittedOrRefused r judged → RequestArrives s now p r judged emitted t → Goes (Serves p (next.Message r))
     arrives p r (Ok asked) due admitted h = arrived_step (IsGone s) s _ t p now r (asked_on_connection (connection_at s p).retired asked) emitted said ((connection_at s p).retired, (asked, admitted, refl)) h.1 (λ same. (ready p (next.Message r) due same).0) here
-    arrives p r (Err refusal) due admitted h = refused_step (IsGone s) s t p (next.Message r) _ emitted said h.emitted_is (ap (λ (u : EngineModel). u.core) h.after_is) (ready p (next.Message r) due) here
+    arrives p r (Err refusal) due admitted h = refused_step (IsGone s) s t p (next.Message r) _ _ emitted said h.emitted_is (ap (λ (u : EngineModel). u.core) h.after_is) (ready p (next.Message r) due) here
 
     refused : (p : ℕ) (fault : FrameFault) (why : Cause) → IsDueFirst s (Some (Serves p (next.Refused fault))) → RequestIsRefused s now p why false emitted t → Here (IsGone s) ((replies_to (i + 1) emitted ++ cond (p == i) (RequestCame (next.Refused fault) ∷ []) []) ++ said) (open_at t)
-    refused p fault why due h = refused_step (IsGone s) s t p (next.Refused fault) _ emitted said h.emitted_is (ap (λ (u : EngineModel). u.core) h.after_is) (ready p (next.Refused fault) due) here
+    refused p fault why due h = refused_step (IsGone s) s t p (next.Refused fault) _ _ emitted said h.emitted_is (ap (λ (u : EngineModel). u.core) h.after_is) (ready p (next.Refused fault) due) here
 
     closed_silent : (p : ℕ) → ConnectionIsClosed s p emitted t → replies_to (i + 1) emitted ≡ []
     closed_silent p h = ap (replies_to (i + 1)) h.0
@@ -710,8 +711,8 @@ nothing_behind_a_leave standing what bytes past =
     (λ h. let no : Answered ≡ Left = h.1.0 in absurd (cc), λ h. let no : Awaited ≡ Left = h.1.0 in absurd (cc))
 
 pub no_act_answers_twice : RepliesFollowRequests → NoActAnswersTwice
-no_act_answers_twice follows table start first link now i past one other t executed =
-    let emitted = effects.Client (i + 1) one ∷ effects.Client (i + 1) other ∷ [] in
+no_act_answers_twice follows table start first link now i past one other of_one of_other t executed =
+    let emitted = effects.Client (i + 1) one of_one ∷ effects.Client (i + 1) other of_other ∷ [] in
     let h = follows table start first link (Worked now (Wakes i) emitted ∷ past) t i executed in
     let two : StandsAt h.0 (ReplyWent other ∷ ReplyWent one ∷ said_by_steps i past) =
     subst (λ (b : Bool). StandsAt h.0 (((([] ++ cond b (ReplyWent other ∷ []) []) ++ cond b (ReplyWent one ∷ []) [])) ++ said_by_steps i past)) (eq-eqb (i + 1) (i + 1) refl) h.1 in

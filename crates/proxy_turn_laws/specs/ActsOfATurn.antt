@@ -4,7 +4,7 @@
 -- EffectIsntLost, NothingIsLostAmid: acts whose calls all went well     done_acts_of: acts with their effects
 -- writes_of_effect, writes_of_effects: the calls of effects              without_link_shuts: all but a link's shutting
 -- RoundsAreActsInOrder, ATurnDoesActsInOrder, ATurnWritesItsEffects: the statements
-use Rattle.std.specs.Prelude.{◌≡◌, ℕ, true, List, [], ◌∷◌, ◌++◌}
+use Rattle.std.specs.Prelude.{◌≡◌, ℕ, true, List, [], ◌∷◌, ◌++◌, None}
 use Rattle.std.specs.List.{AllByRecursion}
 use Rattle.hx_store.specs.Stored.{Stored}
 use Rattle.proxy_script.specs.declared.effect_list.Effect.{Effect}
@@ -41,13 +41,13 @@ done_acts_of (r ∷ rounds) = record { act = r.act; effects = r.emitted } ∷ do
 
 -- ---- what is written
 
--- to a client its bytes, on a new link the request, whole and once; a client is closed. Of a link that is dropped
--- nothing is written.
+-- To a client its bytes with what reply they are, on a new link the request, whole and once; a client is closed. Of a
+-- link that is dropped nothing is written.
 abbrev pub writes_of_effect : Effect → List Call
-writes_of_effect (effects.Client n bytes) = call.Write (ends.Client n) bytes true ∷ []
+writes_of_effect (effects.Client n bytes about) = call.Write (ends.Client n) bytes about true ∷ []
 writes_of_effect (effects.Close n) = call.Shut (ends.Client n) true ∷ []
 writes_of_effect (effects.Forward l address bytes) =
-    call.Connect l address true ∷ call.Write (ends.Link l) bytes true ∷ []
+    call.Connect l address true ∷ call.Write (ends.Link l) bytes None true ∷ []
 writes_of_effect (effects.Drop l) = []
 
 abbrev pub writes_of_effects : List Effect → List Call
@@ -59,7 +59,7 @@ abbrev pub without_link_shuts : List Call → List Call
 without_link_shuts [] = []
 without_link_shuts (call.Accept n answer ∷ more) = call.Accept n answer ∷ without_link_shuts more
 without_link_shuts (call.Read end given ∷ more) = call.Read end given ∷ without_link_shuts more
-without_link_shuts (call.Write end bytes done ∷ more) = call.Write end bytes done ∷ without_link_shuts more
+without_link_shuts (call.Write end bytes about done ∷ more) = call.Write end bytes about done ∷ without_link_shuts more
 without_link_shuts (call.Connect l address done ∷ more) = call.Connect l address done ∷ without_link_shuts more
 without_link_shuts (call.Shut ends.Listener done ∷ more) = call.Shut ends.Listener done ∷ without_link_shuts more
 without_link_shuts (call.Shut (ends.Client n) done ∷ more) = call.Shut (ends.Client n) done ∷ without_link_shuts more

@@ -1,3 +1,4 @@
 pub mod ActsOfATurn
 pub mod Dialogue
+pub mod ToldOfATurn
 pub mod WritesOfATurn

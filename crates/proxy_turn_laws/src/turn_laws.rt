@@ -1,5 +1,6 @@
 //! Laws on what a turn writes, and on the order in which it acts.
 ghost use Rattle.proxy_turn_laws.specs.ActsOfATurn.{RoundsAreActsInOrder, ATurnDoesActsInOrder, ATurnWritesItsEffects};
+ghost use Rattle.proxy_turn_laws.specs.ToldOfATurn.{EachWriteTellsItsEffect};
 ghost use Rattle.proxy_turn_laws.specs.WritesOfATurn.{EachWriteOfATurnIsOneMessage, EachWriteOfAWholeTurnIsOneMessage};
 ghost use Rattle.proxy_turn_laws.specs.WritesOfATurn.{ATurnWritesNothingElse, NoRequestIsEmpty, TwoRequestsAreNotOne};
 ghost use Rattle.proxy_turn_laws.specs.WritesOfATurn.{NothingIsWrittenToTheListener};
@@ -49,3 +50,9 @@ pub fn a_turn_writes_its_effects()
     what_ends_stays_ended();
     turns_are_executed();
 }
+
+/// What sockets are told of bytes to a client is what the effect tells whose bytes they are, and `proxy_engine` says
+/// that this is what the reply is (`replies_are_told_as_they_are`). Of a request on a link they are told nothing.
+pub fn each_write_tells_its_effect()
+    ensures { EachWriteTellsItsEffect }
+{}

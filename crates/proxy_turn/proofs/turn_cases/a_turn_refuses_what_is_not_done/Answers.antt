@@ -36,13 +36,13 @@ pub returns-clause-failure : goal.returns-clause-failure
 returns-clause-failure c s t reads rest rounds h = let never : Came ≡ Failed = h.0 in absurd (cc)
 
 pub returns-clause-lost : goal.returns-clause-lost
-returns-clause-lost c s t bytes more h = false≢true (sym h.0)
+returns-clause-lost c s t bytes about more h = false≢true (sym h.0)
 
 pub returns-clause-passed : goal.returns-clause-passed
-returns-clause-passed c s t bytes more h = false≢true h.0
+returns-clause-passed c s t bytes about more h = false≢true h.0
 
 pub returns-clause-refused : goal.returns-clause-refused
-returns-clause-refused c bytes h = let never : kinds.Refused ≡ kinds.Closed = h in absurd (cc)
+returns-clause-refused c bytes about h = let never : kinds.Refused ≡ kinds.Closed = h in absurd (cc)
 
 pub returns-clause-bytes_are_no_loss : goal.returns-clause-bytes_are_no_loss
 returns-clause-bytes_are_no_loss c h = h
