@@ -1,23 +1,21 @@
 -- Clients that go with a request that isn't answered.
 --
 -- departure_of, departed_client: what is told of a client that goes, once, and the client then
--- IsLineAboutDeparture: the line of the log about it
+-- words_of_departure: what the line of the log about it says
 -- DepartureIsLogged: what becomes of that line
 -- ClientIsKept: the engine is told of a client before the next turn
 -- LostIsKept: so it is, unless there is no memory to keep that
 -- LossIsTold: so it is with a client whose stream is dropped
 use Rattle.std.specs.Prelude.{◌≡◌, ◌⊎◌, ◌++◌, ◌∷◌, [], ℕ, List, Bool, true, false, if◌then◌else◌, Option, None, Some}
-use Rattle.std.specs.Prelude.{is_some}
-use Rattle.std.specs.Net.Text.{socket_text}
+use Rattle.std.specs.Prelude.{is_some, string_bytes}
 use Rattle.std.specs.Global.{Box}
 use Rattle.proxy_figures.specs.Counts.{count_plus}
 use Rattle.proxy_figures.specs.Unanswered.{unanswered_name}
 use Rattle.proxy_figures.specs.declared.unanswered.UnansweredCause.{UnansweredCause}
 use Rattle.proxy_log.specs.Asked.{next_question}
-use Rattle.proxy_log.specs.Line.{log_line_text, unanswered_reason}
+use Rattle.proxy_log.specs.Line.{LineWords, log_line_text, unanswered_reason}
 use Rattle.proxy_log.specs.PendingLines.{LineIsAdded, LineIsLost}
 use Rattle.proxy_log.specs.declared.asked.Question.{Question}
-use Rattle.proxy_log.specs.declared.line.Line.{Line}
 use Rattle.proxy_log.specs.declared.pending_lines.Lines.{Lines}
 use Rattle.proxy_ends.specs.declared.clients.Clients.{Clients}
 use Rattle.proxy_ends.specs.declared.clients.client.Client.{Client}
@@ -36,8 +34,8 @@ abbrev pub departed_client : {S : Type 0} → Client S → Client S
 departed_client client = if client.is_begun then record client { is_begun = false; logged = None } else client
 
 -- the line of the log names what it asked for, why it has no answer, and the origin that was asked
-abbrev pub line_of_departure : Question → List ℕ → UnansweredCause → ℕ → ℕ → List ℕ → Line
-line_of_departure question address cause moment took origin = record {
+abbrev pub words_of_departure : Question → List ℕ → UnansweredCause → ℕ → ℕ → List ℕ → LineWords
+words_of_departure question address cause moment took origin = record {
   moment = moment;
   client = address;
   method = question.method;
@@ -49,25 +47,18 @@ line_of_departure question address cause moment took origin = record {
   origin = origin;
 }
 
-abbrev pub line_where_logged : Option (Box Logged) → UnansweredCause → ℕ → ℕ → List ℕ → Option Line
-line_where_logged None cause moment took origin = None
-line_where_logged (Some logged) cause moment took origin =
-    Some (line_of_departure (next_question logged.value.asked.questions.items logged.value.asked.begun)
-    (socket_text logged.value.address) cause moment took origin)
-
--- there is one where a log is kept
-abbrev pub IsLineAboutDeparture : Departure → ℕ → ℕ → List ℕ → Option Line → Type 0
-IsLineAboutDeparture departure moment took origin line =
-    line ≡ line_where_logged departure.logged departure.cause moment took origin
-
--- the line stands behind the others, or it is lost, and counts as that; of one of which no log is kept there is none
-abbrev pub LineIsLogged : Option Line → Lines → Lines → Type 0
-LineIsLogged None old new = (new ≡ old) ⊎ LineIsLost old new
-LineIsLogged (Some line) old new = LineIsAdded (log_line_text line) old new ⊎ LineIsLost old new
+-- it stands behind the others, or it is lost, and counts as that; of one of which no log is kept there is none
+abbrev pub LineWhereLoggedIsAdded : Option (Box Logged) → UnansweredCause → ℕ → ℕ → List ℕ → Lines → Lines → Type 0
+LineWhereLoggedIsAdded None cause moment took origin old new = new ≡ old
+LineWhereLoggedIsAdded (Some logged) cause moment took origin old new =
+    LineIsAdded (log_line_text
+    (words_of_departure (next_question logged.value.asked.questions.items logged.value.asked.begun)
+    (string_bytes logged.value.address) cause moment took origin)) old new
+    ⊎ LineIsLost old new
 
 abbrev pub DepartureIsLogged : Departure → ℕ → ℕ → List ℕ → Lines → Lines → Type 0
 DepartureIsLogged departure moment took origin old new =
-    LineIsLogged (line_where_logged departure.logged departure.cause moment took origin) old new
+    LineWhereLoggedIsAdded departure.logged departure.cause moment took origin old new
 
 -- its number and what is told of it stand behind the others, and no line is lost
 abbrev pub ClientIsKept : {S : Type 0} → ℕ → Option Departure → Clients S → Clients S → Type 0

@@ -308,20 +308,20 @@ impl<S: Stream + Drop> Links<S> {
         }
     }
 
-    /// Takes a link out. The place of its origin.
-    pub fn remove(&mut self, number: u64, now: u64) -> Option<usize>
-        ensures origin { result ≡ option_map (λ link. link.origin) (get nat_cmp self.old.items number) }
+    /// Takes a link out.
+    pub fn remove(&mut self, number: u64, now: u64)
         ensures gone { get nat_cmp self.new.items number ≡ None }
         ensures others { OtherEntriesStay number self.old.items self.new.items }
     {
-        let mut link = self.items.remove(&number)?;
+        let Some(mut link) = self.items.remove(&number) else {
+            return;
+        };
         self.looks.remove(link.look, number);
         self.held = self.held.saturating_sub(link.held());
         if let Some(peer) = &mut link.peer {
             peer.reset();
         }
         self.origins.end(link.origin, link.admission, now.saturating_sub(link.began));
-        Some(link.origin)
     }
 
     /// Whether a link has taken too long. One that isn't there has, and one without a stream.

@@ -1,15 +1,18 @@
 //! What is told of a reply that was written.
 
-use proxy_log::ReplyFacts;
+use hx_status::About;
 
 /// A reply that was written.
 #[derive(Clone, Copy, Debug)]
 pub struct Reply<'a> {
     /// When, in milliseconds since 1970.
     pub moment: u64,
-    pub facts: ReplyFacts<'a>,
+    /// What it is.
+    pub about: &'a About,
+    /// The bytes of its content.
+    pub length: u64,
     /// Milliseconds since the first byte of its request came.
     pub took: u64,
-    /// The address of the origin that was asked; empty where none was, or none is known.
+    /// The address of the origin that was asked for it; empty where none was.
     pub origin: &'a [u8],
 }

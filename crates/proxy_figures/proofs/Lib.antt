@@ -1,2 +1,3 @@
-mod AskedLemmas
+mod LinePlaces
 mod OriginLemmas
+mod Places

@@ -1,13 +1,14 @@
 pub mod AcceptCounts
-pub mod Asked
 pub mod Counted
 pub mod Counts
 pub mod EndingCounts
 pub mod KnownOrigins
+pub mod LineOrigins
 pub mod NotStored
 pub mod Origins
 pub mod Page
 pub mod ReplyCounts
+pub mod ReplySorts
 pub mod Sorts
 pub mod Times
 pub mod TurnCounts

@@ -1,21 +1,10 @@
 -- Answers that weren't stored, by the storing rule that they name (docs/LINE_OPTIONS.md, `explain`).
 --
--- storing_rules: all of them, in their order      storing_rule_place: where those of a rule are counted
--- named_storing_rule: the rule that a detail names, if it names one
--- not_stored_with: counts, with one answer more
-use Rattle.std.specs.Prelude.{ℕ, List, [], ◌∷◌, find, bytes_eq, Option, None, Some}
-use Rattle.hx_status.specs.Member.{not_stored_word}
+-- storing_rule_place: where those of a rule are counted      not_stored_with: counts, with one answer more
+use Rattle.std.specs.Prelude.{ℕ, List, Option, None, Some}
 use Rattle.hx_storable.specs.declared.rule.StoreRule.{StoreRule}
 use Rattle.hx_storable.specs.declared.rule.StoreRule.TheVariants as storing
 use Rattle.proxy_figures.specs.Counts.{counts_with_one_more}
-
-abbrev pub storing_rules : List StoreRule
-storing_rules =
-    storing.Operator ∷ (storing.Method ∷ (storing.Bypass ∷ (storing.Status ∷ (storing.MustUnderstand ∷
-    (storing.ResponseNoStore ∷ (storing.RequestNoStore ∷ (storing.Private ∷ (storing.Authorization ∷
-    (storing.NothingAllows ∷ (storing.VaryStar ∷ (storing.ConnectionField ∷ (storing.NothingToReuse ∷
-    (storing.TooLarge ∷ (storing.Overtaken ∷ (storing.Serials ∷ (storing.SetCookie ∷ (storing.ErrorStatus ∷
-    (storing.RequestCookie ∷ []))))))))))))))))))
 
 abbrev pub storing_rule_place : StoreRule → ℕ
 storing_rule_place storing.Operator = 0
@@ -37,10 +26,6 @@ storing_rule_place storing.Serials = 15
 storing_rule_place storing.SetCookie = 16
 storing_rule_place storing.ErrorStatus = 17
 storing_rule_place storing.RequestCookie = 18
-
--- the rule whose word this is
-abbrev pub named_storing_rule : List ℕ → Option StoreRule
-named_storing_rule word = find (λ rule. bytes_eq word (not_stored_word rule)) storing_rules
 
 abbrev pub not_stored_with : Option StoreRule → List ℕ → List ℕ
 not_stored_with None counts = counts

@@ -10,13 +10,14 @@
 -- origin_changed_at: the origins, where the one at a place is changed
 -- name_of_origin: its name, empty where there is none
 use Rattle.std.specs.Prelude.{◌≡◌, ℕ, ◌-◌, ◌/◌, nat_le, Bool, true, false, not, ◌&&◌, ◌||◌, if◌then◌else◌, List, []}
-use Rattle.std.specs.Prelude.{◌∷◌, Option, None, Some, string_bytes, option_map, slice_get, slice_set, unwrap_or}
+use Rattle.std.specs.Prelude.{Option, None, Some, string_bytes, option_map, replicate, slice_get, slice_set, unwrap_or}
 use Rattle.std.specs.Net.Text.{socket_v4_text}
 use Rattle.std.specs.declared.net.socket_addr.SocketAddrV4.{SocketAddrV4}
 use Rattle.proxy_figures.specs.Counts.{count_plus_one, count_plus, counts_with_one_more}
 use Rattle.proxy_figures.specs.ReplyCounts.{no_times, times_with}
 use Rattle.proxy_figures.specs.Sorts.{is_covered}
 use Rattle.proxy_figures.specs.declared.limits.TheConstants.{SILENT_EXCHANGES}
+use Rattle.proxy_figures.specs.declared.origins.TheConstants.{FAILURE_KIND_COUNT, STATUS_CLASS_COUNT}
 use Rattle.proxy_figures.specs.declared.origins.Admission.{Admission}
 use Rattle.proxy_figures.specs.declared.origins.Admission.TheVariants.{Yes, AsProbe, No}
 use Rattle.proxy_figures.specs.declared.origins.Origin.{Origin}
@@ -120,10 +121,10 @@ falls_silent_where_known None = false
 falls_silent_where_known (Some origin) = falls_silent origin
 
 abbrev pub no_answers : List ℕ
-no_answers = 0 ∷ (0 ∷ (0 ∷ (0 ∷ [])))
+no_answers = replicate STATUS_CLASS_COUNT 0
 
 abbrev pub no_failures : List ℕ
-no_failures = 0 ∷ (0 ∷ (0 ∷ (0 ∷ (0 ∷ (0 ∷ [])))))
+no_failures = replicate FAILURE_KIND_COUNT 0
 
 -- it has this address, whose text is its name, and nothing is counted of it
 pub record IsNewOrigin (address : SocketAddrV4) (origin : Origin) : Type 0 where

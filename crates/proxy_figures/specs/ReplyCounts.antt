@@ -8,6 +8,8 @@ use Rattle.std.specs.Prelude.{ℕ, ◌+◌, ◌*◌, List, replicate, Option, So
 use Rattle.proxy_figures.specs.Counts.{count_plus, counts_with_one_more}
 use Rattle.proxy_figures.specs.Times.{time_bucket_of}
 use Rattle.proxy_figures.specs.declared.reply_counts.ReplyTimes.{ReplyTimes}
+use Rattle.proxy_figures.specs.declared.reply_counts.TheConstants.{TIME_BUCKETS}
+use Rattle.proxy_figures.specs.declared.sorts.TheConstants.{DETAILS}
 use Rattle.proxy_figures.specs.declared.sorts.Reason.{Reason}
 use Rattle.proxy_figures.specs.declared.sorts.Reason.TheVariants as reason
 use Rattle.proxy_figures.specs.declared.sorts.Detail.{Detail}
@@ -55,7 +57,7 @@ detail_column detail.Other = 17
 
 -- where replies of a reason with a detail are counted: no two pairs have one place
 abbrev pub reply_place : Reason → Detail → ℕ
-reply_place reason detail = 18 * reason_row reason + detail_column detail
+reply_place reason detail = DETAILS * reason_row reason + detail_column detail
 
 -- where replies of a cause are counted
 abbrev pub cause_place : Cause → ℕ
@@ -90,7 +92,7 @@ causes_with None causes = causes
 causes_with (Some cause) causes = counts_with_one_more causes (cause_place cause)
 
 abbrev pub no_times : ReplyTimes
-no_times = record { buckets = replicate 12 0; sum = 0 }
+no_times = record { buckets = replicate TIME_BUCKETS 0; sum = 0 }
 
 -- one reply more that took so many milliseconds
 abbrev pub times_with : ℕ → ReplyTimes → ReplyTimes

@@ -1,6 +1,8 @@
--- The words by which replies are counted: those of Cache-Status (RFC 9211, section 2) and of Refusal.
-use Rattle.std.specs.Prelude.{ℕ, List, [], ◌∷◌, ◌++◌, codes, Bool, true, false, not, ◌&&◌, if◌then◌else◌, is_some}
-use Rattle.std.specs.Prelude.{find, bytes_eq, unwrap_or}
+-- The labels by which replies are counted, and who an answer comes from.
+--
+-- reason_name, detail_name, cause_name: the labels: words of Cache-Status (RFC 9211, section 2) and of Refusal
+-- source_of: who an answer comes from      is_covered: whether it stands in for a failure of the origin
+use Rattle.std.specs.Prelude.{ℕ, List, [], ◌++◌, codes, Bool, true, false, not, ◌&&◌, if◌then◌else◌, is_some}
 use Rattle.hx_framing.specs.declared.frame_fault.FrameFault.TheVariants as frame
 use Rattle.hx_target.specs.declared.target_fault.TargetFault.TheVariants as target
 use Rattle.hx_status.specs.declared.cause.FailKind.TheVariants.{Refused, TimedOut, Closed, BadAnswer, TooLarge}
@@ -29,11 +31,6 @@ reason_name reason.OriginFailed = codes "origin-failed"
 reason_name reason.Refused = codes "refused"
 reason_name reason.Purged = codes "purged"
 
--- why a request goes forward
-abbrev pub forward_reasons : List Reason
-forward_reasons =
-    reason.UriMiss ∷ (reason.VaryMiss ∷ (reason.Stale ∷ (reason.Request ∷ (reason.Method ∷ (reason.Bypass ∷ [])))))
-
 abbrev pub detail_name : Detail → List ℕ
 detail_name detail.Nothing = []
 detail_name detail.Operator = codes "operator"
@@ -53,28 +50,6 @@ detail_name detail.ReuseAfter304 = codes "reuse-after-304"
 detail_name detail.StaleWhileRevalidate = codes "stale-while-revalidate"
 detail_name detail.SessionCookie = codes "cookie"
 detail_name detail.Other = codes "other"
-
--- what tells rules of one reason apart
-abbrev pub details_of_rules : List Detail
-details_of_rules =
-    detail.Operator ∷ (detail.Content ∷ (detail.Range ∷ (detail.Precondition ∷ (detail.ResponseNoCache
-    ∷ (detail.MustRevalidate ∷ (detail.NoLifetime ∷ (detail.NoCache ∷ (detail.MaxStale ∷ (detail.MaxAge
-    ∷ (detail.MinFresh ∷ []))))))))))
-
--- what tells that a stored response was sent after all, or while it is validated, or that a cookie kept the request
--- from the store
-abbrev pub step_details : List Detail
-step_details =
-    detail.StaleIfError ∷ (detail.ReuseAfterError ∷ (detail.ReuseAfter304 ∷ (detail.StaleWhileRevalidate
-    ∷ (detail.SessionCookie ∷ []))))
-
-abbrev pub detail_of_step : List ℕ → Detail
-detail_of_step word = unwrap_or (find (λ detail. bytes_eq word (detail_name detail)) step_details) detail.Other
-
--- by what a word is counted: the detail of that name, or else `other`
-abbrev pub detail_of_word : List ℕ → Detail
-detail_of_word word =
-    unwrap_or (find (λ detail. bytes_eq word (detail_name detail)) details_of_rules) (detail_of_step word)
 
 -- what an origin did, and what is wrong with a message or its target, have the words of Refusal
 abbrev pub cause_name : Cause → List ℕ
@@ -104,21 +79,6 @@ cause_name cause.Escape = target_word target.Escape
 cause_name cause.DotSegment = target_word target.DotSegment
 cause_name cause.TooLong = target_word target.TooLong
 
--- how an origin fails
-abbrev pub origin_failures : List Cause
-origin_failures =
-    cause.OriginRefused ∷ (cause.OriginTimedOut
-    ∷ (cause.OriginClosed ∷ (cause.OriginBadAnswer ∷ (cause.OriginTooLarge ∷ []))))
-
--- the word of a failure: none of another cause
-abbrev pub failure_name : Cause → List ℕ
-failure_name cause.OriginRefused = fail_kind_word Refused
-failure_name cause.OriginTimedOut = fail_kind_word TimedOut
-failure_name cause.OriginClosed = fail_kind_word Closed
-failure_name cause.OriginBadAnswer = fail_kind_word BadAnswer
-failure_name cause.OriginTooLarge = fail_kind_word TooLarge
-failure_name other = []
-
 -- who an answer comes from: the proxy itself, the store, also where another request had asked an origin, or an origin
 abbrev pub source_by_reason : Reason → Bool → Source
 source_by_reason reason.Hit collapsed = source.Store
@@ -139,7 +99,3 @@ is_sent_after_failure _ = false
 
 abbrev pub is_covered : ReplySort → Bool
 is_covered sort = is_sent_after_failure sort.detail && not (is_some sort.fwd_status)
-
--- the origin that was asked for a reply answered, and didn't fail
-abbrev pub is_answered : ReplySort → Bool
-is_answered sort = not (is_some sort.cause) && not (is_covered sort)

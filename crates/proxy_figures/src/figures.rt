@@ -193,7 +193,7 @@ fn push_reason(
     replies: &ReplyCounts,
     reason: Reason,
 ) -> Result<(), AllocError> {
-    for detail in &ALL_DETAILS {
+    for detail in ALL_DETAILS {
         let n = replies.with_reason(reason, *detail);
         if n > 0 || *detail == Detail::Nothing {
             page.sample_with_two_labels(
@@ -213,7 +213,7 @@ fn push_reasons(page: &mut Page<'_>, replies: &ReplyCounts) -> Result<(), AllocE
         Kind::Counter,
         "Requests that were answered, by what Cache-Status or Refusal says.",
     )?;
-    for reason in &ALL_REASONS {
+    for reason in ALL_REASONS {
         push_reason(page, replies, *reason)?;
     }
     Ok(())
@@ -243,7 +243,7 @@ fn push_storing_rules(page: &mut Page<'_>, replies: &ReplyCounts) -> Result<(), 
         Kind::Counter,
         "Answers of origins that were not stored, by storing rule, of lines that tell it.",
     )?;
-    for rule in &ALL_STORING_RULES {
+    for rule in ALL_STORING_RULES {
         let n = replies.with_storing_rule(*rule);
         page.sample_with_label(name, "rule", storing_rule_name(*rule), n)?;
     }
@@ -271,7 +271,7 @@ fn push_causes(page: &mut Page<'_>, replies: &ReplyCounts) -> Result<(), AllocEr
         Kind::Counter,
         "Replies that the proxy made by itself, by cause.",
     )?;
-    for cause in &ALL_CAUSES {
+    for cause in ALL_CAUSES {
         let n = replies.with_cause(*cause);
         page.sample_with_label(name, "cause", cause.name(), n)?;
     }
@@ -456,7 +456,7 @@ fn push_unanswered(page: &mut Page<'_>, unanswered: &UnansweredCounts) -> Result
         Kind::Counter,
         "Requests that were never answered, by cause.",
     )?;
-    for cause in &ALL_UNANSWERED_CAUSES {
+    for cause in ALL_UNANSWERED_CAUSES {
         page.sample_with_label(name, "cause", cause.name(), unanswered.with(*cause))?;
     }
     Ok(())
@@ -540,7 +540,7 @@ struct OriginFamily<'a> {
     count: Count,
 }
 
-const ORIGIN_LINKS: [OriginFamily<'static>; 2] = [
+const ORIGIN_LINKS: &[OriginFamily<'static>] = &[
     OriginFamily {
         name: "revcache_origin_exchanges_total",
         kind: Kind::Counter,
@@ -555,14 +555,14 @@ const ORIGIN_LINKS: [OriginFamily<'static>; 2] = [
     },
 ];
 
-const ORIGIN_SILENCE: [OriginFamily<'static>; 1] = [OriginFamily {
+const ORIGIN_SILENCE: &[OriginFamily<'static>] = &[OriginFamily {
     name: "revcache_origin_silent",
     kind: Kind::Gauge,
     help: "Whether an origin is asked by one request at a time, since it doesn't answer.",
     count: Count::Silent,
 }];
 
-const ORIGIN_BYTES: [OriginFamily<'static>; 2] = [
+const ORIGIN_BYTES: &[OriginFamily<'static>] = &[
     OriginFamily {
         name: "revcache_origin_received_bytes_total",
         kind: Kind::Counter,
@@ -672,14 +672,14 @@ fn push_exchange_times(page: &mut Page<'_>, origins: &Origins) -> Result<(), All
 }
 
 fn push_origins(page: &mut Page<'_>, origins: &Origins) -> Result<(), AllocError> {
-    push_counts(page, origins, &ORIGIN_LINKS)?;
+    push_counts(page, origins, ORIGIN_LINKS)?;
     push_answers(page, origins)?;
     push_failures(page, origins)?;
     push_refused_connects(page, origins)?;
-    push_counts(page, origins, &ORIGIN_SILENCE)?;
+    push_counts(page, origins, ORIGIN_SILENCE)?;
     push_exchange_seconds(page, origins)?;
     push_exchange_times(page, origins)?;
-    push_counts(page, origins, &ORIGIN_BYTES)
+    push_counts(page, origins, ORIGIN_BYTES)
 }
 
 /// The record's state.

@@ -1,17 +1,17 @@
-//! The figures of a server: what it counts of replies, connections, turns, origins and the store, which origin a reply
-//! is counted at, and the page of all of them in Prometheus' text format.
+//! The figures of a server: what it counts of replies, connections, turns, origins and the store, and the page of all
+//! of them in Prometheus' text format.
 //!
 //! Nothing here has a socket or a clock. Who serves notes what was done, and hands in what it holds for a page.
 #![tactic(auto)]
 
 mod accept_counts;
-mod asked;
 mod counted_shelf;
 mod counts;
 mod endings;
 mod figures;
 pub mod laws;
 mod limits;
+mod line_origins;
 mod link_timeouts;
 mod not_stored;
 mod origins;
@@ -23,10 +23,10 @@ mod turn_counts;
 mod unanswered;
 
 pub use crate::accept_counts::{AcceptCounts, Troubles, is_out_of_descriptors, is_out_of_ports};
-pub use crate::asked::Asked;
 pub use crate::counted_shelf::{CountedShelf, StoreCounts};
 pub use crate::endings::{CutReason, Endings, Lateness};
 pub use crate::figures::{ClientFigures, Figures, LinkFigures, ProgramFacts, RecordState};
+pub use crate::line_origins::LineOrigins;
 pub use crate::link_timeouts::{LinkTimeouts, Overtime};
 pub use crate::origins::{Admission, Origin, Origins};
 pub use crate::process::ProcessFigures;

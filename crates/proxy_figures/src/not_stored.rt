@@ -1,12 +1,12 @@
-//! Which storing rule an answer names that wasn't stored: one of a line of the table that tells it.
+//! Answers that weren't stored, by storing rule: those of a line of the table that tells it.
 ghost use Rattle.std.specs.Prelude.{◌≡◌};
-ghost use Rattle.hx_status.specs.Member.{not_stored_word};
 ghost use Rattle.hx_storable.specs.StoringRuleNames.{storing_rule_word};
-ghost use Rattle.proxy_figures.specs.NotStored.{named_storing_rule};
+ghost use Rattle.proxy_figures.specs.NotStored.{storing_rule_place};
 
 use hx_storable::StoreRule;
 
-pub(crate) const ALL_STORING_RULES: [StoreRule; 19] = [
+/// All of them, each at its place.
+pub(crate) const ALL_STORING_RULES: &[StoreRule] = &[
     StoreRule::Operator,
     StoreRule::Method,
     StoreRule::Bypass,
@@ -27,6 +27,36 @@ pub(crate) const ALL_STORING_RULES: [StoreRule; 19] = [
     StoreRule::ErrorStatus,
     StoreRule::RequestCookie,
 ];
+
+/// How many there are.
+pub(crate) const STORING_RULES: usize = ALL_STORING_RULES.len();
+
+/// Where the answers of a storing rule are counted.
+pub(crate) fn storing_rule_place(rule: StoreRule) -> usize
+    ensures { result ≡ storing_rule_place rule }
+{
+    match rule {
+        StoreRule::Operator => 0,
+        StoreRule::Method => 1,
+        StoreRule::Bypass => 2,
+        StoreRule::Status => 3,
+        StoreRule::MustUnderstand => 4,
+        StoreRule::ResponseNoStore => 5,
+        StoreRule::RequestNoStore => 6,
+        StoreRule::Private => 7,
+        StoreRule::Authorization => 8,
+        StoreRule::NothingAllows => 9,
+        StoreRule::VaryStar => 10,
+        StoreRule::ConnectionField => 11,
+        StoreRule::NothingToReuse => 12,
+        StoreRule::TooLarge => 13,
+        StoreRule::Overtaken => 14,
+        StoreRule::Serials => 15,
+        StoreRule::SetCookie => 16,
+        StoreRule::ErrorStatus => 17,
+        StoreRule::RequestCookie => 18,
+    }
+}
 
 /// The word of a storing rule.
 pub(crate) fn storing_rule_name(rule: StoreRule) -> &'static str
@@ -53,41 +83,4 @@ pub(crate) fn storing_rule_name(rule: StoreRule) -> &'static str
         StoreRule::ErrorStatus => "error-status",
         StoreRule::RequestCookie => "request-cookie",
     }
-}
-
-/// The detail that names a storing rule.
-fn not_stored_word(rule: StoreRule) -> &'static str
-    ensures { result.now ≡ not_stored_word rule }
-{
-    match rule {
-        StoreRule::Operator => "not-stored-operator",
-        StoreRule::Method => "not-stored-method",
-        StoreRule::Bypass => "not-stored-bypass",
-        StoreRule::Status => "not-stored-status",
-        StoreRule::MustUnderstand => "not-stored-must-understand",
-        StoreRule::ResponseNoStore => "not-stored-no-store",
-        StoreRule::RequestNoStore => "not-stored-request-no-store",
-        StoreRule::Private => "not-stored-private",
-        StoreRule::Authorization => "not-stored-authorization",
-        StoreRule::NothingAllows => "not-stored-nothing-allows",
-        StoreRule::VaryStar => "not-stored-vary-star",
-        StoreRule::ConnectionField => "not-stored-connection-field",
-        StoreRule::NothingToReuse => "not-stored-no-lifetime",
-        StoreRule::TooLarge => "not-stored-too-large",
-        StoreRule::Overtaken => "not-stored-overtaken",
-        StoreRule::Serials => "not-stored-no-serial",
-        StoreRule::SetCookie => "not-stored-set-cookie",
-        StoreRule::ErrorStatus => "not-stored-error-status",
-        StoreRule::RequestCookie => "not-stored-request-cookie",
-    }
-}
-
-/// The storing rule that a detail names, if it names one.
-pub(crate) fn named_storing_rule(detail: &[u8]) -> Option<StoreRule>
-    ensures { result ≡ named_storing_rule detail.now }
-{
-    ALL_STORING_RULES
-        .iter()
-        .copied()
-        .find(|rule| detail == not_stored_word(*rule).as_bytes())
 }

@@ -35,9 +35,9 @@ pub struct Origin {
     pub received: u64,
     pub written: u64,
     /// Answers by the hundreds of their statuses, from 200 on.
-    pub answers: [u64; 4],
+    pub answers: [u64; STATUS_CLASS_COUNT],
     /// Failures by their kind, and those for which a stored response was sent.
-    pub failures: [u64; 6],
+    pub failures: [u64; FAILURE_KIND_COUNT],
     /// Exchanges in a row that were timed out, or couldn't connect.
     silences: u64,
     /// A link asks whether it answers again.
@@ -57,9 +57,9 @@ pub enum Admission {
 }
 
 /// The hundreds of statuses, and the kinds of failures, in the order of their counts.
-pub(crate) const STATUS_CLASSES: [&str; 4] = ["2xx", "3xx", "4xx", "5xx"];
+pub(crate) const STATUS_CLASSES: &[&str] = &["2xx", "3xx", "4xx", "5xx"];
 
-pub(crate) const FAILURE_KINDS: [&str; 6] = [
+pub(crate) const FAILURE_KINDS: &[&str] = &[
     "refused",
     "timed-out",
     "closed",
@@ -67,6 +67,11 @@ pub(crate) const FAILURE_KINDS: [&str; 6] = [
     "too-large",
     "covered",
 ];
+
+/// How many there are of each.
+const STATUS_CLASS_COUNT: usize = STATUS_CLASSES.len();
+
+const FAILURE_KIND_COUNT: usize = FAILURE_KINDS.len();
 
 /// Where failures are counted for which a stored response was sent.
 pub(crate) const COVERED_FAILURES: usize = 5;
@@ -83,8 +88,8 @@ impl Origin {
             times: ReplyTimes::new(),
             received: 0,
             written: 0,
-            answers: [0; 4],
-            failures: [0; 6],
+            answers: [0; STATUS_CLASS_COUNT],
+            failures: [0; FAILURE_KIND_COUNT],
             silences: 0,
             is_probed: false,
             beyond_bound: 0,

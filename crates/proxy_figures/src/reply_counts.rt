@@ -6,26 +6,37 @@ ghost use Rattle.proxy_figures.specs.ReplyCounts.{reply_place, cause_place, caus
 ghost use Rattle.proxy_figures.specs.ReplyCounts.{store_times_with, origin_times_with, proxy_times_with};
 ghost use Rattle.proxy_figures.specs.Sorts.{source_of};
 ghost use Rattle.proxy_figures.specs.Times.{time_bucket_of};
+ghost use Rattle.proxy_figures.specs.declared.not_stored.TheConstants.{STORING_RULES};
+ghost use Rattle.proxy_figures.specs.declared.reply_counts.TheConstants.{REPLY_PLACES, STATUSES};
+ghost use Rattle.proxy_figures.specs.declared.sorts.TheConstants.{CAUSES};
 
 use crate::counts::{count, count_at, count_plus_one_if};
-use crate::sorts::{Cause, DETAIL_COUNT, Detail, Reason, ReplySort, Source};
+use crate::not_stored::{STORING_RULES, storing_rule_place};
+use crate::sorts::{CAUSES, Cause, DETAILS, Detail, REASONS, Reason, ReplySort, Source};
 use hx_storable::StoreRule;
 
-/// The least status of a reply, and how many there may be.
+/// The least status of a reply, the greatest, and how many there may be.
 pub(crate) const FIRST_STATUS: u16 = 200;
 
-pub(crate) const STATUSES: usize = 400;
+const LAST_STATUS: u16 = 599;
+
+pub(crate) const STATUSES: usize = (LAST_STATUS - FIRST_STATUS) as usize + 1;
 
 /// Bounds of times, in seconds; behind the last one all that took longer is counted.
-pub(crate) const TIME_BOUNDS: [&str; 11] = [
+pub(crate) const TIME_BOUNDS: &[&str] = &[
     "0.001", "0.005", "0.01", "0.05", "0.1", "0.5", "1", "5", "10", "30", "60",
 ];
+
+const TIME_BUCKETS: usize = TIME_BOUNDS.len() + 1;
+
+/// Of each reason and each detail.
+const REPLY_PLACES: usize = REASONS * DETAILS;
 
 /// How many replies of one source, or links to one origin, took how long.
 #[derive(Clone, Copy)]
 pub struct ReplyTimes {
     /// By the first bound that isn't below it.
-    pub buckets: [u64; 12],
+    pub buckets: [u64; TIME_BUCKETS],
     /// Milliseconds of all together.
     pub sum: u64,
 }
@@ -34,11 +45,11 @@ pub struct ReplyTimes {
 #[derive(Clone, Copy)]
 pub struct ReplyCounts {
     /// By reason, and in a row of each by detail.
-    reasons: [u64; 216],
-    causes: [u64; 25],
+    reasons: [u64; REPLY_PLACES],
+    causes: [u64; CAUSES],
     /// Answers that weren't stored, by storing rule.
-    not_stored: [u64; 19],
-    statuses: [u64; 400],
+    not_stored: [u64; STORING_RULES],
+    statuses: [u64; STATUSES],
     pub stored: u64,
     pub collapsed: u64,
     pub from_store: ReplyTimes,
@@ -69,9 +80,7 @@ fn time_bucket_of(milliseconds: u64) -> usize
 fn place_of(reason: Reason, detail: Detail) -> usize
     ensures { result ≡ reply_place reason detail }
 {
-    (reason as usize)
-        .saturating_mul(DETAIL_COUNT)
-        .saturating_add(detail as usize)
+    DETAILS * reason.row() + detail.column()
 }
 
 impl ReplyTimes {
@@ -79,7 +88,7 @@ impl ReplyTimes {
         ensures { result ≡ no_times }
     {
         ReplyTimes {
-            buckets: [0; 12],
+            buckets: [0; TIME_BUCKETS],
             sum: 0,
         }
     }
@@ -94,20 +103,20 @@ impl ReplyTimes {
 
 impl ReplyCounts {
     pub fn new() -> ReplyCounts
-        ensures reasons { result.reasons ≡ replicate 216 0 }
-        ensures causes { result.causes ≡ replicate 25 0 }
-        ensures not_stored { result.not_stored ≡ replicate 19 0 }
-        ensures statuses { result.statuses ≡ replicate 400 0 }
+        ensures reasons { result.reasons ≡ replicate REPLY_PLACES 0 }
+        ensures causes { result.causes ≡ replicate CAUSES 0 }
+        ensures not_stored { result.not_stored ≡ replicate STORING_RULES 0 }
+        ensures statuses { result.statuses ≡ replicate STATUSES 0 }
         ensures words { (result.stored ≡ 0) × (result.collapsed ≡ 0) }
         ensures from_store { result.from_store ≡ no_times }
         ensures from_origin { result.from_origin ≡ no_times }
         ensures from_proxy { result.from_proxy ≡ no_times }
     {
         ReplyCounts {
-            reasons: [0; 216],
-            causes: [0; 25],
-            not_stored: [0; 19],
-            statuses: [0; 400],
+            reasons: [0; REPLY_PLACES],
+            causes: [0; CAUSES],
+            not_stored: [0; STORING_RULES],
+            statuses: [0; STATUSES],
             stored: 0,
             collapsed: 0,
             from_store: ReplyTimes::new(),
@@ -138,10 +147,10 @@ impl ReplyCounts {
             status.saturating_sub(FIRST_STATUS) as usize,
         );
         if let Some(cause) = sort.cause {
-            count(&mut self.causes, cause as usize);
+            count(&mut self.causes, cause.place());
         }
         if let Some(rule) = sort.not_stored {
-            count(&mut self.not_stored, rule as usize);
+            count(&mut self.not_stored, storing_rule_place(rule));
         }
         self.stored = count_plus_one_if(sort.stored, self.stored);
         self.collapsed = count_plus_one_if(sort.collapsed, self.collapsed);
@@ -161,13 +170,13 @@ impl ReplyCounts {
     pub(crate) fn with_cause(&self, cause: Cause) -> u64
         ensures { result ≡ unwrap_or (slice_get self.now.causes (cause_place cause)) 0 }
     {
-        count_at(&self.causes, cause as usize)
+        count_at(&self.causes, cause.place())
     }
 
     pub(crate) fn with_storing_rule(&self, rule: StoreRule) -> u64
         ensures { result ≡ unwrap_or (slice_get self.now.not_stored (storing_rule_place rule)) 0 }
     {
-        count_at(&self.not_stored, rule as usize)
+        count_at(&self.not_stored, storing_rule_place(rule))
     }
 
     pub(crate) fn with_status(&self, status: u16) -> u64

@@ -1,14 +1,20 @@
-//! What a reply counts as, by the words that it says of itself in Cache-Status, Refusal or Purged.
+//! What a reply counts as, by what it tells of itself: none of its bytes is read.
 //!
 //! Each count has its place in a closed list: so nothing that a client or an origin sends makes a new one.
-ghost use Rattle.std.specs.Prelude.{◌≡◌, find, bytes_eq};
-ghost use Rattle.proxy_figures.specs.Sorts.{reason_name, detail_name, cause_name, forward_reasons, origin_failures};
-ghost use Rattle.proxy_figures.specs.Sorts.{failure_name, source_of, is_covered, is_answered};
-ghost use Rattle.proxy_figures.specs.Sorts.{detail_of_word, detail_of_step, details_of_rules};
+ghost use Rattle.std.specs.Prelude.{◌≡◌, ◌<◌};
+ghost use Rattle.proxy_figures.specs.ReplyCounts.{reason_row, detail_column, cause_place};
+ghost use Rattle.proxy_figures.specs.ReplySorts.{reason_of_rule, reason_of_handling, reason_of_refusal};
+ghost use Rattle.proxy_figures.specs.ReplySorts.{detail_of_rule, detail_of_step, detail_of_handling, detail_told};
+ghost use Rattle.proxy_figures.specs.ReplySorts.{cause_of_failure, cause_of_message, cause_of_target, cause_of_refusal};
+ghost use Rattle.proxy_figures.specs.ReplySorts.{plain_sort, sort_of_handled, sort_of_refusal, sort_of_told};
+ghost use Rattle.proxy_figures.specs.Sorts.{reason_name, detail_name, cause_name, source_of, is_covered};
+ghost use Rattle.proxy_figures.specs.declared.sorts.TheConstants.{REASONS, DETAILS, CAUSES};
 
-use crate::not_stored::named_storing_rule;
+use hx_framing::FrameFault;
+use hx_reuse::ReuseRule;
+use hx_status::{Cause as Refusal, Detail as StepDetail, FailKind, How, Status, Told};
 use hx_storable::StoreRule;
-use std::str;
+use hx_target::TargetFault;
 
 /// Why a request was answered as it was.
 #[derive(Clone, Copy, PartialEq, Eq)]
@@ -48,7 +54,7 @@ pub enum Detail {
     ReuseAfter304,
     StaleWhileRevalidate,
     SessionCookie,
-    /// Any other word.
+    /// A storing rule, which has a figure of its own.
     Other,
 }
 
@@ -82,10 +88,8 @@ pub enum Cause {
     TooLong,
 }
 
-/// How many details there are.
-pub(crate) const DETAIL_COUNT: usize = 18;
-
-pub(crate) const ALL_REASONS: [Reason; 12] = [
+/// All of them, each at its place.
+pub(crate) const ALL_REASONS: &[Reason] = &[
     Reason::Hit,
     Reason::UriMiss,
     Reason::VaryMiss,
@@ -100,32 +104,7 @@ pub(crate) const ALL_REASONS: [Reason; 12] = [
     Reason::Purged,
 ];
 
-/// Why a request goes forward.
-const FORWARD_REASONS: [Reason; 6] = [
-    Reason::UriMiss,
-    Reason::VaryMiss,
-    Reason::Stale,
-    Reason::Request,
-    Reason::Method,
-    Reason::Bypass,
-];
-
-/// What tells rules of one reason apart.
-const DETAILS_OF_RULES: [Detail; 11] = [
-    Detail::Operator,
-    Detail::Content,
-    Detail::Range,
-    Detail::Precondition,
-    Detail::ResponseNoCache,
-    Detail::MustRevalidate,
-    Detail::NoLifetime,
-    Detail::NoCache,
-    Detail::MaxStale,
-    Detail::MaxAge,
-    Detail::MinFresh,
-];
-
-pub(crate) const ALL_DETAILS: [Detail; 18] = [
+pub(crate) const ALL_DETAILS: &[Detail] = &[
     Detail::Nothing,
     Detail::Operator,
     Detail::Content,
@@ -146,7 +125,7 @@ pub(crate) const ALL_DETAILS: [Detail; 18] = [
     Detail::Other,
 ];
 
-pub(crate) const ALL_CAUSES: [Cause; 25] = [
+pub(crate) const ALL_CAUSES: &[Cause] = &[
     Cause::Denied,
     Cause::NoLine,
     Cause::Loop,
@@ -174,6 +153,13 @@ pub(crate) const ALL_CAUSES: [Cause; 25] = [
     Cause::TooLong,
 ];
 
+/// How many there are of each.
+pub(crate) const REASONS: usize = ALL_REASONS.len();
+
+pub(crate) const DETAILS: usize = ALL_DETAILS.len();
+
+pub(crate) const CAUSES: usize = ALL_CAUSES.len();
+
 impl Reason {
     pub(crate) fn name(self) -> &'static str
         ensures { result.now ≡ reason_name self }
@@ -194,14 +180,71 @@ impl Reason {
         }
     }
 
-    /// Why a request went forward, by the word of Cache-Status.
-    fn of_forward(word: &[u8]) -> Option<Reason>
-        ensures { result ≡ find (λ reason. bytes_eq word.now (reason_name reason)) forward_reasons }
+    /// Its row among the counts.
+    pub(crate) fn row(self) -> usize
+        ensures place { result ≡ reason_row self }
+        ensures within { result < REASONS }
     {
-        FORWARD_REASONS
-            .iter()
-            .copied()
-            .find(|reason| word == reason.name().as_bytes())
+        match self {
+            Reason::Hit => 0,
+            Reason::UriMiss => 1,
+            Reason::VaryMiss => 2,
+            Reason::Stale => 3,
+            Reason::Request => 4,
+            Reason::Method => 5,
+            Reason::Bypass => 6,
+            Reason::Denied => 7,
+            Reason::OnlyIfCached => 8,
+            Reason::OriginFailed => 9,
+            Reason::Refused => 10,
+            Reason::Purged => 11,
+        }
+    }
+
+    /// Why a request went forward, by the rule that sent it.
+    fn of_rule(rule: ReuseRule) -> Reason
+        ensures { result ≡ reason_of_rule rule }
+    {
+        match rule {
+            ReuseRule::Method => Reason::Method,
+            ReuseRule::Operator | ReuseRule::Content | ReuseRule::Range | ReuseRule::Precondition =>
+                Reason::Bypass,
+            ReuseRule::UriMiss => Reason::UriMiss,
+            ReuseRule::VaryMiss => Reason::VaryMiss,
+            ReuseRule::RequestNoCache | ReuseRule::AboveMaxAge | ReuseRule::BelowMinFresh => {
+                Reason::Request
+            }
+            ReuseRule::ResponseNoCache
+            | ReuseRule::MustRevalidate
+            | ReuseRule::NoLifetime
+            | ReuseRule::StaleNoCache
+            | ReuseRule::NoMaxStale
+            | ReuseRule::PastMaxStale
+            | ReuseRule::StaleMaxAge
+            | ReuseRule::StaleMinFresh => Reason::Stale,
+        }
+    }
+
+    /// Of an answer of an origin or of the store.
+    fn of_handling(how: How) -> Reason
+        ensures { result ≡ reason_of_handling how }
+    {
+        match how {
+            How::Hit => Reason::Hit,
+            How::Fwd(rule) => Reason::of_rule(rule),
+        }
+    }
+
+    /// Of an answer of the proxy's own.
+    fn of_refusal(cause: Refusal) -> Reason
+        ensures { result ≡ reason_of_refusal cause }
+    {
+        match cause {
+            Refusal::Denied(_) | Refusal::NoLine | Refusal::Looped(_) => Reason::Denied,
+            Refusal::OnlyIfCached(_) => Reason::OnlyIfCached,
+            Refusal::Origin(_, _, _) => Reason::OriginFailed,
+            Refusal::Frame(_) | Refusal::Target(_) => Reason::Refused,
+        }
     }
 }
 
@@ -231,43 +274,85 @@ impl Detail {
         }
     }
 
-    /// The detail of this word; another word is `Other`.
-    fn of(word: &[u8]) -> Detail
-        ensures { result ≡ detail_of_word word.now }
+    /// Its place in a row.
+    pub(crate) fn column(self) -> usize
+        ensures place { result ≡ detail_column self }
+        ensures within { result < DETAILS }
     {
-        match Detail::of_rule(word) {
-            Some(detail) => detail,
-            None => Detail::of_step(word),
+        match self {
+            Detail::Nothing => 0,
+            Detail::Operator => 1,
+            Detail::Content => 2,
+            Detail::Range => 3,
+            Detail::Precondition => 4,
+            Detail::ResponseNoCache => 5,
+            Detail::MustRevalidate => 6,
+            Detail::NoLifetime => 7,
+            Detail::NoCache => 8,
+            Detail::MaxStale => 9,
+            Detail::MaxAge => 10,
+            Detail::MinFresh => 11,
+            Detail::StaleIfError => 12,
+            Detail::ReuseAfterError => 13,
+            Detail::ReuseAfter304 => 14,
+            Detail::StaleWhileRevalidate => 15,
+            Detail::SessionCookie => 16,
+            Detail::Other => 17,
         }
     }
 
-    /// The detail of this word, which tells rules of one reason apart.
-    fn of_rule(word: &[u8]) -> Option<Detail>
-        ensures { result ≡ find (λ detail. bytes_eq word.now (detail_name detail)) details_of_rules }
+    /// What tells a rule from others of its reason, if it needs that.
+    fn of_rule(rule: ReuseRule) -> Option<Detail>
+        ensures { result ≡ detail_of_rule rule }
     {
-        DETAILS_OF_RULES
-            .iter()
-            .copied()
-            .find(|detail| word == detail.name().as_bytes())
+        match rule {
+            ReuseRule::Method | ReuseRule::UriMiss | ReuseRule::VaryMiss | ReuseRule::NoMaxStale =>
+                { None }
+            ReuseRule::Operator => Some(Detail::Operator),
+            ReuseRule::Content => Some(Detail::Content),
+            ReuseRule::Range => Some(Detail::Range),
+            ReuseRule::Precondition => Some(Detail::Precondition),
+            ReuseRule::ResponseNoCache => Some(Detail::ResponseNoCache),
+            ReuseRule::RequestNoCache | ReuseRule::StaleNoCache => Some(Detail::NoCache),
+            ReuseRule::AboveMaxAge | ReuseRule::StaleMaxAge => Some(Detail::MaxAge),
+            ReuseRule::BelowMinFresh | ReuseRule::StaleMinFresh => Some(Detail::MinFresh),
+            ReuseRule::MustRevalidate => Some(Detail::MustRevalidate),
+            ReuseRule::NoLifetime => Some(Detail::NoLifetime),
+            ReuseRule::PastMaxStale => Some(Detail::MaxStale),
+        }
     }
 
-    /// The detail of this word, where a stored response was sent after all, or while it is validated, or where a cookie
-    /// kept the request from the store; another word is `Other`.
-    fn of_step(word: &[u8]) -> Detail
-        ensures { result ≡ detail_of_step word.now }
+    /// Why a stored response was sent after all, or while it is validated, or that a cookie kept the request from the
+    /// store.
+    fn of_step(step: StepDetail) -> Detail
+        ensures { result ≡ detail_of_step step }
     {
-        if word == b"stale-if-error".as_slice() {
-            Detail::StaleIfError
-        } else if word == b"reuse-after-error".as_slice() {
-            Detail::ReuseAfterError
-        } else if word == b"reuse-after-304".as_slice() {
-            Detail::ReuseAfter304
-        } else if word == b"stale-while-revalidate".as_slice() {
-            Detail::StaleWhileRevalidate
-        } else if word == b"cookie".as_slice() {
-            Detail::SessionCookie
-        } else {
-            Detail::Other
+        match step {
+            StepDetail::StaleIfError => Detail::StaleIfError,
+            StepDetail::ReuseAfterError => Detail::ReuseAfterError,
+            StepDetail::ReuseAfter304 => Detail::ReuseAfter304,
+            StepDetail::StaleWhileRevalidate => Detail::StaleWhileRevalidate,
+            StepDetail::SessionCookie => Detail::SessionCookie,
+        }
+    }
+
+    /// The detail of a rule, if a rule sent the request forward.
+    fn of_handling(how: How) -> Option<Detail>
+        ensures { result ≡ detail_of_handling how }
+    {
+        match how {
+            How::Hit => None,
+            How::Fwd(rule) => Detail::of_rule(rule),
+        }
+    }
+
+    /// What Cache-Status tells besides, but for a storing rule: that of a step stands in place of the rule's.
+    fn told(status: &Status) -> Option<Detail>
+        ensures { result ≡ detail_told status.now }
+    {
+        match status.detail {
+            Some(step) => Some(Detail::of_step(step)),
+            None => Detail::of_handling(status.how),
         }
     }
 }
@@ -305,34 +390,100 @@ impl Cause {
         }
     }
 
-    /// How an origin failed, by the word behind `origin `.
-    fn of_failure(word: &[u8]) -> Option<Cause>
-        ensures { result ≡ find (λ cause. bytes_eq word.now (failure_name cause)) origin_failures }
+    /// Its place among the counts.
+    pub(crate) fn place(self) -> usize
+        ensures place { result ≡ cause_place self }
+        ensures within { result < CAUSES }
     {
-        if word == b"refused".as_slice() {
-            Some(Cause::OriginRefused)
-        } else if word == b"timed-out".as_slice() {
-            Some(Cause::OriginTimedOut)
-        } else if word == b"closed".as_slice() {
-            Some(Cause::OriginClosed)
-        } else if word == b"bad-answer".as_slice() {
-            Some(Cause::OriginBadAnswer)
-        } else if word == b"too-large".as_slice() {
-            Some(Cause::OriginTooLarge)
-        } else {
-            None
+        match self {
+            Cause::Denied => 0,
+            Cause::NoLine => 1,
+            Cause::Loop => 2,
+            Cause::OnlyIfCached => 3,
+            Cause::OriginRefused => 4,
+            Cause::OriginTimedOut => 5,
+            Cause::OriginClosed => 6,
+            Cause::OriginBadAnswer => 7,
+            Cause::OriginTooLarge => 8,
+            Cause::Head => 9,
+            Cause::Version => 10,
+            Cause::BothLengths => 11,
+            Cause::Length => 12,
+            Cause::Coding => 13,
+            Cause::Chunk => 14,
+            Cause::TooLarge => 15,
+            Cause::Expect => 16,
+            Cause::Form => 17,
+            Cause::Scheme => 18,
+            Cause::Host => 19,
+            Cause::Port => 20,
+            Cause::Userinfo => 21,
+            Cause::Escape => 22,
+            Cause::DotSegment => 23,
+            Cause::TooLong => 24,
         }
     }
 
-    /// What is wrong with a message, by the word behind `refused: `.
-    fn of_fault(word: &[u8]) -> Option<Cause> {
-        for cause in &ALL_CAUSES {
-            let is_fault = *cause as usize >= Cause::Head as usize;
-            if is_fault && cause.name().as_bytes() == word {
-                return Some(*cause);
-            }
+    /// How an origin failed.
+    fn of_failure(kind: FailKind) -> Cause
+        ensures { result ≡ cause_of_failure kind }
+    {
+        match kind {
+            FailKind::Refused => Cause::OriginRefused,
+            FailKind::TimedOut => Cause::OriginTimedOut,
+            FailKind::Closed => Cause::OriginClosed,
+            FailKind::BadAnswer => Cause::OriginBadAnswer,
+            FailKind::TooLarge => Cause::OriginTooLarge,
         }
-        None
+    }
+
+    /// What is wrong with a message. No request is answered for the others.
+    fn of_message(fault: FrameFault) -> Option<Cause>
+        ensures { result ≡ cause_of_message fault }
+    {
+        match fault {
+            FrameFault::Head => Some(Cause::Head),
+            FrameFault::Version => Some(Cause::Version),
+            FrameFault::BothLengths => Some(Cause::BothLengths),
+            FrameFault::Length => Some(Cause::Length),
+            FrameFault::Coding => Some(Cause::Coding),
+            FrameFault::Chunk => Some(Cause::Chunk),
+            FrameFault::TooLarge => Some(Cause::TooLarge),
+            FrameFault::Expect => Some(Cause::Expect),
+            FrameFault::Truncated | FrameFault::Status => None,
+        }
+    }
+
+    /// What is wrong with a target. No request is answered for want of memory.
+    fn of_target(fault: TargetFault) -> Option<Cause>
+        ensures { result ≡ cause_of_target fault }
+    {
+        match fault {
+            TargetFault::Form => Some(Cause::Form),
+            TargetFault::Scheme => Some(Cause::Scheme),
+            TargetFault::Host => Some(Cause::Host),
+            TargetFault::Port => Some(Cause::Port),
+            TargetFault::Userinfo => Some(Cause::Userinfo),
+            TargetFault::Escape => Some(Cause::Escape),
+            TargetFault::DotSegment => Some(Cause::DotSegment),
+            TargetFault::TooLong => Some(Cause::TooLong),
+            TargetFault::OutOfMemory => None,
+        }
+    }
+
+    /// Why the proxy answered by itself.
+    fn of_refusal(cause: Refusal) -> Option<Cause>
+        ensures { result ≡ cause_of_refusal cause }
+    {
+        match cause {
+            Refusal::Denied(_) => Some(Cause::Denied),
+            Refusal::NoLine => Some(Cause::NoLine),
+            Refusal::Looped(_) => Some(Cause::Loop),
+            Refusal::OnlyIfCached(_) => Some(Cause::OnlyIfCached),
+            Refusal::Origin(kind, _, _) => Some(Cause::of_failure(kind)),
+            Refusal::Frame(fault) => Cause::of_message(fault),
+            Refusal::Target(fault) => Cause::of_target(fault),
+        }
     }
 }
 
@@ -364,7 +515,9 @@ pub enum Source {
 
 impl ReplySort {
     /// A reply for this reason, of which nothing else is said.
-    fn plain(reason: Reason) -> ReplySort {
+    fn plain(reason: Reason) -> ReplySort
+        ensures { result ≡ plain_sort reason }
+    {
         ReplySort {
             reason,
             detail: Detail::Nothing,
@@ -376,25 +529,33 @@ impl ReplySort {
         }
     }
 
-    /// An answer of the proxy's own.
-    fn of_own_answer(reason: Reason, cause: Cause) -> ReplySort {
-        let mut sort = ReplySort::plain(reason);
-        sort.cause = Some(cause);
-        sort
+    /// An answer of an origin or of the store. A storing rule is named where no other detail is.
+    fn of_handled(status: &Status) -> ReplySort
+        ensures { result ≡ sort_of_handled status.now }
+    {
+        let (detail, not_stored) = match (Detail::told(status), status.not_stored) {
+            (Some(detail), _) => (detail, None),
+            (None, Some(rule)) => (Detail::Other, Some(rule)),
+            (None, None) => (Detail::Nothing, None),
+        };
+        ReplySort {
+            reason: Reason::of_handling(status.how),
+            detail,
+            cause: None,
+            fwd_status: status.fwd_status,
+            stored: status.stored,
+            collapsed: status.collapsed,
+            not_stored,
+        }
     }
 
-    /// Takes one more word of Cache-Status.
-    fn take(&mut self, part: &[u8]) {
-        if part == b"stored".as_slice() {
-            self.stored = true;
-        } else if part == b"collapsed".as_slice() {
-            self.collapsed = true;
-        } else if let Some(word) = part.strip_prefix(b"detail=".as_slice()) {
-            self.detail = Detail::of(word);
-            self.not_stored = named_storing_rule(word);
-        } else if let Some(digits) = part.strip_prefix(b"fwd-status=".as_slice()) {
-            self.fwd_status = number_of(digits);
-        }
+    /// An answer of the proxy's own.
+    fn of_refusal(cause: Refusal) -> ReplySort
+        ensures { result ≡ sort_of_refusal cause }
+    {
+        let mut sort = ReplySort::plain(Reason::of_refusal(cause));
+        sort.cause = Cause::of_refusal(cause);
+        sort
     }
 
     pub fn source(&self) -> Source
@@ -414,13 +575,6 @@ impl ReplySort {
         }
     }
 
-    /// Whether an answer of the origin came, where it was asked; else it failed.
-    pub fn is_answered(&self) -> bool
-        ensures { result ≡ is_answered self.now }
-    {
-        self.cause.is_none() && !self.is_covered()
-    }
-
     /// Whether a stored response was sent in place of a failure of the origin.
     pub fn is_covered(&self) -> bool
         ensures { result ≡ is_covered self.now }
@@ -434,75 +588,13 @@ impl ReplySort {
     }
 }
 
-fn number_of(digits: &[u8]) -> Option<u16> {
-    match str::from_utf8(digits) {
-        Ok(digits) => digits.parse::<u16>().ok(),
-        Err(_) => None,
-    }
-}
-
-/// What stands in front of the first semicolon, and behind it.
-fn first_part(text: &[u8]) -> (&[u8], &[u8]) {
-    for i in 0..text.len() {
-        if text[i] == b';' {
-            return (&text[..i], &text[i + 1..]);
-        }
-    }
-    (text, b"")
-}
-
-/// What Cache-Status says of a request that went forward, behind `fwd=`.
-fn forwarded(text: &[u8]) -> Option<ReplySort> {
-    let (word, mut rest) = first_part(text);
-    let mut sort = ReplySort::plain(Reason::of_forward(word)?);
-    for _part in 0..text.len() {
-        if rest.is_empty() {
-            break;
-        }
-        let (part, behind) = first_part(rest);
-        sort.take(part);
-        rest = behind;
-    }
-    Some(sort)
-}
-
-/// What Refusal or Purged says.
-fn refused(text: &[u8]) -> Option<ReplySort> {
-    if text.starts_with(b"denied by line ") {
-        return Some(ReplySort::of_own_answer(Reason::Denied, Cause::Denied));
-    }
-    if text.starts_with(b"no line allows it") {
-        return Some(ReplySort::of_own_answer(Reason::Denied, Cause::NoLine));
-    }
-    if text.starts_with(b"loop refused by line ") {
-        return Some(ReplySort::of_own_answer(Reason::Denied, Cause::Loop));
-    }
-    if text.starts_with(b"only-if-cached") {
-        return Some(ReplySort::of_own_answer(Reason::OnlyIfCached, Cause::OnlyIfCached));
-    }
-    if text.starts_with(b"Purged: ") {
-        return Some(ReplySort::plain(Reason::Purged));
-    }
-    if let Some(rest) = text.strip_prefix(b"origin ".as_slice()) {
-        let cause = Cause::of_failure(first_part(rest).0)?;
-        return Some(ReplySort::of_own_answer(Reason::OriginFailed, cause));
-    }
-    let word = text.strip_prefix(b"refused: ".as_slice())?;
-    Some(ReplySort::of_own_answer(Reason::Refused, Cause::of_fault(word)?))
-}
-
-/// What a reply counts as, by what it says of itself.
-pub fn sort_of(text: &[u8]) -> Option<ReplySort> {
-    if let [b'h', b'i', b't', ..] = text {
-        let mut sort = ReplySort::plain(Reason::Hit);
-        // Of hits these alone have a detail.
-        if text.ends_with(b";detail=stale-while-revalidate".as_slice()) {
-            sort.detail = Detail::StaleWhileRevalidate;
-        }
-        return Some(sort);
-    }
-    match text.strip_prefix(b"fwd=".as_slice()) {
-        Some(rest) => forwarded(rest),
-        None => refused(text),
+/// What a reply counts as, by what it tells of itself.
+pub fn sort_of(told: &Told) -> ReplySort
+    ensures { result ≡ sort_of_told told.now }
+{
+    match told {
+        Told::Handled(status) => ReplySort::of_handled(status),
+        Told::Refused(cause) => ReplySort::of_refusal(*cause),
+        Told::Purged(_) => ReplySort::plain(Reason::Purged),
     }
 }

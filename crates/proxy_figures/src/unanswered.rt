@@ -2,6 +2,7 @@
 ghost use Rattle.std.specs.Prelude.{◌≡◌, unwrap_or, slice_get, replicate};
 ghost use Rattle.proxy_figures.specs.Counts.{counts_with_one_more};
 ghost use Rattle.proxy_figures.specs.Unanswered.{unanswered_place, unanswered_name, cause_of_cut, cause_of_lateness};
+ghost use Rattle.proxy_figures.specs.declared.unanswered.TheConstants.{UNANSWERED_CAUSES};
 
 use crate::counts::{count, count_at};
 use crate::endings::{CutReason, Lateness};
@@ -24,7 +25,8 @@ pub enum UnansweredCause {
     Room,
 }
 
-pub(crate) const ALL_UNANSWERED_CAUSES: [UnansweredCause; 7] = [
+/// All of them, each at its place.
+pub(crate) const ALL_UNANSWERED_CAUSES: &[UnansweredCause] = &[
     UnansweredCause::Closed,
     UnansweredCause::AbandonTimeout,
     UnansweredCause::RequestTimeout,
@@ -34,7 +36,25 @@ pub(crate) const ALL_UNANSWERED_CAUSES: [UnansweredCause; 7] = [
     UnansweredCause::Room,
 ];
 
+/// How many there are.
+const UNANSWERED_CAUSES: usize = ALL_UNANSWERED_CAUSES.len();
+
 impl UnansweredCause {
+    /// Its place among the counts.
+    fn place(self) -> usize
+        ensures { result ≡ unanswered_place self }
+    {
+        match self {
+            UnansweredCause::Closed => 0,
+            UnansweredCause::AbandonTimeout => 1,
+            UnansweredCause::RequestTimeout => 2,
+            UnansweredCause::ClientTimeout => 3,
+            UnansweredCause::ContentLimit => 4,
+            UnansweredCause::Memory => 5,
+            UnansweredCause::Room => 6,
+        }
+    }
+
     /// Its word in figures and in the log.
     pub fn name(self) -> &'static str
         ensures { result.now ≡ unanswered_name self }
@@ -76,27 +96,29 @@ impl UnansweredCause {
 /// How many requests were never answered, by cause.
 #[derive(Clone, Copy)]
 pub struct UnansweredCounts {
-    counts: [u64; 7],
+    counts: [u64; UNANSWERED_CAUSES],
 }
 
 impl UnansweredCounts {
     pub fn new() -> UnansweredCounts
-        ensures { result.counts ≡ replicate 7 0 }
+        ensures { result.counts ≡ replicate UNANSWERED_CAUSES 0 }
     {
-        UnansweredCounts { counts: [0; 7] }
+        UnansweredCounts {
+            counts: [0; UNANSWERED_CAUSES],
+        }
     }
 
     /// One more was not answered.
     pub fn add(&mut self, cause: UnansweredCause)
         ensures { self.new.counts ≡ counts_with_one_more self.old.counts (unanswered_place cause) }
     {
-        count(&mut self.counts, cause as usize);
+        count(&mut self.counts, cause.place());
     }
 
     /// How many weren't for this cause.
     pub fn with(&self, cause: UnansweredCause) -> u64
         ensures { result ≡ unwrap_or (slice_get self.now.counts (unanswered_place cause)) 0 }
     {
-        count_at(&self.counts, cause as usize)
+        count_at(&self.counts, cause.place())
     }
 }

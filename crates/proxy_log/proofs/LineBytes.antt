@@ -6,10 +6,9 @@ use Rattle.std.proofs.lemmas.List.Folds.{list_all-append}
 use Rattle.std.specs.List.{list_all}
 use Rattle.std.specs.Char.{is_ascii_digit}
 use Rattle.hx_framing.proofs.WrittenFields.{decimal_back}
-use Rattle.proxy_log.specs.Line.{stands_for_itself, hex_digit, logged_byte, logged_text, logged_word, log_line_text, status_word}
+use Rattle.proxy_log.specs.Line.{LineWords, stands_for_itself, hex_digit, logged_byte, logged_text, logged_word, log_line_text, status_word}
 use Rattle.proxy_log.specs.OneLine.{TextIsOneLine, LineIsInRange, is_byte, is_visible, is_log_word}
 use Rattle.proxy_log.specs.Seconds.{seconds_text, three_digits}
-use Rattle.proxy_log.specs.declared.line.Line.{Line}
 
 all_both : (p : ℕ → Bool) (xs ys : List ℕ) → list_all p xs ≡ true → list_all p ys ≡ true → list_all p (xs ++ ys) ≡ true
 all_both p xs ys first second = list_all-append p xs ys ∙ rw first second
@@ -116,7 +115,7 @@ word_behind : {xs ys : List ℕ} → AreVisible xs → AreVisible ys → AreVisi
 word_behind {xs} {ys} first second =
     record { are = all_both is_visible (xs ++ codes " ") ys (all_both is_visible xs (codes " ") first.are refl) second.are }
 
-words_are_visible : (line : Line) → LineIsInRange line
+words_are_visible : (line : LineWords) → LineIsInRange line
     → AreVisible (seconds_text line.moment ++ codes " " ++ logged_word line.client ++ codes " " ++ logged_word line.method ++ codes " " ++ logged_word line.target
     ++ codes " " ++ status_word line.status ++ codes " " ++ decimal line.length ++ codes " " ++ logged_text true line.reason ++ codes " "
     ++ seconds_text line.took ++ codes " " ++ logged_word line.origin)
@@ -132,7 +131,7 @@ words_are_visible line given =
     (record { are = time_is_visible line.took given.took }))
     (record { are = word_is_visible line.origin given.origin })
 
-pub line_is_one_line : (line : Line) → LineIsInRange line → TextIsOneLine (log_line_text line)
+pub line_is_one_line : (line : LineWords) → LineIsInRange line → TextIsOneLine (log_line_text line)
 line_is_one_line line given = record {
   front = _;
   is = refl;

@@ -18,7 +18,7 @@ use Rattle.hx_framing.specs.declared.messages.Request.{Request}
 use Rattle.hx_target.specs.Judgement.{TargetIsJudged}
 use Rattle.hx_target.specs.declared.target_fault.TargetFault.{TargetFault}
 use Rattle.hx_target.specs.declared.targets.Target.{Target}
-use Rattle.proxy_log.specs.ReplyFacts.{whole_lines}
+use Rattle.proxy_log.specs.TextLines.{whole_lines}
 use Rattle.proxy_log.specs.declared.asked.Question.{Question}
 
 abbrev pub no_question_read : Question

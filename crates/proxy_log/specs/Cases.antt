@@ -1,9 +1,13 @@
--- Lines of the worked cases.
-use Rattle.std.specs.Prelude.{ℕ, List, [], codes}
-use Rattle.proxy_log.specs.declared.line.Line.{Line}
+-- Lines of the worked cases, and what their replies tell.
+use Rattle.std.specs.Prelude.{ℕ, pos, List, [], codes, true, false, Some, None}
+use Rattle.hx_reuse.specs.declared.rule.ReuseRule.TheVariants.{UriMiss}
+use Rattle.hx_status.specs.declared.about.Told.{Told}
+use Rattle.hx_status.specs.declared.about.Told.TheVariants.{Handled}
+use Rattle.hx_status.specs.declared.status.How.TheVariants.{Hit, Fwd}
+use Rattle.proxy_log.specs.Line.{LineWords}
 
 -- a GET for a target URI that was answered 200 with five bytes, when, why, after how long and by which origin
-abbrev pub get_line : ℕ → List ℕ → ℕ → List ℕ → Line
+abbrev pub get_line : ℕ → List ℕ → ℕ → List ℕ → LineWords
 get_line moment reason took origin =
     record {
       moment = moment;
@@ -18,7 +22,7 @@ get_line moment reason took origin =
     }
 
 -- what couldn't be read as a request
-abbrev pub unread_request_line : List ℕ → Line
+abbrev pub unread_request_line : List ℕ → LineWords
 unread_request_line reason =
     record {
       moment = 0;
@@ -33,7 +37,7 @@ unread_request_line reason =
     }
 
 -- a POST whose content is too large; its target is as it came
-abbrev pub refused_post_line : List ℕ → Line
+abbrev pub refused_post_line : List ℕ → LineWords
 refused_post_line target =
     record {
       moment = 0;
@@ -48,7 +52,7 @@ refused_post_line target =
     }
 
 -- a target that is no URI
-abbrev pub line_with_target : List ℕ → Line
+abbrev pub line_with_target : List ℕ → LineWords
 line_with_target target =
     record {
       moment = 7;
@@ -61,3 +65,27 @@ line_with_target target =
       took = 0;
       origin = [];
     }
+
+-- a stored response that is fresh for so many seconds
+abbrev pub told_of_hit : ℕ → Told
+told_of_hit seconds = Handled (record {
+  how = Hit;
+  fwd_status = None;
+  ttl = Some (pos seconds);
+  stored = false;
+  collapsed = false;
+  detail = None;
+  not_stored = None;
+})
+
+-- an answer to a request for whose key nothing was held; it is stored, and fresh for so many seconds
+abbrev pub told_of_stored_miss : ℕ → Told
+told_of_stored_miss seconds = Handled (record {
+  how = Fwd UriMiss;
+  fwd_status = None;
+  ttl = Some (pos seconds);
+  stored = true;
+  collapsed = false;
+  detail = None;
+  not_stored = None;
+})

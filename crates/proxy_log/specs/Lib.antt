@@ -4,5 +4,6 @@ pub mod Hearing
 pub mod Line
 pub mod PendingLines
 pub mod OneLine
+pub mod Replies
 pub mod Seconds
-pub mod ReplyFacts
+pub mod TextLines

@@ -4,6 +4,7 @@
 -- stands_for_itself, logged_byte, logged_text: bytes as they stand in a line, so that none of them breaks it
 -- logged_word: a word, which is never empty
 -- status_word: a status
+-- LineWords, words_of: what a line says
 -- log_line_text: the line
 -- unanswered_reason: what stands in the place of the reason where a request was never answered
 use Rattle.std.specs.Prelude.{ℕ, ◌+◌, ◌/◌, ◌%◌, ◌==◌, Bool, true, false, not, ◌&&◌, ◌||◌, nat_lt, if◌then◌else◌, List}
@@ -33,13 +34,38 @@ abbrev pub logged_word : List ℕ → List ℕ
 logged_word [] = codes "-"
 logged_word (b ∷ bs) = logged_text false (b ∷ bs)
 
+-- What a line says: when a reply was written, whom it went to, what it answers, its status, the bytes of its content,
+-- what it tells of itself, how long it took, and the origin that was asked. Moments and times are milliseconds.
+pub record LineWords : Type 0 where
+  pub moment : ℕ
+  pub client : List ℕ
+  pub method : List ℕ
+  pub target : List ℕ
+  pub status : ℕ
+  pub length : ℕ
+  pub reason : List ℕ
+  pub took : ℕ
+  pub origin : List ℕ
+
+abbrev pub words_of : Line → LineWords
+words_of line = record {
+  moment = line.moment;
+  client = line.client.now;
+  method = line.method.now;
+  target = line.target.now;
+  status = line.status;
+  length = line.length;
+  reason = line.reason.now;
+  took = line.took;
+  origin = line.origin.now;
+}
+
 -- a status; zeros where none was sent
 abbrev pub status_word : ℕ → List ℕ
 status_word status = if status == 0 then codes "000" else decimal status
 
--- moment, client, method, target, status, bytes of content, what Cache-Status or Refusal says, how long it took, and
--- the origin
-abbrev pub log_line_text : Line → List ℕ
+-- the nine words
+abbrev pub log_line_text : LineWords → List ℕ
 log_line_text line =
     seconds_text line.moment ++ codes " " ++ logged_word line.client ++ codes " " ++ logged_word line.method ++ codes " "
     ++ logged_word line.target
@@ -52,14 +78,14 @@ abbrev pub unanswered_reason : List ℕ → List ℕ
 unanswered_reason cause = codes "left;cause=" ++ cause
 
 -- the same in three parts: who asked for what, what it was told, and what that took
-unfoldable pub log_line_front : Line → List ℕ
+unfoldable pub log_line_front : LineWords → List ℕ
 log_line_front line =
     seconds_text line.moment ++ codes " " ++ logged_word line.client ++ codes " " ++ logged_word line.method ++ codes " "
     ++ logged_word line.target ++ codes " "
 
-unfoldable pub log_line_answer : Line → List ℕ
+unfoldable pub log_line_answer : LineWords → List ℕ
 log_line_answer line =
     status_word line.status ++ codes " " ++ decimal line.length ++ codes " " ++ logged_text true line.reason ++ codes " "
 
-unfoldable pub log_line_end : Line → List ℕ
+unfoldable pub log_line_end : LineWords → List ℕ
 log_line_end line = seconds_text line.took ++ codes " " ++ logged_word line.origin ++ codes "\n"

@@ -1,7 +1,7 @@
 -- What is promised of a line's text, whatever a client and an origin sent.
 use Rattle.std.specs.Prelude.{◌≡◌, ◌<◌, ◌^◌, ℕ, ◌==◌, Bool, true, not, ◌&&◌, nat_lt, List, ◌++◌, codes}
 use Rattle.std.specs.List.{list_all}
-use Rattle.proxy_log.specs.declared.line.Line.{Line}
+use Rattle.proxy_log.specs.Line.{LineWords}
 
 abbrev pub is_byte : ℕ → Bool
 is_byte b = nat_lt b 256
@@ -21,7 +21,7 @@ abbrev pub is_log_word : List ℕ → Bool
 is_log_word text = list_all (λ b. is_visible b && not (b == 32)) text
 
 -- what was handed in are bytes, and numbers of 64 bits
-pub record LineIsInRange (line : Line) : Type 0 where
+pub record LineIsInRange (line : LineWords) : Type 0 where
   pub moment : line.moment < 2 ^ 64
   pub status : line.status < 2 ^ 64
   pub length : line.length < 2 ^ 64

@@ -1,15 +1,13 @@
 //! What is so of each line, by its definition: each function's contract is the law, and its body is empty.
-ghost use Rattle.std.specs.Prelude.{◌≡◌, ◌∷◌, ◌++◌, ℕ, List, None, Some, codes, true};
+ghost use Rattle.std.specs.Prelude.{◌≡◌, ◌++◌, [], ℕ, List, codes, true};
 ghost use Rattle.std.specs.List.{list_all};
-ghost use Rattle.proxy_log.specs.Line.{log_line_text, logged_word};
+ghost use Rattle.proxy_log.specs.Line.{LineWords, log_line_text, logged_word};
 ghost use Rattle.proxy_log.specs.OneLine.{LineIsInRange, TextIsOneLine, is_byte, is_log_word};
-ghost use Rattle.proxy_log.specs.ReplyFacts.{without_cache_name, last_own_text, last_value, own_reason};
-ghost use Rattle.hx_framing.specs.Version.{without_return};
-ghost use Rattle.proxy_log.specs.declared.line.Line.{Line};
+ghost use Rattle.proxy_log.specs.TextLines.{AreHeadLines, content_of, lines_text};
 
 /// Whatever a client and an origin sent, a line has one LF, which ends it, and no other control byte.
 pub fn a_line_is_one_line()
-    ensures { (line : Line) → LineIsInRange line → TextIsOneLine (log_line_text line) }
+    ensures { (line : LineWords) → LineIsInRange line → TextIsOneLine (log_line_text line) }
 {}
 
 /// A word has no space, so that words can be told apart.
@@ -17,15 +15,10 @@ pub fn a_word_has_no_space()
     ensures { (text : List ℕ) → list_all is_byte text ≡ true → is_log_word (logged_word text) ≡ true }
 {}
 
-/// The proxy's own line stands last: whatever an origin wrote in front of it, in lines of either name, isn't told.
-pub fn no_line_in_front_is_read()
-    ensures member { (value : List ℕ) (front behind : List (List ℕ)) → last_value (codes "Cache-Status: ") behind ≡ None
-        → own_reason (front ++ (codes "Cache-Status: " ++ value) ∷ behind) ≡ Some (without_cache_name (without_return value)) }
-    ensures refusal { (value : List ℕ) (front behind : List (List ℕ)) → last_own_text behind ≡ None
-        → last_value (codes "Cache-Status: ") (front ++ (codes "Refusal: " ++ value) ∷ behind) ≡ None
-        → own_reason (front ++ (codes "Refusal: " ++ value) ∷ behind) ≡ Some (without_return value) }
-    ensures purged { (value : List ℕ) (front behind : List (List ℕ)) → last_own_text behind ≡ None
-        → last_value (codes "Cache-Status: ") (front ++ (codes "Purged: " ++ value) ∷ behind) ≡ None
-        → own_reason (front ++ (codes "Purged: " ++ value) ∷ behind)
-        ≡ Some (without_return (codes "Purged: " ++ value)) }
+/// The content of a reply is all that stands behind the empty line of its head, and nothing else: lines of the head
+/// don't count, and an empty line of the content ends nothing.
+pub fn content_is_what_stands_behind_the_head()
+    ensures crlf { (lines : List (List ℕ)) (content : List ℕ) → AreHeadLines lines
+        → content_of (lines_text lines ++ (codes "\r\n" ++ content)) ≡ content }
+    ensures open { (lines : List (List ℕ)) → AreHeadLines lines → content_of (lines_text lines) ≡ [] }
 {}

@@ -1,38 +1,37 @@
 //! A line of the log, and its text.
 ghost use Rattle.std.specs.Prelude.{◌≡◌, ◌+◌, ◌<◌, ◌≤◌, ◌++◌, codes, decimal, false, length, take, vec_capacity};
-ghost use Rattle.std.specs.Prelude.{IfOk, OnErr, OnOk, IsTrue};
+ghost use Rattle.std.specs.Prelude.{OnErr, OnOk, IsTrue};
 ghost use Rattle.proxy_log.specs.Line.{stands_for_itself, hex_digit, logged_byte, logged_text, logged_word};
-ghost use Rattle.proxy_log.specs.Line.{log_line_text, status_word};
+ghost use Rattle.proxy_log.specs.Line.{words_of, log_line_text, status_word};
 ghost use Rattle.proxy_log.specs.Line.{log_line_front, log_line_answer, log_line_end};
 ghost use Rattle.proxy_log.specs.Seconds.{seconds_text};
 
 use crate::seconds::push_seconds;
-use hx_fields::Bytes;
 use itoa::Buffer;
-use std::alloc::{AllocError, Global};
+use std::alloc::AllocError;
 
-/// What a line says of a reply.
-#[derive(Drop)]
-pub struct Line {
+/// What a line says of a reply. It owns none of it: a line is written where it is known.
+#[derive(Clone, Copy)]
+pub struct Line<'a> {
     /// When it was written, in milliseconds since 1970.
     pub moment: u64,
     /// The client's address and port.
-    pub client: Bytes,
+    pub client: &'a [u8],
     /// The request's method; empty where none could be read.
-    pub method: Bytes,
+    pub method: &'a [u8],
     /// The target URI (RFC 9110, section 7.1), or the target as it came where it is none; empty where none could be
     /// read.
-    pub target: Bytes,
+    pub target: &'a [u8],
     /// 0 where none was sent, and the line has `000`.
     pub status: u16,
     /// The bytes of content that were sent.
     pub length: u64,
-    /// What the proxy's member of Cache-Status says behind the proxy's name, or the text of Refusal.
-    pub reason: Bytes,
+    /// What the reply tells of itself, or why there was none.
+    pub reason: &'a [u8],
     /// From the request's first byte to the reply, or until its client had gone, in milliseconds.
     pub took: u64,
     /// The address of the origin that was asked; empty where none was.
-    pub origin: Bytes,
+    pub origin: &'a [u8],
 }
 
 /// Whether a byte stands for itself in a line.
@@ -66,12 +65,14 @@ fn push_byte(text: &mut Vec<u8>, blanks: bool, b: u8) -> Result<(), AllocError>
 fn are_shown(blanks: bool, bytes: &[u8]) -> bool
     ensures { IsTrue result → logged_text blanks bytes.now ≡ bytes.now }
 {
+    let mut are = true;
+    // No byte ends the loop, so that several are looked at in one step.
     for b in bytes {
         if !stands_for_itself(blanks, *b) {
-            return false;
+            are = false;
         }
     }
-    true
+    are
 }
 
 fn push_shown(text: &mut Vec<u8>, blanks: bool, bytes: &[u8]) -> Result<(), AllocError>
@@ -158,49 +159,54 @@ fn push_last(text: &mut Vec<u8>, bytes: &[u8]) -> Result<(), AllocError>
 
 /// Who asked for what, and when.
 #[tactic(auto, unfolding(crate::specs::Line::log_line_front))]
-fn push_front(text: &mut Vec<u8>, line: &Line) -> Result<(), AllocError>
-    ensures ok { OnOk result (text.new.items ≡ text.old.items ++ log_line_front line.now) }
-    ensures full { OnErr result (vec_capacity text.old < length text.old.items + length (log_line_front line.now)) }
+fn push_front(text: &mut Vec<u8>, line: &Line<'_>) -> Result<(), AllocError>
+    ensures ok { OnOk result (text.new.items ≡ text.old.items ++ log_line_front (words_of line.now)) }
+    ensures full { OnErr result (vec_capacity text.old < length text.old.items + length
+        (log_line_front (words_of line.now))) }
     ensures capacity { vec_capacity text.old ≤ vec_capacity text.new }
     ensures front { take (length text.old.items) text.new.items ≡ text.old.items }
 {
     push_time(text, line.moment)?;
-    push_word(text, line.client.as_slice())?;
-    push_word(text, line.method.as_slice())?;
-    push_word(text, line.target.as_slice())
+    push_word(text, line.client)?;
+    push_word(text, line.method)?;
+    push_word(text, line.target)
 }
 
 /// What it was told.
 #[tactic(auto, unfolding(crate::specs::Line::log_line_answer))]
-fn push_answer(text: &mut Vec<u8>, line: &Line) -> Result<(), AllocError>
-    ensures ok { OnOk result (text.new.items ≡ text.old.items ++ log_line_answer line.now) }
-    ensures full { OnErr result (vec_capacity text.old < length text.old.items + length (log_line_answer line.now)) }
+fn push_answer(text: &mut Vec<u8>, line: &Line<'_>) -> Result<(), AllocError>
+    ensures ok { OnOk result (text.new.items ≡ text.old.items ++ log_line_answer (words_of line.now)) }
+    ensures full { OnErr result (vec_capacity text.old < length text.old.items + length
+        (log_line_answer (words_of line.now))) }
     ensures capacity { vec_capacity text.old ≤ vec_capacity text.new }
     ensures front { take (length text.old.items) text.new.items ≡ text.old.items }
 {
     push_status(text, line.status)?;
     push_number(text, line.length)?;
-    push_shown(text, true, line.reason.as_slice())?;
+    push_shown(text, true, line.reason)?;
     text.extend_from_slice(b" ")
 }
 
 /// How long that took, and which origin was asked.
 #[tactic(auto, unfolding(crate::specs::Line::log_line_end))]
-fn push_end(text: &mut Vec<u8>, line: &Line) -> Result<(), AllocError>
-    ensures ok { OnOk result (text.new.items ≡ text.old.items ++ log_line_end line.now) }
-    ensures full { OnErr result (vec_capacity text.old < length text.old.items + length (log_line_end line.now)) }
+fn push_end(text: &mut Vec<u8>, line: &Line<'_>) -> Result<(), AllocError>
+    ensures ok { OnOk result (text.new.items ≡ text.old.items ++ log_line_end (words_of line.now)) }
+    ensures full { OnErr result (vec_capacity text.old < length text.old.items + length
+        (log_line_end (words_of line.now))) }
     ensures capacity { vec_capacity text.old ≤ vec_capacity text.new }
     ensures front { take (length text.old.items) text.new.items ≡ text.old.items }
 {
     push_time(text, line.took)?;
-    push_last(text, line.origin.as_slice())
+    push_last(text, line.origin)
 }
 
-fn push_parts(text: &mut Vec<u8>, line: &Line) -> Result<(), AllocError>
+fn push_parts(text: &mut Vec<u8>, line: &Line<'_>) -> Result<(), AllocError>
     ensures ok { OnOk result (text.new.items ≡ text.old.items
-        ++ (log_line_front line.now ++ (log_line_answer line.now ++ log_line_end line.now))) }
+        ++ (log_line_front (words_of line.now)
+        ++ (log_line_answer (words_of line.now) ++ log_line_end (words_of line.now)))) }
     ensures full { OnErr result (vec_capacity text.old < length text.old.items + length
-        (log_line_front line.now ++ (log_line_answer line.now ++ log_line_end line.now))) }
+        (log_line_front (words_of line.now)
+        ++ (log_line_answer (words_of line.now) ++ log_line_end (words_of line.now)))) }
     ensures capacity { vec_capacity text.old ≤ vec_capacity text.new }
     ensures front { take (length text.old.items) text.new.items ≡ text.old.items }
 {
@@ -210,20 +216,12 @@ fn push_parts(text: &mut Vec<u8>, line: &Line) -> Result<(), AllocError>
 }
 
 /// Adds the text of a line, with its LF. Its only error is out of memory, where there is no room for the text.
-pub(crate) fn push_line(text: &mut Vec<u8>, line: &Line) -> Result<(), AllocError>
-    ensures ok { OnOk result (text.new.items ≡ text.old.items ++ log_line_text line.now) }
-    ensures full { OnErr result (vec_capacity text.old < length text.old.items + length (log_line_text line.now)) }
+pub(crate) fn push_line(text: &mut Vec<u8>, line: &Line<'_>) -> Result<(), AllocError>
+    ensures ok { OnOk result (text.new.items ≡ text.old.items ++ log_line_text (words_of line.now)) }
+    ensures full { OnErr result (vec_capacity text.old < length text.old.items + length
+        (log_line_text (words_of line.now))) }
     ensures capacity { vec_capacity text.old ≤ vec_capacity text.new }
     ensures front { take (length text.old.items) text.new.items ≡ text.old.items }
 {
     push_parts(text, line)
-}
-
-/// The text of a line, with its LF. Its only error is out of memory.
-pub fn log_line_text(alloc: Global, line: &Line) -> Result<Bytes, AllocError>
-    ensures { IfOk result (λ text. text ≡ log_line_text line.now) }
-{
-    let mut text = Vec::new(alloc);
-    push_line(&mut text, line)?;
-    Ok(Bytes::from_vec(text))
 }

@@ -1,11 +1,16 @@
 //! Lines that wait to be written.
 
 ghost use Rattle.std.specs.Prelude.{◌≡◌, ◌⊎◌, ◌+◌, ◌<◌, ◌++◌, [], length, vec_capacity, OnErr, OnOk};
-ghost use Rattle.proxy_log.specs.Line.{log_line_text};
+ghost use Rattle.proxy_log.specs.Line.{log_line_text, unanswered_reason, words_of};
 ghost use Rattle.proxy_log.specs.PendingLines.{HasNoRoomForLine, LineIsAdded, LineIsLost};
+ghost use Rattle.proxy_log.specs.Replies.{reply_words, unanswered_words};
 
+use crate::asked::Question;
 use crate::line::{Line, push_line};
+use crate::seen::SeenOfReply;
+use hx_status::{About, push_reason};
 use std::alloc::{AllocError, Global};
+use std::mem::replace;
 
 /// Room for so many bytes is kept for the next lines.
 const MOST_KEPT: usize = 65_536;
@@ -15,8 +20,19 @@ const MOST_KEPT: usize = 65_536;
 pub struct Lines {
     alloc: Global,
     text: Vec<u8>,
+    /// Room for what the next line has as its reason.
+    reason: Vec<u8>,
     added: u64,
     lost: u64,
+}
+
+/// Adds why a request was never answered. Its only error is out of memory.
+fn push_unanswered_reason(reason: &mut Vec<u8>, cause: &[u8]) -> Result<(), AllocError>
+    ensures { OnOk result (reason.new.items ≡ reason.old.items ++ unanswered_reason cause.now) }
+{
+    reason.extend_from_slice(b"left;cause=")?;
+    reason.extend_from_slice(cause)?;
+    Ok(())
 }
 
 impl Lines {
@@ -28,15 +44,16 @@ impl Lines {
         Lines {
             alloc,
             text: Vec::new(alloc),
+            reason: Vec::new(alloc),
             added: 0,
             lost: 0,
         }
     }
 
     /// Adds a line. Where there is neither room nor memory for it, it is lost, and counted.
-    pub fn add(&mut self, line: &Line)
-        ensures { LineIsAdded (log_line_text line.now) self.old self.new
-            ⊎ (LineIsLost self.old self.new × HasNoRoomForLine (log_line_text line.now) self.old) }
+    pub fn add(&mut self, line: &Line<'_>)
+        ensures { LineIsAdded (log_line_text (words_of line.now)) self.old self.new
+            ⊎ (LineIsLost self.old self.new × HasNoRoomForLine (log_line_text (words_of line.now)) self.old) }
     {
         match self.write(line) {
             Ok(()) => self.added = self.added.saturating_add(1),
@@ -44,11 +61,75 @@ impl Lines {
         }
     }
 
+    /// Adds the line about a reply that answers a question, and has so many bytes of content. Where there is neither
+    /// room nor memory for it, it is lost, and counted.
+    pub fn add_reply(
+        &mut self,
+        question: &Question,
+        about: &About,
+        content_length: u64,
+        seen: &SeenOfReply<'_>,
+    )
+        ensures { LineIsAdded (log_line_text (reply_words question.now about.now content_length seen.now)) self.old
+            self.new ⊎ LineIsLost self.old self.new }
+    {
+        let mut reason = self.take_reason();
+        match push_reason(&mut reason, &about.told) {
+            Ok(()) => self.add(&Line {
+                moment: seen.moment,
+                client: seen.client,
+                method: question.method.as_slice(),
+                target: question.target.as_slice(),
+                status: about.status,
+                length: content_length,
+                reason: reason.as_slice(),
+                took: seen.took,
+                origin: seen.origin,
+            }),
+            Err(AllocError) => self.lose_line(),
+        }
+        self.reason = reason;
+    }
+
+    /// Adds the line about a request that was never answered, for this cause: it has the status 0, and no byte was
+    /// sent. Where there is neither room nor memory for it, it is lost, and counted.
+    pub fn add_unanswered(&mut self, question: &Question, cause: &[u8], seen: &SeenOfReply<'_>)
+        ensures { LineIsAdded (log_line_text (unanswered_words question.now cause.now seen.now)) self.old self.new
+            ⊎ LineIsLost self.old self.new }
+    {
+        let mut reason = self.take_reason();
+        match push_unanswered_reason(&mut reason, cause) {
+            Ok(()) => self.add(&Line {
+                moment: seen.moment,
+                client: seen.client,
+                method: question.method.as_slice(),
+                target: question.target.as_slice(),
+                status: 0,
+                length: 0,
+                reason: reason.as_slice(),
+                took: seen.took,
+                origin: seen.origin,
+            }),
+            Err(AllocError) => self.lose_line(),
+        }
+        self.reason = reason;
+    }
+
+    /// Takes the room for a reason, which is given back behind the line.
+    fn take_reason(&mut self) -> Vec<u8>
+        ensures empty { result.items ≡ [] }
+        ensures rest { self.new ≡ record self.old { reason = self.new.reason } }
+    {
+        let mut reason = replace(&mut self.reason, Vec::new(self.alloc));
+        reason.clear();
+        reason
+    }
+
     /// Writes a line behind the others, or changes nothing.
-    fn write(&mut self, line: &Line) -> Result<(), AllocError>
-        ensures ok { OnOk result (self.new.text.items ≡ self.old.text.items ++ log_line_text line.now) }
+    fn write(&mut self, line: &Line<'_>) -> Result<(), AllocError>
+        ensures ok { OnOk result (self.new.text.items ≡ self.old.text.items ++ log_line_text (words_of line.now)) }
         ensures err { OnErr result (self.new.text.items ≡ self.old.text.items) }
-        ensures full { OnErr result (HasNoRoomForLine (log_line_text line.now) self.old) }
+        ensures full { OnErr result (HasNoRoomForLine (log_line_text (words_of line.now)) self.old) }
         ensures added { self.new.added ≡ self.old.added }
         ensures lost { self.new.lost ≡ self.old.lost }
     {

@@ -1,9 +1,15 @@
 //! The texts of worked lines, computed from the definitions: each function's contract is the cases, and its body is
 //! empty.
-ghost use Rattle.std.specs.Prelude.{◌≡◌, ◌∷◌, ◌++◌, [], codes, Some, None};
+ghost use Rattle.std.specs.Prelude.{◌≡◌, ◌∷◌, ◌++◌, [], codes, None};
+ghost use Rattle.hx_reuse.specs.declared.rule.ReuseRule.TheVariants.{UriMiss};
+ghost use Rattle.hx_status.specs.Abouts.{reason_text};
+ghost use Rattle.hx_status.specs.declared.about.Told.TheVariants.{Refused, Purged};
+ghost use Rattle.hx_status.specs.declared.cause.Cause.TheVariants.{Denied, Origin};
+ghost use Rattle.hx_status.specs.declared.cause.FailKind.TheVariants.{TimedOut};
 ghost use Rattle.proxy_log.specs.Cases.{get_line, refused_post_line, unread_request_line, line_with_target};
+ghost use Rattle.proxy_log.specs.Cases.{told_of_hit, told_of_stored_miss};
 ghost use Rattle.proxy_log.specs.Line.{log_line_text};
-ghost use Rattle.proxy_log.specs.ReplyFacts.{reply_facts_of};
+ghost use Rattle.proxy_log.specs.TextLines.{content_of};
 
 /// A miss, a hit, a denial with its blanks, a content that is refused, and what couldn't be read.
 pub fn lines_are_written()
@@ -31,23 +37,30 @@ pub fn bytes_that_break_a_line_are_escaped()
         ≡ codes "0.007 127.0.0.1:40001 GET \\x00\\x1B! 400 13 refused: form 0.000 -\n" }
 {}
 
-/// Answers of an origin and of the store, a refusal, the answer to a purge, an interim response, and what stands behind
-/// a head.
-pub fn replies_name_their_reasons()
-    ensures last { reply_facts_of
-        (codes "HTTP/1.1 200 OK\r\nCache-Status: o;hit\r\nCache-Status: p;fwd=uri-miss;stored\r\nContent-Length: 2\r\n\r\nhi") ≡ Some (200, (codes "fwd=uri-miss;stored", codes "hi")) }
-    ensures refusal { reply_facts_of
-        (codes "HTTP/1.1 403 Forbidden\r\nRefusal: denied by line 1\r\nConnection: close\r\n\r\ndenied by line 1")
-        ≡ Some (403, (codes "denied by line 1", codes "denied by line 1")) }
-    ensures purge { reply_facts_of (codes "HTTP/1.1 204 No Content\r\nPurged: 2\r\n\r\n")
-        ≡ Some (204, (codes "Purged: 2", [])) }
-    ensures others_purge { reply_facts_of (codes "HTTP/1.1 204 No Content\r\nPurged: 2\r\nCache-Status: p;fwd=method\r\n\r\n")
-        ≡ Some (204, (codes "fwd=method", [])) }
-    ensures others_refusal { reply_facts_of (codes "HTTP/1.1 404 Not Found\r\nRefusal: o\r\nCache-Status: p;hit;ttl=9\r\n\r\n")
-        ≡ Some (404, (codes "hit;ttl=9", [])) }
-    ensures content { reply_facts_of (codes "HTTP/1.1 200 OK\r\nCache-Status: p;hit\r\n\r\nCache-Status: o;fwd=miss\r\n\r\n")
-        ≡ Some (200, (codes "hit", codes "Cache-Status: o;fwd=miss\r\n\r\n")) }
-    ensures interim { reply_facts_of (codes "HTTP/1.1 100 Continue\r\n\r\n") ≡ None }
-    ensures early { reply_facts_of (codes "HTTP/1.1 103 Early Hints\r\nCache-Status: p;hit\r\n\r\n") ≡ None }
-    ensures silent { reply_facts_of (codes "HTTP/1.1 200 OK\r\n\r\nRefusal: x\r\n\r\n") ≡ None }
+/// A hit, an answer that was stored, a refusal, a failure of an origin, and the answer to a purge, as lines tell them.
+pub fn replies_are_told_as_they_are()
+    ensures hit { log_line_text (get_line 7 (reason_text (told_of_hit 599)) 0 [])
+        ≡ codes "0.007 127.0.0.1:40001 GET http://h/a 200 5 hit;ttl=599 0.000 -\n" }
+    ensures stored { log_line_text (get_line 7 (reason_text (told_of_stored_miss 600)) 12 (codes "127.0.0.1:8081"))
+        ≡ codes "0.007 127.0.0.1:40001 GET http://h/a 200 5 fwd=uri-miss;ttl=600;stored 0.012 127.0.0.1:8081\n" }
+    ensures denied { log_line_text (get_line 7 (reason_text (Refused (Denied 1))) 0 [])
+        ≡ codes "0.007 127.0.0.1:40001 GET http://h/a 200 5 denied by line 1 0.000 -\n" }
+    ensures failed { log_line_text (get_line 7 (reason_text (Refused (Origin TimedOut UriMiss None))) 9000
+        (codes "127.0.0.1:8081"))
+        ≡ codes "0.007 127.0.0.1:40001 GET http://h/a 200 5 origin timed-out;fwd=uri-miss 9.000 127.0.0.1:8081\n" }
+    ensures purged { log_line_text (get_line 7 (reason_text (Purged 2)) 0 [])
+        ≡ codes "0.007 127.0.0.1:40001 GET http://h/a 200 5 Purged: 2 0.000 -\n" }
+{}
+
+/// Of an answer, a refusal, an answer without content, a content with an empty line of its own, a head with bare line
+/// ends, and a head that hasn't ended.
+pub fn contents_of_replies()
+    ensures answer { content_of (codes "HTTP/1.1 200 OK\r\nCache-Status: p;hit\r\nContent-Length: 2\r\n\r\nhi") ≡ codes "hi" }
+    ensures refusal { content_of (codes "HTTP/1.1 403 Forbidden\r\nRefusal: denied by line 1\r\n\r\ndenied by line 1")
+        ≡ codes "denied by line 1" }
+    ensures none { content_of (codes "HTTP/1.1 204 No Content\r\nPurged: 2\r\n\r\n") ≡ [] }
+    ensures lines { content_of (codes "HTTP/1.1 200 OK\r\nCache-Status: p;hit\r\n\r\na\r\n\r\nb\r\n\r\n")
+        ≡ codes "a\r\n\r\nb\r\n\r\n" }
+    ensures bare { content_of (codes "HTTP/1.1 200 OK\nCache-Status: p;hit\n\nhi") ≡ codes "hi" }
+    ensures begun { content_of (codes "HTTP/1.1 200 OK\r\nCache-Status: p;hit\r\n") ≡ [] }
 {}

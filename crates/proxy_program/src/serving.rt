@@ -349,7 +349,7 @@ fn reports_of<'a, 'n, R: Net + Clock + Files + AllocGlobal, P: Write + Drop>(
 ) -> Result<Reports<'a, R::File, P>, Fault> {
     let journal = journal_of(rt, service.log, print)?;
     if journal.is_some() {
-        sockets.keep_log();
+        sockets.keep_log(config)?;
     }
     let figures = figures_of(rt, service.stats, config, store, sockets)?;
     Ok(Reports { journal, figures })

@@ -7,3 +7,4 @@ mod draining;
 mod holding;
 pub(crate) mod live_sockets;
 pub(crate) mod reply_log;
+mod table_origins;

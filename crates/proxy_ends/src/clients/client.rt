@@ -1,11 +1,12 @@
 //! A client's stream: where it stands, what it asks for, and what a log needs of it.
+ghost use Rattle.std.specs.Net.Text.{socket_text};
 ghost use Rattle.std.specs.Prelude.{◌≡◌, ◌<◌, ◌≤◌, ◌++◌, length, take, drop, false, [], Some, None, Ok, IfOk, OnOk};
 ghost use Rattle.std.specs.Prelude.{OnErr};
 ghost use Rattle.proxy_ends.specs.Timeouts.{client_has_left, has_lasted_longer, milliseconds_since};
 ghost use Rattle.proxy_ends.specs.GivingWay.{client_is_quiet, client_takes_nothing};
 ghost use Rattle.proxy_reads.specs.Received.{FitsTheBuffer};
 ghost use Rattle.proxy_ends.specs.Departures.{departure_of, departed_client};
-ghost use Rattle.proxy_ends.specs.Logging.{IsLineAboutReply, logged_address};
+ghost use Rattle.proxy_ends.specs.Logging.{LineAboutReplyIsAdded, logged_address};
 ghost use Rattle.proxy_ends.specs.Streams.{client_has_rest, client_may_give, rest_bytes, ClientIsRead};
 ghost use Rattle.proxy_ends.specs.Streams.{number_of_place, client_is_idle, new_client, ClientIsReadOn};
 
@@ -13,7 +14,7 @@ use crate::clients::departures::Departure;
 use crate::limits::SECOND;
 use crate::replies::Reply;
 use proxy_figures::UnansweredCause;
-use proxy_log::{SeenOfReply, UnansweredRequests, line_about};
+use proxy_log::{Lines, SeenOfReply, UnansweredRequests};
 use proxy_pacing::{LEAST_HANDED_IN, Rest, StreamQueue, head_end};
 use proxy_reads::Received;
 use proxy_streams::{Peer, Socket, Stream};
@@ -33,7 +34,8 @@ pub enum Place {
 /// What a log needs of a client.
 #[derive(Drop)]
 pub struct Logged {
-    pub address: SocketAddr,
+    /// The text of its address and port, which each line has.
+    pub address: String,
     /// What it asks for.
     pub asked: UnansweredRequests,
 }
@@ -136,10 +138,11 @@ impl<S: Stream + Drop> Client<S> {
 
     /// Keeps what a log needs: who it is, and what it asks for from now on. An `Err` changes nothing.
     pub fn keep_log(&mut self, address: SocketAddr, max_body: u64) -> Result<(), AllocError>
-        ensures ok { OnOk result (logged_address self.new.logged ≡ Some address) }
+        ensures ok { OnOk result (logged_address self.new.logged ≡ Some (socket_text address)) }
         ensures err { OnErr result (self.new ≡ self.old) }
     {
         let asked = UnansweredRequests::new(self.alloc, max_body);
+        let address = address.to_string(self.alloc)?;
         let logged = Box::new(self.alloc, Logged { address, asked })?;
         self.logged = Some(logged);
         Ok(())
@@ -182,25 +185,24 @@ impl<S: Stream + Drop> Client<S> {
         }
     }
 
-    /// The line about a reply, where a log is kept.
-    pub fn line_about(&mut self, reply: &Reply<'_>) -> Result<Option<proxy_log::Line>, AllocError>
-        ensures about { IfOk result (IsLineAboutReply self.old.logged reply.now) }
-        ensures without { self.old.logged ≡ None → result ≡ Ok None }
+    /// Adds the line about a reply, where a log is kept. Where there is neither room nor memory for it, it is lost, and
+    /// counted.
+    pub fn log_reply(&mut self, reply: &Reply<'_>, lines: &mut Lines)
+        ensures { LineAboutReplyIsAdded self.old.logged reply.now lines.old lines.new }
     {
         let alloc = self.alloc;
         let Some(kept) = &mut self.logged else {
-            return Ok(None);
+            return;
         };
         let logged = &mut **kept;
         let question = logged.asked.next_question(alloc);
-        let address = logged.address.to_string(alloc)?;
         let seen = SeenOfReply {
             moment: reply.moment,
-            client: address.as_str().as_bytes(),
+            client: logged.address.as_str().as_bytes(),
             took: reply.took,
             origin: reply.origin,
         };
-        Ok(Some(line_about(alloc, question, &reply.facts, &seen)?))
+        lines.add_reply(&question, reply.about, reply.length, &seen);
     }
 
     /// Keeps what came and isn't handed in yet. An `Err` changes nothing.

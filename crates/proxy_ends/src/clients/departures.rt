@@ -1,12 +1,12 @@
 //! Clients that go with a request that isn't answered, and what is told of them.
-ghost use Rattle.std.specs.Prelude.{◌≡◌, IfOk, None, Ok};
-ghost use Rattle.proxy_ends.specs.Departures.{IsLineAboutDeparture};
+ghost use Rattle.std.specs.Prelude.{◌≡◌};
+ghost use Rattle.proxy_ends.specs.Departures.{DepartureIsLogged};
 ghost use Rattle.proxy_ends.specs.Timeouts.{milliseconds_since};
 
 use crate::clients::client::Logged;
 use proxy_figures::UnansweredCause;
-use proxy_log::{Line, SeenOfReply, line_about_unanswered};
-use std::alloc::{AllocError, Global};
+use proxy_log::{Lines, SeenOfReply};
+use std::alloc::Global;
 
 /// A client that went with a request that isn't answered.
 #[derive(Drop)]
@@ -36,31 +36,23 @@ impl Departure {
         }
     }
 
-    /// The line about it, where a log is kept: at this moment in milliseconds since 1970, so many milliseconds after
-    /// its request began, where this origin was asked.
-    pub fn line(
-        &mut self,
-        alloc: Global,
-        moment: u64,
-        took: u64,
-        origin: &[u8],
-    ) -> Result<Option<Line>, AllocError>
-        ensures about { IfOk result (IsLineAboutDeparture self.old moment took origin.now) }
-        ensures without { self.old.logged ≡ None → result ≡ Ok None }
+    /// Adds the line about it, where a log is kept: at this moment in milliseconds since 1970, so many milliseconds
+    /// after its request began, where this origin was asked. Where there is neither room nor memory for it, it is
+    /// lost, and counted.
+    pub fn log(&mut self, alloc: Global, moment: u64, took: u64, origin: &[u8], lines: &mut Lines)
+        ensures { DepartureIsLogged self.old moment took origin.now lines.old lines.new }
     {
         let Some(kept) = &mut self.logged else {
-            return Ok(None);
+            return;
         };
         let logged = &mut **kept;
         let question = logged.asked.next_question(alloc);
-        let address = logged.address.to_string(alloc)?;
         let seen = SeenOfReply {
             moment,
-            client: address.as_str().as_bytes(),
+            client: logged.address.as_str().as_bytes(),
             took,
             origin,
         };
-        let cause = self.cause.name().as_bytes();
-        Ok(Some(line_about_unanswered(alloc, question, cause, &seen)?))
+        lines.add_unanswered(&question, self.cause.name().as_bytes(), &seen);
     }
 }

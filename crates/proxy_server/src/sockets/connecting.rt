@@ -45,10 +45,7 @@ impl<'a, R: Net> LiveSockets<'a, R> {
     pub(crate) fn connect_link(&mut self, l: u64, address: SocketAddrV4) -> Result<(), SocketFailed>
         ensures calls { self.new.calls ≡ self.old.calls }
     {
-        // What was shut last has no reply: its request goes forward once more.
-        self.asked.shut(None);
         let Ok(origin) = self.links.origins.place(address) else {
-            self.asked.disconnect_any();
             return Err(SocketFailed);
         };
         let admission = self.links.origins.admit(origin, self.limits.origin_probe);
@@ -56,7 +53,6 @@ impl<'a, R: Net> LiveSockets<'a, R> {
         let is_lost = peer.is_none();
         let link = Link::new(peer, self.now, origin, admission);
         if !self.links.put(l, link, self.now.saturating_add(SECOND)) {
-            self.asked.disconnect_link(l, origin);
             return Err(SocketFailed);
         }
         if is_lost {

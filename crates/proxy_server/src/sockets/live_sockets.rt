@@ -1,31 +1,35 @@
 //! TCP sockets of the system, under the numbers of the engine.
 ghost use Rattle.std.specs.Prelude.{◌≡◌, ◌≤◌, ◌+◌, ◌-◌, ◌/◌, ◌^◌, ◌==◌, if◌then◌else◌, min, length, vec_len};
-ghost use Rattle.std.specs.Prelude.{true, false, option_copied, is_some, IfOk, IsOk, None};
+ghost use Rattle.std.specs.Prelude.{true, false, option_copied, is_some, IfOk, IsOk, OnOk, None};
 ghost use Rattle.proxy_reads.specs.Received.{FitsTheBuffer};
 ghost use Rattle.std.specs.Ordering.{nat_cmp};
 ghost use Rattle.std.specs.BTreeMap.{get};
+ghost use Rattle.hx_allow.specs.declared.limits.TheConstants.{MOST_LINES};
 ghost use Rattle.proxy_figures.specs.KnownOrigins.{some_is_crowded};
+ghost use Rattle.proxy_figures.specs.LineOrigins.{LinesArePlaced};
 ghost use Rattle.proxy_ends.specs.Connecting.{link_is_connecting};
 ghost use Rattle.proxy_ends.specs.OtherEntries.{OtherEntriesStay, ChangesOnlyAtNumber};
 ghost use Rattle.proxy_server.specs.Forgetting.{ClientIsForgotten, LinkIsForgotten};
 ghost use Rattle.proxy_ends.specs.Closing.{StreamIsClosedByNumber};
+ghost use Rattle.proxy_server.specs.OriginsOfLines.{origins_of_lines};
 ghost use Rattle.proxy_server.specs.Paces.{milliseconds_of_moment};
 ghost use Rattle.std.specs.Prelude.{nat_lt};
 ghost use Rattle.slab.specs.Slab.{slab_len};
 
 use crate::pace::turn_end_of;
 use crate::sockets::call_counts::CallCounts;
-use hx_allow::{Config, MOST_LINES};
-use hx_status::FailKind;
+use crate::sockets::table_origins::place_origins;
+use hx_allow::Config;
+use hx_status::{About, FailKind};
 use mio::net::{TcpListener, TcpStream};
 use mio::{Events, Interest, Poll};
 use proxy_ends::{Clients, Departure, Holder, LONGEST_WAIT, Limits, Links, MOST_EVENTS, SECOND};
 use proxy_figures::{
-    AcceptCounts, Asked, CutReason, ReplyCounts, Troubles, Turns, UnansweredCause,
+    AcceptCounts, CutReason, LineOrigins, ReplyCounts, Troubles, Turns, UnansweredCause,
 };
 use proxy_listener::{ListenAt, listen};
 use proxy_log::Lines;
-use proxy_turn::{End, MOST_WORKS, Received, Report, SocketFailed, Sockets, TurnFault};
+use proxy_turn::{End, Received, Report, SocketFailed, Sockets, TurnFault};
 use std::alloc::{AllocError, Global};
 use std::collections::VecDeque;
 use std::io;
@@ -68,8 +72,8 @@ pub struct LiveSockets<'a, R: Net> {
     pub(crate) replies: Option<ReplyCounts>,
     pub(crate) accept_counts: AcceptCounts,
     pub(crate) turns: Turns,
-    /// Who was asked for what goes out next.
-    pub(crate) asked: Asked,
+    /// Which origin the lines of the table have, where replies are counted or a log is kept.
+    pub(crate) line_origins: LineOrigins,
     /// The moment of the turn in milliseconds since 1970, for the log.
     pub(crate) moment: u64,
     /// Milliseconds of the clock that never goes back, at the last wait.
@@ -103,7 +107,7 @@ impl<'a, R: Net> Drop for LiveSockets<'a, R> {
             replies: _,
             accept_counts: _,
             turns: _,
-            asked: _,
+            line_origins: _,
             moment: _,
             now: _,
             calls: _,
@@ -158,11 +162,6 @@ fn list(ready: &mut VecDeque<End>, clients: &mut Clients, end: End) {
     }
 }
 
-/// Whether these bytes are an interim response: the request isn't answered yet.
-fn is_interim(bytes: &[u8]) -> bool {
-    bytes.starts_with(b"HTTP/1.1 1")
-}
-
 /// Hands what a client sent to who reads for the log.
 fn read_piece(
     clients: &mut Clients,
@@ -215,7 +214,7 @@ impl<'a, R: Net> LiveSockets<'a, R> {
             replies: None,
             accept_counts: AcceptCounts::new(),
             turns: Turns::new(),
-            asked: Asked::new(alloc),
+            line_origins: LineOrigins::new(alloc),
             moment: 0,
             now: 0,
             calls: CallCounts::new(),
@@ -229,22 +228,46 @@ impl<'a, R: Net> LiveSockets<'a, R> {
         self.address
     }
 
-    /// Keeps a line about each reply from now on.
-    pub fn keep_log(&mut self)
-        ensures kept { is_some self.new.log ≡ true }
-        ensures rest { self.new ≡ record self.old { log = self.new.log } }
+    /// Takes the origins of the lines of a table: those that replies name, and that are counted. Its only error is out
+    /// of memory.
+    fn take_origins(&mut self, table: &Config) -> Result<(), AllocError>
+        ensures placed { OnOk result (LinesArePlaced
+            (origins_of_lines table.now.lines (min (length table.now.lines) MOST_LINES))
+            self.new.line_origins.places.items self.new.links.origins) }
+        ensures rest { self.new ≡ record self.old {
+          links = self.new.links;
+          line_origins = self.new.line_origins;
+        } }
     {
-        self.log = Some(Lines::new(self.alloc));
+        self.line_origins = place_origins(self.alloc, table, &mut self.links.origins)?;
+        Ok(())
     }
 
-    /// Counts replies from now on, and what the origins of a table do.
-    pub fn keep_counts(&mut self, table: &Config) -> Result<(), AllocError> {
-        let last = table.lines().min(usize::from(MOST_LINES)) as u16;
-        for line in 1..=last {
-            if let Some(address) = table.origin_address(line) {
-                let _ = self.links.origins.place(address)?;
-            }
-        }
+    /// Keeps a line about each reply from now on, which names the origin that the table has for it. Its only error is
+    /// out of memory.
+    pub fn keep_log(&mut self, table: &Config) -> Result<(), AllocError>
+        ensures kept { OnOk result (is_some self.new.log ≡ true) }
+        ensures rest { self.new ≡ record self.old {
+          links = self.new.links;
+          line_origins = self.new.line_origins;
+          log = self.new.log;
+        } }
+    {
+        self.take_origins(table)?;
+        self.log = Some(Lines::new(self.alloc));
+        Ok(())
+    }
+
+    /// Counts replies from now on, and what the origins of a table do. Its only error is out of memory.
+    pub fn keep_counts(&mut self, table: &Config) -> Result<(), AllocError>
+        ensures kept { OnOk result (is_some self.new.replies ≡ true) }
+        ensures rest { self.new ≡ record self.old {
+          links = self.new.links;
+          line_origins = self.new.line_origins;
+          replies = self.new.replies;
+        } }
+    {
+        self.take_origins(table)?;
         self.replies = Some(ReplyCounts::new());
         Ok(())
     }
@@ -391,7 +414,6 @@ impl<'a, R: Net> LiveSockets<'a, R> {
         self.clients.endings.count_cut(CutReason::Room);
         let cause = UnansweredCause::of_cut(CutReason::Room);
         self.departing = self.clients.forget(n, cause);
-        self.asked.disconnect_client();
     }
 
     /// Whether an end is read next, a connection may be taken, or one is to end, of which no event will tell.
@@ -436,7 +458,6 @@ impl<'a, R: Net> LiveSockets<'a, R> {
         ensures { self.new ≡ record self.old {
           lost = self.new.lost;
           clients = self.new.clients;
-          asked = self.new.asked;
           departing = self.new.departing;
         } }
     {
@@ -444,7 +465,6 @@ impl<'a, R: Net> LiveSockets<'a, R> {
             return Some((End::Link(l), kind));
         }
         let lost = self.clients.next_lost()?;
-        self.asked.disconnect_client();
         self.departing = lost.departure;
         Some((End::Client(lost.number), FailKind::Closed))
     }
@@ -454,14 +474,13 @@ impl<'a, R: Net> LiveSockets<'a, R> {
     pub fn note_lost(&mut self, end: End, link: Option<u64>)
         ensures { self.new ≡ record self.old {
           links = self.new.links;
-          asked = self.new.asked;
           departing = self.new.departing;
           log = self.new.log;
         } }
     {
         match end {
             End::Listener => {}
-            End::Link(l) => self.end_failed(l),
+            End::Link(l) => self.links.remove(l, self.now),
             End::Client(_) => {
                 let departure = self.departing.take();
                 self.log_departure(departure, link);
@@ -474,18 +493,6 @@ impl<'a, R: Net> LiveSockets<'a, R> {
         self.log.is_some() || self.replies.is_some()
     }
 
-    /// Takes a link out that has failed.
-    fn end_failed(&mut self, l: u64)
-        ensures { self.new ≡ record self.old { links = self.new.links; asked = self.new.asked } }
-    {
-        let place = self.links.remove(l, self.now);
-        if self.notes_replies() {
-            if let Some(place) = place {
-                self.asked.disconnect_link(l, place);
-            }
-        }
-    }
-
     /// A turn was served that read these ends. Those that may give more are read again.
     pub fn note_turn(&mut self, ends: &[End], reported: Result<Report, TurnFault>) {
         for end in ends {
@@ -493,12 +500,6 @@ impl<'a, R: Net> LiveSockets<'a, R> {
         }
         self.turns.count(turn_end_of(reported));
         self.count_lost_lines();
-        if let Ok(report) = reported {
-            // All that was due was done.
-            if report.works < MOST_WORKS {
-                self.asked.clear();
-            }
-        }
     }
 
     /// An end that is to be looked at: whether a time of it is over.
@@ -573,7 +574,6 @@ impl<'a, R: Net> LiveSockets<'a, R> {
             End::Client(n) => {
                 let cause = self.clients.count_forgotten(n, self.now);
                 self.departing = self.clients.forget(n, cause);
-                self.asked.disconnect_client();
             }
             End::Link(l) => {
                 self.links.count_overtime(l, self.now, &self.limits);
@@ -582,21 +582,21 @@ impl<'a, R: Net> LiveSockets<'a, R> {
         }
     }
 
-    fn write_client(&mut self, n: u64, bytes: &[u8])
+    /// Writes to a client: a reply that is this, or an interim response, which answers nothing yet.
+    fn write_client(&mut self, n: u64, bytes: &[u8], about: Option<&About>)
         ensures calls { self.new.calls ≡ self.old.calls }
     {
         if !self.clients.write_to(n, bytes, self.now) {
-            self.asked.disconnect_client();
             return;
         }
-        if !is_interim(bytes) {
-            self.note_answered(n, bytes);
+        if let Some(about) = about {
+            self.note_answered(n, bytes, about);
         }
         self.keep_within();
     }
 
-    /// The request of a client was answered by these bytes: it may be read again.
-    fn note_answered(&mut self, n: u64, bytes: &[u8])
+    /// The request of a client was answered by these bytes, which are this reply: it may be read again.
+    fn note_answered(&mut self, n: u64, bytes: &[u8], about: &About)
         ensures calls { self.new.calls ≡ self.old.calls }
     {
         let Some(key) = self.clients.key_of(n) else {
@@ -605,7 +605,7 @@ impl<'a, R: Net> LiveSockets<'a, R> {
         let took = self.clients.answered(key, self.now);
         self.may_have_room = true;
         if self.notes_replies() {
-            self.note_reply(n, bytes, took);
+            self.note_reply(key, bytes, about, took);
         }
         self.list_again(End::Client(n));
     }
@@ -634,7 +634,7 @@ impl<'a, R: Net> LiveSockets<'a, R> {
         if self.lost.push((l, kind)).is_ok() {
             return Ok(());
         }
-        self.end_failed(l);
+        self.links.remove(l, self.now);
         Err(SocketFailed)
     }
 
@@ -709,11 +709,11 @@ impl<'a, R: Net> Sockets for LiveSockets<'a, R> {
         received
     }
 
-    fn write(&mut self, end: End, bytes: &[u8]) -> Result<(), SocketFailed> {
+    fn write(&mut self, end: End, bytes: &[u8], about: Option<&About>) -> Result<(), SocketFailed> {
         let written = match end {
             End::Listener => Ok(()),
             End::Client(n) => {
-                self.write_client(n, bytes);
+                self.write_client(n, bytes, about);
                 Ok(())
             }
             End::Link(l) => self.write_link(l, bytes),
@@ -731,7 +731,7 @@ impl<'a, R: Net> Sockets for LiveSockets<'a, R> {
     fn shut(&mut self, end: End) -> Result<(), SocketFailed> {
         match end {
             End::Client(n) => self.close_client(n),
-            End::Link(l) => self.asked.shut(self.links.remove(l, self.now)),
+            End::Link(l) => self.links.remove(l, self.now),
             End::Listener => {}
         }
         Ok(())

@@ -1,58 +1,13 @@
 //! What is told of each reply, and of each request that never had one: its line in the log, and what it counts as.
 ghost use Rattle.std.specs.Prelude.{◌≡◌};
-ghost use Rattle.proxy_ends.specs.Departures.{DepartureIsLogged};
-ghost use Rattle.proxy_ends.specs.Logging.{LineAboutReplyIsAdded};
 
 use crate::sockets::live_sockets::LiveSockets;
-use proxy_ends::{Client, Clients, Departure, Reply};
+use hx_status::About;
+use proxy_ends::{Departure, Reply};
 use proxy_figures::sort_of;
-use proxy_log::{Lines, read_reply};
-use std::alloc::Global;
+use proxy_log::content_length;
 use std::mem::replace;
 use std::net::Net;
-
-/// Adds the line about a reply to a client. Where there is no memory for it, it is lost, and counted.
-fn log_line(lines: &mut Lines, client: &mut Client, reply: &Reply<'_>)
-    ensures { LineAboutReplyIsAdded client.old.logged reply.now lines.old lines.new }
-{
-    match client.line_about(reply) {
-        Ok(Some(line)) => lines.add(&line),
-        Ok(None) => {}
-        Err(_) => lines.lose_line(),
-    }
-}
-
-/// Adds the line about a reply to the client of a number, where a log is kept.
-fn log_reply(log: &mut Option<Lines>, clients: &mut Clients, n: u64, reply: &Reply<'_>) {
-    let Some(lines) = log else {
-        return;
-    };
-    let Some(key) = clients.key_of(n) else {
-        return;
-    };
-    if let Some(client) = clients.streams.get_mut(key) {
-        log_line(lines, &mut **client, reply);
-    }
-}
-
-/// Adds the line about a client that went with a request that isn't answered. Where there is no memory for it, it is
-/// lost, and counted.
-fn log_departure(
-    lines: &mut Lines,
-    alloc: Global,
-    departure: &mut Departure,
-    moment: u64,
-    took: u64,
-    origin: &[u8],
-)
-    ensures { DepartureIsLogged departure.old moment took origin.now lines.old lines.new }
-{
-    match departure.line(alloc, moment, took, origin) {
-        Ok(Some(left)) => lines.add(&left),
-        Ok(None) => {}
-        Err(_refused) => lines.lose_line(),
-    }
-}
 
 impl<'a, R: Net> LiveSockets<'a, R> {
     /// Adds the line about a client that went with a request that isn't answered, which had gone forward on this link.
@@ -65,7 +20,7 @@ impl<'a, R: Net> LiveSockets<'a, R> {
         let took = departure.milliseconds_taken(self.now);
         let origin = self.links.origin_of(link);
         let name = self.links.origins.name(origin).as_bytes();
-        log_departure(lines, self.alloc, &mut departure, self.moment, took, name);
+        departure.log(self.alloc, self.moment, took, name, lines);
     }
 
     /// Counts lines about clients that have gone for which there was no memory.
@@ -78,27 +33,28 @@ impl<'a, R: Net> LiveSockets<'a, R> {
         }
     }
 
-    /// Counts a reply that took so many milliseconds, and adds the line about it.
-    pub(crate) fn note_reply(&mut self, n: u64, bytes: &[u8], took: u64)
+    /// Counts a reply that took so many milliseconds, and adds the line about it, to the client of this key.
+    pub(crate) fn note_reply(&mut self, key: usize, bytes: &[u8], about: &About, took: u64)
         ensures calls { self.new.calls ≡ self.old.calls }
     {
-        let Some(facts) = read_reply(bytes) else {
-            return;
-        };
-        let sort = sort_of(facts.reason);
-        let origin = self.asked.origin_of(sort);
-        if let (Some(replies), Some(sort)) = (&mut self.replies, sort) {
-            replies.add(facts.status, &sort, took);
+        let origin = self.line_origins.place(about.origin_line);
+        if let Some(replies) = &mut self.replies {
+            let sort = sort_of(&about.told);
+            replies.add(about.status, &sort, took);
             if let Some(place) = origin {
-                self.links.origins.answered(place, facts.status, &sort);
+                self.links.origins.answered(place, about.status, &sort);
             }
         }
+        let (Some(lines), Some(client)) = (&mut self.log, self.clients.streams.get_mut(key)) else {
+            return;
+        };
         let reply = Reply {
             moment: self.moment,
-            facts,
+            about,
+            length: content_length(bytes),
             took,
             origin: self.links.origins.name(origin).as_bytes(),
         };
-        log_reply(&mut self.log, &mut self.clients, n, &reply);
+        (**client).log_reply(&reply, lines);
     }
 }

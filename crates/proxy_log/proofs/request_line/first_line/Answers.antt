@@ -3,7 +3,7 @@ use Rattle.hx_fields.specs.Names.{cut_at}
 use Rattle.hx_framing.specs.HeadLines.{is_empty_line}
 use Rattle.hx_framing.specs.Version.{without_return}
 use Rattle.proxy_log.specs.Asked.{first_line, first_nonempty_line}
-use Rattle.proxy_log.specs.ReplyFacts.{whole_lines}
+use Rattle.proxy_log.specs.TextLines.{whole_lines}
 use Rattle.proxy_log.proofs.LineSteps.{lines_at, no_lines}
 use Rattle.proxy_log.proofs.request_line.first_line.Goals as goal
 
