@@ -22,6 +22,7 @@ mod replies;
 mod requests;
 mod stored_answers;
 mod tables;
+mod told;
 pub mod trial;
 mod waiting;
 mod words;

@@ -93,7 +93,9 @@ impl Life {
         self.effects.extend_from_slice(text.as_slice())?;
         for effect in effects.iter_mut() {
             match effect {
-                Effect::Client(n, _) | Effect::Close(n) => *n = n.saturating_add(self.connections),
+                Effect::Client(n, _, _) | Effect::Close(n) => {
+                    *n = n.saturating_add(self.connections);
+                }
                 Effect::Forward(l, _, _) | Effect::Drop(l) => *l = l.saturating_add(self.links),
             }
         }

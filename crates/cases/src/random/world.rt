@@ -7,6 +7,7 @@ use super::life::Life;
 use super::log::{Log, Occurred, Step};
 use super::requests::{Asked, push_request};
 use super::tables::Table;
+use super::told::is_told;
 use crate::text::push_item;
 use hx_allow::Config;
 use hx_status::FailKind;
@@ -39,6 +40,8 @@ pub enum Stopped {
     NoRestart,
     /// A replay over the store that a process began with does something else.
     OtherReplay,
+    /// An effect tells something else of a reply than its bytes say.
+    ToldOtherwise,
 }
 
 impl From<AllocError> for Stopped {
@@ -64,6 +67,8 @@ impl fmt::Display for Stopped {
             Stopped::Restless => "the engine comes to no rest",
             Stopped::NoRestart => "no process goes on over its store",
             Stopped::OtherReplay => "a replay over a store does something else",
+            Stopped::ToldOtherwise =>
+                "an effect tells something else of a reply than its bytes say",
         })
     }
 }
@@ -592,7 +597,11 @@ impl World {
 
     fn note_effect(&mut self, effect: &Effect) -> Result<(), Stopped> {
         match effect {
-            Effect::Client(_, _) => {}
+            Effect::Client(_, bytes, about) => {
+                if !is_told(self.alloc, bytes.as_slice(), about)? {
+                    return Err(Stopped::ToldOtherwise);
+                }
+            }
             Effect::Forward(number, _, bytes) => self.open(*number, bytes.as_slice())?,
             Effect::Close(number) => self.callers.retain(|caller| caller.number != *number),
             Effect::Drop(number) => self.links.retain(|link| link.number != *number),

@@ -2,6 +2,7 @@
 ghost use Rattle.std.specs.Prelude.{◌≡◌, length};
 ghost use Rattle.proxy_reads.specs.Received.{FitsTheBuffer};
 
+use hx_status::About;
 use proxy_turn::{End, Received, SocketFailed, Sockets};
 use std::alloc::Global;
 use std::net::SocketAddrV4;
@@ -159,7 +160,12 @@ impl Sockets for MemorySockets {
         }
     }
 
-    fn write(&mut self, end: End, bytes: &[u8]) -> Result<(), SocketFailed> {
+    fn write(
+        &mut self,
+        end: End,
+        bytes: &[u8],
+        _about: Option<&About>,
+    ) -> Result<(), SocketFailed> {
         if self.calls.fails(Call::Write(end)) {
             self.failures = self.failures.saturating_add(1);
             return Err(SocketFailed);

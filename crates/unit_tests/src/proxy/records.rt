@@ -5,6 +5,7 @@ ghost use Rattle.proxy_reads.specs.Received.{FitsTheBuffer};
 use super::first_run::{FIRST_TABLE, engine};
 use super::memory_sockets::give;
 use hx_fields::Bytes;
+use hx_status::About;
 use proxy_record::{RecordFault, Recorder, Recording};
 use proxy_replay::replayed;
 use proxy_script::{Effect, Happening, effects_text};
@@ -107,11 +108,16 @@ impl Crowd {
         }
     }
 
-    fn effect_of(&self, end: End, bytes: &[u8]) -> Result<Effect, AllocError> {
+    fn effect_of(
+        &self,
+        end: End,
+        bytes: &[u8],
+        about: Option<&About>,
+    ) -> Result<Effect, AllocError> {
         let bytes = bytes_of(self.alloc, bytes)?;
         match end {
             End::Link(l) => Ok(Effect::Forward(l, self.address.ok_or(AllocError)?, bytes)),
-            End::Client(n) => Ok(Effect::Client(n, bytes)),
+            End::Client(n) => Ok(Effect::Client(n, bytes, about.copied())),
             End::Listener => Err(AllocError),
         }
     }
@@ -146,8 +152,8 @@ impl Sockets for Crowd {
         }
     }
 
-    fn write(&mut self, end: End, bytes: &[u8]) -> Result<(), SocketFailed> {
-        let effect = self.effect_of(end, bytes);
+    fn write(&mut self, end: End, bytes: &[u8], about: Option<&About>) -> Result<(), SocketFailed> {
+        let effect = self.effect_of(end, bytes, about);
         keep(&mut self.done, &mut self.lost, effect);
         Ok(())
     }

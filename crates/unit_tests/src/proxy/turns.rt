@@ -151,7 +151,7 @@ fn calls_are_logged(rt: HostRuntime) -> Result<(), Fail> {
             LoggedCall::Accept(1, Ok(true)),
             LoggedCall::Read(End::Client(1), LoggedReadOutcome::Bytes(asked)),
             LoggedCall::Connect(1, address, true),
-            LoggedCall::Write(End::Link(1), written, true),
+            LoggedCall::Write(End::Link(1), written, None, true),
         ] => {
             assert!(rt; asked.as_slice() == ASK);
             assert!(rt; *address == SocketAddrV4::new(Ipv4Addr::LOCALHOST, 8081));

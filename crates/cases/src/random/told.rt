@@ -1,0 +1,54 @@
+//! What an effect tells of a reply, beside what the reply's bytes say.
+
+use super::fields::last_value;
+use bstr::ByteSlice;
+use hx_status::{About, push_reason};
+use std::alloc::{AllocError, Global};
+
+/// What the line says that the proxy adds by itself, as a log has it.
+fn said<'a>(head: &'a [u8]) -> Option<&'a [u8]> {
+    if let Some(member) = last_value(head, b"Cache-Status") {
+        let (_name, parameters) = member.split_once_str(b";")?;
+        return Some(parameters);
+    }
+    last_value(head, b"Refusal")
+}
+
+/// Whether the line of a purge says so many.
+fn says_purged(head: &[u8], reason: &[u8]) -> bool {
+    match last_value(head, b"Purged") {
+        Some(count) => reason.strip_prefix(b"Purged: ".as_slice()) == Some(count),
+        None => false,
+    }
+}
+
+/// Whether a status line has these three digits.
+fn has_status(bytes: &[u8], status: u16) -> bool {
+    match bytes.get(9..12) {
+        Some([a, b, c]) if a.is_ascii_digit() && b.is_ascii_digit() && c.is_ascii_digit() => {
+            let number = 100 * u16::from(*a - b'0')
+                + 10 * u16::from(*b - b'0')
+                + u16::from(*c - b'0');
+            number == status
+        }
+        _ => false,
+    }
+}
+
+/// Whether what is told of these bytes is what they say: of an interim response nothing, of a reply its status and its
+/// reason. Its only error is out of memory.
+pub fn is_told(alloc: Global, bytes: &[u8], about: &Option<About>) -> Result<bool, AllocError> {
+    let Some(about) = about else {
+        return Ok(bytes.starts_with(b"HTTP/1.1 100 "));
+    };
+    let Some((head, _content)) = bytes.split_once_str(b"\r\n\r\n") else {
+        return Ok(false);
+    };
+    let mut reason = Vec::new(alloc);
+    push_reason(&mut reason, &about.told)?;
+    let told = match said(head) {
+        Some(said) => said == reason.as_slice(),
+        None => says_purged(head, reason.as_slice()),
+    };
+    Ok(told && has_status(bytes, about.status))
+}
