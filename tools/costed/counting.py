@@ -43,6 +43,20 @@ class Program:
         after = resource.getrusage(resource.RUSAGE_CHILDREN)
         return after.ru_utime + after.ru_stime - before.ru_utime - before.ru_stime
 
+    def used(self, text):
+        """What one replay uses: seconds of the processor, and the bytes that it has at most without its script and its effects, which it
+        holds to its end; and these. GNU time starts it, since what is started from here has this process's memory for its own most."""
+        with tempfile.TemporaryFile() as script, tempfile.TemporaryFile() as effects:
+            script.write(text)
+            script.seek(0)
+            told = subprocess.run(["time", "-f", "%U %S %M", *self.words], stdin=script, stdout=effects, stderr=subprocess.PIPE, check=False)
+            if told.returncode:
+                raise Failed(f"a replay ended with status {told.returncode}")
+            user, system, most = told.stderr.split()
+            effects.seek(0)
+            written = effects.read()
+            return float(user) + float(system), int(most) * 1024 - len(text) - len(written), written
+
     def instructions(self, text):
         """Instructions of one replay with its libraries, by function."""
         with tempfile.TemporaryDirectory(prefix="costs-") as room:

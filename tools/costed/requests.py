@@ -1,6 +1,8 @@
 """Requests that a stranger chooses: each is a stored response's, or goes on to the origin where that is said."""
+import itertools
+
 from costed import FAMILIES
-from costed.scripts import (LINES, Script, again, answer, client, count_of, distinct, filler, head, hits, large, line, link, ordinary, passed,
+from costed.scripts import (LINES, NAMES, Script, again, answer, client, count_of, distinct, filler, head, hits, large, line, link, ordinary, passed,
                             request, short)
 
 TAGGED = b'ETag: "v1"'
@@ -44,6 +46,10 @@ def connection(size, members, names=lambda i: b"%02x" % i):
     return asked(0, *short(names), line(b"Connection", members, large(size)))
 
 
+def letter_or_two(i):
+    return NAMES[i : i + 1] if i < len(NAMES) else b"%02x" % i
+
+
 @family()
 def connection_1(size):
     """Connection: a,a,a.. beside many lines"""
@@ -74,6 +80,31 @@ def connection_one_member(size):
     long = b"n" * (size // LINES // 2)
     lines = [long + b"%02d: v" % i for i in range(LINES)]
     return asked(0, *lines, line(b"Connection", again(long + b"xx"), size // 3))
+
+
+@family()
+def connection_own_name(size):
+    """its members are a line's name of one letter, again and again"""
+    return connection(size, again(b"a"), lambda i: b"%02x" % i if i else b"a")
+
+
+@family()
+def connection_own_letters(size):
+    """its members are the lines' names in turn, of one letter each as far as there are letters"""
+    return connection(size, itertools.cycle(map(letter_or_two, range(len(NAMES)))), letter_or_two)
+
+
+@family()
+def connection_own_names(size):
+    """its members are the names of all lines in turn"""
+    return connection(size, itertools.cycle(b"%02x" % i for i in range(LINES)))
+
+
+@family()
+def connection_own_long_names(size):
+    """the same, of names that differ in the last letters alone"""
+    own = [LONG_NAME + b"%03d" % i for i in range(LINES)]
+    return connection(size, itertools.cycle(own), own.__getitem__)
 
 
 # What a list is filled with. An open quote runs to the end of its line.

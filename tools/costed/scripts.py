@@ -24,8 +24,8 @@ class Script:
     """What is played once, and then N times: `each(i)` is the i-th time, from 0 on. Each time the effects have to have `says`
     once more, so that what is counted is what is meant."""
 
-    def __init__(self, before, each, says=b"Cache-Status: edge;hit"):
-        self.before, self.each, self.says = b"config %d\n%s\nat 100\naccept 1\n" % (len(TABLE), TABLE) + before, each, says
+    def __init__(self, before, each, says=b"Cache-Status: edge;hit", table=TABLE):
+        self.before, self.each, self.says = b"config %d\n%s\nat 100\naccept 1\n" % (len(table), table) + before, each, says
 
     def text(self, times, start=0):
         return self.before + b"".join(self.each(i) for i in range(start, start + times))

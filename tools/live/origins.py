@@ -83,19 +83,18 @@ def failures_of_several_origins_at_once(stage):
 
 @scenario
 def failures_at_once_and_a_client_that_leaves(stage):
-    """Three origins are silent for too long, and a client has left, between two turns: nothing tells which of them the replies are of, so none
-    is named and none counted. Where all that failed are of one origin, the replies are of it."""
+    """Three origins are silent for too long, and a client has left, between two turns: each reply is of its own origin."""
     # (what b left unanswered adds up to an origin that counts as silent, of which a warning may come in time or not)
     it = Three(stage, "--origin-timeout", str(SHORT), "--origin-probe", "off", records=False)
     clients = it.waiting("abc")
     it.halted(lambda: clients[1].leave(reset=True), SHORT + 2)
-    for client in (clients[0], clients[2]):
-        it.expect_told(client, 504, "origin timed-out;fwd=uri-miss", None)
+    for client, name in ((clients[0], "a"), (clients[2], "c")):
+        it.expect_told(client, 504, "origin timed-out;fwd=uri-miss", name)
     clients = it.waiting("bbb")
     it.halted(lambda: clients[1].leave(reset=True), SHORT + 2)
     for client in (clients[0], clients[2]):
         it.expect_told(client, 504, "origin timed-out;fwd=uri-miss", "b")
-    it.expect_failures("timed-out", {"a": 0, "b": 2, "c": 0})
+    it.expect_failures("timed-out", {"a": 1, "b": 2, "c": 1})
 
 
 @scenario
