@@ -115,7 +115,7 @@ STATES = [
     State("connected", "connections that have asked once", connected, all_are_answered, 64, 16384, 1.1, 500),
     State("lines", "lines of a table, of which the last allows", lines, none_is_answered, 1, 4096, 2, 3000),
     State("responses", "stored responses", responses, all_are_stored, 64, 65536, 1.1, 900),
-    State("variants", "variants of one target", variants, all_are_stored, 4096, 65536, 40, 1200, is_timed=True),
+    State("variants", "variants of one target", variants, all_are_stored, 4096, 65536, 100, 1200, is_timed=True),
 ]
 
 
