@@ -41,6 +41,7 @@ pub mod OneOutcome
 pub mod Purged
 pub mod Expiring
 pub mod Told
+pub mod ToldSteps
 mod PurgesExpire
 mod PurgeSteps
 mod Refusals

@@ -9,6 +9,7 @@ pub mod Awaiting
 pub mod Revalidating
 pub mod Scopes
 pub mod Outcomes
+pub mod ToldSteps
 pub mod State
 pub mod Arrivals
 pub mod Starts
