@@ -1,4 +1,5 @@
 pub mod PlaceSteps
+pub mod QuietBlocks
 pub mod HeadEnds
 pub mod HeadSearches
 pub mod UnreadLemmas

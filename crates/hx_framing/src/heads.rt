@@ -3,6 +3,7 @@
 pub(crate) mod head_end;
 pub(crate) mod head_fields;
 pub(crate) mod judging;
+pub(crate) mod quiet_blocks;
 pub(crate) mod request_head;
 pub(crate) mod status_head;
 pub(crate) mod version;

@@ -4,6 +4,7 @@ ghost use Rattle.hx_framing.specs.HeadEnd.{empty_line_at, empty_lines_from, head
 ghost use Rattle.hx_framing.specs.HeadEnd.{head_end_from, head_length};
 ghost use Rattle.hx_framing.specs.Searching.{SearchReaches, IsSearchResult};
 
+use crate::heads::quiet_blocks::behind_quiet_blocks;
 use crate::slices::{first_bytes, rest_from};
 use memchr::memchr;
 
@@ -80,14 +81,14 @@ pub(crate) fn empty_lines_length(bytes: &[u8]) -> usize
     empty_lines_from(bytes, 0)
 }
 
-/// Where the first empty line from an index on ends. The search goes from one LF to the next.
+/// Where the first empty line from an index on ends. Behind blocks without one the search goes from LF to LF.
 fn head_end_from(bytes: &[u8], from: usize) -> Option<usize>
     requires { from ≤ length bytes.now }
     ensures place { result ≡ head_end_from from (drop from bytes.now) }
     ensures within { IfSome result (λ end. end ≤ length bytes.now) }
     ensures some { IfSome result (λ end. 0 < end) }
 {
-    let mut at = from;
+    let mut at = behind_quiet_blocks(bytes, from);
     while let Some(skipped) = memchr(b'\n', rest_from(bytes, at)) {
         at += skipped;
         let empty = head_end_at(rest_from(bytes, at));
