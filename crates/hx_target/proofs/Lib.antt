@@ -6,4 +6,5 @@ pub mod Cases
 pub mod JudgedCases
 pub mod Judgements
 pub mod Unchanged
+pub mod OriginForms
 pub mod Digits

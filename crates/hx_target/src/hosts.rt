@@ -74,7 +74,7 @@ pub fn is_host(text: &[u8]) -> bool
 }
 
 /// Where a byte first stands, or the length.
-fn index_of(byte: u8, text: &[u8]) -> usize
+pub(crate) fn index_of(byte: u8, text: &[u8]) -> usize
     ensures place { result ≡ index_of byte text.now }
     ensures bound { result ≤ length text.now }
 {

@@ -12,6 +12,7 @@ mod key_order;
 mod keys;
 pub mod laws;
 mod limits;
+mod origin_form;
 mod paths;
 mod sharing;
 mod target_fault;

@@ -66,7 +66,7 @@ pub(crate) fn compared_path(alloc: Global, path: &[u8], whole: &Bytes) -> Result
     }
 }
 
-fn has_percent_sign(text: &[u8]) -> bool
+pub(crate) fn has_percent_sign(text: &[u8]) -> bool
     ensures { result ≡ list_any (λ b. b == 37) text.now }
 {
     text.contains(&b'%')

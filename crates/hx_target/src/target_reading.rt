@@ -1,6 +1,7 @@
 //! Reading a target. The law is `TargetIsJudged` in `specs/Judgement.antt`.
 //!
-//! A target is cut by `http_uri`; what is read here are the parts that it gives.
+//! A target in origin form mostly stands as it is judged (`origin_form`). Any other is cut by `http_uri`; what is read
+//! here are the parts that it gives.
 ghost use Rattle.std.specs.Prelude.{◌≡◌, ◌==◌, ◌||◌, ◌&&◌, not, codes, Err, Ok, None, false, slice_index, is_some};
 ghost use Rattle.std.specs.Prelude.{true, IfErr, IfOk, IfSome, MatchResult};
 ghost use Rattle.std.specs.List.{list_any};
@@ -17,6 +18,7 @@ ghost use Rattle.hx_target.specs.Judgement.{TargetIsJudged};
 
 use crate::hosts::{has_valid_host, host_part, index_after_last, port_part};
 use crate::limits::MOST_TARGET_BYTES;
+use crate::origin_form::{is_plain_origin_form, judge_origin_form};
 use crate::sharing::{compared_path, copy_of, host_line, lower_host};
 use crate::{Key, Target, TargetFault, has_bad_escape, names_a_dot_segment};
 use http_uri::{PathAndQuery, Uri, UriError};
@@ -61,7 +63,7 @@ fn has_other_scheme(uri: &Uri) -> bool
 }
 
 /// The value of the only Host line, where its host is valid.
-fn host_value(fields: &Fields) -> Option<&Bytes>
+pub(crate) fn host_value(fields: &Fields) -> Option<&Bytes>
     ensures value { option_copied result ≡ host_value (values_of fields.now (codes "Host")) }
     ensures valid { IfSome result (λ value. has_valid_host value.now ≡ true) }
 {
@@ -246,6 +248,9 @@ pub fn read_target(alloc: Global, target: &Bytes, fields: &Fields) -> Result<Tar
     ensures memory_last { result ≡ Err TargetFault.OutOfMemory → is_malformed target.now ≡ false }
 {
     let text = target.as_slice();
+    if is_plain_origin_form(text) {
+        return judge_origin_form(alloc, target, fields);
+    }
     if is_malformed(text) {
         return Err(TargetFault::Form);
     }
