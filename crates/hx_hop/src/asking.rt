@@ -46,7 +46,8 @@ fn stripped_of_many(alloc: Global, fields: &Fields) -> Result<Stripped, AllocErr
 fn keep_few(alloc: Global, fields: &Fields, named: &Members) -> Result<Fields, AllocError>
     ensures { IfOk result (λ kept. kept ≡ filter (line_goes_on named.now) fields.now) }
 {
-    let mut kept = Fields::with_capacity(alloc, fields.len())?;
+    // The Host line stays behind, and mostly it is the only one that does: where it stands alone no memory is taken.
+    let mut kept = Fields::with_capacity(alloc, fields.len().saturating_sub(1))?;
     for line in fields.as_slice() {
         if line_goes_on(named, line) {
             kept.push_line(line.copy(alloc)?)?;
