@@ -5,6 +5,7 @@ ghost use Rattle.hx_status.specs.Abouts.{about_refusal, about_purge, reason_text
 use crate::cache_status::push_handled;
 use crate::cause::Cause;
 use crate::own_replies::{push_refusal, refusal_status};
+use crate::question::Question;
 use crate::status::Status;
 use itoa::Buffer;
 use std::alloc::AllocError;
@@ -28,6 +29,14 @@ pub struct About {
     pub told: Told,
     /// The line of the operator's table whose origin was asked for it, from 1; none where no origin was asked.
     pub origin_line: Option<u16>,
+}
+
+/// What a reply is, and what it answers.
+#[derive(Drop)]
+pub struct Replied {
+    pub about: About,
+    /// What its client asked for; none where the head of the request couldn't be read, or its content.
+    pub question: Option<Question>,
 }
 
 impl About {

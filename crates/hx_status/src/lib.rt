@@ -9,11 +9,13 @@ mod cache_status;
 mod cause;
 pub mod laws;
 mod own_replies;
+mod question;
 mod status;
 mod worked_cases;
 
-pub use crate::about::{About, Told, push_reason};
+pub use crate::about::{About, Replied, Told, push_reason};
 pub use crate::cache_status::member;
 pub use crate::cause::{Cause, FailKind};
 pub use crate::own_replies::refusal;
+pub use crate::question::{AskedTarget, Question};
 pub use crate::status::{Detail, How, Status};
