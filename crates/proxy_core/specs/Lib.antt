@@ -1,6 +1,7 @@
 pub mod Moments
 pub mod Replies
 pub mod Abouts
+pub mod AnsweredRequests
 pub mod Storing
 pub mod Leading
 pub mod LeadingOn

@@ -33,7 +33,7 @@ pub use crate::open::awaited::Awaited;
 pub use crate::open::exchange::Exchange;
 pub use crate::open::ids::Ids;
 pub use crate::open::stage::Stage;
-pub use crate::outcome::{Outcome, Reply, Run};
+pub use crate::outcome::{Outcome, Reply, Run, Step};
 pub use crate::replies::reply_text::{is_head, refused};
 pub use crate::runs::run;
 pub use crate::steps::condition::Condition;

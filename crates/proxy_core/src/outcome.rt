@@ -3,6 +3,7 @@
 use crate::core_fault::CoreFault;
 use hx_allow::Route;
 use hx_fields::Bytes;
+use hx_hop::Asked;
 use hx_status::About;
 use hx_store::Serials;
 
@@ -39,6 +40,14 @@ pub enum Outcome {
     Ended,
     /// The request waits no more, and nothing is sent yet: it may be woken.
     WaitsNoMore,
+}
+
+/// What a step of an open exchange gave.
+#[derive(Drop)]
+pub struct Step {
+    pub outcome: Outcome,
+    /// The request that it answered, where it ended the exchange by a reply.
+    pub asked: Option<Asked>,
 }
 
 /// What a run gave: the outcomes of the events in order, and the fault of the first that was refused.

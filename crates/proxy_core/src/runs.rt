@@ -23,9 +23,11 @@ impl<S: Shelf> Core<S> {
     {
         match event {
             Event::Arrive(now, id, asked) => self.arrive(alloc, *now, *id, asked),
-            Event::Answer(now, id, response) => self.answer(alloc, *now, *id, response),
-            Event::Fail(now, id, kind) => self.fail(alloc, *now, *id, *kind),
-            Event::Wake(now, id) => self.wake(alloc, *now, *id),
+            Event::Answer(now, id, response) => {
+                Ok(self.answer(alloc, *now, *id, response)?.outcome)
+            }
+            Event::Fail(now, id, kind) => Ok(self.fail(alloc, *now, *id, *kind)?.outcome),
+            Event::Wake(now, id) => Ok(self.wake(alloc, *now, *id)?.outcome),
             Event::Abandon(id) => self.abandon(*id),
             Event::Overdue(id) => self.overdue(*id),
         }

@@ -41,6 +41,27 @@ pub struct Exchange {
 }
 
 impl Exchange {
+    /// Its request.
+    pub(crate) fn into_asked(self) -> Asked
+        ensures { result ≡ self.asked }
+    {
+        let Exchange {
+            id: _,
+            asked,
+            line: _,
+            vary: _,
+            removes_cookies: _,
+            rule: _,
+            named: _,
+            request_time: _,
+            condition: _,
+            overtaken: _,
+            no_store: _,
+            stage: _,
+        } = self;
+        asked
+    }
+
     /// Its request goes forward, with this rule, the held response that it names, and these conditions of the proxy.
     pub(crate) fn go_forward(
         &mut self,

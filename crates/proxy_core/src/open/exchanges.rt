@@ -182,12 +182,14 @@ impl Exchanges {
         Ok(ids)
     }
 
-    /// The exchange of an id ends, and releases those that wait for it. No memory is taken.
-    pub(crate) fn close(&mut self, id: u64)
-        ensures { self.new ≡ exchanges_after_close id self.old }
+    /// The exchange of an id ends, and releases those that wait for it. Gives it. No memory is taken.
+    pub(crate) fn close(&mut self, id: u64) -> Option<Exchange>
+        ensures after { self.new ≡ exchanges_after_close id self.old }
+        ensures taken { result ≡ find_exchange id self.old }
     {
-        self.remove_from_index(id);
+        let taken = self.remove_from_index(id);
         self.release(id);
+        taken
     }
 
     /// The client of the exchange of an id goes away before its answer. The first of those that wait for it and may
@@ -200,9 +202,11 @@ impl Exchanges {
         match self.next_leader(config, id) {
             Some(next) => {
                 self.lead_on(config, next, id)?;
-                self.remove_from_index(id);
+                let _ = self.remove_from_index(id);
             }
-            None => self.close(id),
+            None => {
+                let _ = self.close(id);
+            }
         }
         Ok(())
     }
@@ -244,18 +248,20 @@ impl Exchanges {
         Ok(())
     }
 
-    fn remove_from_index(&mut self, id: u64)
-        ensures { self.new ≡ filter (λ x. not (x.id == id)) self.old }
+    /// Takes the exchange of an id out.
+    fn remove_from_index(&mut self, id: u64) -> Option<Exchange>
+        ensures after { self.new ≡ filter (λ x. not (x.id == id)) self.old }
+        ensures taken { result ≡ find_exchange id self.old }
     {
-        if let Some(arrival) = self.arrivals.remove(&id) {
-            remove(
-                &mut self.by_arrival,
-                &mut self.waiting,
-                &mut self.by_key,
-                arrival,
-            );
-            self.released.settle(&self.by_arrival);
-        }
+        let arrival = self.arrivals.remove(&id)?;
+        let taken = remove(
+            &mut self.by_arrival,
+            &mut self.waiting,
+            &mut self.by_key,
+            arrival,
+        );
+        self.released.settle(&self.by_arrival);
+        taken
     }
 
     /// Those that wait for the exchange of an id wait no longer.
@@ -330,16 +336,18 @@ impl Exchanges {
         Ok(())
     }
 
-    /// The exchange of an id ends, and the others of an invalidated key are overtaken. No memory is taken.
-    pub(crate) fn leave(&mut self, id: u64, invalidated: Option<&Key>)
-        ensures { self.new
+    /// The exchange of an id ends, and the others of an invalidated key are overtaken. Gives it. No memory is taken.
+    pub(crate) fn leave(&mut self, id: u64, invalidated: Option<&Key>) -> Option<Exchange>
+        ensures after { self.new
             ≡ exchanges_after_end (option_map target_alone (option_copied invalidated.entry)) id self.old }
+        ensures taken { result ≡ find_exchange id self.old }
     {
-        self.close(id);
+        let taken = self.close(id);
         match invalidated {
             Some(key) => self.overtake(key),
             None => {}
         }
+        taken
     }
 
     /// Marks each exchange of a key that was invalidated or purged. It goes through those alone.
@@ -461,13 +469,14 @@ fn leave_for_origin(
     Ok(())
 }
 
-/// Takes the exchange of an arrival out, also of the indexes of keys and of those that wait.
+/// Takes the exchange of an arrival out, also of the indexes of keys and of those that wait. Gives it.
 fn remove(
     by_arrival: &mut BTreeMap<u64, Exchange>,
     waiting: &mut WaitIndex,
     by_key: &mut ArrivalsByKey,
     arrival: u64,
-)
+) -> Option<Exchange>
+    ensures taken { result ≡ get nat_cmp by_arrival.old arrival }
     ensures entries { by_arrival.new.entries ≡ remove_entry (is_at (nat_cmp arrival)) by_arrival.old.entries }
     ensures left { ForSome (get nat_cmp by_arrival.old arrival)
         (λ x. WaiterHasLeft x.stage arrival waiting.old waiting.new) }
@@ -478,10 +487,10 @@ fn remove(
     ensures trim_waits { HasNoEmptyWaiterSets waiting.old → HasNoEmptyWaiterSets waiting.new }
     ensures trim_keys { HasNoEmptyKeysInEither by_key.old → HasNoEmptyKeysInEither by_key.new }
 {
-    if let Some(x) = by_arrival.remove(&arrival) {
-        waiting.leave(x.stage, arrival);
-        by_key.leave(&x, arrival);
-    }
+    let taken = by_arrival.remove(&arrival)?;
+    waiting.leave(taken.stage, arrival);
+    by_key.leave(&taken, arrival);
+    Some(taken)
 }
 
 /// The first of these arrivals, among which all GETs of a key are that are at the origin, that others wait for.

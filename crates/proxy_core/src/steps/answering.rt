@@ -10,7 +10,8 @@ ghost use Rattle.proxy_core.specs.Replies.{passed_answer_text};
 ghost use Rattle.proxy_core.specs.Storing.{storing_rule_to_explain};
 ghost use Rattle.proxy_core.specs.Outcomes.{is_error_status, outcome_of_passing_on, outcome_of_passing_on_or_stale};
 ghost use Rattle.proxy_core.specs.Outcomes.{fallback_for, outcome_of_answer};
-ghost use Rattle.proxy_core.specs.Outcomes.{serial_of_stored_answer};
+ghost use Rattle.proxy_core.specs.AnsweredRequests.{request_answered};
+ghost use Rattle.proxy_core.specs.Outcomes.{find_exchange, serial_of_stored_answer};
 ghost use Rattle.proxy_core.specs.declared.event.Event.TheVariants.{Answer};
 ghost use Rattle.proxy_core.specs.State.{StepIsAccepted, StepIsRefusedWith};
 ghost use Rattle.proxy_core.specs.Pending.{outcome_of_pending_reply, StoresUnderNextSerial, ChangeIsMadeByAnswer};
@@ -20,7 +21,7 @@ ghost use Rattle.proxy_core.specs.Pending.{outcome_after, AnswerLeavesHeldAsStep
 use crate::core_fault::CoreFault;
 use crate::core_state::Core;
 use crate::moments::moment_fault;
-use crate::outcome::Outcome;
+use crate::outcome::Step;
 use crate::replies::origin_answer::OriginAnswer;
 use crate::replies::pending::{AfterAnswer, Change, PendingReply};
 use crate::replies::reply_text::{PassedAnswerInfo, passed_answer_text, ttl_of_passed_answer};
@@ -234,8 +235,11 @@ impl<S: Shelf> Core<S> {
         now: u64,
         id: u64,
         response: &Response,
-    ) -> Result<Outcome, CoreFault>
-        ensures ok { IfOk result (λ outcome. StepIsAccepted self.old (Answer now id response.now) outcome self.new) }
+    ) -> Result<Step, CoreFault>
+        ensures ok { IfOk result
+            (λ step. StepIsAccepted self.old (Answer now id response.now) step.outcome self.new) }
+        ensures asked { IfOk result (λ step. step.asked
+            ≡ request_answered (find_exchange id self.old.exchanges) step.outcome) }
         ensures err { IfErr result (λ fault. StepIsRefusedWith self.old (Answer now id response.now) fault) }
         ensures unchanged { OnErr result (self.new ≡ self.old) }
     {
@@ -249,7 +253,10 @@ impl<S: Shelf> Core<S> {
         let line = x.line;
         match self.follow_answer(alloc, &answer)? {
             AfterAnswer::Ends(pending) => Ok(self.finish(id, pending, invalidated)?),
-            AfterAnswer::GoesOn(bytes) => Ok(self.go_on(id, now, line, bytes)?),
+            AfterAnswer::GoesOn(bytes) => Ok(Step {
+                outcome: self.go_on(id, now, line, bytes)?,
+                asked: None,
+            }),
         }
     }
 }

@@ -1,11 +1,13 @@
 //! The origin of an exchange failed.
 ghost use Rattle.std.specs.Prelude.{◌≡◌, ◌<◌, IfOk, IfErr, OnErr};
+ghost use Rattle.proxy_core.specs.AnsweredRequests.{request_answered};
+ghost use Rattle.proxy_core.specs.Outcomes.{find_exchange};
 ghost use Rattle.proxy_core.specs.declared.event.Event.TheVariants.{Fail};
 ghost use Rattle.proxy_core.specs.State.{StepIsAccepted, StepIsRefusedWith};
 
 use crate::core_fault::CoreFault;
 use crate::core_state::Core;
-use crate::outcome::Outcome;
+use crate::outcome::Step;
 use hx_status::FailKind;
 use hx_store::Shelf;
 use std::alloc::Global;
@@ -19,8 +21,10 @@ impl<S: Shelf> Core<S> {
         now: u64,
         id: u64,
         kind: FailKind,
-    ) -> Result<Outcome, CoreFault>
-        ensures ok { IfOk result (λ outcome. StepIsAccepted self.old (Fail now id kind) outcome self.new) }
+    ) -> Result<Step, CoreFault>
+        ensures ok { IfOk result (λ step. StepIsAccepted self.old (Fail now id kind) step.outcome self.new) }
+        ensures asked { IfOk result (λ step. step.asked
+            ≡ request_answered (find_exchange id self.old.exchanges) step.outcome) }
         ensures err { IfErr result (λ fault. StepIsRefusedWith self.old (Fail now id kind) fault) }
         ensures unchanged { OnErr result (self.new ≡ self.old) }
     {

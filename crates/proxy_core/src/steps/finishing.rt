@@ -2,17 +2,21 @@
 ghost use Rattle.std.specs.Prelude.{◌≡◌, ◌<◌, ◌-◌, ◌^◌, ◌∷◌, [], map, false, IfOk, IfSome, OnOk, OnErr, option_copied};
 ghost use Rattle.hx_store.specs.Shelf.{holds_serial, without_serials};
 ghost use Rattle.hx_store.specs.Weights.{cut_to_bounds, front_of_weight_if_any, weight_of};
+ghost use Rattle.proxy_core.specs.AnsweredRequests.{request_of_exchange};
+ghost use Rattle.proxy_core.specs.Outcomes.{find_exchange};
 ghost use Rattle.proxy_core.specs.State.{entries_without_serials, next_serial_after, exchange_forwarded_again};
 ghost use Rattle.proxy_core.specs.State.{exchange_sent_forward};
 ghost use Rattle.proxy_core.specs.Pending.{outcome_of_pending_reply, entries_after_change, state_after_reply};
 ghost use Rattle.proxy_core.specs.Pending.{StoresUnderNextSerial, StoresNewSerial, FreshensHeldResponse};
 
 use crate::core_state::Core;
+use crate::open::exchange::Exchange;
 use crate::open::serial_numbers::serial_after;
-use crate::outcome::{Outcome, Reply};
+use crate::outcome::{Outcome, Reply, Step};
 use crate::replies::pending::{Change, PendingReply};
 use hx_allow::Route;
 use hx_fields::Bytes;
+use hx_hop::Asked;
 use hx_store::{Entry, Shelf, shed_to};
 use hx_target::Key;
 use std::alloc::AllocError;
@@ -128,6 +132,16 @@ fn next_serial_after(next: Option<u64>, stored: Option<u64>) -> Option<u64>
     }
 }
 
+/// The request of an exchange that has ended.
+fn request_of_exchange(ended: Option<Exchange>) -> Option<Asked>
+    ensures { result ≡ request_of_exchange ended }
+{
+    match ended {
+        Some(exchange) => Some(exchange.into_asked()),
+        None => None,
+    }
+}
+
 impl<S: Shelf> Core<S> {
     /// The exchange of an id goes forward once more, with the client's own request.
     pub(crate) fn go_on(
@@ -148,17 +162,19 @@ impl<S: Shelf> Core<S> {
         Ok(Outcome::Forward(line, bytes))
     }
 
-    /// Does what a pending reply says, and ends the exchange of an id. Where a key was invalidated,
-    /// its other exchanges are overtaken.
+    /// Does what a pending reply says, and ends the exchange of an id, whose request it answers. Where a key was
+    /// invalidated, its other exchanges are overtaken.
     pub(crate) fn finish(
         &mut self,
         id: u64,
         pending: PendingReply,
         invalidated: Option<Key>,
-    ) -> Result<Outcome, AllocError>
+    ) -> Result<Step, AllocError>
         requires next { StoresUnderNextSerial self.old.next pending.change }
         requires held { FreshensHeldResponse pending.change self.old.entries }
-        ensures outcome { IfOk result (λ outcome. outcome ≡ outcome_of_pending_reply pending) }
+        ensures outcome { IfOk result (λ step. step.outcome ≡ outcome_of_pending_reply pending) }
+        ensures asked { IfOk result (λ step. step.asked
+            ≡ request_of_exchange (find_exchange id self.old.exchanges)) }
         ensures after { OnOk result (self.new ≡ state_after_reply self.old id pending invalidated) }
         ensures unchanged { OnErr result (self.new ≡ self.old) }
     {
@@ -176,9 +192,9 @@ impl<S: Shelf> Core<S> {
             Ok(()) => {}
             Err(error) => return Err(error),
         }
-        self.exchanges.leave(id, invalidated.as_ref());
+        let ended = self.exchanges.leave(id, invalidated.as_ref());
         self.next = next_serial_after(self.next, stored);
-        Ok(Outcome::Reply(Reply {
+        let outcome = Outcome::Reply(Reply {
             bytes,
             close,
             about,
@@ -187,6 +203,10 @@ impl<S: Shelf> Core<S> {
             removed,
             expired: None,
             purged: false,
-        }))
+        });
+        Ok(Step {
+            outcome,
+            asked: request_of_exchange(ended),
+        })
     }
 }

@@ -3,7 +3,8 @@ ghost use Rattle.std.specs.Prelude.{◌≡◌, ◌<◌, map, IfOk, IfErr, OnErr}
 ghost use Rattle.hx_allow.specs.Matching.{policy_of};
 ghost use Rattle.hx_reuse.specs.Rules.{decision_of};
 ghost use Rattle.hx_reuse.specs.declared.decision.Decision.TheVariants as decision;
-ghost use Rattle.proxy_core.specs.Outcomes.{outcome_of_wake};
+ghost use Rattle.proxy_core.specs.AnsweredRequests.{request_answered};
+ghost use Rattle.proxy_core.specs.Outcomes.{find_exchange, outcome_of_wake};
 ghost use Rattle.proxy_core.specs.Pending.{ChangeStoresNothing};
 ghost use Rattle.proxy_core.specs.Waking.{IsPreparedForWake};
 ghost use Rattle.proxy_core.specs.declared.event.Event.TheVariants.{Wake};
@@ -13,7 +14,7 @@ use crate::core_fault::CoreFault;
 use crate::core_state::Core;
 use crate::moments::moment_fault;
 use crate::open::exchange::Exchange;
-use crate::outcome::Outcome;
+use crate::outcome::{Outcome, Step};
 use crate::replies::pending::PendingReply;
 use crate::replies::stored_reply::CacheStatusInfo;
 use crate::steps::condition::{Condition, condition_about_serial};
@@ -69,8 +70,10 @@ impl<S: Shelf> Core<S> {
 
     /// The exchange that a request waited for has ended: a stored response is sent where no reuse
     /// rule stands now, else the request goes forward. `now` is in Unix seconds.
-    pub fn wake(&mut self, alloc: Global, now: u64, id: u64) -> Result<Outcome, CoreFault>
-        ensures ok { IfOk result (λ outcome. StepIsAccepted self.old (Wake now id) outcome self.new) }
+    pub fn wake(&mut self, alloc: Global, now: u64, id: u64) -> Result<Step, CoreFault>
+        ensures ok { IfOk result (λ step. StepIsAccepted self.old (Wake now id) step.outcome self.new) }
+        ensures asked { IfOk result (λ step. step.asked
+            ≡ request_answered (find_exchange id self.old.exchanges) step.outcome) }
         ensures err { IfErr result (λ fault. StepIsRefusedWith self.old (Wake now id) fault) }
         ensures unchanged { OnErr result (self.new ≡ self.old) }
     {
@@ -81,7 +84,10 @@ impl<S: Shelf> Core<S> {
             AfterWake::GoesOut(rule, named, condition, bytes) => {
                 self.exchanges
                     .send_forward(id, now, rule, named, condition)?;
-                Ok(Outcome::Forward(line, bytes))
+                Ok(Step {
+                    outcome: Outcome::Forward(line, bytes),
+                    asked: None,
+                })
             }
         }
     }

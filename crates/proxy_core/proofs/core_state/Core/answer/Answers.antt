@@ -18,5 +18,5 @@ returns-in_ok-finish-in-Ends-clause-ok g c =
     c.in_ok-pending.ensures.outcome in
     let leaves =
     subst (λ (a : AfterAnswer). AnswerLeavesHeldAsStepDoes (bounds_of s.table s.limit) s.entries x (Answer c.args.now x.id c.args.response.now) a) c.in-Ends.is c.in_ok-pending.ensures.leaves in
-    answer_done s c.args.now c.args.id c.in_ok-x.ensures.moment x c.args.response.now c.in-Ends.pending c.in_ok-invalidated.invalidated c.in_ok-finish-in-Ends.field-0 c.finish.new.self
+    answer_done s c.args.now c.args.id c.in_ok-x.ensures.moment x c.args.response.now c.in-Ends.pending c.in_ok-invalidated.invalidated c.in_ok-finish-in-Ends.field-0.outcome c.finish.new.self
     c.in_ok-x.ensures.found c.in_ok-x.ensures.forwarded reply leaves c.in_ok-invalidated.ensures c.in_ok-finish-in-Ends.ensures.outcome c.in_ok-finish-in-Ends.ensures.after

@@ -12,5 +12,5 @@ returns-in_ok-finish-in-Ends-clause-ok g c =
     let x = c.in_ok-x.x.now in
     let made =
     subst (λ (a : AfterWake). IsPreparedForWake s.table s.entries c.args.now x (decision_of (policy_of s.table.lines x.line) s.entries x.asked c.args.now) a) c.in-Ends.is c.in_ok-pending.ensures in
-    wake_ends s c.args.now c.args.id c.in_ok-x.ensures.moment x c.in-Ends.pending c.in_ok-finish-in-Ends.field-0 c.finish.new.self
+    wake_ends s c.args.now c.args.id c.in_ok-x.ensures.moment x c.in-Ends.pending c.in_ok-finish-in-Ends.field-0.outcome c.finish.new.self
     c.in_ok-x.ensures.found c.in_ok-x.ensures.released made c.in_ok-finish-in-Ends.ensures.outcome c.in_ok-finish-in-Ends.ensures.after

@@ -8,7 +8,7 @@ pub returns-in_ok-lead_on-in-Some-clause-ok : goal.returns-in_ok-lead_on-in-Some
 returns-in_ok-lead_on-in-Some-clause-ok c =
     let old = c.args.self.now in
     let id = c.args.id in
-    c.remove_from_index.ensures
+    c.remove_from_index.ensures.after
     ∙ (ap (exchanges_without id) c.in_ok-lead_on-in-Some.ensures.ok
     ∙ (without-led_on c.args.config.now (Some c.in-Some.next) id id old
     ∙ ap (λ (n : Option NextLeader). map (led_on_exchange c.args.config.now n id) (exchanges_without id old)) c.in-Some.ensures.next))
@@ -17,4 +17,4 @@ pub returns-in-None-clause-ok : goal.returns-in-None-clause-ok
 returns-in-None-clause-ok c =
     let old = c.args.self.now in
     let id = c.args.id in
-    c.close.ensures ∙ ap (λ (n : Option NextLeader). map (led_on_exchange c.args.config.now n id) (exchanges_without id old)) c.in-None.ensures.next
+    c.close.ensures.after ∙ ap (λ (n : Option NextLeader). map (led_on_exchange c.args.config.now n id) (exchanges_without id old)) c.in-None.ensures.next
