@@ -1,5 +1,5 @@
 -- What a client's stream asks for, done on both sides.
-use Rattle.std.proofs.Common.{◌≡◌, ℕ, List, [], ◌∷◌, ◌++◌, refl, sym, ap, ◌∙◌, subst, Bool, false, Option, Some, Result, Ok, Err, IfOk, IfErr, OnOk, OnErr}
+use Rattle.std.proofs.Common.{◌≡◌, ℕ, List, [], ◌∷◌, ◌++◌, refl, sym, ap, ◌∙◌, subst, Bool, false, Option, None, Some, Result, Ok, Err, IfOk, IfErr, OnOk, OnErr}
 use Rattle.hx_framing.specs.declared.messages.Request.{Request}
 use Rattle.hx_framing.specs.declared.frame_fault.FrameFault.{FrameFault}
 use Rattle.hx_framing.specs.declared.frame_fault.FrameFault.TheVariants as frame
@@ -8,6 +8,7 @@ use Rattle.hx_framing.specs.declared.messages.Next.TheVariants as next
 use Rattle.hx_hop.specs.declared.request_view.Asked.{Asked}
 use Rattle.hx_status.specs.declared.cause.Cause.{Cause}
 use Rattle.hx_status.specs.declared.cause.Cause.TheVariants as cause
+use Rattle.hx_status.specs.declared.question.Question.{Question}
 use Rattle.proxy_script.specs.declared.effect_list.Effect.{Effect}
 use Rattle.proxy_engine.specs.Admitted.{RequestIsAdmittedOrRefused}
 use Rattle.proxy_engine.specs.EngineModel.{EngineModel}
@@ -24,31 +25,33 @@ use Rattle.proxy_engine.specs.declared.endpoints.ends.Link.{Link}
 pub emitted_one : (before now : List Effect) (e : Effect) → now ≡ before ++ e ∷ [] → before ≡ [] → now ≡ e ∷ []
 emitted_one before now e is none = is ∙ ap (λ (b : List Effect). b ++ e ∷ []) none
 
-refuses_same : (s : EngineModel) (now i : ℕ) (a b : Cause) (c d : Bool) (emitted : List Effect) (after : EngineModel) → action.Refuse a c ≡ action.Refuse b d → RequestIsRefused s now i a c emitted after → RequestIsRefused s now i b d emitted after
-refuses_same s now i a b c d emitted after e h =
+refuses_same : (s : EngineModel) (now i : ℕ) (a b : Cause) (c d : Bool) (q r : Option Question) (emitted : List Effect) (after : EngineModel) → action.Refuse a c q ≡ action.Refuse b d r → RequestIsRefused s now i a c q emitted after → RequestIsRefused s now i b d r emitted after
+refuses_same s now i a b c d q r emitted after e h =
     let why : a ≡ b = cc in
     let head : c ≡ d = cc in
-    subst (λ (x : Bool). RequestIsRefused s now i b x emitted after) head (subst (λ (x : Cause). RequestIsRefused s now i x c emitted after) why h)
+    let question : q ≡ r = cc in
+    subst (λ (x : Option Question). RequestIsRefused s now i b d x emitted after) question
+    (subst (λ (x : Bool). RequestIsRefused s now i b x q emitted after) head (subst (λ (x : Cause). RequestIsRefused s now i x c q emitted after) why h))
 
-refused_frame : (s : EngineModel) (now i : ℕ) (f : FrameFault) (why : Cause) (head : Bool) (emitted : List Effect) (after : EngineModel) → action.Refuse why head ≡ action_of_fault f → RequestIsRefused s now i why head emitted after → ConnectionIsServed s now i (next.Refused f) emitted after
-refused_frame s now i frame.Truncated why head emitted after e h = cc
-refused_frame s now i frame.Head why head emitted after e h = refuses_same s now i why (cause.Frame frame.Head) head false emitted after e h
-refused_frame s now i frame.Version why head emitted after e h = refuses_same s now i why (cause.Frame frame.Version) head false emitted after e h
-refused_frame s now i frame.BothLengths why head emitted after e h = refuses_same s now i why (cause.Frame frame.BothLengths) head false emitted after e h
-refused_frame s now i frame.Length why head emitted after e h = refuses_same s now i why (cause.Frame frame.Length) head false emitted after e h
-refused_frame s now i frame.Coding why head emitted after e h = refuses_same s now i why (cause.Frame frame.Coding) head false emitted after e h
-refused_frame s now i frame.Chunk why head emitted after e h = refuses_same s now i why (cause.Frame frame.Chunk) head false emitted after e h
-refused_frame s now i frame.TooLarge why head emitted after e h = refuses_same s now i why (cause.Frame frame.TooLarge) head false emitted after e h
-refused_frame s now i frame.Expect why head emitted after e h = refuses_same s now i why (cause.Frame frame.Expect) head false emitted after e h
-refused_frame s now i frame.Status why head emitted after e h = refuses_same s now i why (cause.Frame frame.Status) head false emitted after e h
+refused_frame : (s : EngineModel) (now i : ℕ) (f : FrameFault) (why : Cause) (head : Bool) (question : Option Question) (emitted : List Effect) (after : EngineModel) → action.Refuse why head question ≡ action_of_fault f → RequestIsRefused s now i why head question emitted after → ConnectionIsServed s now i (next.Refused f) emitted after
+refused_frame s now i frame.Truncated why head question emitted after e h = cc
+refused_frame s now i frame.Head why head question emitted after e h = refuses_same s now i why (cause.Frame frame.Head) head false question None emitted after e h
+refused_frame s now i frame.Version why head question emitted after e h = refuses_same s now i why (cause.Frame frame.Version) head false question None emitted after e h
+refused_frame s now i frame.BothLengths why head question emitted after e h = refuses_same s now i why (cause.Frame frame.BothLengths) head false question None emitted after e h
+refused_frame s now i frame.Length why head question emitted after e h = refuses_same s now i why (cause.Frame frame.Length) head false question None emitted after e h
+refused_frame s now i frame.Coding why head question emitted after e h = refuses_same s now i why (cause.Frame frame.Coding) head false question None emitted after e h
+refused_frame s now i frame.Chunk why head question emitted after e h = refuses_same s now i why (cause.Frame frame.Chunk) head false question None emitted after e h
+refused_frame s now i frame.TooLarge why head question emitted after e h = refuses_same s now i why (cause.Frame frame.TooLarge) head false question None emitted after e h
+refused_frame s now i frame.Expect why head question emitted after e h = refuses_same s now i why (cause.Frame frame.Expect) head false question None emitted after e h
+refused_frame s now i frame.Status why head question emitted after e h = refuses_same s now i why (cause.Frame frame.Status) head false question None emitted after e h
 
-pub refused_served : (s : EngineModel) (now i : ℕ) (a : Next Request) (why : Cause) (head : Bool) (emitted : List Effect) (after : EngineModel) → IsActionForNext a (action.Refuse why head) → RequestIsRefused s now i why head emitted after → ConnectionIsServed s now i a emitted after
-refused_served s now i next.More why head emitted after w h = absurd w
-refused_served s now i next.NeedsContinue why head emitted after w h = cc
-refused_served s now i (next.Message r) why head emitted after w h =
-    (Err (record { why = why; head = head }), w, h)
-refused_served s now i (next.Refused f) why head emitted after w h = refused_frame s now i f why head emitted after w h
-refused_served s now i next.End why head emitted after w h = cc
+pub refused_served : (s : EngineModel) (now i : ℕ) (a : Next Request) (why : Cause) (head : Bool) (question : Option Question) (emitted : List Effect) (after : EngineModel) → IsActionForNext a (action.Refuse why head question) → RequestIsRefused s now i why head question emitted after → ConnectionIsServed s now i a emitted after
+refused_served s now i next.More why head question emitted after w h = absurd w
+refused_served s now i next.NeedsContinue why head question emitted after w h = cc
+refused_served s now i (next.Message r) why head question emitted after w h =
+    (Err (record { why = why; head = head }), w.0, subst (λ (q : Option Question). RequestIsRefused s now i why head q emitted after) w.1 h)
+refused_served s now i (next.Refused f) why head question emitted after w h = refused_frame s now i f why head question emitted after w h
+refused_served s now i next.End why head question emitted after w h = cc
 
 closed_frame : (s : EngineModel) (now i : ℕ) (f : FrameFault) (emitted : List Effect) (after : EngineModel) → action.Close ≡ action_of_fault f → ConnectionIsClosed s i emitted after → ConnectionIsServed s now i (next.Refused f) emitted after
 closed_frame s now i frame.Truncated emitted after e h = h

@@ -1,5 +1,6 @@
 -- An act is done in one way, and the same steps have one trace.
 use Rattle.std.proofs.Common.{◌≡◌, inl, inr, ℕ, ◌+◌, List, [], ◌∷◌, ◌++◌, bytes_eq, codes, sym, ap, ◌∙◌, subst, Bool, Option, None, Some, Result, Ok, Err}
+use Rattle.std.specs.Option.{option_map}
 use Rattle.hx_allow.specs.TableLines.{Table}
 use Rattle.hx_framing.specs.declared.messages.Request.{Request}
 use Rattle.hx_framing.specs.declared.frame_fault.FrameFault.TheVariants as frame
@@ -9,6 +10,7 @@ use Rattle.hx_hop.specs.declared.request_view.Asked.{Asked}
 use Rattle.hx_hop.specs.Asking.{IsAsked}
 use Rattle.hx_status.specs.declared.cause.Cause.{Cause}
 use Rattle.hx_status.specs.declared.cause.Cause.TheVariants as cause
+use Rattle.hx_status.specs.declared.question.Question.{Question}
 use Rattle.hx_target.specs.declared.target_fault.TargetFault.{TargetFault}
 use Rattle.proxy_core.specs.State.{State as CoreState, StepIsAccepted, state_after as core_after}
 use Rattle.proxy_core.specs.declared.outcome.Outcome.{Outcome}
@@ -18,8 +20,9 @@ use Rattle.proxy_core.specs.Traces.{Item}
 use Rattle.proxy_script.specs.declared.effect_list.Effect.{Effect}
 use Rattle.proxy_engine.specs.Admitted.{Refusal, RequestIsAdmittedOrRefused, asked_on_connection}
 use Rattle.proxy_engine.specs.EngineModel.{EngineModel, connection_at, with_core}
+use Rattle.proxy_engine.specs.Questions.{question_of, question_as_it_came}
 use Rattle.proxy_engine.specs.Due.{Act, Abandons, Finishes, Wakes, Serves, Gives, Breaks}
-use Rattle.proxy_engine.specs.Acts.{outcome_by_table, model_after_outcome, effects_of_outcome, next_link_number, CoreIsStepped, RequestArrives, ConnectionIsServed, RequestIsRefused, ConnectionIsClosed}
+use Rattle.proxy_engine.specs.Acts.{asks_head, outcome_by_table, model_after_outcome, effects_of_outcome, next_link_number, CoreIsStepped, RequestArrives, ConnectionIsServed, RequestIsRefused, ConnectionIsClosed}
 use Rattle.proxy_engine.specs.Executions.{ExecutionStep, Took, Worked, StepLeads, IsCoreEventOfAct, ActAsksCoreNothing, IsItemOfAct, StepAddsToTrace, TakingAddsToTrace, core_event_of_happening, ActIsDoneInOneWay, StepsHaveOneTrace}
 
 -- the same effects, and the same model behind them
@@ -36,18 +39,18 @@ outcome_once s event o p t u h k = h.outcome_is ∙ sym k.outcome_is
 core_once : (s : CoreState) (event : Event) (o p : Outcome) (t u : CoreState) → StepIsAccepted s event o t → StepIsAccepted s event p u → t ≡ u
 core_once s event o p t u h k = h.leaves ∙ (ap (core_after s event) (outcome_once s event o p t u h k) ∙ sym k.leaves)
 
-stepped_once : (s t : EngineModel) (i : ℕ) (to_head : Bool) (event : Event) (before emitted more : List Effect) (v w : EngineModel) → CoreIsStepped s t i to_head event before emitted v → CoreIsStepped s t i to_head event before more w → Same emitted more v w
-stepped_once s t i to_head event before emitted more v w h k =
+stepped_once : (s t : EngineModel) (i : ℕ) (asked : Option Asked) (event : Event) (before emitted more : List Effect) (v w : EngineModel) → CoreIsStepped s t i asked event before emitted v → CoreIsStepped s t i asked event before more w → Same emitted more v w
+stepped_once s t i asked event before emitted more v w h k =
     let outcome : h.outcome ≡ k.outcome = outcome_once s.core event h.outcome k.outcome h.core k.core h.steps k.steps in
     let core : h.core ≡ k.core = core_once s.core event h.outcome k.outcome h.core k.core h.steps k.steps in (
-      h.emitted_is ∙ (ap (λ (o : Outcome). before ++ effects_of_outcome i (next_link_number s) (outcome_by_table s.core.table o)) outcome ∙ sym k.emitted_is),
+      h.emitted_is ∙ (ap (λ (o : Outcome). before ++ effects_of_outcome i (next_link_number s) (option_map question_of asked) (outcome_by_table s.core.table o)) outcome ∙ sym k.emitted_is),
       h.after_is
-          ∙ (ap (λ (o : Outcome). model_after_outcome i to_head (outcome_by_table s.core.table o) (with_core t h.core)) outcome
-          ∙ (ap (λ (c : CoreState). model_after_outcome i to_head (outcome_by_table s.core.table k.outcome) (with_core t c)) core ∙ sym k.after_is)),
+          ∙ (ap (λ (o : Outcome). model_after_outcome i (asks_head asked) (outcome_by_table s.core.table o) (with_core t h.core)) outcome
+          ∙ (ap (λ (c : CoreState). model_after_outcome i (asks_head asked) (outcome_by_table s.core.table k.outcome) (with_core t c)) core ∙ sym k.after_is)),
     )
 
-refused_once : (s : EngineModel) (now i : ℕ) (why : Cause) (head : Bool) (emitted more : List Effect) (t u : EngineModel) → RequestIsRefused s now i why head emitted t → RequestIsRefused s now i why head more u → Same emitted more t u
-refused_once s now i why head emitted more t u h k = (h.emitted_is ∙ sym k.emitted_is, h.after_is ∙ sym k.after_is)
+refused_once : (s : EngineModel) (now i : ℕ) (why : Cause) (head : Bool) (question : Option Question) (emitted more : List Effect) (t u : EngineModel) → RequestIsRefused s now i why head question emitted t → RequestIsRefused s now i why head question more u → Same emitted more t u
+refused_once s now i why head question emitted more t u h k = (h.emitted_is ∙ sym k.emitted_is, h.after_is ∙ sym k.after_is)
 
 closed_once : (s : EngineModel) (i : ℕ) (emitted more : List Effect) (t u : EngineModel) → ConnectionIsClosed s i emitted t → ConnectionIsClosed s i more u → Same emitted more t u
 closed_once s i emitted more t u h k = (h.0 ∙ sym k.0, h.1 ∙ sym k.1)
@@ -73,22 +76,22 @@ module _ (asked_once : (request : Request) (r s : Result Asked TargetFault) → 
   arrives_once s now i r (Ok a) (Err b) emitted more t u p q h k = not_both r a b p q
   arrives_once s now i r (Err a) (Ok b) emitted more t u p q h k = not_both r b a q p
   arrives_once s now i r (Err a) (Err b) emitted more t u p q h k =
-      refused_once s now i a.why a.head emitted more t u h (subst (λ (x : Refusal). RequestIsRefused s now i x.why x.head more u) (sym (one_refusal r a b p q)) k)
+      refused_once s now i a.why a.head _ emitted more t u h (subst (λ (x : Refusal). RequestIsRefused s now i x.why x.head (Some (question_as_it_came r)) more u) (sym (one_refusal r a b p q)) k)
 
   served_once : (s : EngineModel) (now i : ℕ) (action : Next Request) (emitted more : List Effect) (t u : EngineModel) → ConnectionIsServed s now i action emitted t → ConnectionIsServed s now i action more u → Same emitted more t u
   served_once s now i next.More emitted more t u h k = absurd h
   served_once s now i next.NeedsContinue emitted more t u h k = (h.0 ∙ sym k.0, h.1 ∙ sym k.1)
   served_once s now i (next.Message r) emitted more t u h k = arrives_once s now i r h.0 k.0 emitted more t u h.1 k.1 h.2 k.2
   served_once s now i (next.Refused frame.Truncated) emitted more t u h k = closed_once s i emitted more t u h k
-  served_once s now i (next.Refused frame.Head) emitted more t u h k = refused_once s now i _ _ emitted more t u h k
-  served_once s now i (next.Refused frame.Version) emitted more t u h k = refused_once s now i _ _ emitted more t u h k
-  served_once s now i (next.Refused frame.BothLengths) emitted more t u h k = refused_once s now i _ _ emitted more t u h k
-  served_once s now i (next.Refused frame.Length) emitted more t u h k = refused_once s now i _ _ emitted more t u h k
-  served_once s now i (next.Refused frame.Coding) emitted more t u h k = refused_once s now i _ _ emitted more t u h k
-  served_once s now i (next.Refused frame.Chunk) emitted more t u h k = refused_once s now i _ _ emitted more t u h k
-  served_once s now i (next.Refused frame.TooLarge) emitted more t u h k = refused_once s now i _ _ emitted more t u h k
-  served_once s now i (next.Refused frame.Expect) emitted more t u h k = refused_once s now i _ _ emitted more t u h k
-  served_once s now i (next.Refused frame.Status) emitted more t u h k = refused_once s now i _ _ emitted more t u h k
+  served_once s now i (next.Refused frame.Head) emitted more t u h k = refused_once s now i _ _ _ emitted more t u h k
+  served_once s now i (next.Refused frame.Version) emitted more t u h k = refused_once s now i _ _ _ emitted more t u h k
+  served_once s now i (next.Refused frame.BothLengths) emitted more t u h k = refused_once s now i _ _ _ emitted more t u h k
+  served_once s now i (next.Refused frame.Length) emitted more t u h k = refused_once s now i _ _ _ emitted more t u h k
+  served_once s now i (next.Refused frame.Coding) emitted more t u h k = refused_once s now i _ _ _ emitted more t u h k
+  served_once s now i (next.Refused frame.Chunk) emitted more t u h k = refused_once s now i _ _ _ emitted more t u h k
+  served_once s now i (next.Refused frame.TooLarge) emitted more t u h k = refused_once s now i _ _ _ emitted more t u h k
+  served_once s now i (next.Refused frame.Expect) emitted more t u h k = refused_once s now i _ _ _ emitted more t u h k
+  served_once s now i (next.Refused frame.Status) emitted more t u h k = refused_once s now i _ _ _ emitted more t u h k
   served_once s now i next.End emitted more t u h k = closed_once s i emitted more t u h k
 
   pub acts_in_one_way : ActIsDoneInOneWay

@@ -1,6 +1,7 @@
 -- An act drops one link at most, and tells it.
 use Rattle.proxy_engine.specs.declared.endpoints.activities.Activity.TheVariants.{Free}
-use Rattle.std.proofs.Common.{◌≡◌, ◌⊎◌, inl, inr, ℕ, zero, suc, ◌+◌, ◌-◌, ◌<◌, ◌≤◌, List, [], ◌∷◌, ◌++◌, length, get_or, set, refl, sym, ap, ◌∙◌, subst, arith, Bool, true, false, cond, ◌||◌, Some, is_some, Result, Ok, Err, None}
+use Rattle.std.proofs.Common.{◌≡◌, ◌⊎◌, inl, inr, ℕ, zero, suc, ◌+◌, ◌-◌, ◌<◌, ◌≤◌, List, [], ◌∷◌, ◌++◌, length, get_or, set, refl, sym, ap, ◌∙◌, subst, arith, Bool, true, false, cond, ◌||◌, Option, Some, is_some, Result, Ok, Err, None}
+use Rattle.std.specs.Option.{option_map}
 use Rattle.hx_framing.specs.declared.messages.Request.{Request}
 use Rattle.hx_framing.specs.declared.frame_fault.FrameFault.TheVariants as frame
 use Rattle.hx_framing.specs.declared.messages.Next.{Next}
@@ -9,13 +10,15 @@ use Rattle.hx_framing.specs.Progress.{stream_with_piece, stream_finished}
 use Rattle.hx_hop.specs.declared.request_view.Asked.{Asked}
 use Rattle.hx_status.specs.declared.cause.Cause.{Cause}
 use Rattle.proxy_core.specs.declared.event.Event.{Event}
+use Rattle.hx_status.specs.declared.question.Question.{Question}
 use Rattle.proxy_script.specs.declared.effect_list.Effect.{Effect}
 use Rattle.proxy_script.specs.declared.effect_list.Effect.TheVariants as effects
 use Rattle.proxy_engine.specs.Admitted.{Refusal}
 use Rattle.proxy_engine.specs.Happenings.{Accepts, Sends, Hears, Ends, Leaves, Retires, Overdues, Shuts, Fails}
 use Rattle.proxy_engine.specs.EngineModel.{EngineModel, LinkModel, no_link, new_link_model, link_at, link_after_bytes, link_after_shut, link_after_failure, with_core, with_connection}
+use Rattle.proxy_engine.specs.Questions.{question_of}
 use Rattle.proxy_engine.specs.Due.{Abandons, Finishes, Wakes, Serves, Gives, Breaks}
-use Rattle.proxy_engine.specs.Acts.{OutcomeOnConnection, Replies, Forwards, Nothing, outcome_by_table, effects_of_outcome, next_link_number, model_after_outcome, model_after_link_freed, with_dropped, CoreIsStepped, ConnectionIsServed, RequestArrives, RequestIsRefused, ConnectionIsClosed, Queues, with_activity}
+use Rattle.proxy_engine.specs.Acts.{asks_head, OutcomeOnConnection, Replies, Forwards, Nothing, outcome_by_table, effects_of_outcome, next_link_number, model_after_outcome, model_after_link_freed, with_dropped, CoreIsStepped, ConnectionIsServed, RequestArrives, RequestIsRefused, ConnectionIsClosed, Queues, with_activity}
 use Rattle.proxy_engine.specs.Drops.{EffectsDropNoLink, OnlyFirstEffectDropsALink, ActHasFewEffects, EachDroppedLinkIsEmitted, HappeningsDropNoLink}
 
 -- ---- how many effects
@@ -24,12 +27,12 @@ use Rattle.proxy_engine.specs.Drops.{EffectsDropNoLink, OnlyFirstEffectDropsALin
 abbrev IsPlain : List Effect → Type 0
 IsPlain emitted = (length emitted ≤ 2) × EffectsDropNoLink emitted
 
-on_plain : (i n : ℕ) (q : OutcomeOnConnection) → IsPlain (effects_of_outcome i n q)
-on_plain i n (Replies bytes about true) = (omega arith, (refl, (refl, tt)))
-on_plain i n (Replies bytes about false) = (omega arith, (refl, tt))
-on_plain i n (Forwards address bytes) = (omega arith, (refl, tt))
-on_plain i n Queues = (omega arith, tt)
-on_plain i n Nothing = (omega arith, tt)
+on_plain : (i n : ℕ) (question : Option Question) (q : OutcomeOnConnection) → IsPlain (effects_of_outcome i n question q)
+on_plain i n question (Replies bytes about true) = (omega arith, (refl, (refl, tt)))
+on_plain i n question (Replies bytes about false) = (omega arith, (refl, tt))
+on_plain i n question (Forwards address bytes) = (omega arith, (refl, tt))
+on_plain i n question Queues = (omega arith, tt)
+on_plain i n question Nothing = (omega arith, tt)
 
 abbrev IsShort : List Effect → Type 0
 IsShort emitted = (length emitted ≤ 3) × OnlyFirstEffectDropsALink emitted
@@ -44,36 +47,36 @@ short_of emitted said e h = subst IsShort (sym e) (let few = h.0 in omega (arith
 short_behind : (emitted said : List Effect) (l : ℕ) → emitted ≡ effects.Drop l ∷ said → IsPlain said → IsShort emitted
 short_behind emitted said l e h = subst IsShort (sym e) (let few = h.0 in omega (arith, few), h.1)
 
-stepped_short : (s t : EngineModel) (i l : ℕ) (to_head : Bool) (event : Event) (emitted : List Effect) (after : EngineModel) → CoreIsStepped s t i to_head event (effects.Drop l ∷ []) emitted after → IsShort emitted
-stepped_short s t i l to_head event emitted after h = short_behind emitted _ l h.emitted_is (on_plain i (next_link_number s) (outcome_by_table s.core.table h.outcome))
+stepped_short : (s t : EngineModel) (i l : ℕ) (asked : Option Asked) (event : Event) (emitted : List Effect) (after : EngineModel) → CoreIsStepped s t i asked event (effects.Drop l ∷ []) emitted after → IsShort emitted
+stepped_short s t i l asked event emitted after h = short_behind emitted _ l h.emitted_is (on_plain i (next_link_number s) _ (outcome_by_table s.core.table h.outcome))
 
-plain_short : (s t : EngineModel) (i : ℕ) (to_head : Bool) (event : Event) (emitted : List Effect) (after : EngineModel) → CoreIsStepped s t i to_head event [] emitted after → IsShort emitted
-plain_short s t i to_head event emitted after h = short_of emitted _ h.emitted_is (on_plain i (next_link_number s) (outcome_by_table s.core.table h.outcome))
+plain_short : (s t : EngineModel) (i : ℕ) (asked : Option Asked) (event : Event) (emitted : List Effect) (after : EngineModel) → CoreIsStepped s t i asked event [] emitted after → IsShort emitted
+plain_short s t i asked event emitted after h = short_of emitted _ h.emitted_is (on_plain i (next_link_number s) _ (outcome_by_table s.core.table h.outcome))
 
-refused_short : (s : EngineModel) (now i : ℕ) (why : Cause) (head : Bool) (emitted : List Effect) (after : EngineModel) → RequestIsRefused s now i why head emitted after → IsShort emitted
-refused_short s now i why head emitted after h = short_of emitted _ h.emitted_is (omega arith, (refl, (refl, tt)))
+refused_short : (s : EngineModel) (now i : ℕ) (why : Cause) (head : Bool) (question : Option Question) (emitted : List Effect) (after : EngineModel) → RequestIsRefused s now i why head question emitted after → IsShort emitted
+refused_short s now i why head question emitted after h = short_of emitted _ h.emitted_is (omega arith, (refl, (refl, tt)))
 
 closed_short : (s : EngineModel) (i : ℕ) (emitted : List Effect) (after : EngineModel) → ConnectionIsClosed s i emitted after → IsShort emitted
 closed_short s i emitted after h = short_of emitted _ h.0 (omega arith, (refl, tt))
 
 arrived_short : (s : EngineModel) (now i : ℕ) (r : Request) (judged : Result Asked Refusal) (emitted : List Effect) (after : EngineModel) → RequestArrives s now i r judged emitted after → IsShort emitted
-arrived_short s now i r (Ok asked) emitted after h = short_of emitted _ h.1.emitted_is (on_plain i (next_link_number s) (outcome_by_table s.core.table h.1.outcome))
-arrived_short s now i r (Err refusal) emitted after h = refused_short s now i _ _ emitted after h
+arrived_short s now i r (Ok asked) emitted after h = short_of emitted _ h.1.emitted_is (on_plain i (next_link_number s) _ (outcome_by_table s.core.table h.1.outcome))
+arrived_short s now i r (Err refusal) emitted after h = refused_short s now i _ _ _ emitted after h
 
 served_short : (s : EngineModel) (now i : ℕ) (w : Next Request) (emitted : List Effect) (after : EngineModel) → ConnectionIsServed s now i w emitted after → IsShort emitted
 served_short s now i next.More emitted after h = absurd h
 served_short s now i next.NeedsContinue emitted after h = short_of emitted _ h.0 (omega arith, (refl, tt))
 served_short s now i (next.Message r) emitted after h = arrived_short s now i r h.0 emitted after h.2
 served_short s now i (next.Refused frame.Truncated) emitted after h = closed_short s i emitted after h
-served_short s now i (next.Refused frame.Head) emitted after h = refused_short s now i _ _ emitted after h
-served_short s now i (next.Refused frame.Version) emitted after h = refused_short s now i _ _ emitted after h
-served_short s now i (next.Refused frame.BothLengths) emitted after h = refused_short s now i _ _ emitted after h
-served_short s now i (next.Refused frame.Length) emitted after h = refused_short s now i _ _ emitted after h
-served_short s now i (next.Refused frame.Coding) emitted after h = refused_short s now i _ _ emitted after h
-served_short s now i (next.Refused frame.Chunk) emitted after h = refused_short s now i _ _ emitted after h
-served_short s now i (next.Refused frame.TooLarge) emitted after h = refused_short s now i _ _ emitted after h
-served_short s now i (next.Refused frame.Expect) emitted after h = refused_short s now i _ _ emitted after h
-served_short s now i (next.Refused frame.Status) emitted after h = refused_short s now i _ _ emitted after h
+served_short s now i (next.Refused frame.Head) emitted after h = refused_short s now i _ _ _ emitted after h
+served_short s now i (next.Refused frame.Version) emitted after h = refused_short s now i _ _ _ emitted after h
+served_short s now i (next.Refused frame.BothLengths) emitted after h = refused_short s now i _ _ _ emitted after h
+served_short s now i (next.Refused frame.Length) emitted after h = refused_short s now i _ _ _ emitted after h
+served_short s now i (next.Refused frame.Coding) emitted after h = refused_short s now i _ _ _ emitted after h
+served_short s now i (next.Refused frame.Chunk) emitted after h = refused_short s now i _ _ _ emitted after h
+served_short s now i (next.Refused frame.TooLarge) emitted after h = refused_short s now i _ _ _ emitted after h
+served_short s now i (next.Refused frame.Expect) emitted after h = refused_short s now i _ _ _ emitted after h
+served_short s now i (next.Refused frame.Status) emitted after h = refused_short s now i _ _ _ emitted after h
 served_short s now i next.End emitted after h = closed_short s i emitted after h
 
 pub acts_are_short : ActHasFewEffects
@@ -118,18 +121,18 @@ dropped_equal s t j e h = subst (λ (u : EngineModel). IsDropped u.links j) e h
 abbrev IsEmitted : EngineModel → List Effect → ℕ → Type 0
 IsEmitted s emitted j = IsDropped s.links j ⊎ ((rest : List Effect) × (emitted ≡ effects.Drop (s.first + j) ∷ rest))
 
-stepped_emitted : (s : EngineModel) (k c i : ℕ) (to_head : Bool) (event : Event) (emitted : List Effect) (after : EngineModel) (j : ℕ) → CoreIsStepped s (model_after_link_freed s k c) i to_head event (effects.Drop (s.first + k) ∷ []) emitted after →
+stepped_emitted : (s : EngineModel) (k c i : ℕ) (asked : Option Asked) (event : Event) (emitted : List Effect) (after : EngineModel) (j : ℕ) → CoreIsStepped s (model_after_link_freed s k c) i asked event (effects.Drop (s.first + k) ∷ []) emitted after →
     IsDropped after.links j → IsEmitted s emitted j
-stepped_emitted s k c i to_head event emitted after j h d =
-    by_place (dropped_set s.links k (with_dropped (link_at s k)) j (dropped_on i to_head (outcome_by_table s.core.table h.outcome) (with_core (model_after_link_freed s k c) h.core) j (dropped_equal after _ j h.after_is d)))
+stepped_emitted s k c i asked event emitted after j h d =
+    by_place (dropped_set s.links k (with_dropped (link_at s k)) j (dropped_on i (asks_head asked) (outcome_by_table s.core.table h.outcome) (with_core (model_after_link_freed s k c) h.core) j (dropped_equal after _ j h.after_is d)))
   where
     by_place : (j ≡ k) ⊎ IsDropped s.links j → IsEmitted s emitted j
-    by_place (inl e) = inr (_, h.emitted_is ∙ ap (λ n. effects.Drop (s.first + n) ∷ effects_of_outcome i (next_link_number s) (outcome_by_table s.core.table h.outcome)) (sym e))
+    by_place (inl e) = inr (_, h.emitted_is ∙ ap (λ n. effects.Drop (s.first + n) ∷ effects_of_outcome i (next_link_number s) (option_map question_of asked) (outcome_by_table s.core.table h.outcome)) (sym e))
     by_place (inr before) = inl before
 
-plain_emitted : (s : EngineModel) (i : ℕ) (to_head : Bool) (event : Event) (emitted : List Effect) (after : EngineModel) (j : ℕ) → CoreIsStepped s (with_connection s i (with_activity Free)) i to_head event [] emitted after → IsDropped after.links j → IsDropped s.links j
-plain_emitted s i to_head event emitted after j h d =
-    dropped_on i to_head (outcome_by_table s.core.table h.outcome) (with_core (with_connection s i (with_activity Free)) h.core) j (dropped_equal after _ j h.after_is d)
+plain_emitted : (s : EngineModel) (i : ℕ) (asked : Option Asked) (event : Event) (emitted : List Effect) (after : EngineModel) (j : ℕ) → CoreIsStepped s (with_connection s i (with_activity Free)) i asked event [] emitted after → IsDropped after.links j → IsDropped s.links j
+plain_emitted s i asked event emitted after j h d =
+    dropped_on i (asks_head asked) (outcome_by_table s.core.table h.outcome) (with_core (with_connection s i (with_activity Free)) h.core) j (dropped_equal after _ j h.after_is d)
 
 arrived_emitted : (s : EngineModel) (now i : ℕ) (r : Request) (judged : Result Asked Refusal) (emitted : List Effect) (after : EngineModel) (j : ℕ) → RequestArrives s now i r judged emitted after → IsDropped after.links j → IsDropped s.links j
 arrived_emitted s now i r (Ok asked) emitted after j h d = dropped_on i _ (outcome_by_table s.core.table h.1.outcome) _ j (dropped_equal after _ j h.1.after_is d)

@@ -1,5 +1,6 @@
 -- The core's steps are a good run, whatever an engine lives through.
 use Rattle.std.proofs.Common.{◌≡◌, ◌⊎◌, inl, inr, ℕ, Option, None, Some, List, [], ◌∷◌, ◌++◌, refl, sym, ap, ◌∙◌, subst, Bool, Result, Ok, Err}
+use Rattle.std.specs.Option.{option_map}
 use Rattle.hx_allow.specs.TableLines.{Table}
 use Rattle.hx_framing.specs.declared.messages.Request.{Request}
 use Rattle.hx_framing.specs.declared.frame_fault.FrameFault.TheVariants as frame
@@ -20,16 +21,17 @@ use Rattle.proxy_script.specs.declared.effect_list.Effect.{Effect}
 use Rattle.proxy_engine.specs.Admitted.{Refusal, RequestIsAdmittedOrRefused, asked_on_connection}
 use Rattle.proxy_engine.specs.Happenings.{PlainHappening, Accepts as Accepted, Sends, Hears, Ends, Leaves, Retires, Overdues, Shuts, Fails}
 use Rattle.proxy_engine.specs.EngineModel.{EngineModel, connection_at, model_after_happening, with_core}
+use Rattle.proxy_engine.specs.Questions.{question_of, request_of_event}
 use Rattle.proxy_engine.specs.Due.{Act, Abandons, Finishes, Wakes, Serves, Gives, Breaks}
-use Rattle.proxy_engine.specs.Acts.{OutcomeOnConnection, Replies, Forwards, Nothing, outcome_by_table, model_after_outcome, effects_of_outcome, next_link_number, CoreIsStepped, ActIsDone, RequestArrives, ConnectionIsServed, RequestIsRefused as IsRefused, ConnectionIsClosed as IsClosed, Queues}
+use Rattle.proxy_engine.specs.Acts.{asks_head, OutcomeOnConnection, Replies, Forwards, Nothing, outcome_by_table, model_after_outcome, effects_of_outcome, next_link_number, CoreIsStepped, ActIsDone, RequestArrives, ConnectionIsServed, RequestIsRefused as IsRefused, ConnectionIsClosed as IsClosed, Queues}
 use Rattle.proxy_engine.specs.State.{new_engine_model}
-use Rattle.proxy_engine.specs.Executions.{ExecutionStep, Took, Worked, StepLeads, StepsLead, connection_place_of_act, drop_effects_of_act, IsCoreEventOfAct, ActAsksCoreNothing, IsItemOfAct, IsEffectsWithoutCoreStep, Continues, Refuses, Closes, core_event_of_happening, TakingAddsToTrace, StepsHaveTrace, ExecutionsAreRuns}
+use Rattle.proxy_engine.specs.Executions.{ExecutionStep, Took, Worked, StepLeads, StepsLead, connection_place_of_act, drop_effects_of_act, IsCoreEventOfAct, ActAsksCoreNothing, question_refused, IsItemOfAct, IsEffectsWithoutCoreStep, Continues, Refuses, Closes, core_event_of_happening, TakingAddsToTrace, StepsHaveTrace, ExecutionsAreRuns}
 
 module _ (table : Table) where
   -- an act is one step of the core, or none
   abbrev Goes : EngineModel → ℕ → Act → List Effect → EngineModel → Type 0
   Goes s now act emitted after =
-      ((item : Item) × IsItemOfAct table s now act item emitted after) ⊎ ((after.core ≡ s.core) × ActAsksCoreNothing act × IsEffectsWithoutCoreStep now (connection_place_of_act s act) emitted)
+      ((item : Item) × IsItemOfAct table s now act item emitted after) ⊎ ((after.core ≡ s.core) × ActAsksCoreNothing act × IsEffectsWithoutCoreStep now (connection_place_of_act s act) (question_refused act) emitted)
 
   core_after : (i : ℕ) (to_head : Bool) (q : OutcomeOnConnection) (s : EngineModel) → (model_after_outcome i to_head q s).core ≡ s.core
   core_after i to_head (Replies bytes about close) s = refl
@@ -37,30 +39,32 @@ module _ (table : Table) where
   core_after i to_head Queues s = refl
   core_after i to_head Nothing s = refl
 
-  pub step_emitted : (now : ℕ) (act : Act) (s t : EngineModel) (to_head : Bool) (event : Event) (emitted : List Effect) (after : EngineModel) → s.core.table ≡ table → IsCoreEventOfAct s now act event
-      → CoreIsStepped s t (connection_place_of_act s act) to_head event (drop_effects_of_act s act) emitted after → (item : Item) × IsItemOfAct table s now act item emitted after
-  step_emitted now act s t to_head event emitted after config is h =
+  pub step_emitted : (now : ℕ) (act : Act) (s t : EngineModel) (asked : Option Asked) (event : Event) (emitted : List Effect) (after : EngineModel) → s.core.table ≡ table → IsCoreEventOfAct s now act event → asked ≡ request_of_event s.core.exchanges event
+      → CoreIsStepped s t (connection_place_of_act s act) asked event (drop_effects_of_act s act) emitted after → (item : Item) × IsItemOfAct table s now act item emitted after
+  step_emitted now act s t asked event emitted after config is asks h =
       let item : Item = record { event = event; outcome = h.outcome } in
-      let core : after.core ≡ h.core = ap (λ (u : EngineModel). u.core) h.after_is ∙ core_after (connection_place_of_act s act) to_head (outcome_by_table s.core.table h.outcome) (with_core t h.core) in
+      let core : after.core ≡ h.core = ap (λ (u : EngineModel). u.core) h.after_is ∙ core_after (connection_place_of_act s act) (asks_head asked) (outcome_by_table s.core.table h.outcome) (with_core t h.core) in
       let is_emitted : IsItemOfAct table s now act item emitted after = record {
         event_is = is;
         steps = subst (λ (u : CoreState). StepIsAccepted s.core event h.outcome u) (sym core) h.steps;
-        emitted_is = h.emitted_is ∙ ap (λ (c : Table). drop_effects_of_act s act ++ effects_of_outcome (connection_place_of_act s act) (next_link_number s) (outcome_by_table c h.outcome)) config;
+        emitted_is = h.emitted_is
+            ∙ (ap (λ (c : Table). drop_effects_of_act s act ++ effects_of_outcome (connection_place_of_act s act) (next_link_number s) (option_map question_of asked) (outcome_by_table c h.outcome)) config
+            ∙ ap (λ (a : Option Asked). drop_effects_of_act s act ++ effects_of_outcome (connection_place_of_act s act) (next_link_number s) (option_map question_of a) (outcome_by_table table h.outcome)) asks);
       } in
       (item, is_emitted)
 
-  stepped : (now : ℕ) (act : Act) (s t : EngineModel) (to_head : Bool) (event : Event) (emitted : List Effect) (after : EngineModel) → s.core.table ≡ table → IsCoreEventOfAct s now act event
-      → CoreIsStepped s t (connection_place_of_act s act) to_head event (drop_effects_of_act s act) emitted after → Goes s now act emitted after
-  stepped now act s t to_head event emitted after config is h = inl (step_emitted now act s t to_head event emitted after config is h)
+  stepped : (now : ℕ) (act : Act) (s t : EngineModel) (asked : Option Asked) (event : Event) (emitted : List Effect) (after : EngineModel) → s.core.table ≡ table → IsCoreEventOfAct s now act event → asked ≡ request_of_event s.core.exchanges event
+      → CoreIsStepped s t (connection_place_of_act s act) asked event (drop_effects_of_act s act) emitted after → Goes s now act emitted after
+  stepped now act s t asked event emitted after config is asks h = inl (step_emitted now act s t asked event emitted after config is asks h)
 
-  refused : (now : ℕ) (s : EngineModel) (i : ℕ) (action : Next Request) (why : Cause) (head : Bool) (emitted : List Effect) (after : EngineModel) → ActAsksCoreNothing (Serves i action) → IsRefused s now i why head emitted after → Goes s now (Serves i action) emitted after
+  refused : (now : ℕ) (s : EngineModel) (i : ℕ) (action : Next Request) (why : Cause) (head : Bool) (emitted : List Effect) (after : EngineModel) → ActAsksCoreNothing (Serves i action) → IsRefused s now i why head (question_refused (Serves i action)) emitted after → Goes s now (Serves i action) emitted after
   refused now s i action why head emitted after none h = inr (ap (λ (u : EngineModel). u.core) h.after_is, none, Refuses why head h.emitted_is)
 
   shut : (now : ℕ) (s : EngineModel) (i : ℕ) (action : Next Request) (emitted : List Effect) (after : EngineModel) → ActAsksCoreNothing (Serves i action) → IsClosed s i emitted after → Goes s now (Serves i action) emitted after
   shut now s i action emitted after none h = inr (ap (λ (u : EngineModel). u.core) h.1, none, Closes h.0)
 
   arrives : (now : ℕ) (s : EngineModel) (i : ℕ) (r : Request) (judged : Result Asked Refusal) (emitted : List Effect) (after : EngineModel) → s.core.table ≡ table → RequestIsAdmittedOrRefused r judged → RequestArrives s now i r judged emitted after → Goes s now (Serves i (next.Message r)) emitted after
-  arrives now s i r (Ok asked) emitted after config a h = stepped now (Serves i (next.Message r)) s _ _ _ emitted after config (asked_on_connection (connection_at s i).retired asked, (asked, a, refl), refl) h.1
+  arrives now s i r (Ok asked) emitted after config a h = stepped now (Serves i (next.Message r)) s _ _ _ emitted after config (asked_on_connection (connection_at s i).retired asked, (asked, a, refl), refl) refl h.1
   arrives now s i r (Err refusal) emitted after config a h = refused now s i (next.Message r) _ _ emitted after (refusal, a) h
 
   serves : (now : ℕ) (s : EngineModel) (i : ℕ) (action : Next Request) (emitted : List Effect) (after : EngineModel) → s.core.table ≡ table → ConnectionIsServed s now i action emitted after → Goes s now (Serves i action) emitted after
@@ -80,10 +84,10 @@ module _ (table : Table) where
   serves now s i next.End emitted after config h = shut now s i next.End emitted after tt h
 
   acts : (now : ℕ) (act : Act) (s : EngineModel) (emitted : List Effect) (after : EngineModel) → s.core.table ≡ table → ActIsDone s now act emitted after → Goes s now act emitted after
-  acts now (Abandons i l) s emitted after config h = stepped now (Abandons i l) s _ _ _ emitted after config refl h
-  acts now (Finishes j (Gives r)) s emitted after config h = stepped now (Finishes j (Gives r)) s _ _ _ emitted after config refl h.1
-  acts now (Finishes j (Breaks kind)) s emitted after config h = stepped now (Finishes j (Breaks kind)) s _ _ _ emitted after config refl h
-  acts now (Wakes i) s emitted after config h = stepped now (Wakes i) s _ _ _ emitted after config refl h.1
+  acts now (Abandons i l) s emitted after config h = stepped now (Abandons i l) s _ _ _ emitted after config refl refl h
+  acts now (Finishes j (Gives r)) s emitted after config h = stepped now (Finishes j (Gives r)) s _ _ _ emitted after config refl refl h.1
+  acts now (Finishes j (Breaks kind)) s emitted after config h = stepped now (Finishes j (Breaks kind)) s _ _ _ emitted after config refl refl h
+  acts now (Wakes i) s emitted after config h = stepped now (Wakes i) s _ _ _ emitted after config refl refl h.1
   acts now (Serves i action) s emitted after config h = serves now s i action emitted after config h
 
 module _ (table : Table) (start : StoreAtStart) (first : ℕ) (begin : EngineModel) where

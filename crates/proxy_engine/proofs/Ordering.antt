@@ -3,6 +3,7 @@ use Rattle.std.proofs.Common.{◌≡◌, ◌⊎◌, inl, inr, ℕ, zero, suc, �
 use Rattle.std.proofs.lemmas.List.{append-nil, map-set, get_or-set_same}
 use Rattle.std.proofs.Math.ListN.{get_or-append, length-map, length-set}
 use Rattle.std.proofs.Math.Seq.{map-set_same}
+use Rattle.std.specs.Option.{option_map}
 use Rattle.hx_framing.specs.declared.messages.Request.{Request}
 use Rattle.hx_framing.specs.declared.frame_fault.FrameFault.TheVariants as frame
 use Rattle.hx_framing.specs.declared.messages.Next.{Next}
@@ -12,6 +13,8 @@ use Rattle.hx_hop.specs.declared.request_view.Asked.{Asked}
 use Rattle.proxy_engine.specs.Admitted.{Refusal, asked_on_connection}
 use Rattle.hx_status.specs.declared.about.About.{About}
 use Rattle.hx_status.specs.declared.cause.Cause.{Cause}
+use Rattle.hx_status.specs.declared.question.Question.{Question}
+use Rattle.proxy_core.specs.AnsweredRequests.{request_of_exchange}
 use Rattle.proxy_core.specs.declared.open.exchange.Exchange.{Exchange}
 use Rattle.proxy_core.specs.declared.event.Event.TheVariants as events
 use Rattle.proxy_core.specs.declared.outcome.Outcome.{Outcome}
@@ -28,10 +31,11 @@ use Rattle.proxy_core.specs.Waiting.{ExchangeMayBeWoken}
 use Rattle.proxy_core.proofs.Waits.{ready_by}
 use Rattle.proxy_script.specs.declared.effect_list.Effect.{Effect}
 use Rattle.proxy_script.specs.declared.effect_list.Effect.TheVariants as effects
+use Rattle.proxy_engine.specs.Questions.{question_of}
 use Rattle.proxy_engine.specs.Happenings.{Accepts, Sends, Hears, Ends, Leaves, Retires, Overdues, Shuts, Fails}
 use Rattle.proxy_engine.specs.EngineModel.{EngineModel, ConnectionModel, LinkModel, no_connection, no_link, new_connection_model, new_link_model, connection_at, link_at, with_connection, with_core, model_after_happening}
 use Rattle.proxy_engine.specs.Due.{Abandons, Finishes, Wakes, Serves, LinkResult, Gives, Breaks, LinkResultUnlessDropped, ConnectionActionUnlessBusy, takes_no_request, IsDueFirst}
-use Rattle.proxy_engine.specs.Acts.{ActIsDone, ConnectionIsServed, LinkIsFinished, RequestIsWoken, RequestArrives, RequestIsRefused, ConnectionIsClosed, Replies, outcome_by_table, exchange_asks_head, effects_of_outcome, model_after_outcome, model_after_link_freed, with_activity, with_closed, with_dropped, with_next_passed, next_link_number}
+use Rattle.proxy_engine.specs.Acts.{ActIsDone, ConnectionIsServed, LinkIsFinished, RequestIsWoken, RequestArrives, RequestIsRefused, ConnectionIsClosed, Replies, outcome_by_table, asks_head, effects_of_outcome, model_after_outcome, model_after_link_freed, with_activity, with_closed, with_dropped, with_next_passed, next_link_number}
 use Rattle.proxy_engine.specs.Activities.{link_place_of_activity, has_exchange}
 use Rattle.proxy_engine.specs.Pairing.{ConnectionsAndLinksArePaired, activity_at, owner_at}
 use Rattle.proxy_engine.specs.Orderly.{ModelIsOrderly, ConnectionIsOpen, LinkIsDropped, EffectsNameOpenEnds, activity_of_model, owner_of_model, NewModelIsOrderly, HappeningKeepsOrder, ActKeepsOrder}
@@ -209,9 +213,9 @@ or_true false c e = e
 shut_there : (cs : List ConnectionModel) (i : ℕ) (c : ConnectionModel) (close : Bool) → i < length cs → close ≡ true → (get_or (set cs i (with_closed close c)) i no_connection).closed ≡ true
 shut_there cs i c close here e = ap (λ (c : ConnectionModel). c.closed) (get_or-set_same cs i (with_closed close c) no_connection here) ∙ or_true c.closed close e
 
-names_reply : (s after : EngineModel) (i n : ℕ) (bytes : List ℕ) (about : About) (close : Bool) → ConnectionIsOpen s (i + 1) → (close ≡ true → (connection_at after i).closed ≡ true) → EffectsNameOpenEnds s after (effects_of_outcome i n (Replies bytes about close))
-names_reply s after i n bytes about true unshut shut = (unshut, (unshut, (i, refl, shut refl), refl))
-names_reply s after i n bytes about false unshut shut = (unshut, tt)
+names_reply : (s after : EngineModel) (i n : ℕ) (question : Option Question) (bytes : List ℕ) (about : About) (close : Bool) → ConnectionIsOpen s (i + 1) → (close ≡ true → (connection_at after i).closed ≡ true) → EffectsNameOpenEnds s after (effects_of_outcome i n question (Replies bytes about close))
+names_reply s after i n question bytes about true unshut shut = (unshut, (unshut, (i, refl, shut refl), refl))
+names_reply s after i n question bytes about false unshut shut = (unshut, tt)
 
 both_moved : (s now after : EngineModel) (emitted said : List Effect) → after ≡ now → emitted ≡ said → ModelIsOrderly now → EffectsNameOpenEnds s now said → ModelIsOrderly after × EffectsNameOpenEnds s after emitted
 both_moved s now after emitted said a t h names =
@@ -285,10 +289,10 @@ awake_order cs ks xs i max_body g r to_head c here unshut there h = (
     pairing : map activity_of_model (set (set cs i (with_activity Free c)) i y) ≡ set (set (map activity_of_model cs) i Free) i (Forwarded (length ks))
     pairing = map-set activity_of_model (set cs i (with_activity Free c)) i y ∙ ap (λ (ds : List Activity). set ds i (Forwarded (length ks))) (map-set activity_of_model cs i (with_activity Free c))
 
-finished_order : (s : EngineModel) (i j : ℕ) (o : Outcome) (core : CoreState) (to_head : Bool) (emitted : List Effect) (after : EngineModel) → ModelIsOrderly s → j < length s.links → link_place_of_activity (activity_at (map activity_of_model s.connections) i) ≡ Some j → (link_at s j).dropped ≡ false → ConnectionIsOpen s (i + 1) → (connection_at s i).closed ≡ false
-    → is_some (find_exchange (i + 1) s.core.exchanges) ≡ true → Remains o (i + 1) s.core.exchanges core.exchanges → emitted ≡ effects.Drop (s.first + j) ∷ effects_of_outcome i (next_link_number s) (outcome_by_table s.core.table o) → after ≡ model_after_outcome i to_head (outcome_by_table s.core.table o) (with_core (model_after_link_freed s j i) core)
+finished_order : (s : EngineModel) (i j : ℕ) (o : Outcome) (core : CoreState) (to_head : Bool) (question : Option Question) (emitted : List Effect) (after : EngineModel) → ModelIsOrderly s → j < length s.links → link_place_of_activity (activity_at (map activity_of_model s.connections) i) ≡ Some j → (link_at s j).dropped ≡ false → ConnectionIsOpen s (i + 1) → (connection_at s i).closed ≡ false
+    → is_some (find_exchange (i + 1) s.core.exchanges) ≡ true → Remains o (i + 1) s.core.exchanges core.exchanges → emitted ≡ effects.Drop (s.first + j) ∷ effects_of_outcome i (next_link_number s) question (outcome_by_table s.core.table o) → after ≡ model_after_outcome i to_head (outcome_by_table s.core.table o) (with_core (model_after_link_freed s j i) core)
     → ModelIsOrderly after × EffectsNameOpenEnds s after emitted
-finished_order s i j o core to_head emitted after h within_links here link_open unshut unclosed there left emitted_is after_is = by_outcome o left emitted_is after_is
+finished_order s i j o core to_head question emitted after h within_links here link_open unshut unclosed there left emitted_is after_is = by_outcome o left emitted_is after_is
   where
     cs : List ConnectionModel
     cs = set s.connections i (with_activity Free (connection_at s i))
@@ -317,15 +321,15 @@ finished_order s i j o core to_head emitted after h within_links here link_open 
         let link : link_at t j ≡ with_dropped (link_at s j) = ap (λ (ls : List LinkModel). get_or ls j no_link) e ∙ (first_of ∙ get_or-set_same s.links j (with_dropped (link_at s j)) no_link within_links) in
         record { place = j; number = refl; still = link_open; dropped = ap (λ (k : LinkModel). k.dropped) link }
 
-    by_outcome : (o : Outcome) → Remains o (i + 1) s.core.exchanges core.exchanges → emitted ≡ effects.Drop (s.first + j) ∷ effects_of_outcome i (next_link_number s) (outcome_by_table s.core.table o) → after ≡ model_after_outcome i to_head (outcome_by_table s.core.table o) base → ModelIsOrderly after × EffectsNameOpenEnds s after emitted
+    by_outcome : (o : Outcome) → Remains o (i + 1) s.core.exchanges core.exchanges → emitted ≡ effects.Drop (s.first + j) ∷ effects_of_outcome i (next_link_number s) question (outcome_by_table s.core.table o) → after ≡ model_after_outcome i to_head (outcome_by_table s.core.table o) base → ModelIsOrderly after × EffectsNameOpenEnds s after emitted
     by_outcome (outcomes.Reply r) left emitted_is after_is =
         let now = with_connection base i (with_closed r.close) in
-        both_moved s now after emitted (effects.Drop (s.first + j) ∷ effects_of_outcome i (next_link_number s) (Replies r.bytes r.about r.close)) after_is emitted_is
+        both_moved s now after emitted (effects.Drop (s.first + j) ∷ effects_of_outcome i (next_link_number s) question (Replies r.bytes r.about r.close)) after_is emitted_is
         (orderly now (closing_order cs ks core.exchanges i r.close none (free left.0 left.1)))
-        (drops now [] (sym (append-nil ks)), names_reply s now i (next_link_number s) r.bytes r.about r.close unshut (λ shut. shut_there cs i (get_or cs i no_connection) r.close inside_now shut))
+        (drops now [] (sym (append-nil ks)), names_reply s now i (next_link_number s) question r.bytes r.about r.close unshut (λ shut. shut_there cs i (get_or cs i no_connection) r.close inside_now shut))
     by_outcome (outcomes.Forward line bytes) left emitted_is after_is =
         let behind = model_after_outcome i to_head (outcome_by_table s.core.table (outcomes.Forward line bytes)) base in
-        both_moved s behind after emitted (effects.Drop (s.first + j) ∷ effects_of_outcome i (next_link_number s) (outcome_by_table s.core.table (outcomes.Forward line bytes))) after_is emitted_is
+        both_moved s behind after emitted (effects.Drop (s.first + j) ∷ effects_of_outcome i (next_link_number s) question (outcome_by_table s.core.table (outcomes.Forward line bytes))) after_is emitted_is
         (orderly behind (subst (λ (xs : List Exchange). Order behind.connections behind.links xs) (sym left.2) (again_order s.connections s.links s.core.exchanges i j core.table.max_body left.0 left.1 to_head (connection_at s i) (link_at s j) here unclosed there (order_of s h))))
         (drops behind (new_link_model core.table.max_body to_head i ∷ []) refl, (refl, tt))
     by_outcome (outcomes.Waits leader) left emitted_is after_is = absurd left
@@ -399,10 +403,10 @@ finishes_order s now j f emitted after h due done = by_finish f done
 
     by_finish : (f : LinkResult) → LinkIsFinished s now j i f emitted after → ModelIsOrderly after × EffectsNameOpenEnds s after emitted
     by_finish (Gives r) d =
-        finished_order s i j d.1.outcome d.1.core (exchange_asks_head (find_exchange (i + 1) xs)) emitted after h due.1.0 here link_open unshut unclosed is_there
+        finished_order s i j d.1.outcome d.1.core (asks_head (request_of_exchange (find_exchange (i + 1) xs))) (option_map question_of (request_of_exchange (find_exchange (i + 1) xs))) emitted after h due.1.0 here link_open unshut unclosed is_there
         (remains s.core d.1.core now (i + 1) (Gives r) d.1.outcome is_there d.1.steps) d.1.emitted_is d.1.after_is
     by_finish (Breaks kind) d =
-        finished_order s i j d.outcome d.core (exchange_asks_head (find_exchange (i + 1) xs)) emitted after h due.1.0 here link_open unshut unclosed is_there
+        finished_order s i j d.outcome d.core (asks_head (request_of_exchange (find_exchange (i + 1) xs))) (option_map question_of (request_of_exchange (find_exchange (i + 1) xs))) emitted after h due.1.0 here link_open unshut unclosed is_there
         (remains s.core d.core now (i + 1) (Breaks kind) d.outcome is_there d.steps) d.emitted_is d.after_is
 
 -- the exchange of the connection at i is abandoned, and its link
@@ -420,7 +424,7 @@ abandons_order s now i l emitted after h linked_here done =
     let ended : done.outcome ≡ outcomes.Ended = done.steps.outcome_is in
     both_moved s behind after emitted (effects.Drop (s.first + l) ∷ [])
     (done.after_is ∙ ap (λ (o : Outcome). model_after_outcome i false (outcome_by_table s.core.table o) behind) ended)
-    (done.emitted_is ∙ ap (λ (o : Outcome). effects.Drop (s.first + l) ∷ effects_of_outcome i (next_link_number s) (outcome_by_table s.core.table o)) ended)
+    (done.emitted_is ∙ ap (λ (o : Outcome). effects.Drop (s.first + l) ∷ effects_of_outcome i (next_link_number s) None (outcome_by_table s.core.table o)) ended)
     (orderly behind free)
     (record { place = l; number = refl; still = link_open; dropped = ap (λ (k : LinkModel). k.dropped) (get_or-set_same s.links l (with_dropped (link_at s l)) no_link inside) }, tt)
 
@@ -435,7 +439,7 @@ gives_up_order s now i emitted after h waiting done =
     let ended : done.outcome ≡ outcomes.Ended = done.steps.outcome_is in
     both_moved s behind after emitted []
     (done.after_is ∙ ap (λ (o : Outcome). model_after_outcome i false (outcome_by_table s.core.table o) behind) ended)
-    (done.emitted_is ∙ ap (λ (o : Outcome). effects_of_outcome i (next_link_number s) (outcome_by_table s.core.table o)) ended)
+    (done.emitted_is ∙ ap (λ (o : Outcome). effects_of_outcome i (next_link_number s) None (outcome_by_table s.core.table o)) ended)
     (orderly behind free) tt
 
 -- the request of the connection at i, which waited, is judged anew
@@ -483,20 +487,23 @@ wakes_order s now i emitted after h due d = by_outcome d.1.outcome (woken_remain
     base = with_core (with_connection s i (with_activity Free)) d.1.core
 
     to_head : Bool
-    to_head = exchange_asks_head (find_exchange (i + 1) xs)
+    to_head = asks_head (request_of_exchange (find_exchange (i + 1) xs))
+
+    question : Option Question
+    question = option_map question_of (request_of_exchange (find_exchange (i + 1) xs))
 
     free : (key : Option Scope) → d.1.core.exchanges ≡ exchanges_after_end key (i + 1) xs → Order cs s.links d.1.core.exchanges
     free key es = subst (λ (es : List Exchange). Order cs s.links es) (sym es) (left_order cs s.links xs key (i + 1) (unqueued_order s.connections s.links xs i (connection_at s i) here (order_of s h)))
 
-    by_outcome : (o : Outcome) → Remains o (i + 1) xs d.1.core.exchanges → emitted ≡ effects_of_outcome i (next_link_number s) (outcome_by_table s.core.table o) → after ≡ model_after_outcome i to_head (outcome_by_table s.core.table o) base → ModelIsOrderly after × EffectsNameOpenEnds s after emitted
+    by_outcome : (o : Outcome) → Remains o (i + 1) xs d.1.core.exchanges → emitted ≡ effects_of_outcome i (next_link_number s) question (outcome_by_table s.core.table o) → after ≡ model_after_outcome i to_head (outcome_by_table s.core.table o) base → ModelIsOrderly after × EffectsNameOpenEnds s after emitted
     by_outcome (outcomes.Reply r) left emitted_is after_is =
         let behind = with_connection base i (with_closed r.close) in
-        both_moved s behind after emitted (effects_of_outcome i (next_link_number s) (Replies r.bytes r.about r.close)) after_is emitted_is
+        both_moved s behind after emitted (effects_of_outcome i (next_link_number s) question (Replies r.bytes r.about r.close)) after_is emitted_is
         (orderly behind (closing_order cs s.links d.1.core.exchanges i r.close none (free left.0 left.1)))
-        (names_reply s behind i (next_link_number s) r.bytes r.about r.close unshut (λ shut. shut_there cs i (get_or cs i no_connection) r.close inside_now shut))
+        (names_reply s behind i (next_link_number s) question r.bytes r.about r.close unshut (λ shut. shut_there cs i (get_or cs i no_connection) r.close inside_now shut))
     by_outcome (outcomes.Forward line bytes) left emitted_is after_is =
         let behind = model_after_outcome i to_head (outcome_by_table s.core.table (outcomes.Forward line bytes)) base in
-        both_moved s behind after emitted (effects_of_outcome i (next_link_number s) (outcome_by_table s.core.table (outcomes.Forward line bytes))) after_is emitted_is
+        both_moved s behind after emitted (effects_of_outcome i (next_link_number s) question (outcome_by_table s.core.table (outcomes.Forward line bytes))) after_is emitted_is
         (orderly behind (subst (λ (es : List Exchange). Order behind.connections behind.links es) (sym left.2) (awake_order s.connections s.links xs i d.1.core.table.max_body left.0 left.1 to_head (connection_at s i) here unclosed is_there (order_of s h))))
         (refl, tt)
     by_outcome (outcomes.Waits leader) left emitted_is after_is = absurd left
@@ -506,9 +513,9 @@ wakes_order s now i emitted after h due d = by_outcome d.1.outcome (woken_remain
         both_moved s base after emitted [] after_is emitted_is (orderly base (free left.0 left.1)) tt
 
 -- a request arrived on the connection at i
-arrived_order : (s : EngineModel) (now i : ℕ) (m : Next Request) (asked : Asked) (o : Outcome) (core : CoreState) (to_head : Bool) (emitted : List Effect) (after : EngineModel) → ModelIsOrderly s → i < length s.connections → ConnectionIsOpen s (i + 1) → (connection_at s i).closed ≡ false → (connection_at s i).activity ≡ Free
-    → StepIsAccepted s.core (events.Arrive now (i + 1) asked) o core → emitted ≡ effects_of_outcome i (next_link_number s) (outcome_by_table s.core.table o) → after ≡ model_after_outcome i to_head (outcome_by_table s.core.table o) (with_core (with_connection s i (with_next_passed m)) core) → ModelIsOrderly after × EffectsNameOpenEnds s after emitted
-arrived_order s now i m asked o core to_head emitted after h inside unshut unclosed none steps emitted_is after_is = by_outcome o steps emitted_is after_is
+arrived_order : (s : EngineModel) (now i : ℕ) (m : Next Request) (asked : Asked) (o : Outcome) (core : CoreState) (to_head : Bool) (question : Option Question) (emitted : List Effect) (after : EngineModel) → ModelIsOrderly s → i < length s.connections → ConnectionIsOpen s (i + 1) → (connection_at s i).closed ≡ false → (connection_at s i).activity ≡ Free
+    → StepIsAccepted s.core (events.Arrive now (i + 1) asked) o core → emitted ≡ effects_of_outcome i (next_link_number s) question (outcome_by_table s.core.table o) → after ≡ model_after_outcome i to_head (outcome_by_table s.core.table o) (with_core (with_connection s i (with_next_passed m)) core) → ModelIsOrderly after × EffectsNameOpenEnds s after emitted
+arrived_order s now i m asked o core to_head question emitted after h inside unshut unclosed none steps emitted_is after_is = by_outcome o steps emitted_is after_is
   where
     cs : List ConnectionModel
     cs = set s.connections i (with_next_passed m (connection_at s i))
@@ -531,19 +538,19 @@ arrived_order s now i m asked o core to_head emitted after h inside unshut unclo
     base : EngineModel
     base = with_core (with_connection s i (with_next_passed m)) core
 
-    by_outcome : (o : Outcome) → StepIsAccepted s.core (events.Arrive now (i + 1) asked) o core → emitted ≡ effects_of_outcome i (next_link_number s) (outcome_by_table s.core.table o) → after ≡ model_after_outcome i to_head (outcome_by_table s.core.table o) base → ModelIsOrderly after × EffectsNameOpenEnds s after emitted
+    by_outcome : (o : Outcome) → StepIsAccepted s.core (events.Arrive now (i + 1) asked) o core → emitted ≡ effects_of_outcome i (next_link_number s) question (outcome_by_table s.core.table o) → after ≡ model_after_outcome i to_head (outcome_by_table s.core.table o) base → ModelIsOrderly after × EffectsNameOpenEnds s after emitted
     by_outcome (outcomes.Reply r) steps emitted_is after_is =
         let key = scope_purged asked (outcomes.Reply r) in
         let same : core.exchanges ≡ exchanges_after_purge key s.core.exchanges = ap (λ (k : CoreState). k.exchanges) steps.leaves in
         let purged : Order cs s.links (exchanges_after_purge key s.core.exchanges) = (paired_purged (map activity_of_model cs) (map owner_of_model s.links) s.core.exchanges key passed.0, passed.1) in
-        both_moved s (with_connection base i (with_closed r.close)) after emitted (effects_of_outcome i (next_link_number s) (Replies r.bytes r.about r.close)) after_is emitted_is
+        both_moved s (with_connection base i (with_closed r.close)) after emitted (effects_of_outcome i (next_link_number s) question (Replies r.bytes r.about r.close)) after_is emitted_is
         (orderly (with_connection base i (with_closed r.close)) (closing_order cs s.links core.exchanges i r.close none_now (subst (λ (xs : List Exchange). Order cs s.links xs) (sym same) purged)))
-        (names_reply s (with_connection base i (with_closed r.close)) i (next_link_number s) r.bytes r.about r.close unshut (λ shut. shut_there cs i (get_or cs i no_connection) r.close inside_now shut))
+        (names_reply s (with_connection base i (with_closed r.close)) i (next_link_number s) question r.bytes r.about r.close unshut (λ shut. shut_there cs i (get_or cs i no_connection) r.close inside_now shut))
     by_outcome (outcomes.Forward line bytes) steps emitted_is after_is =
         let x = opened_exchange s.core.table s.core.entries now (i + 1) asked line in
         let more : core.exchanges ≡ s.core.exchanges ++ x ∷ [] = ap (λ (k : CoreState). k.exchanges) steps.leaves in
         let behind = model_after_outcome i to_head (outcome_by_table s.core.table (outcomes.Forward line bytes)) base in
-        both_moved s behind after emitted (effects_of_outcome i (next_link_number s) (outcome_by_table s.core.table (outcomes.Forward line bytes))) after_is emitted_is
+        both_moved s behind after emitted (effects_of_outcome i (next_link_number s) question (outcome_by_table s.core.table (outcomes.Forward line bytes))) after_is emitted_is
         (orderly behind (subst (λ (xs : List Exchange). Order behind.connections behind.links xs) (sym more) (opened_order cs s.links s.core.exchanges x i core.table.max_body to_head inside_now none_now unclosed_now refl refl passed)))
         (refl, tt)
     by_outcome (outcomes.Waits leader) steps emitted_is after_is =
@@ -579,15 +586,15 @@ serves_order s now i w emitted after h due done = by_action w done
     unshut : ConnectionIsOpen s (i + 1)
     unshut = record { place = i; number = refl; closed = parts.1; gone = parts.0 }
 
-    refuses : (why : Cause) (head : Bool) → RequestIsRefused s now i why head emitted after → ModelIsOrderly after × EffectsNameOpenEnds s after emitted
-    refuses why head d = shuts_order s i emitted _ after h inside parts.2 d.emitted_is d.after_is (λ t shut. (unshut, (unshut, (i, refl, shut), refl)))
+    refuses : (why : Cause) (head : Bool) (question : Option Question) → RequestIsRefused s now i why head question emitted after → ModelIsOrderly after × EffectsNameOpenEnds s after emitted
+    refuses why head question d = shuts_order s i emitted _ after h inside parts.2 d.emitted_is d.after_is (λ t shut. (unshut, (unshut, (i, refl, shut), refl)))
 
     closes : ConnectionIsClosed s i emitted after → ModelIsOrderly after × EffectsNameOpenEnds s after emitted
     closes d = shuts_order s i emitted _ after h inside parts.2 d.0 d.1 (λ t shut. (unshut, (i, refl, shut), refl))
 
     arrives : (r : Request) (judged : Result Asked Refusal) → RequestArrives s now i r judged emitted after → ModelIsOrderly after × EffectsNameOpenEnds s after emitted
-    arrives r (Ok asked) d = arrived_order s now i (next.Message r) (asked_on_connection (connection_at s i).retired asked) d.1.outcome d.1.core (is_head asked) emitted after h inside unshut parts.1 parts.2 d.1.steps d.1.emitted_is d.1.after_is
-    arrives r (Err fault) d = refuses _ _ d
+    arrives r (Ok asked) d = arrived_order s now i (next.Message r) (asked_on_connection (connection_at s i).retired asked) d.1.outcome d.1.core (is_head asked) (Some (question_of asked)) emitted after h inside unshut parts.1 parts.2 d.1.steps d.1.emitted_is d.1.after_is
+    arrives r (Err fault) d = refuses _ _ _ d
 
     by_action : (w : Next Request) → ConnectionIsServed s now i w emitted after → ModelIsOrderly after × EffectsNameOpenEnds s after emitted
     by_action next.More d = absurd d
@@ -597,15 +604,15 @@ serves_order s now i w emitted after h due done = by_action w done
         (orderly going (connection_changed s.connections s.links s.core.exchanges i (with_next_passed next.NeedsContinue (connection_at s i)) refl (λ e. parts.2) (order_of s h))) (unshut, tt)
     by_action (next.Message r) d = arrives r d.0 d.2
     by_action (next.Refused frame.Truncated) d = closes d
-    by_action (next.Refused frame.Head) d = refuses _ _ d
-    by_action (next.Refused frame.Version) d = refuses _ _ d
-    by_action (next.Refused frame.BothLengths) d = refuses _ _ d
-    by_action (next.Refused frame.Length) d = refuses _ _ d
-    by_action (next.Refused frame.Coding) d = refuses _ _ d
-    by_action (next.Refused frame.Chunk) d = refuses _ _ d
-    by_action (next.Refused frame.TooLarge) d = refuses _ _ d
-    by_action (next.Refused frame.Expect) d = refuses _ _ d
-    by_action (next.Refused frame.Status) d = refuses _ _ d
+    by_action (next.Refused frame.Head) d = refuses _ _ _ d
+    by_action (next.Refused frame.Version) d = refuses _ _ _ d
+    by_action (next.Refused frame.BothLengths) d = refuses _ _ _ d
+    by_action (next.Refused frame.Length) d = refuses _ _ _ d
+    by_action (next.Refused frame.Coding) d = refuses _ _ _ d
+    by_action (next.Refused frame.Chunk) d = refuses _ _ _ d
+    by_action (next.Refused frame.TooLarge) d = refuses _ _ _ d
+    by_action (next.Refused frame.Expect) d = refuses _ _ _ d
+    by_action (next.Refused frame.Status) d = refuses _ _ _ d
     by_action next.End d = closes d
 
 pub acts_in_order : ActKeepsOrder

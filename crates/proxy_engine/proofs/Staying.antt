@@ -1,5 +1,5 @@
 -- What is closed, gone, to end or dropped stays so.
-use Rattle.std.proofs.Common.{◌≡◌, ℕ, zero, suc, ◌-◌, ◌<◌, List, [], ◌∷◌, ◌++◌, length, get_or, set, refl, sym, ◌∙◌, subst, arith, Bool, true, false, ◌||◌, cond, Some, is_some, Result, Ok, Err, None}
+use Rattle.std.proofs.Common.{◌≡◌, ℕ, zero, suc, ◌-◌, ◌<◌, List, [], ◌∷◌, ◌++◌, length, get_or, set, refl, sym, ◌∙◌, subst, arith, Bool, Option, true, false, ◌||◌, cond, Some, is_some, Result, Ok, Err, None}
 use Rattle.std.proofs.lemmas.List.{length_push}
 use Rattle.std.proofs.Math.ListN.{length-set}
 use Rattle.hx_framing.specs.declared.messages.Request.{Request}
@@ -17,7 +17,7 @@ use Rattle.proxy_script.specs.declared.effect_list.Effect.{Effect}
 use Rattle.proxy_engine.specs.Happenings.{Accepts, Sends, Hears, Ends, Leaves, Retires, Overdues, Shuts, Fails}
 use Rattle.proxy_engine.specs.EngineModel.{EngineModel, ConnectionModel, LinkModel, no_connection, no_link, new_connection_model, new_link_model, connection_at, with_connection, with_link, with_core, connection_after_bytes, connection_after_end, connection_after_disconnect, connection_after_retirement, link_after_bytes, link_after_shut, link_after_failure}
 use Rattle.proxy_engine.specs.Due.{Abandons, Finishes, Wakes, Serves, Gives, Breaks}
-use Rattle.proxy_engine.specs.Acts.{OutcomeOnConnection, Replies, Forwards, Nothing, ConnectionIsServed, RequestArrives, CoreIsStepped, outcome_by_table, model_after_outcome, model_after_link_freed, with_activity, with_closed, with_dropped, with_next_passed, with_opened_link, Queues}
+use Rattle.proxy_engine.specs.Acts.{asks_head, OutcomeOnConnection, Replies, Forwards, Nothing, ConnectionIsServed, RequestArrives, CoreIsStepped, outcome_by_table, model_after_outcome, model_after_link_freed, with_activity, with_closed, with_dropped, with_next_passed, with_opened_link, Queues}
 use Rattle.proxy_engine.specs.Orderly.{EndedStaysEnded, HappeningKeepsEnded, ActKeepsEnded}
 use Rattle.proxy_engine.specs.declared.endpoints.activities.Activity.TheVariants.{Free, Forwarded, Waiting}
 
@@ -152,11 +152,11 @@ stays_freed s j i = stays_on s (with_link s j with_dropped) (model_after_link_fr
 stays_equal : (s t after : EngineModel) → after ≡ t → EndedStaysEnded s t → EndedStaysEnded s after
 stays_equal s t after e h = subst (λ (x : EngineModel). EndedStaysEnded s x) (sym e) h
 
-stays_stepped : (s t : EngineModel) (i : ℕ) (to_head : Bool) (event : Event) (before emitted : List Effect) (after : EngineModel) → EndedStaysEnded s t → CoreIsStepped s t i to_head event before emitted after → EndedStaysEnded s after
-stays_stepped s t i to_head event before emitted after h d =
+stays_stepped : (s t : EngineModel) (i : ℕ) (asked : Option Asked) (event : Event) (before emitted : List Effect) (after : EngineModel) → EndedStaysEnded s t → CoreIsStepped s t i asked event before emitted after → EndedStaysEnded s after
+stays_stepped s t i asked event before emitted after h d =
     let now = with_core t d.core in
-    stays_equal s (model_after_outcome i to_head (outcome_by_table s.core.table d.outcome) now) after d.after_is
-    (stays_on s t (model_after_outcome i to_head (outcome_by_table s.core.table d.outcome) now) h (stays_on t now (model_after_outcome i to_head (outcome_by_table s.core.table d.outcome) now) (stays_here t d.core) (stays_after now i to_head (outcome_by_table s.core.table d.outcome))))
+    stays_equal s (model_after_outcome i (asks_head asked) (outcome_by_table s.core.table d.outcome) now) after d.after_is
+    (stays_on s t (model_after_outcome i (asks_head asked) (outcome_by_table s.core.table d.outcome) now) h (stays_on t now (model_after_outcome i (asks_head asked) (outcome_by_table s.core.table d.outcome) now) (stays_here t d.core) (stays_after now i (asks_head asked) (outcome_by_table s.core.table d.outcome))))
 
 stays_passed : (s : EngineModel) (i : ℕ) (m : Next Request) → EndedStaysEnded s (with_connection s i (with_next_passed m))
 stays_passed s i m = stays_connection s i (with_next_passed m) (λ c e. e) (λ c e. e) (λ c e. e)

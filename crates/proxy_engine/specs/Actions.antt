@@ -3,7 +3,7 @@
 -- IsActionForNext: what a client's stream asks for, read as a request or refused
 -- ExchangeIsFinishedBy: the core's step that finishes an exchange      is_whole_answer: it may go forward once more
 -- IsFaultOfFinishing: why it isn't done
-use Rattle.std.specs.Prelude.{◌≡◌, ℕ, Bool, true, false, Ok, Err}
+use Rattle.std.specs.Prelude.{◌≡◌, ℕ, Bool, true, false, None, Some, Ok, Err}
 use Rattle.hx_framing.specs.declared.messages.Request.{Request}
 use Rattle.hx_framing.specs.declared.frame_fault.FrameFault.{FrameFault}
 use Rattle.hx_framing.specs.declared.frame_fault.FrameFault.TheVariants as frame
@@ -15,6 +15,7 @@ use Rattle.proxy_core.specs.declared.outcome.Outcome.{Outcome}
 use Rattle.proxy_core.specs.declared.outcome.Outcome.TheVariants as outcomes
 use Rattle.proxy_core.specs.declared.event.Event.TheVariants as events
 use Rattle.proxy_engine.specs.Admitted.{RequestIsAdmittedOrRefused}
+use Rattle.proxy_engine.specs.Questions.{question_as_it_came}
 use Rattle.proxy_engine.specs.Due.{LinkResult, Gives, Breaks}
 use Rattle.proxy_engine.specs.declared.work.EngineFault.{EngineFault}
 use Rattle.proxy_engine.specs.declared.work.EngineFault.TheVariants.{WrongNumber, NotAccepted, OutOfMemory, Spent}
@@ -26,21 +27,22 @@ use Rattle.proxy_engine.specs.declared.steps.actions.Action.TheVariants as actio
 abbrev pub IsActionOfMessage : Request → Action → Type 0
 IsActionOfMessage r action.Continue = ⊥
 IsActionOfMessage r (action.Arrive asked) = RequestIsAdmittedOrRefused r (Ok asked)
-IsActionOfMessage r (action.Refuse why head) = RequestIsAdmittedOrRefused r (Err (record { why = why; head = head }))
+IsActionOfMessage r (action.Refuse why head question) =
+    RequestIsAdmittedOrRefused r (Err (record { why = why; head = head })) × (question ≡ Some (question_as_it_came r))
 IsActionOfMessage r action.Close = ⊥
 
 -- a stream that was cut off is closed without an answer
 abbrev pub action_of_fault : FrameFault → Action
 action_of_fault frame.Truncated = action.Close
-action_of_fault frame.Head = action.Refuse (cause.Frame frame.Head) false
-action_of_fault frame.Version = action.Refuse (cause.Frame frame.Version) false
-action_of_fault frame.BothLengths = action.Refuse (cause.Frame frame.BothLengths) false
-action_of_fault frame.Length = action.Refuse (cause.Frame frame.Length) false
-action_of_fault frame.Coding = action.Refuse (cause.Frame frame.Coding) false
-action_of_fault frame.Chunk = action.Refuse (cause.Frame frame.Chunk) false
-action_of_fault frame.TooLarge = action.Refuse (cause.Frame frame.TooLarge) false
-action_of_fault frame.Expect = action.Refuse (cause.Frame frame.Expect) false
-action_of_fault frame.Status = action.Refuse (cause.Frame frame.Status) false
+action_of_fault frame.Head = action.Refuse (cause.Frame frame.Head) false None
+action_of_fault frame.Version = action.Refuse (cause.Frame frame.Version) false None
+action_of_fault frame.BothLengths = action.Refuse (cause.Frame frame.BothLengths) false None
+action_of_fault frame.Length = action.Refuse (cause.Frame frame.Length) false None
+action_of_fault frame.Coding = action.Refuse (cause.Frame frame.Coding) false None
+action_of_fault frame.Chunk = action.Refuse (cause.Frame frame.Chunk) false None
+action_of_fault frame.TooLarge = action.Refuse (cause.Frame frame.TooLarge) false None
+action_of_fault frame.Expect = action.Refuse (cause.Frame frame.Expect) false None
+action_of_fault frame.Status = action.Refuse (cause.Frame frame.Status) false None
 
 abbrev pub IsActionForNext : Next Request → Action → Type 0
 IsActionForNext next.More w = ⊥

@@ -5,6 +5,7 @@
 -- ActIsDone: an act was done                             ActMayForward: an act that may need a link
 use Rattle.std.specs.Prelude.{◌≡◌, ℕ, ◌<◌, ◌^◌, List, [], ◌∷◌, ◌++◌, length, Bool, true, false, ◌||◌, Option}
 use Rattle.std.specs.Prelude.{None, Some, if◌then◌else◌, slice_set, Result, Ok, Err, unwrap_or}
+use Rattle.std.specs.Option.{option_map}
 use Rattle.std.specs.declared.net.socket_addr.SocketAddrV4.{SocketAddrV4}
 use Rattle.hx_framing.specs.declared.messages.Request.{Request}
 use Rattle.hx_framing.specs.declared.frame_fault.FrameFault.TheVariants as frame
@@ -19,12 +20,13 @@ use Rattle.hx_allow.specs.Matching.{origin_address_of}
 use Rattle.hx_allow.specs.declared.verdicts.Route.{Route}
 use Rattle.hx_status.specs.Abouts.{about_refusal}
 use Rattle.hx_status.specs.declared.about.About.{About}
+use Rattle.hx_status.specs.declared.question.Question.{Question}
 use Rattle.hx_status.specs.declared.cause.Cause.{Cause}
 use Rattle.hx_status.specs.declared.cause.Cause.TheVariants as cause
 use Rattle.hx_hop.specs.Moments.{date_text_of}
 use Rattle.proxy_core.specs.Replies.{refusal_reply_text, is_head}
+use Rattle.proxy_core.specs.AnsweredRequests.{request_of_exchange}
 use Rattle.proxy_core.specs.Outcomes.{find_exchange}
-use Rattle.proxy_core.specs.declared.open.exchange.Exchange.{Exchange}
 use Rattle.proxy_core.specs.State.{State as CoreState, StepIsAccepted}
 use Rattle.proxy_core.specs.declared.outcome.Outcome.{Outcome}
 use Rattle.proxy_core.specs.declared.outcome.Outcome.TheVariants as outcomes
@@ -33,6 +35,7 @@ use Rattle.proxy_core.specs.declared.event.Event.TheVariants as events
 use Rattle.proxy_script.specs.declared.effect_list.Effect.{Effect}
 use Rattle.proxy_script.specs.declared.effect_list.Effect.TheVariants as effects
 use Rattle.proxy_engine.specs.ConnectionNumbers.{connection_number, link_number}
+use Rattle.proxy_engine.specs.Questions.{question_of, question_as_it_came}
 use Rattle.proxy_engine.specs.Admitted.{Refusal, RequestIsAdmittedOrRefused, asked_on_connection}
 use Rattle.proxy_engine.specs.EngineModel.{EngineModel, ConnectionModel, LinkModel, new_link_model, connection_at}
 use Rattle.proxy_engine.specs.EngineModel.{link_at}
@@ -95,19 +98,19 @@ with_opened_link s i to_head = record {
   first = s.first;
 }
 
--- the request of an open exchange is a HEAD
-abbrev pub exchange_asks_head : Option Exchange → Bool
-exchange_asks_head None = false
-exchange_asks_head (Some x) = is_head x.asked
+-- the request of a step is a HEAD
+abbrev pub asks_head : Option Asked → Bool
+asks_head None = false
+asks_head (Some asked) = is_head asked
 
--- for the connection at i; the next link has this number
-abbrev pub effects_of_outcome : ℕ → ℕ → OutcomeOnConnection → List Effect
-effects_of_outcome i number (Replies bytes about close) =
-    effects.Client (connection_number i) bytes (Some about)
+-- for the connection at i; the next link has this number, and a reply answers this question
+abbrev pub effects_of_outcome : ℕ → ℕ → Option Question → OutcomeOnConnection → List Effect
+effects_of_outcome i number question (Replies bytes about close) =
+    effects.Client (connection_number i) bytes (Some (record { about = about; question = question }))
     ∷ (if close then effects.Close (connection_number i) ∷ [] else [])
-effects_of_outcome i number (Forwards address bytes) = effects.Forward number address bytes ∷ []
-effects_of_outcome i number Queues = []
-effects_of_outcome i number Nothing = []
+effects_of_outcome i number question (Forwards address bytes) = effects.Forward number address bytes ∷ []
+effects_of_outcome i number question Queues = []
+effects_of_outcome i number question Nothing = []
 
 abbrev pub model_after_outcome : ℕ → Bool → OutcomeOnConnection → EngineModel → EngineModel
 model_after_outcome i to_head (Replies bytes about close) s = with_connection s i (with_closed close)
@@ -119,21 +122,27 @@ model_after_outcome i to_head Nothing s = s
 abbrev pub next_link_number : EngineModel → ℕ
 next_link_number s = link_number s.first (length s.links)
 
--- The core was stepped by this event, on the connection at i; before that the model was t, with s's core and links.
--- Links that it opens answer a HEAD or not; the effects `before` come first.
-pub record CoreIsStepped (s t : EngineModel) (i : ℕ) (to_head : Bool) (event : Event) (before emitted : List Effect)
+-- The core was stepped by this event, on the connection at i, for this request, or for none that may be answered;
+-- before that the model was t, with s's core and links. A reply answers the request, and a link that is opened answers
+-- a HEAD where it is one; the effects `before` come first.
+pub record CoreIsStepped (s t : EngineModel) (i : ℕ) (asked : Option Asked) (event : Event)
+    (before emitted : List Effect)
     (after : EngineModel) : Type 0 where
   pub outcome : Outcome
   pub core : CoreState
   pub steps : StepIsAccepted s.core event outcome core
-  pub emitted_is : emitted ≡ before ++ effects_of_outcome i (next_link_number s) (outcome_by_table s.core.table outcome)
-  pub after_is : after ≡ model_after_outcome i to_head (outcome_by_table s.core.table outcome) (with_core t core)
+  pub emitted_is : emitted ≡ before
+      ++ effects_of_outcome i (next_link_number s) (option_map question_of asked)
+      (outcome_by_table s.core.table outcome)
+  pub after_is : after ≡ model_after_outcome i (asks_head asked) (outcome_by_table s.core.table outcome)
+      (with_core t core)
 
--- the proxy answers by itself, and closes
-pub record RequestIsRefused (s : EngineModel) (now i : ℕ) (why : Cause) (head : Bool) (emitted : List Effect)
+-- the proxy answers this question by itself, and closes
+pub record RequestIsRefused (s : EngineModel) (now i : ℕ) (why : Cause) (head : Bool) (question : Option Question)
+    (emitted : List Effect)
     (after : EngineModel) : Type 0 where
   pub emitted_is : emitted ≡ effects.Client (connection_number i) (refusal_reply_text (date_text_of now) why true head)
-      (Some (about_refusal why))
+      (Some (record { about = about_refusal why; question = question }))
       ∷ effects.Close (connection_number i)
       ∷ []
   pub after_is : after ≡ with_connection s i (with_closed true)
@@ -146,9 +155,10 @@ ConnectionIsClosed s i emitted after =
 abbrev pub RequestArrives : EngineModel → ℕ → ℕ → Request → Result Asked Refusal → List Effect → EngineModel → Type 0
 RequestArrives s now i r (Ok asked) emitted after =
     (next_link_number s < 2 ^ 64) × CoreIsStepped s (with_connection s i (with_next_passed (next.Message r))) i
-    (is_head asked)
+    (Some (asked_on_connection (connection_at s i).retired asked))
     (events.Arrive now (connection_number i) (asked_on_connection (connection_at s i).retired asked)) [] emitted after
-RequestArrives s now i r (Err refusal) emitted after = RequestIsRefused s now i refusal.why refusal.head emitted after
+RequestArrives s now i r (Err refusal) emitted after =
+    RequestIsRefused s now i refusal.why refusal.head (Some (question_as_it_came r)) emitted after
 
 -- what a client's stream asks for is done
 abbrev pub ConnectionIsServed : EngineModel → ℕ → ℕ → Next Request → List Effect → EngineModel → Type 0
@@ -161,49 +171,49 @@ ConnectionIsServed s now i (next.Message r) emitted after =
     × RequestArrives s now i r judged emitted after
 ConnectionIsServed s now i (next.Refused frame.Truncated) emitted after = ConnectionIsClosed s i emitted after
 ConnectionIsServed s now i (next.Refused frame.Head) emitted after = RequestIsRefused s now i
-    (cause.Frame frame.Head) false emitted after
+    (cause.Frame frame.Head) false None emitted after
 ConnectionIsServed s now i (next.Refused frame.Version) emitted after =
-    RequestIsRefused s now i (cause.Frame frame.Version) false emitted after
+    RequestIsRefused s now i (cause.Frame frame.Version) false None emitted after
 ConnectionIsServed s now i (next.Refused frame.BothLengths) emitted after =
-    RequestIsRefused s now i (cause.Frame frame.BothLengths) false emitted after
+    RequestIsRefused s now i (cause.Frame frame.BothLengths) false None emitted after
 ConnectionIsServed s now i (next.Refused frame.Length) emitted after =
-    RequestIsRefused s now i (cause.Frame frame.Length) false emitted after
+    RequestIsRefused s now i (cause.Frame frame.Length) false None emitted after
 ConnectionIsServed s now i (next.Refused frame.Coding) emitted after =
-    RequestIsRefused s now i (cause.Frame frame.Coding) false emitted after
+    RequestIsRefused s now i (cause.Frame frame.Coding) false None emitted after
 ConnectionIsServed s now i (next.Refused frame.Chunk) emitted after = RequestIsRefused s now i
-    (cause.Frame frame.Chunk) false emitted after
+    (cause.Frame frame.Chunk) false None emitted after
 ConnectionIsServed s now i (next.Refused frame.TooLarge) emitted after =
-    RequestIsRefused s now i (cause.Frame frame.TooLarge) false emitted after
+    RequestIsRefused s now i (cause.Frame frame.TooLarge) false None emitted after
 ConnectionIsServed s now i (next.Refused frame.Expect) emitted after =
-    RequestIsRefused s now i (cause.Frame frame.Expect) false emitted after
+    RequestIsRefused s now i (cause.Frame frame.Expect) false None emitted after
 ConnectionIsServed s now i (next.Refused frame.Status) emitted after =
-    RequestIsRefused s now i (cause.Frame frame.Status) false emitted after
+    RequestIsRefused s now i (cause.Frame frame.Status) false None emitted after
 ConnectionIsServed s now i next.End emitted after = ConnectionIsClosed s i emitted after
 
 -- the exchange on the link at j, of the connection at i, is finished
 abbrev pub LinkIsFinished : EngineModel → ℕ → ℕ → ℕ → LinkResult → List Effect → EngineModel → Type 0
 LinkIsFinished s now j i (Gives r) emitted after =
     (next_link_number s < 2 ^ 64) × CoreIsStepped s (model_after_link_freed s j i) i
-    (exchange_asks_head (find_exchange (connection_number i) s.core.exchanges))
+    (request_of_exchange (find_exchange (connection_number i) s.core.exchanges))
     (events.Answer now (connection_number i) r)
     (effects.Drop (link_number s.first j) ∷ []) emitted after
 LinkIsFinished s now j i (Breaks kind) emitted after =
     CoreIsStepped s (model_after_link_freed s j i) i
-    (exchange_asks_head (find_exchange (connection_number i) s.core.exchanges))
+    (request_of_exchange (find_exchange (connection_number i) s.core.exchanges))
     (events.Fail now (connection_number i) kind) (effects.Drop (link_number s.first j) ∷ []) emitted after
 
 -- the request of the connection at i waited, and is judged anew
 abbrev pub RequestIsWoken : EngineModel → ℕ → ℕ → List Effect → EngineModel → Type 0
 RequestIsWoken s now i emitted after =
     (next_link_number s < 2 ^ 64) × CoreIsStepped s (with_connection s i (with_activity Free)) i
-    (exchange_asks_head (find_exchange (connection_number i) s.core.exchanges))
+    (request_of_exchange (find_exchange (connection_number i) s.core.exchanges))
     (events.Wake now (connection_number i)) []
     emitted after
 
 -- an act was done, with these effects
 abbrev pub ActIsDone : EngineModel → ℕ → Act → List Effect → EngineModel → Type 0
 ActIsDone s now (Abandons i l) emitted after =
-    CoreIsStepped s (model_after_exchange_ends s l i) i false (events.Abandon (connection_number i))
+    CoreIsStepped s (model_after_exchange_ends s l i) i None (events.Abandon (connection_number i))
     (drop_effects s.first l) emitted after
 ActIsDone s now (Finishes j finish) emitted after = LinkIsFinished s now j (link_at s j).connection finish emitted after
 ActIsDone s now (Wakes i) emitted after = RequestIsWoken s now i emitted after

@@ -14,7 +14,7 @@ use Rattle.proxy_engine.specs.Due.{Act}
 use Rattle.proxy_engine.specs.Acts.{ActIsDone}
 
 abbrev pub link_dropped_by_effect : Effect → Option ℕ
-link_dropped_by_effect (effects.Client n bytes about) = None
+link_dropped_by_effect (effects.Client n bytes replied) = None
 link_dropped_by_effect (effects.Forward l address bytes) = None
 link_dropped_by_effect (effects.Close n) = None
 link_dropped_by_effect (effects.Drop l) = Some l

@@ -8,6 +8,7 @@
 -- StepsAreAGoodRun: the steps of the core are a good run
 -- ActIsDoneInOneWay, StepsHaveOneTrace, ExecutionsAreRuns: the laws
 use Rattle.std.specs.Prelude.{◌≡◌, ◌⊎◌, ℕ, List, [], ◌∷◌, ◌++◌, Bool, true, Option, None, Some, Ok, Err}
+use Rattle.std.specs.Option.{option_map}
 use Rattle.hx_allow.specs.TableLines.{Table}
 use Rattle.hx_framing.specs.declared.messages.Next.TheVariants as next
 use Rattle.hx_framing.specs.Text.{continue_text}
@@ -15,6 +16,7 @@ use Rattle.hx_hop.specs.declared.request_view.Asked.{Asked}
 use Rattle.hx_hop.specs.Moments.{date_text_of}
 use Rattle.hx_status.specs.Abouts.{about_refusal}
 use Rattle.hx_status.specs.declared.cause.Cause.{Cause}
+use Rattle.hx_status.specs.declared.question.Question.{Question}
 use Rattle.proxy_core.specs.Driving.{KeepsThePromises}
 use Rattle.proxy_core.specs.Replies.{refusal_reply_text}
 use Rattle.proxy_core.specs.State.{StepIsAccepted, bounds_of}
@@ -33,6 +35,7 @@ use Rattle.proxy_engine.specs.EngineModel.{happening_fault}
 use Rattle.proxy_engine.specs.Due.{Act, Abandons, Finishes, Wakes, Serves, Gives, Breaks, IsDueFirst}
 use Rattle.proxy_engine.specs.Acts.{drop_effects, ActIsDone, outcome_by_table, effects_of_outcome}
 use Rattle.proxy_engine.specs.Acts.{next_link_number}
+use Rattle.proxy_engine.specs.Questions.{question_of, question_as_it_came, request_of_event}
 use Rattle.proxy_engine.specs.State.{new_engine_model}
 
 -- a happening was taken, or an act was done at a moment, with its effects
@@ -99,27 +102,41 @@ ActAsksCoreNothing (Serves i next.NeedsContinue) = Unit {0}
 ActAsksCoreNothing (Serves i (next.Refused fault)) = Unit {0}
 ActAsksCoreNothing (Serves i next.End) = Unit {0}
 
+-- What the client asked for whose request an act refuses: nothing is known of it where its head or its content was
+-- refused.
+abbrev pub question_refused : Act → Option Question
+question_refused (Abandons i l) = None
+question_refused (Finishes j finish) = None
+question_refused (Wakes i) = None
+question_refused (Serves i (next.Message r)) = Some (question_as_it_came r)
+question_refused (Serves i next.More) = None
+question_refused (Serves i next.NeedsContinue) = None
+question_refused (Serves i (next.Refused fault)) = None
+question_refused (Serves i next.End) = None
+
 -- An item of the core, which an act in this model did at this moment: its event is the act's, the core took the step,
 -- its link is dropped, and then come the effects on its connection. What goes forward names the number of the next
--- link.
+-- link, and a reply says what it answers.
 pub record IsItemOfAct (table : Table) (s : EngineModel) (now : ℕ) (act : Act) (item : Item) (emitted : List Effect)
     (after : EngineModel) : Type 0 where
   pub event_is : IsCoreEventOfAct s now act item.event
   pub steps : StepIsAccepted s.core item.event item.outcome after.core
   pub emitted_is : emitted ≡ drop_effects_of_act s act ++ effects_of_outcome (connection_place_of_act s act)
-      (next_link_number s) (outcome_by_table table item.outcome)
+      (next_link_number s) (option_map question_of (request_of_event s.core.exchanges item.event))
+      (outcome_by_table table item.outcome)
 
 -- effects without a step of the core, on the connection at a place: a continue, the proxy's answer to what is no
--- request, or a close
-pub data IsEffectsWithoutCoreStep (now place : ℕ) (emitted : List Effect) : Type 0 where
+-- request, which says this question, or a close
+pub data IsEffectsWithoutCoreStep (now place : ℕ) (question : Option Question) (emitted : List Effect) : Type 0 where
   Continues : emitted ≡ effects.Client (connection_number place) continue_text None ∷ []
-      → IsEffectsWithoutCoreStep now place emitted
+      → IsEffectsWithoutCoreStep now place question emitted
   Refuses : (why : Cause) (head : Bool) → emitted
       ≡ effects.Client (connection_number place) (refusal_reply_text (date_text_of now) why true head)
-      (Some (about_refusal why))
+      (Some (record { about = about_refusal why; question = question }))
       ∷ effects.Close (connection_number place) ∷ []
-      → IsEffectsWithoutCoreStep now place emitted
-  Closes : emitted ≡ effects.Close (connection_number place) ∷ [] → IsEffectsWithoutCoreStep now place emitted
+      → IsEffectsWithoutCoreStep now place question emitted
+  Closes : emitted ≡ effects.Close (connection_number place) ∷ []
+      → IsEffectsWithoutCoreStep now place question emitted
 
 -- what is taken asks the core nothing, but that a request has waited as long as it is to wait
 abbrev pub core_event_of_happening : PlainHappening → Option Event
@@ -144,7 +161,8 @@ abbrev pub StepAddsToTrace : Table → EngineModel → ExecutionStep → EngineM
 StepAddsToTrace table s (Took h) after past trace = TakingAddsToTrace s (core_event_of_happening h) after past trace
 StepAddsToTrace table s (Worked now act emitted) after past trace =
     ((item : Item) × (trace ≡ item ∷ past) × IsItemOfAct table s now act item emitted after)
-    ⊎ ((trace ≡ past) × ActAsksCoreNothing act × IsEffectsWithoutCoreStep now (connection_place_of_act s act) emitted)
+    ⊎ ((trace ≡ past) × ActAsksCoreNothing act
+    × IsEffectsWithoutCoreStep now (connection_place_of_act s act) (question_refused act) emitted)
 
 -- the steps that lead from s to t did the items of the trace, in order, and told them
 abbrev pub StepsHaveTrace : Table → EngineModel → List ExecutionStep → EngineModel → List Item → Type 0

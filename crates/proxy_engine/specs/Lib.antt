@@ -6,6 +6,7 @@ pub mod Activities
 pub mod EngineModel
 pub mod Admitted
 pub mod Due
+pub mod Questions
 pub mod Acts
 pub mod State
 pub mod Exhausted

@@ -2,6 +2,8 @@
 use Rattle.std.specs.Prelude.{false, [], ◌∷◌, codes, None, Some}
 use Rattle.hx_framing.specs.declared.messages.Request.{Request}
 use Rattle.hx_framing.specs.declared.messages.Response.{Response}
+use Rattle.hx_status.specs.Abouts.{about_purge}
+use Rattle.hx_status.specs.declared.about.Replied.{Replied}
 use Rattle.proxy_core.specs.Starts.{empty_store}
 use Rattle.proxy_core.specs.Traces.{initial_state as core_begun}
 use Rattle.hx_allow.specs.TableLines.{Table}
@@ -9,6 +11,7 @@ use Rattle.proxy_core.specs.Cases.{line_with_no_cache, table}
 use Rattle.proxy_engine.specs.Happenings.{Accepts, Sends}
 use Rattle.proxy_engine.specs.EngineModel.{EngineModel, model_after_happening, with_link}
 use Rattle.proxy_engine.specs.Acts.{with_dropped, with_opened_link}
+use Rattle.proxy_engine.specs.Questions.{question_as_it_came}
 use Rattle.proxy_engine.specs.State.{new_engine_model}
 
 -- two lines, each with an origin of its own
@@ -42,3 +45,7 @@ answer_200 = record { status = 200; fields = []; content = []; announced = None 
 
 abbrev pub request_of_a : Request
 request_of_a = record { method = codes "GET"; target = codes "/a"; minor = 1; fields = []; content = None }
+
+-- a reply that answers it
+abbrev pub replied_to_a : Replied
+replied_to_a = record { about = about_purge 4; question = Some (question_as_it_came request_of_a) }

@@ -54,7 +54,7 @@ pub record LinkIsDropped (s after : EngineModel) (l : ℕ) : Type 0 where
 -- the effects name connections that are open, a close is the last of them, a link is dropped once
 abbrev pub EffectsNameOpenEnds : EngineModel → EngineModel → List Effect → Type 0
 EffectsNameOpenEnds s after [] = Unit {0}
-EffectsNameOpenEnds s after (effects.Client n bytes about ∷ rest) = ConnectionIsOpen s n
+EffectsNameOpenEnds s after (effects.Client n bytes replied ∷ rest) = ConnectionIsOpen s n
     × EffectsNameOpenEnds s after rest
 EffectsNameOpenEnds s after (effects.Close n ∷ rest) = ConnectionIsOpen s n × ConnectionHasClosed after n × (rest ≡ [])
 EffectsNameOpenEnds s after (effects.Forward l address bytes ∷ rest) = (l ≡ next_link_number s)

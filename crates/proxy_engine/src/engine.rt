@@ -1,6 +1,8 @@
 //! The engine: connections of clients, links to origins, and the core between them.
 ghost use Rattle.std.specs.Prelude.{◌≡◌, ◌≢◌, ◌<◌, ◌≤◌, ◌-◌, nat_lt, [], length, IfOk, IfErr, OnOk, OnErr, Some};
+ghost use Rattle.std.specs.Prelude.{option_copied};
 ghost use Rattle.std.specs.Prelude.{Err, true};
+ghost use Rattle.proxy_core.specs.AnsweredRequests.{request_of_exchange};
 ghost use Rattle.proxy_core.specs.Outcomes.{find_exchange};
 ghost use Rattle.proxy_core.specs.Starts.{StartStands};
 ghost use Rattle.proxy_core.specs.State.{bounds_of};
@@ -25,11 +27,22 @@ use crate::endpoints::open_ends::Ends;
 use crate::takes;
 use crate::work::{End, EngineFault};
 use hx_allow::Config;
+use hx_hop::Asked;
 use hx_store::Shelf;
 use proxy_core::{Core, Stage};
 use proxy_script::Happening;
 use std::alloc::{AllocError, Global};
 use std::marker::Model;
+
+/// The request of an exchange, if that is open.
+fn request_of_exchange<S: Shelf>(core: &Core<S>, id: u64) -> Option<&Asked>
+    ensures { option_copied result ≡ request_of_exchange (find_exchange id core.now.exchanges) }
+{
+    match core.exchange(id) {
+        Some(exchange) => Some(&exchange.asked),
+        None => None,
+    }
+}
 
 /// The line over which the request of an exchange went forward, if that is open.
 fn line_of_exchange<S: Shelf>(core: &Core<S>, id: u64) -> Option<u16>
@@ -344,6 +357,14 @@ impl<S: Shelf> Engine<S> {
         } else {
             None
         }
+    }
+
+    /// The request of a client that is open: it went forward or waits, and isn't answered.
+    pub fn asked(&self, n: u64) -> Option<&Asked>
+        ensures { (s : EngineModel) → EngineRepresents self.now s
+            → option_copied result ≡ request_of_exchange (find_exchange n s.core.exchanges) }
+    {
+        request_of_exchange(&self.core, n)
     }
 
     /// The line over which the request of a link went forward, counted from 1. There is none of a link that is dropped.

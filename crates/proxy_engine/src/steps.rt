@@ -5,5 +5,6 @@ pub(crate) mod acts;
 pub(crate) mod finds;
 pub(crate) mod finishing;
 pub(crate) mod outcomes;
+pub(crate) mod questions;
 pub(crate) mod serving;
 pub(crate) mod waking;

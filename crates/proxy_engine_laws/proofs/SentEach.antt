@@ -2,6 +2,7 @@
 use Rattle.std.proofs.Common.{◌≡◌, ◌⊎◌, inl, inr, ℕ, ◌+◌, ◌<◌, Bool, true, false, List, [], ◌∷◌, refl, sym, ap, ◌∙◌, subst}
 use Rattle.std.specs.Prelude.{All, Contains, Option, None, Some, Result, Ok, Err, bytes_eq, codes, cond}
 use Rattle.std.proofs.lemmas.List.Elements.{All-nil, All-cons, All-append, All-weaker}
+use Rattle.std.specs.Option.{option_map}
 use Rattle.hx_fields.specs.declared.limits.TheConstants.{END_OF_TIME}
 use Rattle.hx_allow.specs.TableLines.{Table}
 use Rattle.hx_framing.specs.declared.messages.Request.{Request}
@@ -16,6 +17,7 @@ use Rattle.hx_hop.specs.Moments.{date_text_of}
 use Rattle.hx_target.specs.declared.target_fault.TargetFault.{TargetFault}
 use Rattle.hx_target.specs.declared.targets.Target.{Target}
 use Rattle.hx_status.specs.Abouts.{about_refusal}
+use Rattle.hx_status.specs.declared.question.Question.{Question}
 use Rattle.hx_status.specs.declared.cause.Cause.{Cause}
 use Rattle.hx_status.specs.declared.cause.Cause.TheVariants as cause
 use Rattle.hx_status.specs.declared.cause.FailKind.{FailKind}
@@ -26,6 +28,7 @@ use Rattle.proxy_core.specs.declared.outcome.Outcome.{Outcome}
 use Rattle.proxy_core.specs.declared.outcome.Outcome.TheVariants as outcomes
 use Rattle.proxy_core.specs.Driving.{KeepsThePromises}
 use Rattle.proxy_core.specs.Histories.{open_exchanges}
+use Rattle.proxy_core.specs.AnsweredRequests.{request_of_exchange}
 use Rattle.proxy_core.specs.Outcomes.{find_exchange, exchange_id_of_event}
 use Rattle.proxy_core.specs.Replies.{is_head, refusal_reply_text}
 use Rattle.proxy_core.specs.Starts.{StoreAtStart}
@@ -39,7 +42,8 @@ use Rattle.proxy_core_laws.proofs.SentMessages.{one_refusal, sends_one_message_e
 use Rattle.proxy_engine.specs.Admitted.{Refusal, RequestIsAdmittedOrRefused, asked_on_connection}
 use Rattle.proxy_engine.specs.EngineModel.{EngineModel, connection_at, link_at}
 use Rattle.proxy_engine.specs.Due.{Act, Abandons, Finishes, Wakes, Serves, Gives, Breaks, IsDueFirst}
-use Rattle.proxy_engine.specs.Acts.{RequestArrives, RequestIsRefused as IsRefused, ConnectionIsServed, origin_address_of_line, exchange_asks_head, outcome_by_table, drop_effects, effects_of_outcome, next_link_number}
+use Rattle.proxy_engine.specs.Questions.{question_of, request_of_event}
+use Rattle.proxy_engine.specs.Acts.{RequestArrives, RequestIsRefused as IsRefused, ConnectionIsServed, origin_address_of_line, asks_head, outcome_by_table, drop_effects, effects_of_outcome, next_link_number}
 use Rattle.proxy_engine.specs.State.{new_engine_model}
 use Rattle.proxy_engine.specs.Executions.{ExecutionStep, Took, Worked, IsCoreEventOfAct, IsItemOfAct, StepLeads, StepsLead, drop_effects_of_act, connection_place_of_act, effects_of_steps}
 use Rattle.proxy_engine.proofs.Living.{Runs, executes, step_emitted}
@@ -48,19 +52,19 @@ use Rattle.proxy_engine_laws.proofs.HandedOver.{event_read, hands_what_was_read}
 
 -- ---- whether a HEAD is answered
 
-answer_head : (o : Option Exchange) (now id : ℕ) (r : Response) → event_is_to_head o (events.Answer now id r) ≡ exchange_asks_head o
+answer_head : (o : Option Exchange) (now id : ℕ) (r : Response) → event_is_to_head o (events.Answer now id r) ≡ asks_head (request_of_exchange o)
 answer_head None now id r = refl
 answer_head (Some x) now id r = refl
 
-fail_head : (o : Option Exchange) (now id : ℕ) (kind : FailKind) → event_is_to_head o (events.Fail now id kind) ≡ exchange_asks_head o
+fail_head : (o : Option Exchange) (now id : ℕ) (kind : FailKind) → event_is_to_head o (events.Fail now id kind) ≡ asks_head (request_of_exchange o)
 fail_head None now id kind = refl
 fail_head (Some x) now id kind = refl
 
-wake_head : (o : Option Exchange) (now id : ℕ) → event_is_to_head o (events.Wake now id) ≡ exchange_asks_head o
+wake_head : (o : Option Exchange) (now id : ℕ) → event_is_to_head o (events.Wake now id) ≡ asks_head (request_of_exchange o)
 wake_head None now id = refl
 wake_head (Some x) now id = refl
 
-abandon_head : (o : Option Exchange) (id : ℕ) → event_is_to_head o (events.Abandon id) ≡ exchange_asks_head o
+abandon_head : (o : Option Exchange) (id : ℕ) → event_is_to_head o (events.Abandon id) ≡ asks_head (request_of_exchange o)
 abandon_head None id = refl
 abandon_head (Some x) id = refl
 
@@ -114,25 +118,25 @@ module _ (table : Table) (now : ℕ) (h : Bool) where
   closes_or_not n true = close_sent n
   closes_or_not n false = All-nil (IsSent table.name now h)
 
-  came_sent : (i number : ℕ) (outcome : Outcome) → OutcomeIsOneMessage table.name h outcome → All (IsSent table.name now h) (effects_of_outcome i number (outcome_by_table table outcome))
-  came_sent i number (outcomes.Reply r) one =
-      All-cons (IsSent table.name now h) (effects.Client (i + 1) r.bytes (Some r.about)) (cond r.close (effects.Close (i + 1) ∷ []) []) (record { forwarded = tt; answered = λ early. inr one }) (closes_or_not (i + 1) r.close)
-  came_sent i number (outcomes.Forward line bytes) one =
+  came_sent : (i number : ℕ) (question : Option Question) (outcome : Outcome) → OutcomeIsOneMessage table.name h outcome → All (IsSent table.name now h) (effects_of_outcome i number question (outcome_by_table table outcome))
+  came_sent i number question (outcomes.Reply r) one =
+      All-cons (IsSent table.name now h) (effects.Client (i + 1) r.bytes (Some (record { about = r.about; question = question }))) (cond r.close (effects.Close (i + 1) ∷ []) []) (record { forwarded = tt; answered = λ early. inr one }) (closes_or_not (i + 1) r.close)
+  came_sent i number question (outcomes.Forward line bytes) one =
       All-cons (IsSent table.name now h) (effects.Forward number (origin_address_of_line table line) bytes) [] (record { forwarded = one; answered = λ early. tt }) (All-nil (IsSent table.name now h))
-  came_sent i number (outcomes.Waits leader) one = All-nil (IsSent table.name now h)
-  came_sent i number outcomes.Ended one = All-nil (IsSent table.name now h)
-  came_sent i number outcomes.WaitsNoMore one = All-nil (IsSent table.name now h)
+  came_sent i number question (outcomes.Waits leader) one = All-nil (IsSent table.name now h)
+  came_sent i number question outcomes.Ended one = All-nil (IsSent table.name now h)
+  came_sent i number question outcomes.WaitsNoMore one = All-nil (IsSent table.name now h)
 
   continue_sent : (n : ℕ) (emitted : List Effect) → emitted ≡ effects.Client n continue_text None ∷ [] → All (IsSent table.name now h) emitted
   continue_sent n emitted is =
       subst (All (IsSent table.name now h)) (sym is)
       (All-cons (IsSent table.name now h) (effects.Client n continue_text None) [] (record { forwarded = tt; answered = λ early. inl refl }) (All-nil (IsSent table.name now h)))
 
-  refused_sent : (n : ℕ) (why : Cause) (head : Bool) (emitted : List Effect) → head ≡ h → emitted ≡ effects.Client n (refusal_reply_text (date_text_of now) why true head) (Some (about_refusal why)) ∷ effects.Close n ∷ []
+  refused_sent : (n : ℕ) (why : Cause) (head : Bool) (question : Option Question) (emitted : List Effect) → head ≡ h → emitted ≡ effects.Client n (refusal_reply_text (date_text_of now) why true head) (Some (record { about = about_refusal why; question = question })) ∷ effects.Close n ∷ []
       → All (IsSent table.name now h) emitted
-  refused_sent n why head emitted same is =
+  refused_sent n why head question emitted same is =
       subst (All (IsSent table.name now h)) (sym is)
-      (All-cons (IsSent table.name now h) (effects.Client n (refusal_reply_text (date_text_of now) why true head) (Some (about_refusal why))) (effects.Close n ∷ [])
+      (All-cons (IsSent table.name now h) (effects.Client n (refusal_reply_text (date_text_of now) why true head) (Some (record { about = about_refusal why; question = question }))) (effects.Close n ∷ [])
       (record { forwarded = tt; answered = λ early. inr (subst (λ (g : Bool). BytesAreOneResponse g (refusal_reply_text (date_text_of now) why true head)) same (one_refusal now why true head early)) })
       (close_sent n))
 
@@ -157,17 +161,17 @@ module _ (table : Table) (read : TableWasRead table) (start : StoreAtStart) (fir
         let head : event_is_to_head (find_exchange (exchange_id_of_event item.event) (open_exchanges table start run.trace)) item.event ≡ act_answers_head s act =
         ap (λ (xs : List Exchange). event_is_to_head (find_exchange (exchange_id_of_event item.event) xs) item.event) (sym keeps.exchanges_are) ∙ about_act s now act item.event is.event_is in
         subst (All (IsSent table.name now (act_answers_head s act))) (sym is.emitted_is)
-        (All-append (IsSent table.name now (act_answers_head s act)) (drop_effects_of_act s act) (effects_of_outcome (connection_place_of_act s act) (next_link_number s) (outcome_by_table table item.outcome))
+        (All-append (IsSent table.name now (act_answers_head s act)) (drop_effects_of_act s act) (effects_of_outcome (connection_place_of_act s act) (next_link_number s) (option_map question_of (request_of_event s.core.exchanges item.event)) (outcome_by_table table item.outcome))
         (drops_of_act table now (act_answers_head s act) s act)
-        (came_sent table now (act_answers_head s act) (connection_place_of_act s act) (next_link_number s) item.outcome (subst (λ (h : Bool). OutcomeIsOneMessage table.name h item.outcome) head one)))
+        (came_sent table now (act_answers_head s act) (connection_place_of_act s act) (next_link_number s) (option_map question_of (request_of_event s.core.exchanges item.event)) item.outcome (subst (λ (h : Bool). OutcomeIsOneMessage table.name h item.outcome) head one)))
 
     arrives : (i : ℕ) (r : Request) (judged : Result Asked Refusal) → IsDueFirst s (Some (Serves i (next.Message r))) → RequestIsAdmittedOrRefused r judged → RequestArrives s now i r judged emitted t
         → All (IsSent table.name now (bytes_eq r.method (codes "HEAD"))) emitted
-    arrives i r (Ok asked) due admitted h = by_item (Serves i (next.Message r)) due (step_emitted table now (Serves i (next.Message r)) s _ _ _ emitted t run.config (asked_on_connection (connection_at s i).retired asked, (asked, admitted, refl), refl) h.1)
-    arrives i r (Err refusal) due (fault, asked, is) h = refused_sent table now (bytes_eq r.method (codes "HEAD")) (i + 1) refusal.why refusal.head emitted (ap (λ (f : Refusal). f.head) is) h.emitted_is
+    arrives i r (Ok asked) due admitted h = by_item (Serves i (next.Message r)) due (step_emitted table now (Serves i (next.Message r)) s _ _ _ emitted t run.config (asked_on_connection (connection_at s i).retired asked, (asked, admitted, refl), refl) refl h.1)
+    arrives i r (Err refusal) due (fault, asked, is) h = refused_sent table now (bytes_eq r.method (codes "HEAD")) (i + 1) refusal.why refusal.head _ emitted (ap (λ (f : Refusal). f.head) is) h.emitted_is
 
-    refused : (i : ℕ) (why : Cause) → IsRefused s now i why false emitted t → All (IsSent table.name now false) emitted
-    refused i why h = refused_sent table now false (i + 1) why false emitted refl h.emitted_is
+    refused : (i : ℕ) (why : Cause) → IsRefused s now i why false None emitted t → All (IsSent table.name now false) emitted
+    refused i why h = refused_sent table now false (i + 1) why false None emitted refl h.emitted_is
 
     framed : (i : ℕ) (fault : FrameFault) → ConnectionIsServed s now i (next.Refused fault) emitted t → All (IsSent table.name now false) emitted
     framed i frame.Truncated h = closed_sent table now false (i + 1) emitted h.0
@@ -182,10 +186,10 @@ module _ (table : Table) (read : TableWasRead table) (start : StoreAtStart) (fir
     framed i frame.Status h = refused i (cause.Frame frame.Status) h
 
     sent_by : (act : Act) → StepLeads s (Worked now act emitted) t → All (IsSent table.name now (act_answers_head s act)) emitted
-    sent_by (Abandons i l) leads = by_item (Abandons i l) leads.0 (step_emitted table now (Abandons i l) s _ _ _ emitted t run.config refl leads.1)
-    sent_by (Finishes j (Gives r)) leads = by_item (Finishes j (Gives r)) leads.0 (step_emitted table now (Finishes j (Gives r)) s _ _ _ emitted t run.config refl leads.1.1)
-    sent_by (Finishes j (Breaks kind)) leads = by_item (Finishes j (Breaks kind)) leads.0 (step_emitted table now (Finishes j (Breaks kind)) s _ _ _ emitted t run.config refl leads.1)
-    sent_by (Wakes i) leads = by_item (Wakes i) leads.0 (step_emitted table now (Wakes i) s _ _ _ emitted t run.config refl leads.1.1)
+    sent_by (Abandons i l) leads = by_item (Abandons i l) leads.0 (step_emitted table now (Abandons i l) s _ _ _ emitted t run.config refl refl leads.1)
+    sent_by (Finishes j (Gives r)) leads = by_item (Finishes j (Gives r)) leads.0 (step_emitted table now (Finishes j (Gives r)) s _ _ _ emitted t run.config refl refl leads.1.1)
+    sent_by (Finishes j (Breaks kind)) leads = by_item (Finishes j (Breaks kind)) leads.0 (step_emitted table now (Finishes j (Breaks kind)) s _ _ _ emitted t run.config refl refl leads.1)
+    sent_by (Wakes i) leads = by_item (Wakes i) leads.0 (step_emitted table now (Wakes i) s _ _ _ emitted t run.config refl refl leads.1.1)
     sent_by (Serves i next.More) leads = absurd leads.1
     sent_by (Serves i next.NeedsContinue) leads = continue_sent table now false (i + 1) emitted leads.1.0
     sent_by (Serves i (next.Message r)) leads = arrives i r leads.1.0 leads.0 leads.1.1 leads.1.2
@@ -207,14 +211,14 @@ module _ (table : Table) (read : TableWasRead table) (start : StoreAtStart) (fir
 
   -- a continue, or one response to a HEAD or not
   abbrev Gets : Effect → Type 0
-  Gets (effects.Client n bytes about) = (bytes ≡ continue_text) ⊎ ((to_head : Bool) × BytesAreOneResponse to_head bytes)
+  Gets (effects.Client n bytes replied) = (bytes ≡ continue_text) ⊎ ((to_head : Bool) × BytesAreOneResponse to_head bytes)
   Gets (effects.Forward l address bytes) = Unit {0}
   Gets (effects.Close n) = Unit {0}
   Gets (effects.Drop l) = Unit {0}
 
   gets : (h : Bool) (e : Effect) → ReplyIsOneResponse h e → Gets e
-  gets h (effects.Client n bytes about) (inl is) = inl is
-  gets h (effects.Client n bytes about) (inr is) = inr (h, is)
+  gets h (effects.Client n bytes replied) (inl is) = inl is
+  gets h (effects.Client n bytes replied) (inr is) = inr (h, is)
   gets h (effects.Forward l address bytes) is = tt
   gets h (effects.Close n) is = tt
   gets h (effects.Drop l) is = tt
@@ -236,5 +240,5 @@ answers_one_response_each table start first link now past s t act emitted read s
     (sent_by table read start first link sound past s executed now emitted t act leads)
 
 pub gets_one_response_each : ClientsGetOneResponseEach
-gets_one_response_each table start first link steps t read sound executed early n bytes about has =
-    contained (Gets table read start first link sound) (effects_of_steps steps) (effects.Client n bytes about) (all_got table read start first link sound steps t executed early) has
+gets_one_response_each table start first link steps t read sound executed early n bytes replied has =
+    contained (Gets table read start first link sound) (effects_of_steps steps) (effects.Client n bytes replied) (all_got table read start first link sound steps t executed early) has

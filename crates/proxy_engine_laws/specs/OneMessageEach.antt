@@ -13,7 +13,8 @@ use Rattle.hx_fields.specs.declared.limits.TheConstants.{END_OF_TIME}
 use Rattle.hx_allow.specs.TableLines.{Table}
 use Rattle.hx_framing.specs.declared.messages.Next.TheVariants as next
 use Rattle.hx_framing.specs.Text.{continue_text}
-use Rattle.hx_status.specs.declared.about.About.{About}
+use Rattle.hx_status.specs.declared.about.Replied.{Replied}
+use Rattle.proxy_core.specs.AnsweredRequests.{request_of_exchange}
 use Rattle.proxy_core.specs.Outcomes.{find_exchange}
 use Rattle.proxy_core.specs.State.{bounds_of}
 use Rattle.proxy_core.specs.Traces.{Item, initial_state as core_begun}
@@ -24,7 +25,7 @@ use Rattle.proxy_script.specs.declared.effect_list.Effect.{Effect}
 use Rattle.proxy_script.specs.declared.effect_list.Effect.TheVariants as effects
 use Rattle.proxy_engine.specs.EngineModel.{EngineModel, link_at}
 use Rattle.proxy_engine.specs.Due.{Act, Abandons, Finishes, Wakes, Serves}
-use Rattle.proxy_engine.specs.Acts.{exchange_asks_head}
+use Rattle.proxy_engine.specs.Acts.{asks_head}
 use Rattle.proxy_engine.specs.State.{new_engine_model}
 use Rattle.proxy_engine.specs.Executions.{ExecutionStep, Took, Worked, StepLeads, StepsLead, StepsHaveTrace}
 use Rattle.proxy_engine.specs.Executions.{effects_of_steps}
@@ -38,10 +39,10 @@ ActsAreInTime (Worked now act emitted ∷ past) = (now < END_OF_TIME) × ActsAre
 -- the request that an act is about is a HEAD: that of the exchange that is open on its connection, or the one that its
 -- stream spells
 abbrev pub act_answers_head : EngineModel → Act → Bool
-act_answers_head s (Abandons i l) = exchange_asks_head (find_exchange (i + 1) s.core.exchanges)
-act_answers_head s (Finishes j finish) = exchange_asks_head
-    (find_exchange ((link_at s j).connection + 1) s.core.exchanges)
-act_answers_head s (Wakes i) = exchange_asks_head (find_exchange (i + 1) s.core.exchanges)
+act_answers_head s (Abandons i l) = asks_head (request_of_exchange (find_exchange (i + 1) s.core.exchanges))
+act_answers_head s (Finishes j finish) =
+    asks_head (request_of_exchange (find_exchange ((link_at s j).connection + 1) s.core.exchanges))
+act_answers_head s (Wakes i) = asks_head (request_of_exchange (find_exchange (i + 1) s.core.exchanges))
 act_answers_head s (Serves i (next.Message request)) = bytes_eq request.method (codes "HEAD")
 act_answers_head s (Serves i next.More) = false
 act_answers_head s (Serves i next.NeedsContinue) = false
@@ -51,13 +52,13 @@ act_answers_head s (Serves i next.End) = false
 -- a forward is one request, by a proxy of this name
 abbrev pub ForwardIsOneRequest : List ℕ → Effect → Type 0
 ForwardIsOneRequest name (effects.Forward l address bytes) = BytesAreOneRequest name bytes
-ForwardIsOneRequest name (effects.Client n bytes about) = Unit {0}
+ForwardIsOneRequest name (effects.Client n bytes replied) = Unit {0}
 ForwardIsOneRequest name (effects.Close n) = Unit {0}
 ForwardIsOneRequest name (effects.Drop l) = Unit {0}
 
 -- what a client gets is the 25 bytes of a continue, or one response
 abbrev pub ReplyIsOneResponse : Bool → Effect → Type 0
-ReplyIsOneResponse to_head (effects.Client n bytes about) =
+ReplyIsOneResponse to_head (effects.Client n bytes replied) =
     (bytes ≡ continue_text) ⊎ BytesAreOneResponse to_head bytes
 ReplyIsOneResponse to_head (effects.Forward l address bytes) = Unit {0}
 ReplyIsOneResponse to_head (effects.Close n) = Unit {0}
@@ -106,5 +107,6 @@ ClientsGetOneResponseEach =
     → TableWasRead table
     → StartCanBeServed table start first → StepsLead (new_engine_model (core_begun table start first) link) steps t
     → ActsAreInTime steps
-    → (n : ℕ) (bytes : List ℕ) (about : Option About) → Contains (effects_of_steps steps) (effects.Client n bytes about)
+    → (n : ℕ) (bytes : List ℕ) (replied : Option Replied)
+    → Contains (effects_of_steps steps) (effects.Client n bytes replied)
     → (bytes ≡ continue_text) ⊎ ((to_head : Bool) × BytesAreOneResponse to_head bytes)

@@ -60,7 +60,7 @@ apart s m n o h = λ e.
 
 names_no_shut : (s after : EngineModel) (emitted : List Effect) (n : ℕ) → EffectsNameOpenEnds s after emitted → IsShut s n → EffectsNeverName client_named_by_effect n emitted
 names_no_shut s after [] n h shut = tt
-names_no_shut s after (effects.Client m bytes about ∷ emitted) n h shut = (apart s m n h.0 shut, names_no_shut s after emitted n h.1 shut)
+names_no_shut s after (effects.Client m bytes replied ∷ emitted) n h shut = (apart s m n h.0 shut, names_no_shut s after emitted n h.1 shut)
 names_no_shut s after (effects.Forward l address bytes ∷ emitted) n h shut = ((λ e. cc), names_no_shut s after emitted n h.1 shut)
 names_no_shut s after (effects.Close m ∷ emitted) n h shut = (apart s m n h.0 shut, subst (λ (es : List Effect). EffectsNeverName client_named_by_effect n es) (sym h.2) tt)
 names_no_shut s after (effects.Drop l ∷ emitted) n h shut = ((λ e. cc), names_no_shut s after emitted n h.1 shut)
@@ -72,7 +72,7 @@ shut_unnamed s after emitted n a shut = names_no_shut s after emitted n a.names 
 close_ends : (s after : EngineModel) (emitted rest : List Effect) → EffectsNameOpenEnds s after emitted → EndedStaysEnded s after → ((n : ℕ) → IsShut after n → EffectsNeverName client_named_by_effect n rest) → EffectEndsWhatItNames client_closed_by_effect client_named_by_effect rest →
     EffectEndsWhatItNames client_closed_by_effect client_named_by_effect (emitted ++ rest)
 close_ends s after [] rest h stays behind ending = ending
-close_ends s after (effects.Client m bytes about ∷ emitted) rest h stays behind ending = (tt, close_ends s after emitted rest h.1 stays behind ending)
+close_ends s after (effects.Client m bytes replied ∷ emitted) rest h stays behind ending = (tt, close_ends s after emitted rest h.1 stays behind ending)
 close_ends s after (effects.Forward l address bytes ∷ emitted) rest h stays behind ending = (tt, close_ends s after emitted rest h.1 stays behind ending)
 close_ends s after (effects.Close m ∷ emitted) rest h stays behind ending =
     let closed : ConnectionHasClosed after m = h.1 in
@@ -127,7 +127,7 @@ still_within s j h = by_order (cases_lt j (length s.links))
 
 names_no_over : (s after : EngineModel) (emitted : List Effect) (n : ℕ) → EffectsNameOpenEnds s after emitted → IsOver s n → EffectsNeverName link_named_by_effect n emitted
 names_no_over s after [] n h over = tt
-names_no_over s after (effects.Client m bytes about ∷ emitted) n h over = ((λ e. cc), names_no_over s after emitted n h.1 over)
+names_no_over s after (effects.Client m bytes replied ∷ emitted) n h over = ((λ e. cc), names_no_over s after emitted n h.1 over)
 names_no_over s after (effects.Forward l address bytes ∷ emitted) n h over =
     ((λ e. let same : l ≡ n = cc in absurd (omega (arith, same, h.0, over.number, over.within))), names_no_over s after emitted n h.1 over)
 names_no_over s after (effects.Close m ∷ emitted) n h over = ((λ e. cc), subst (λ (es : List Effect). EffectsNeverName link_named_by_effect n es) (sym h.2) tt)
@@ -143,7 +143,7 @@ over_unnamed s after emitted n a over = names_no_over s after emitted n a.names 
 -- behind the first effect an act drops none, and opens the next link alone
 names_next : (s after : EngineModel) (emitted : List Effect) (l : ℕ) → EffectsNameOpenEnds s after emitted → EffectsDropNoLink emitted → l < next_link_number s → EffectsNeverName link_named_by_effect l emitted
 names_next s after [] l h none below = tt
-names_next s after (effects.Client m bytes about ∷ emitted) l h none below = ((λ e. cc), names_next s after emitted l h.1 none.1 below)
+names_next s after (effects.Client m bytes replied ∷ emitted) l h none below = ((λ e. cc), names_next s after emitted l h.1 none.1 below)
 names_next s after (effects.Forward k address bytes ∷ emitted) l h none below = ((λ e. let same : k ≡ l = cc in absurd (omega (arith, same, h.0, below))), names_next s after emitted l h.1 none.1 below)
 names_next s after (effects.Close m ∷ emitted) l h none below = ((λ e. cc), subst (λ (es : List Effect). EffectsNeverName link_named_by_effect l es) (sym h.2) tt)
 names_next s after (effects.Drop k ∷ emitted) l h none below = let some : ◌≡◌ {A = Option ℕ} (Some k) None = none.0 in absurd (cc)
@@ -154,7 +154,7 @@ never_more n (x ∷ xs) ys h k = (h.0, never_more n xs ys h.1 k)
 
 plain_ends : (emitted rest : List Effect) → EffectsDropNoLink emitted → EffectEndsWhatItNames link_dropped_by_effect link_named_by_effect rest → EffectEndsWhatItNames link_dropped_by_effect link_named_by_effect (emitted ++ rest)
 plain_ends [] rest none ending = ending
-plain_ends (effects.Client m bytes about ∷ emitted) rest none ending = (tt, plain_ends emitted rest none.1 ending)
+plain_ends (effects.Client m bytes replied ∷ emitted) rest none ending = (tt, plain_ends emitted rest none.1 ending)
 plain_ends (effects.Forward l address bytes ∷ emitted) rest none ending = (tt, plain_ends emitted rest none.1 ending)
 plain_ends (effects.Close m ∷ emitted) rest none ending = (tt, plain_ends emitted rest none.1 ending)
 plain_ends (effects.Drop l ∷ emitted) rest none ending = let some : ◌≡◌ {A = Option ℕ} (Some l) None = none.0 in absurd (cc)
@@ -162,7 +162,7 @@ plain_ends (effects.Drop l ∷ emitted) rest none ending = let some : ◌≡◌ 
 -- an act that drops a link, and what is told behind it
 drop_ends : (s after : EngineModel) (emitted rest : List Effect) → IsAct s after emitted → ((n : ℕ) → IsOver after n → EffectsNeverName link_named_by_effect n rest) → EffectEndsWhatItNames link_dropped_by_effect link_named_by_effect rest → EffectEndsWhatItNames link_dropped_by_effect link_named_by_effect (emitted ++ rest)
 drop_ends s after [] rest a behind ending = ending
-drop_ends s after (effects.Client m bytes about ∷ emitted) rest a behind ending = (tt, plain_ends emitted rest a.drops ending)
+drop_ends s after (effects.Client m bytes replied ∷ emitted) rest a behind ending = (tt, plain_ends emitted rest a.drops ending)
 drop_ends s after (effects.Forward l address bytes ∷ emitted) rest a behind ending = (tt, plain_ends emitted rest a.drops ending)
 drop_ends s after (effects.Close m ∷ emitted) rest a behind ending = (tt, plain_ends emitted rest a.drops ending)
 drop_ends s after (effects.Drop l ∷ emitted) rest a behind ending =

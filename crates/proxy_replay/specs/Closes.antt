@@ -18,20 +18,20 @@ use Rattle.proxy_engine.specs.EngineModel.{EngineModel, link_at}
 use Rattle.proxy_replay.specs.Played.{Scene, ItemsArePlayed, initial_scene}
 
 abbrev pub client_named_by_effect : Effect → Option ℕ
-client_named_by_effect (effects.Client n bytes about) = Some n
+client_named_by_effect (effects.Client n bytes replied) = Some n
 client_named_by_effect (effects.Forward l address bytes) = None
 client_named_by_effect (effects.Close n) = Some n
 client_named_by_effect (effects.Drop l) = None
 
 abbrev pub link_named_by_effect : Effect → Option ℕ
-link_named_by_effect (effects.Client n bytes about) = None
+link_named_by_effect (effects.Client n bytes replied) = None
 link_named_by_effect (effects.Forward l address bytes) = Some l
 link_named_by_effect (effects.Close n) = None
 link_named_by_effect (effects.Drop l) = Some l
 
 -- the connection that an effect closes
 abbrev pub client_closed_by_effect : Effect → Option ℕ
-client_closed_by_effect (effects.Client n bytes about) = None
+client_closed_by_effect (effects.Client n bytes replied) = None
 client_closed_by_effect (effects.Forward l address bytes) = None
 client_closed_by_effect (effects.Close n) = Some n
 client_closed_by_effect (effects.Drop l) = None

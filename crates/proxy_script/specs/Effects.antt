@@ -9,9 +9,9 @@ use Rattle.proxy_script.specs.declared.effect_list.Effect.TheVariants.{Client, F
 abbrev pub block_text : List ℕ → List ℕ
 block_text bytes = decimal (length bytes) ++ codes "\n" ++ bytes ++ codes "\n"
 
--- what reply it is isn't told
+-- what reply it is and what it answers isn't told
 abbrev pub effect_text : Effect → List ℕ
-effect_text (Client n bytes about) = codes "client " ++ decimal n ++ codes " " ++ block_text bytes
+effect_text (Client n bytes replied) = codes "client " ++ decimal n ++ codes " " ++ block_text bytes
 effect_text (Forward l address bytes) =
     codes "forward " ++ decimal l ++ codes " " ++ socket_v4_text address ++ codes " " ++ block_text bytes
 effect_text (Close n) = codes "close " ++ decimal n ++ codes "\n"

@@ -2,6 +2,7 @@
 ghost use Rattle.std.specs.Prelude.{◌≡◌, ◌∷◌, [], None, Some, codes, true, false};
 ghost use Rattle.hx_status.specs.Abouts.{about_purge};
 ghost use Rattle.hx_status.specs.declared.cause.FailKind.TheVariants.{Refused, TimedOut, Closed};
+ghost use Rattle.hx_status.specs.declared.question.AskedTarget.TheVariants.{AsItCame};
 ghost use Rattle.proxy_script.specs.declared.effect_list.Effect.TheVariants as effect;
 ghost use Rattle.proxy_script.specs.Effects.{effect_text, effects_text};
 ghost use Rattle.proxy_script.specs.Happenings as happening;
@@ -91,7 +92,10 @@ pub fn worked_effects_are_spelled()
     ensures closes { effects_text (effect.Close 1 ∷ effect.Drop 2 ∷ []) ≡ codes "close 1\ndrop 2\n" }
     ensures bytes { effects_text (effect.Client 3 (codes "hi") None ∷ effect.Close 3 ∷ [])
         ≡ codes "client 3 2\nhi\nclose 3\n" }
-    ensures reply { effect_text (effect.Client 3 (codes "hi") (Some (about_purge 7))) ≡ codes "client 3 2\nhi\n" }
+    ensures reply { effect_text (effect.Client 3 (codes "hi") (Some (record {
+      about = about_purge 7;
+      question = Some (record { method = codes "PURGE"; target = AsItCame (codes "/a") });
+    }))) ≡ codes "client 3 2\nhi\n" }
     ensures forward { effect_text
         (effect.Forward 7 (record { ip = record { octets = 127 ∷ 0 ∷ 0 ∷ 1 ∷ [] }; port = 80 }) (codes "GET"))
         ≡ codes "forward 7 127.0.0.1:80 3\nGET\n" }

@@ -253,7 +253,7 @@ pub fn worked_actions()
     ensures cut { action_of_fault frame.Truncated ≡ action.Close }
     ensures refused { map action_of_fault (frame.Head ∷ frame.Version ∷ frame.BothLengths ∷ frame.Length ∷ frame.Coding
         ∷ frame.Chunk ∷ frame.TooLarge ∷ frame.Expect ∷ frame.Status ∷ [])
-        ≡ map (λ f. action.Refuse (cause.Frame f) false) (frame.Head ∷ frame.Version ∷ frame.BothLengths
+        ≡ map (λ f. action.Refuse (cause.Frame f) false None) (frame.Head ∷ frame.Version ∷ frame.BothLengths
         ∷ frame.Length ∷ frame.Coding ∷ frame.Chunk ∷ frame.TooLarge ∷ frame.Expect ∷ frame.Status ∷ []) }
     ensures nothing { (w : Action) → IsActionForNext next.More w → ⊥ }
     ensures continues { (w : Action) → IsActionForNext next.NeedsContinue w → w ≡ action.Continue }

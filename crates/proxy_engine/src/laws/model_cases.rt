@@ -8,9 +8,13 @@ ghost use Rattle.hx_status.specs.Abouts.{about_purge};
 ghost use Rattle.hx_status.specs.declared.cause.FailKind.TheVariants as kinds;
 ghost use Rattle.hx_allow.specs.Addresses.{address_of_numbers};
 ghost use Rattle.hx_allow.specs.Matching.{over_line};
+ghost use Rattle.hx_status.specs.declared.question.AskedTarget.TheVariants.{AsItCame, Uri};
+ghost use Rattle.proxy_core.specs.Cases.{get_a_with, head_of_a, key_of_path, waits_behind};
+ghost use Rattle.proxy_core.specs.declared.event.Event.TheVariants as events;
 ghost use Rattle.proxy_core.specs.declared.outcome.Outcome.TheVariants as outcomes;
 ghost use Rattle.proxy_script.specs.declared.effect_list.Effect.TheVariants as effects;
 ghost use Rattle.proxy_engine.specs.Happenings.{Accepts, Sends, Hears, Ends, Leaves, Retires, Overdues, Shuts, Fails};
+ghost use Rattle.proxy_engine.specs.Questions.{question_of, request_of_event};
 ghost use Rattle.proxy_engine.specs.EngineModel.{connection_at, happening_fault, model_after_happening};
 ghost use Rattle.proxy_engine.specs.EngineModel.{happening_is_kept, link_at};
 ghost use Rattle.proxy_engine.specs.Due.{Breaks, Gives, Abandons, Finishes, Serves, Wakes, link_result_of};
@@ -20,9 +24,9 @@ ghost use Rattle.proxy_engine.specs.Acts.{Forwards, Nothing, Queues, Replies, mo
 ghost use Rattle.proxy_engine.specs.Acts.{drop_effects, origin_address_of_line, outcome_by_table};
 ghost use Rattle.proxy_engine.specs.Acts.{effects_of_outcome, model_after_link_freed, next_link_number};
 ghost use Rattle.proxy_engine.specs.Executions.{Took, Worked, drop_effects_of_act, connection_place_of_act};
-ghost use Rattle.proxy_engine.specs.Executions.{effects_of_steps};
+ghost use Rattle.proxy_engine.specs.Executions.{effects_of_steps, question_refused};
 ghost use Rattle.proxy_engine.specs.ModelCases.{answer_200, model_with_dropped_link, empty_model};
-ghost use Rattle.proxy_engine.specs.ModelCases.{model_with_connection, model_with_link, request_of_a};
+ghost use Rattle.proxy_engine.specs.ModelCases.{model_with_connection, model_with_link, replied_to_a, request_of_a};
 ghost use Rattle.proxy_engine.specs.ModelCases.{model_after_two_sends, table_of_two_origins};
 ghost use Rattle.proxy_engine.specs.declared.endpoints.activities.Activity.TheVariants.{Forwarded, Free, Waiting};
 ghost use Rattle.proxy_engine.specs.declared.work.EngineFault.TheVariants.{NotAccepted, NotWaiting, WrongNumber};
@@ -125,17 +129,17 @@ pub fn worked_addresses_of_outcomes()
     ensures no_line { origin_address_of_line table_of_two_origins (over_line 3) ≡ address_of_numbers 0 0 0 0 0 }
 {}
 
-/// What acts tell: a reply to its connection, with what it is, and a close behind it where it says so; a forward on the
-/// next link; nothing of one that waits. And what they leave.
+/// What acts tell: a reply to its connection, with what it is and what it answers, and a close behind it where it says
+/// so; a forward on the next link; nothing of one that waits. And what they leave.
 pub fn worked_effects_of_acts()
-    ensures reply { effects_of_outcome 2 7 (Replies (codes "x") (about_purge 4) false)
-        ≡ effects.Client 3 (codes "x") (Some (about_purge 4)) ∷ [] }
-    ensures last_reply { effects_of_outcome 2 7 (Replies (codes "x") (about_purge 4) true)
-        ≡ effects.Client 3 (codes "x") (Some (about_purge 4)) ∷ effects.Close 3 ∷ [] }
-    ensures forward { effects_of_outcome 2 7 (Forwards (address_of_numbers 127 0 0 1 80) (codes "x"))
+    ensures reply { effects_of_outcome 2 7 replied_to_a.question (Replies (codes "x") (about_purge 4) false)
+        ≡ effects.Client 3 (codes "x") (Some replied_to_a) ∷ [] }
+    ensures last_reply { effects_of_outcome 2 7 replied_to_a.question (Replies (codes "x") (about_purge 4) true)
+        ≡ effects.Client 3 (codes "x") (Some replied_to_a) ∷ effects.Close 3 ∷ [] }
+    ensures forward { effects_of_outcome 2 7 None (Forwards (address_of_numbers 127 0 0 1 80) (codes "x"))
         ≡ effects.Forward 7 (address_of_numbers 127 0 0 1 80) (codes "x") ∷ [] }
-    ensures waits { effects_of_outcome 2 7 Queues ≡ [] }
-    ensures nothing { effects_of_outcome 2 7 Nothing ≡ [] }
+    ensures waits { effects_of_outcome 2 7 None Queues ≡ [] }
+    ensures nothing { effects_of_outcome 2 7 None Nothing ≡ [] }
     ensures drops { drop_effects 5 (Some 2) ≡ effects.Drop 7 ∷ [] }
     ensures drops_none { drop_effects 5 None ≡ [] }
     ensures next { next_link_number model_with_link ≡ 6 }
@@ -150,6 +154,23 @@ pub fn worked_effects_of_acts()
         (Replies [] (about_purge 4) false) model_with_connection) 0).closed ≡ false }
     ensures frees { (connection_at (model_after_link_freed model_with_link 0 0) 0).activity ≡ Free }
     ensures drops_its_link { (link_at (model_after_link_freed model_with_link 0 0) 0).dropped ≡ true }
+{}
+
+/// What a client asked for: its method and its target URI, or where it is refused the target as the request line has
+/// it.
+/// A step answers the request that arrives, or that of the open exchange of its id.
+pub fn worked_questions()
+    ensures uri { question_of head_of_a ≡ record { method = codes "HEAD"; target = Uri (key_of_path (codes "/a")) } }
+    ensures refused { question_refused (Serves 0 (next.Message request_of_a))
+        ≡ Some (record { method = codes "GET"; target = AsItCame (codes "/a") }) }
+    ensures unread { question_refused (Serves 0 (next.Refused frame.Head)) ≡ None }
+    ensures arrival { request_of_event [] (events.Arrive 5 2 head_of_a) ≡ Some head_of_a }
+    ensures answer { request_of_event (waits_behind 1 3 head_of_a ∷ waits_behind 1 2 (get_a_with []) ∷ [])
+        (events.Answer 5 2 answer_200) ≡ Some (get_a_with []) }
+    ensures wake { request_of_event (waits_behind 1 3 head_of_a ∷ waits_behind 1 2 (get_a_with []) ∷ [])
+        (events.Wake 5 3) ≡ Some head_of_a }
+    ensures closed { request_of_event (waits_behind 1 3 head_of_a ∷ []) (events.Fail 5 2 kinds.Closed) ≡ None }
+    ensures gone { request_of_event (waits_behind 1 3 head_of_a ∷ []) (events.Abandon 3) ≡ None }
 {}
 
 /// What steps told, in order; where an act is, and the link that it drops.

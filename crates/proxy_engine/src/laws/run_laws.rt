@@ -4,6 +4,7 @@ ghost use Rattle.proxy_engine.specs.OneRun.{RunHasNoOtherEffects, RunHasNoOtherA
 ghost use Rattle.proxy_engine.specs.OneRun.{RunHasNoUntakenHappening, RunHasNoMoreItems};
 ghost use Rattle.proxy_engine.specs.OneRun.{RunHasNoItemWithoutStep};
 ghost use Rattle.proxy_engine.specs.ToldReplies.{EachReplyIsToldAsItIs, EachRunTellsItsReplies};
+ghost use Rattle.proxy_engine.specs.ToldReplies.{NoReplyTellsAnotherQuestion, NoReplyTellsNoQuestion};
 
 use hx_hop::laws::a_request_is_asked_in_one_way;
 
@@ -23,9 +24,13 @@ pub fn a_run_refuses_what_was_not_done()
 
 /// What an effect tells of a reply is what that reply is. Its bytes, and what they are said to be, are those of its own
 /// step's outcome of the core, with the same serial, rule and cause; or it is the proxy's own answer to what is no
-/// request, and has the cause that stands in it. Of an interim response nothing is told, and of nothing else. So no
-/// figure and no line of a log is one of another reply.
+/// request, and has the cause that stands in it. What it tells as the question is what the request asked for that this
+/// step answered: the one that arrived, or that of the exchange which was open; of a request that the proxy refuses it
+/// tells what could be read. Of an interim response nothing is told, and of nothing else. So no figure and no line of a
+/// log is one of another reply, or of another request.
 pub fn replies_are_told_as_they_are()
     ensures step { EachReplyIsToldAsItIs }
     ensures run { EachRunTellsItsReplies }
+    ensures another { NoReplyTellsAnotherQuestion }
+    ensures none { NoReplyTellsNoQuestion }
 {}

@@ -8,10 +8,11 @@ ghost use Rattle.proxy_engine.specs.State.{due_request_at};
 ghost use Rattle.proxy_engine.specs.Actions.{IsActionOfMessage, IsActionForNext, action_of_fault};
 
 use crate::endpoints::ends::Connection;
+use crate::steps::questions::question_as_it_came;
 use http::Method;
 use hx_framing::{FrameFault, Next, Request};
 use hx_hop::{Asked, ask};
-use hx_status::Cause;
+use hx_status::{Cause, Question};
 use hx_target::TargetFault;
 use std::alloc::{AllocError, Global};
 
@@ -22,8 +23,9 @@ pub(crate) enum Action {
     Continue,
     /// A request arrives.
     Arrive(Asked),
-    /// The proxy answers by itself and closes. The flag says whether a HEAD is answered.
-    Refuse(Cause, bool),
+    /// The proxy answers by itself and closes. The flag says whether a HEAD is answered; the question is none where no
+    /// request could be read.
+    Refuse(Cause, bool, Option<Question>),
     /// The connection is closed without an answer.
     Close,
 }
@@ -35,7 +37,11 @@ fn message_action(alloc: Global, request: &Request) -> Result<Action, AllocError
     match ask(alloc, request) {
         Ok(asked) => Ok(Action::Arrive(asked)),
         Err(TargetFault::OutOfMemory) => Err(AllocError),
-        Err(fault) => Ok(Action::Refuse(Cause::Target(fault), request.method == Method::HEAD)),
+        Err(fault) => Ok(Action::Refuse(
+            Cause::Target(fault),
+            request.method == Method::HEAD,
+            Some(question_as_it_came(alloc, request)?),
+        )),
     }
 }
 
@@ -45,7 +51,7 @@ fn fault_action(fault: FrameFault) -> Action
 {
     match fault {
         FrameFault::Truncated => Action::Close,
-        _ => Action::Refuse(Cause::Frame(fault), false),
+        _ => Action::Refuse(Cause::Frame(fault), false, None),
     }
 }
 

@@ -8,10 +8,11 @@ ghost use Rattle.proxy_engine.specs.EngineModel.{EngineModel};
 ghost use Rattle.proxy_engine.specs.Due.{Abandons, LinkResult, Finishes, fail_kind_of_fault, IsDueFirst};
 ghost use Rattle.proxy_engine.specs.State.{EngineRepresents, link_result_at, is_gone_at, NoConnectionIsLost};
 ghost use Rattle.proxy_engine.specs.State.{load_of_state, EngineDoesAct, NoActWasDoneSince};
+ghost use Rattle.proxy_core.specs.AnsweredRequests.{request_of_exchange, request_answered};
 ghost use Rattle.proxy_core.specs.Outcomes.{find_exchange};
 ghost use Rattle.proxy_engine.specs.Activities.{link_place_of_activity, has_exchange};
 ghost use Rattle.proxy_engine.specs.Pairing.{activity_at, activities_of, forwarded_or_waiting_at};
-ghost use Rattle.proxy_engine.specs.Acts.{exchange_asks_head};
+ghost use Rattle.proxy_engine.specs.Acts.{asks_head};
 ghost use Rattle.proxy_engine.specs.Actions.{ExchangeIsFinishedBy, is_whole_answer, IsFaultOfFinishing};
 
 use crate::endpoints::activities::Activity;
@@ -23,7 +24,7 @@ use crate::work::EngineFault;
 use hx_framing::{FrameFault, Next};
 use hx_status::FailKind;
 use hx_store::Shelf;
-use proxy_core::{Core, Outcome, is_head};
+use proxy_core::{Core, Step, is_head};
 use proxy_script::Effect;
 use std::alloc::{AllocError, Global};
 
@@ -40,7 +41,7 @@ fn fail_kind_of_fault(fault: FrameFault) -> FailKind
 
 /// Whether the request of an open exchange is a HEAD.
 pub(crate) fn exchange_asks_head<S: Shelf>(core: &Core<S>, id: u64) -> bool
-    ensures { result ≡ exchange_asks_head (find_exchange id core.now.exchanges) }
+    ensures { result ≡ asks_head (request_of_exchange (find_exchange id core.now.exchanges)) }
 {
     match core.exchange(id) {
         Some(exchange) => is_head(&exchange.asked),
@@ -55,14 +56,16 @@ fn fail<S: Shelf>(
     now: u64,
     id: u64,
     kind: FailKind,
-) -> Result<Outcome, AllocError>
+) -> Result<Step, AllocError>
     requires open { forwarded_or_waiting_at id core.old.exchanges ≡ Some true }
     requires early { now < END_OF_TIME }
-    ensures ok { IfOk result (λ outcome. StepIsAccepted core.old (Fail now id kind) outcome core.new) }
+    ensures ok { IfOk result (λ step. StepIsAccepted core.old (Fail now id kind) step.outcome core.new) }
+    ensures asked { IfOk result (λ step. step.asked
+        ≡ request_answered (find_exchange id core.old.exchanges) step.outcome) }
     ensures err { OnErr result (core.new ≡ core.old) }
 {
     match core.fail(alloc, now, id, kind) {
-        Ok(outcome) => Ok(outcome),
+        Ok(step) => Ok(step),
         Err(fault) => Err(as_alloc_error(fault)),
     }
 }
@@ -74,18 +77,20 @@ fn end<S: Shelf>(
     alloc: Global,
     now: u64,
     id: u64,
-) -> Result<Outcome, AllocError>
+) -> Result<Step, AllocError>
     requires due { is_some (link_result_at (Some link.now)) ≡ true }
     requires open { forwarded_or_waiting_at id core.old.exchanges ≡ Some true }
     requires early { now < END_OF_TIME }
-    ensures ok { IfOk result (λ outcome. (f : LinkResult) × (link_result_at (Some link.now) ≡ Some f)
-        × ExchangeIsFinishedBy core.old now id f outcome core.new) }
+    ensures ok { IfOk result (λ step. (f : LinkResult) × (link_result_at (Some link.now) ≡ Some f)
+        × ExchangeIsFinishedBy core.old now id f step.outcome core.new) }
+    ensures asked { IfOk result (λ step. step.asked
+        ≡ request_answered (find_exchange id core.old.exchanges) step.outcome) }
     ensures err { OnErr result (core.new ≡ core.old) }
 {
     match link.reader.peek() {
         Some(next) => match next {
             Next::Message(response) => match core.answer(alloc, now, id, response) {
-                Ok(outcome) => Ok(outcome),
+                Ok(step) => Ok(step),
                 Err(fault) => Err(as_alloc_error(fault)),
             },
             Next::Refused(fault) => fail(core, alloc, now, id, fail_kind_of_fault(*fault)),
@@ -207,12 +212,19 @@ impl<S: Shelf> Engine<S> {
         let i = self.ends.links.at(j).connection;
         let id = self.ends.connections.number_at(i);
         let to_head = exchange_asks_head(&self.core, id);
-        let outcome = end(self.ends.links.at(j), &mut self.core, alloc, now, id)?;
+        let step = end(self.ends.links.at(j), &mut self.core, alloc, now, id)?;
         free(&mut self.ends.connections, &mut self.ends.links, j, i);
         put(&mut effects, Effect::Drop(self.ends.number_at(j)));
         let config = self.core.config();
-        self.ends
-            .carry_out(&mut effects, alloc, config, i, to_head, outcome);
+        self.ends.carry_out(
+            &mut effects,
+            alloc,
+            config,
+            i,
+            to_head,
+            step.asked,
+            step.outcome,
+        );
         Ok(effects)
     }
 

@@ -2,10 +2,12 @@
 ghost use Rattle.std.specs.Prelude.{◌≡◌, ℕ, ◌+◌, ◌<◌, ◌≤◌, ◌^◌, nat_le, ◌++◌, ◌∷◌, [], length, sum_by};
 ghost use Rattle.std.specs.Prelude.{true, false, is_some, IfOk, None, Some, vec_len, vec_capacity};
 ghost use Rattle.std.specs.Prelude.{slice_index_or, slice_set};
+ghost use Rattle.std.specs.Option.{option_map};
 ghost use Rattle.proxy_core.specs.State.{State as CoreState};
 ghost use Rattle.proxy_engine.specs.ConnectionNumbers.{link_number};
 ghost use Rattle.proxy_engine.specs.EngineModel.{EngineModel};
 ghost use Rattle.proxy_engine.specs.Acts.{with_closed, with_activity, origin_address_of_line};
+ghost use Rattle.proxy_engine.specs.Questions.{question_of};
 ghost use Rattle.proxy_engine.specs.Acts.{outcome_by_table, effects_of_outcome, model_after_outcome};
 ghost use Rattle.proxy_engine.specs.Acts.{model_after_link_freed};
 ghost use Rattle.proxy_engine.specs.Acts.{with_opened_link};
@@ -26,10 +28,12 @@ use crate::endpoints::marks;
 use crate::endpoints::numbers::{ConnectionPlace, LinkPlace};
 use crate::endpoints::open_ends::Ends;
 use crate::endpoints::peeked::Peeked;
+use crate::steps::questions::question_if_answered;
 use hx_allow::{Config, Route};
 use hx_fields::Bytes;
 use hx_framing::ResponseReader;
-use hx_status::About;
+use hx_hop::Asked;
+use hx_status::Replied;
 use proxy_core::{CoreFault, Outcome};
 use proxy_script::Effect;
 use std::alloc::{AllocError, Global};
@@ -68,18 +72,19 @@ pub(crate) fn as_alloc_error(fault: CoreFault) -> AllocError
     }
 }
 
-/// A reply goes to the client, with what it is, and the connection closes behind it or doesn't.
+/// A reply goes to the client, with what it is and what it answers, and the connection closes behind it or doesn't.
 pub(crate) fn send_reply(
     connections: &mut Connections,
     effects: &mut Vec<Effect>,
     i: ConnectionPlace,
     bytes: Bytes,
-    about: About,
+    replied: Replied,
     close: bool,
 )
     requires free { connection_is_free_at (slice_index_or connections.old.items i None) ≡ true }
     requires room { vec_len effects.old + 2 ≤ vec_capacity effects.old }
-    ensures effects { effects.new.items ≡ effects.old.items ++ effects_of_outcome i 0 (Replies bytes about close) }
+    ensures effects { effects.new.items ≡ effects.old.items ++ effects_of_outcome i 0 replied.question
+        (Replies bytes replied.about close) }
     ensures represents { ConnectionsChangeAt i connections.old.items connections.new.items (with_closed close) }
     ensures activities { activities_of connections.new.items ≡ activities_of connections.old.items }
     ensures load { sum_by connection_load connections.new.items ≤ sum_by connection_load connections.old.items }
@@ -88,7 +93,7 @@ pub(crate) fn send_reply(
 {
     let number = connections.number_at(i);
     marks::close_at(connections, i, close);
-    put(effects, Effect::Client(number, bytes, Some(about)));
+    put(effects, Effect::Client(number, bytes, Some(replied)));
     if close {
         put(effects, Effect::Close(number));
     }
@@ -208,7 +213,8 @@ impl Ends {
         self.links.len() > u64::MAX - self.first_link
     }
 
-    /// Does what an outcome says, for the connection at a place.
+    /// Does what an outcome says, for the connection at a place. A reply answers this request, whose words go into its
+    /// effect, and a link that is opened answers a HEAD or not.
     pub(crate) fn carry_out(
         &mut self,
         effects: &mut Vec<Effect>,
@@ -216,6 +222,7 @@ impl Ends {
         config: &Config,
         i: ConnectionPlace,
         to_head: bool,
+        asked: Option<Asked>,
         outcome: Outcome,
     )
         requires free { connection_is_free_at (slice_index_or self.old.connections.items i None) ≡ true }
@@ -223,7 +230,7 @@ impl Ends {
         requires room { vec_len effects.old + 2 ≤ vec_capacity effects.old }
         requires left { outcome_needs_link outcome ≡ true → self.old.first_link + length self.old.links.items < 2 ^ 64 }
         ensures effects { effects.new.items ≡ effects.old.items
-            ++ effects_of_outcome i (self.old.first_link + length self.old.links.items)
+            ++ effects_of_outcome i (self.old.first_link + length self.old.links.items) (option_map question_of asked)
             (outcome_by_table config.now outcome) }
         ensures represents { (s : EngineModel) → (core : CoreState) → core.table.max_body ≡ config.now.max_body
             → EngineRepresents (state_of_ends self.old core) s
@@ -242,7 +249,10 @@ impl Ends {
                     effects,
                     i,
                     reply.bytes,
-                    reply.about,
+                    Replied {
+                        about: reply.about,
+                        question: question_if_answered(alloc, asked),
+                    },
                     reply.close,
                 );
             }

@@ -29,7 +29,7 @@ use crate::work::EngineFault;
 use hx_fields::Bytes;
 use hx_framing::write_continue;
 use hx_hop::Asked;
-use hx_status::{About, Cause};
+use hx_status::{About, Cause, Question, Replied};
 use hx_store::Shelf;
 use proxy_core::{is_head, refused};
 use proxy_script::Effect;
@@ -68,7 +68,7 @@ fn proxys_own_answer(alloc: Global, now: u64, why: Cause, head: bool) -> Result<
     refused(alloc, now, why, true, head)
 }
 
-/// The proxy answers by itself, and closes.
+/// The proxy answers this question by itself, and closes.
 fn refuse(
     connections: &mut Connections,
     alloc: Global,
@@ -76,11 +76,12 @@ fn refuse(
     i: ConnectionPlace,
     why: Cause,
     head: bool,
+    question: Option<Question>,
 ) -> Result<Vec<Effect>, AllocError>
     requires free { connection_is_free_at (slice_index_or connections.old.items i None) ≡ true }
     requires early { now < END_OF_TIME }
     ensures ok { IfOk result (λ effects. (s : EngineModel) → (links : List (Option Link)) → (core : CoreState)
-        → (first : ℕ) → (a : Next Request) → IsActionForNext a (Action.Refuse why head)
+        → (first : ℕ) → (a : Next Request) → IsActionForNext a (Action.Refuse why head question)
         → EngineRepresents (engine_state connections.old.items links core first) s
         → EngineDoesAct s now (Serves i a) effects.items (engine_state connections.new.items links core first)) }
     ensures less { OnOk result
@@ -95,7 +96,10 @@ fn refuse(
         &mut effects,
         i,
         bytes,
-        About::refusal(why),
+        Replied {
+            about: About::refusal(why),
+            question,
+        },
         true,
     );
     Ok(effects)
@@ -140,13 +144,13 @@ impl<S: Shelf> Engine<S> {
         alloc: Global,
         now: u64,
         i: ConnectionPlace,
-        asked: &Asked,
+        asked: Asked,
     ) -> Result<Vec<Effect>, AllocError>
         requires due { is_some (due_request_at (slice_index_or self.old.connections i None)) ≡ true }
         requires left { self.old.first + length self.old.links < 2 ^ 64 }
         requires early { now < END_OF_TIME }
         ensures ok { IfOk result (λ effects. (s : EngineModel) → (r : Request)
-            → RequestIsHandedOver (is_retired_at (slice_index_or self.old.connections i None)) r asked.now
+            → RequestIsHandedOver (is_retired_at (slice_index_or self.old.connections i None)) r asked
             → due_request_at (slice_index_or self.old.connections i None) ≡ Some (next.Message r)
             → EngineRepresents self.old s → EngineDoesAct s now (Serves i (next.Message r)) effects.items self.new) }
         ensures less { OnOk result ((r : Request) → due_request_at (slice_index_or self.old.connections i None)
@@ -157,14 +161,22 @@ impl<S: Shelf> Engine<S> {
         let mut effects = room(alloc)?;
         self.ends.links.reserve_one(alloc)?;
         let id = self.ends.connections.number_at(i);
-        let outcome = match self.core.arrive(alloc, now, id, asked) {
+        let outcome = match self.core.arrive(alloc, now, id, &asked) {
             Ok(outcome) => outcome,
             Err(fault) => return Err(as_alloc_error(fault)),
         };
         marks::pass_next_at(&mut self.ends.connections, i);
+        let to_head = is_head(&asked);
         let config = self.core.config();
-        self.ends
-            .carry_out(&mut effects, alloc, config, i, is_head(asked), outcome);
+        self.ends.carry_out(
+            &mut effects,
+            alloc,
+            config,
+            i,
+            to_head,
+            Some(asked),
+            outcome,
+        );
         Ok(effects)
     }
 
@@ -175,12 +187,12 @@ impl<S: Shelf> Engine<S> {
         alloc: Global,
         now: u64,
         i: ConnectionPlace,
-        asked: &Asked,
+        asked: Asked,
     ) -> Result<Vec<Effect>, EngineFault>
         requires due { is_some (due_request_at (slice_index_or self.old.connections i None)) ≡ true }
         requires early { now < END_OF_TIME }
         ensures ok { IfOk result (λ effects. (s : EngineModel) → (r : Request)
-            → RequestIsHandedOver (is_retired_at (slice_index_or self.old.connections i None)) r asked.now
+            → RequestIsHandedOver (is_retired_at (slice_index_or self.old.connections i None)) r asked
             → due_request_at (slice_index_or self.old.connections i None) ≡ Some (next.Message r)
             → EngineRepresents self.old s → EngineDoesAct s now (Serves i (next.Message r)) effects.items self.new) }
         ensures less { OnOk result ((r : Request) → due_request_at (slice_index_or self.old.connections i None)
@@ -188,7 +200,7 @@ impl<S: Shelf> Engine<S> {
             → load_of_state self.new < load_of_state self.old) }
         ensures exhausted { result ≡ Err EngineFault.OutOfMemory → self.old.first + length self.old.links < 2 ^ 64 }
         ensures fault { IfErr result (λ fault. (s : EngineModel) → (r : Request)
-            → RequestIsHandedOver (is_retired_at (slice_index_or self.old.connections i None)) r asked.now
+            → RequestIsHandedOver (is_retired_at (slice_index_or self.old.connections i None)) r asked
             → IsDueFirst s (Some (Serves i (next.Message r)))
             → EngineRepresents self.old s → NoActWasDoneSince s fault) }
         ensures err { OnErr result (self.new ≡ self.old) }
@@ -232,15 +244,16 @@ impl<S: Shelf> Engine<S> {
             Action::Arrive(asked) => {
                 let retired = self.ends.connections.is_retired(i);
                 let asked = asked_on_connection(asked, retired);
-                self.arrive(alloc, now, i, &asked)
+                self.arrive(alloc, now, i, asked)
             }
-            Action::Refuse(why, head) => match refuse(
+            Action::Refuse(why, head, question) => match refuse(
                 &mut self.ends.connections,
                 alloc,
                 now,
                 i,
                 why,
                 head,
+                question,
             ) {
                 Ok(effects) => Ok(effects),
                 Err(_) => Err(EngineFault::OutOfMemory),

@@ -40,14 +40,21 @@ impl<S: Shelf> Engine<S> {
         self.ends.links.reserve_one(alloc)?;
         let id = self.ends.connections.number_at(i);
         let to_head = exchange_asks_head(&self.core, id);
-        let outcome = match self.core.wake(alloc, now, id) {
-            Ok(outcome) => outcome,
+        let step = match self.core.wake(alloc, now, id) {
+            Ok(step) => step,
             Err(fault) => return Err(as_alloc_error(fault)),
         };
         marks::mark_free_at(&mut self.ends.connections, i);
         let config = self.core.config();
-        self.ends
-            .carry_out(&mut effects, alloc, config, i, to_head, outcome);
+        self.ends.carry_out(
+            &mut effects,
+            alloc,
+            config,
+            i,
+            to_head,
+            step.asked,
+            step.outcome,
+        );
         Ok(effects)
     }
 

@@ -1,4 +1,4 @@
-use Rattle.std.proofs.Common.{◌≡◌, ℕ, Bool, sum_by, ◌+◌, ◌∙◌, ◌++◌, List, Option, length, sym, ap, subst, arith}
+use Rattle.std.proofs.Common.{◌≡◌, ℕ, Bool, sum_by, ◌+◌, ◌∙◌, ◌++◌, List, Option, length, sym, ap, subst, arith, Some}
 use Rattle.proxy_script.specs.declared.effect_list.Effect.{Effect}
 use Rattle.hx_framing.specs.declared.messages.Next.TheVariants.{Message}
 use Rattle.hx_hop.specs.declared.request_view.Asked.{Asked}
@@ -7,6 +7,7 @@ use Rattle.proxy_core.specs.declared.event.Event.TheVariants.{Arrive}
 use Rattle.proxy_core.specs.State.{State as CoreState, StepIsAccepted}
 use Rattle.proxy_core.specs.declared.open.exchange.Exchange.{Exchange}
 use Rattle.proxy_engine.specs.Admitted.{asked_on_connection}
+use Rattle.proxy_engine.specs.Questions.{question_of}
 use Rattle.proxy_engine.specs.EngineModel.{connection_at}
 use Rattle.proxy_engine.specs.Acts.{effects_of_outcome, outcome_by_table, model_after_outcome}
 use Rattle.proxy_engine.specs.State.{EngineRepresents, EngineDoesAct, engine_state, load_of_due_request, link_load}
@@ -37,7 +38,7 @@ returns-clause-ok g c = rw (← c.self.view_is) (
     let cs = c.self.inside.ends.connections.items in
     let there = free_there _ (action_free _ (rw (← c.self.view_is) at c.requires.due)) in
     let retired = retired_in_model cs c.self.inside.ends.links.items c.self.inside.core c.self.inside.ends.first_link s c.args.i (inside cs c.args.i there) there h in
-    let asked : c.args.asked.now ≡ asked_on_connection (connection_at s c.args.i).retired sent = came.2 ∙ ap (λ (b : Bool). asked_on_connection b sent) retired in
+    let asked : c.args.asked ≡ asked_on_connection (connection_at s c.args.i).retired sent = came.2 ∙ ap (λ (b : Bool). asked_on_connection b sent) retired in
     let ks = c.reserve_one.new.self.items in
     let same = c.reserve_one.ensures.items in
     let core = c.self.inside.core in
@@ -46,18 +47,19 @@ returns-clause-ok g c = rw (← c.self.view_is) (
     let here = subst (λ (ls : List (Option Link)). EngineRepresents (engine_state c.self.inside.ends.connections.items ls core c.self.inside.ends.first_link) s) (sym same) h in
     subst (λ (n : ℕ). EngineDoesAct s c.args.now (Serves c.args.i (Message r)) c.carry_out.new.effects.items (engine_state c.carry_out.new.self.connections.items c.carry_out.new.self.links.items c.arrive.new.self n)) (sym c.carry_out.ensures.first)
     (arrived_done s c.pass_next_at.new.connections.items c.carry_out.new.self.connections.items ks c.carry_out.new.self.links.items core c.arrive.new.self c.self.inside.ends.first_link c.args.now c.args.i r sent c.in-Ok.outcome
-    table c.is_head.result c.carry_out.new.effects.items came.1
+    table c.is_head-to_head.result (Some (question_of c.args.asked)) c.carry_out.new.effects.items came.1
     (subst (λ (a : Asked). StepIsAccepted core (Arrive c.args.now (c.args.i + 1) a) c.in-Ok.outcome c.arrive.new.self) asked (rw c.number_at-id.ensures at c.in-Ok.ensures.ok)) (omega (arith, (rw (← c.self.view_is) at c.requires.left), ap length same))
-    table_is (c.is_head.ensures ∙ ap is_head asked)
-    (c.carry_out.ensures.effects ∙ ap (λ (b : List Effect). b ++ effects_of_outcome c.args.i (c.self.inside.ends.first_link + length ks) (outcome_by_table table c.in-Ok.outcome)) c.in_ok-effects.ensures.items)
-    (λ t k most represents. subst (λ (n : ℕ). EngineRepresents (engine_state c.carry_out.new.self.connections.items c.carry_out.new.self.links.items k n) (model_after_outcome c.args.i c.is_head.result (outcome_by_table table c.in-Ok.outcome) t)) c.carry_out.ensures.first (c.carry_out.ensures.represents t k most represents))
+    table_is (c.is_head-to_head.ensures ∙ ap is_head asked)
+    (ap (λ (a : Asked). Some (question_of a)) asked)
+    (c.carry_out.ensures.effects ∙ ap (λ (b : List Effect). b ++ effects_of_outcome c.args.i (c.self.inside.ends.first_link + length ks) (Some (question_of c.args.asked)) (outcome_by_table table c.in-Ok.outcome)) c.in_ok-effects.ensures.items)
+    (λ t k most represents. subst (λ (n : ℕ). EngineRepresents (engine_state c.carry_out.new.self.connections.items c.carry_out.new.self.links.items k n) (model_after_outcome c.args.i c.is_head-to_head.result (outcome_by_table table c.in-Ok.outcome) t)) c.carry_out.ensures.first (c.carry_out.ensures.represents t k most represents))
     (c.pass_next_at.ensures.represents s (Message r) ks core c.self.inside.ends.first_link due here))
     )
 
 pub as_alloc_error-requires : goal.as_alloc_error-requires
 as_alloc_error-requires g c = let exchanges = c.self.inside.core.exchanges in
     let free = not_open c.self.inside.ends.connections.items c.self.inside.ends.links.items exchanges c.args.i (action_free _ (rw (← c.self.view_is) at c.requires.due)) c.self.invariant in
-    arrival_refused exchanges c.args.now (c.args.i + 1) c.args.asked.now c.in-Err.fault free.1 c.requires.early (rw c.number_at-id.ensures at c.in-Err.ensures.err)
+    arrival_refused exchanges c.args.now (c.args.i + 1) c.args.asked c.in-Err.fault free.1 c.requires.early (rw c.number_at-id.ensures at c.in-Err.ensures.err)
 
 pub invariant_of-self-2 : goal.invariant_of-self-2
 invariant_of-self-2 g c = let cs = c.self.inside.ends.connections.items in
@@ -66,6 +68,6 @@ invariant_of-self-2 g c = let cs = c.self.inside.ends.connections.items in
     let idle = action_free _ (rw (← c.self.view_is) at c.requires.due) in
     let free = not_open cs c.self.inside.ends.links.items core.exchanges i idle c.self.invariant in
     subst (λ (xs : List Exchange). ConnectionsAndLinksArePaired (activities_of c.carry_out.new.self.connections.items) (owners_of c.carry_out.new.self.links.items) xs) (sym (ap (λ (k : CoreState). k.exchanges) (rw c.number_at-id.ensures at c.in-Ok.ensures.ok).leaves))
-    (paired_arrived core.table cs c.pass_next_at.new.connections.items c.carry_out.new.self.connections.items c.reserve_one.new.self.items c.carry_out.new.self.links.items core.entries core.exchanges c.args.now i c.args.asked.now c.in-Ok.outcome
+    (paired_arrived core.table cs c.pass_next_at.new.connections.items c.carry_out.new.self.connections.items c.reserve_one.new.self.items c.carry_out.new.self.links.items core.entries core.exchanges c.args.now i c.args.asked c.in-Ok.outcome
     (inside cs i (free_there _ idle)) c.pass_next_at.ensures.activities free.0 c.carry_out.ensures.activities c.carry_out.ensures.owners
     (subst (λ (ls : List (Option Link)). ConnectionsAndLinksArePaired (activities_of cs) (owners_of ls) core.exchanges) (sym c.reserve_one.ensures.items) c.self.invariant))

@@ -1,6 +1,8 @@
 use Rattle.std.proofs.Common.{◌≡◌, ◌+◌, ◌≤◌, ◌^◌, ◌∙◌, ◌++◌, ◌∷◌, [], ℕ, List, Option, None, Some, is_some, length, get_or, set, sym, ap, subst, arith, sum_by}
+use Rattle.std.specs.Option.{option_map}
 use Rattle.proxy_script.specs.declared.effect_list.Effect.{Effect}
 use Rattle.proxy_script.specs.declared.effect_list.Effect.TheVariants.{Drop}
+use Rattle.proxy_engine.specs.Questions.{question_of}
 use Rattle.proxy_engine.specs.EngineModel.{no_link}
 use Rattle.proxy_engine.specs.Due.{LinkResult, Finishes}
 use Rattle.proxy_engine.specs.Acts.{outcome_by_table, effects_of_outcome, model_after_outcome}
@@ -64,8 +66,8 @@ carry_out-requires-clause-left g c = λ goes.
     let there = subst (λ (ls : List (Option Link)). get_or ls j None ≡ Some x) same c.at.ensures in
     let here = subst (λ (ls : List (Option Link)). get_or ls j None ≡ Some c.at-2.result.now) same c.at-2.ensures in
     let link = owned_link cs ks core.exchanges j x there c.self.invariant in
-    let ended = (rw c.number_at-id.ensures at c.in_ok-outcome.ensures.ok) in
-    let may = goes_given core c.end.new.core c.args.now (x.connection + 1) ended.0 c.in_ok-outcome.outcome (is_open cs ks core.exchanges x.connection j link c.self.invariant) ended.2 goes in
+    let ended = (rw c.number_at-id.ensures at c.in_ok-step.ensures.ok) in
+    let may = goes_given core c.end.new.core c.args.now (x.connection + 1) ended.0 c.in_ok-step.step.outcome (is_open cs ks core.exchanges x.connection j link c.self.invariant) ended.2 goes in
     let few = (rw (← c.self.view_is) at c.requires.left) ended.0 (ap link_result_at here ∙ ended.1) may in
     omega (arith, few, c.free.ensures.links, ap length same)
 
@@ -79,13 +81,13 @@ invariant_of-self-2 g c = let cs = c.self.inside.ends.connections.items in
     let link = owned_link cs ks core.exchanges c.args.j x there c.self.invariant in
     let is_there = is_open cs ks core.exchanges x.connection c.args.j link c.self.invariant in
     let owners : owners_of c.free.new.links.items ≡ set (owners_of ks) c.args.j None = c.free.ensures.owners ∙ ap (λ (ls : List (Option Link)). set (owners_of ls) c.args.j None) same in
-    paired_finished cs c.free.new.connections.items c.carry_out.new.self.connections.items ks c.free.new.links.items c.carry_out.new.self.links.items core.exchanges c.end.new.core.exchanges x.connection c.args.j c.in_ok-outcome.outcome link c.free.ensures.activities owners
-    c.carry_out.ensures.activities c.carry_out.ensures.owners is_there (remains core c.end.new.core c.args.now (x.connection + 1) (rw c.number_at-id.ensures at c.in_ok-outcome.ensures.ok).0 c.in_ok-outcome.outcome is_there (rw c.number_at-id.ensures at c.in_ok-outcome.ensures.ok).2) c.self.invariant
+    paired_finished cs c.free.new.connections.items c.carry_out.new.self.connections.items ks c.free.new.links.items c.carry_out.new.self.links.items core.exchanges c.end.new.core.exchanges x.connection c.args.j c.in_ok-step.step.outcome link c.free.ensures.activities owners
+    c.carry_out.ensures.activities c.carry_out.ensures.owners is_there (remains core c.end.new.core c.args.now (x.connection + 1) (rw c.number_at-id.ensures at c.in_ok-step.ensures.ok).0 c.in_ok-step.step.outcome is_there (rw c.number_at-id.ensures at c.in_ok-step.ensures.ok).2) c.self.invariant
 
 pub returns-clause-less : goal.returns-clause-less
 returns-clause-less g c = rw (← c.self.view_is) (
     let rooms = c.reserve_one.new.self.items in
-    let ended = (rw c.number_at-id.ensures at c.in_ok-outcome.ensures.ok) in
+    let ended = (rw c.number_at-id.ensures at c.in_ok-step.ensures.ok) in
     let counts : link_load (get_or rooms c.args.j None) ≡ 2 = link_counts (get_or rooms c.args.j None) ended.0 (ap link_result_at c.at-2.ensures ∙ ended.1) in
     let cs = c.self.inside.ends.connections.items in
     let ks = c.self.inside.ends.links.items in
@@ -93,7 +95,7 @@ returns-clause-less g c = rw (← c.self.view_is) (
     let x = c.at.result.now in
     let there = subst (λ (ls : List (Option Link)). get_or ls c.args.j None ≡ Some x) c.reserve_one.ensures.items c.at.ensures in
     let is_there = is_open cs ks core.exchanges x.connection c.args.j (owned_link cs ks core.exchanges c.args.j x there c.self.invariant) c.self.invariant in
-    let few = one_more c.in_ok-outcome.outcome (x.connection + 1) core.exchanges c.end.new.core.exchanges (remains core c.end.new.core c.args.now (x.connection + 1) ended.0 c.in_ok-outcome.outcome is_there ended.2) in
+    let few = one_more c.in_ok-step.step.outcome (x.connection + 1) core.exchanges c.end.new.core.exchanges (remains core c.end.new.core c.args.now (x.connection + 1) ended.0 c.in_ok-step.step.outcome is_there ended.2) in
     omega (arith, counts, few, ap (sum_by link_load) c.reserve_one.ensures.items, c.free.ensures.load, c.carry_out.ensures.load)
     )
 
@@ -109,7 +111,7 @@ returns-clause-ok g c = rw (← c.self.view_is) (
     let items = c.reserve_one.ensures.items in
     let there = subst (λ (ls : List (Option Link)). get_or ls j None ≡ Some x) items c.at.ensures in
     let here = subst (λ (ls : List (Option Link)). get_or ls j None ≡ Some c.at-2.result.now) items c.at-2.ensures in
-    let ended = (rw c.number_at-id.ensures at c.in_ok-outcome.ensures.ok) in
+    let ended = (rw c.number_at-id.ensures at c.in_ok-step.ensures.ok) in
     let due = ap link_result_at here ∙ ended.1 in
     let same : f ≡ ended.0 = one_finish (get_or ks j None) ended.0 f due shown in
     let within = inside ks j (finish_there (get_or ks j None) (rw (← c.self.view_is) at c.requires.due)) in
@@ -123,14 +125,15 @@ returns-clause-ok g c = rw (← c.self.view_is) (
     let is_there = is_open cs ks core.exchanges i j link c.self.invariant in
     let emitted : c.put.new.effects.items ≡ Drop (c.self.inside.ends.first_link + j) ∷ [] = emitted_one c.in_ok-effects.effects.items c.put.new.effects.items _ c.put.ensures.items c.in_ok-effects.ensures.items ∙ ap (λ (n : ℕ). Drop n ∷ []) number in
     let table = c.config-config.result.now in
-    let table_is : table ≡ core.table = c.config-config.ensures ∙ ends_table core c.end.new.core c.args.now (i + 1) ended.0 c.in_ok-outcome.outcome ended.2 in
+    let table_is : table ≡ core.table = c.config-config.ensures ∙ ends_table core c.end.new.core c.args.now (i + 1) ended.0 c.in_ok-step.step.outcome ended.2 in
     let free = c.free.ensures.represents s core c.self.inside.ends.first_link (subst (λ (ls : List (Option Link)). EngineRepresents (engine_state cs ls core c.self.inside.ends.first_link) s) (sym items) h) in
     let fresh = c.free.ensures.links in
     subst (λ (n : ℕ). EngineDoesAct s c.args.now (Finishes j f) c.carry_out.new.effects.items (engine_state c.carry_out.new.self.connections.items c.carry_out.new.self.links.items c.end.new.core n)) (sym c.carry_out.ensures.first)
     (subst (λ (x : LinkResult). EngineDoesAct s c.args.now (Finishes j x) c.carry_out.new.effects.items (engine_state c.carry_out.new.self.connections.items c.carry_out.new.self.links.items c.end.new.core c.self.inside.ends.first_link)) (sym same)
-    (finished_done s c.free.new.connections.items c.carry_out.new.self.connections.items c.free.new.links.items c.carry_out.new.self.links.items core c.end.new.core c.self.inside.ends.first_link c.args.now i j ended.0 c.in_ok-outcome.outcome
-    table c.exchange_asks_head-to_head.result c.carry_out.new.effects.items is_there (λ t. let few = (rw (← c.self.view_is) at c.requires.left) ended.0 due t in omega (arith, few, links)) ended.2 table_is
-    (rw c.number_at-id.ensures at c.exchange_asks_head-to_head.ensures) (omega (arith, fresh, sizes, links, first_is))
-    (c.carry_out.ensures.effects ∙ ap (λ (b : List Effect). b ++ effects_of_outcome i (c.self.inside.ends.first_link + length c.free.new.links.items) (outcome_by_table table c.in_ok-outcome.outcome)) emitted)
-    first_is h.core owner.connection free (λ t k most represents. subst (λ (n : ℕ). EngineRepresents (engine_state c.carry_out.new.self.connections.items c.carry_out.new.self.links.items k n) (model_after_outcome i c.exchange_asks_head-to_head.result (outcome_by_table table c.in_ok-outcome.outcome) t)) c.carry_out.ensures.first (c.carry_out.ensures.represents t k most represents))))
+    (finished_done s c.free.new.connections.items c.carry_out.new.self.connections.items c.free.new.links.items c.carry_out.new.self.links.items core c.end.new.core c.self.inside.ends.first_link c.args.now i j ended.0 c.in_ok-step.step.outcome
+    table c.exchange_asks_head-to_head.result (option_map question_of c.in_ok-step.step.asked) c.carry_out.new.effects.items is_there (λ t. let few = (rw (← c.self.view_is) at c.requires.left) ended.0 due t in omega (arith, few, links)) ended.2 table_is
+    (rw c.number_at-id.ensures at c.exchange_asks_head-to_head.ensures)
+    (ap (option_map question_of) (rw c.number_at-id.ensures at c.in_ok-step.ensures.asked)) (omega (arith, fresh, sizes, links, first_is))
+    (c.carry_out.ensures.effects ∙ ap (λ (b : List Effect). b ++ effects_of_outcome i (c.self.inside.ends.first_link + length c.free.new.links.items) (option_map question_of c.in_ok-step.step.asked) (outcome_by_table table c.in_ok-step.step.outcome)) emitted)
+    first_is h.core owner.connection free (λ t k most represents. subst (λ (n : ℕ). EngineRepresents (engine_state c.carry_out.new.self.connections.items c.carry_out.new.self.links.items k n) (model_after_outcome i c.exchange_asks_head-to_head.result (outcome_by_table table c.in_ok-step.step.outcome) t)) c.carry_out.ensures.first (c.carry_out.ensures.represents t k most represents))))
     )

@@ -1,6 +1,8 @@
 use Rattle.std.proofs.Common.{◌≡◌, ◌+◌, ℕ, List, Option, None, is_some, length, sum_by, ap, sym, subst, ◌∙◌, ◌++◌, get_or, arith}
+use Rattle.std.specs.Option.{option_map}
 use Rattle.proxy_script.specs.declared.effect_list.Effect.{Effect}
 use Rattle.proxy_core.specs.State.{State as CoreState}
+use Rattle.proxy_engine.specs.Questions.{question_of}
 use Rattle.proxy_engine.specs.Acts.{effects_of_outcome, outcome_by_table, model_after_outcome}
 use Rattle.proxy_engine.specs.Due.{Wakes}
 use Rattle.proxy_engine.specs.State.{EngineRepresents, EngineDoesAct, engine_state, link_load, load_of_waiting}
@@ -33,7 +35,7 @@ returns-clause-less g c = rw (← c.self.view_is) (
     let ready = (rw (← c.self.view_is) at c.requires.ready) in
     let waits = ready_waits (activities_of cs) (owners_of c.self.inside.ends.links.items) core.exchanges c.args.i ready c.self.invariant in
     let weight : load_of_waiting (activity_of (get_or cs c.args.i None)) ≡ 2 = ap load_of_waiting (sym (doing_at cs c.args.i (within_waiting cs c.args.i waits)) ∙ waits) in
-    let few = one_more c.in-Ok.outcome (c.args.i + 1) core.exchanges c.wake.new.self.exchanges (woken_remains core c.wake.new.self c.args.now (c.args.i + 1) c.in-Ok.outcome (ap is_some ready.is_open) (rw c.number_at-id.ensures at c.in-Ok.ensures.ok)) in
+    let few = one_more c.in-Ok.step.outcome (c.args.i + 1) core.exchanges c.wake.new.self.exchanges (woken_remains core c.wake.new.self c.args.now (c.args.i + 1) c.in-Ok.step.outcome (ap is_some ready.is_open) (rw c.number_at-id.ensures at c.in-Ok.ensures.ok)) in
     omega (arith, weight, few, ap (sum_by link_load) c.reserve_one.ensures.items, c.mark_free_at.ensures.load, c.carry_out.ensures.load)
     )
 
@@ -47,11 +49,12 @@ returns-clause-ok g c = rw (← c.self.view_is) (
     let table_is : table ≡ core.table = c.config-config.ensures ∙ ap (λ (k : CoreState). k.table) (rw c.number_at-id.ensures at c.in-Ok.ensures.ok).leaves in
     let here = subst (λ (ls : List (Option Link)). EngineRepresents (engine_state c.self.inside.ends.connections.items ls core c.self.inside.ends.first_link) s) (sym same) h in
     subst (λ (n : ℕ). EngineDoesAct s c.args.now (Wakes c.args.i) c.carry_out.new.effects.items (engine_state c.carry_out.new.self.connections.items c.carry_out.new.self.links.items c.wake.new.self n)) (sym c.carry_out.ensures.first)
-    (woken_done s c.mark_free_at.new.connections.items c.carry_out.new.self.connections.items ks c.carry_out.new.self.links.items core c.wake.new.self c.self.inside.ends.first_link c.args.now c.args.i c.in-Ok.outcome
-    table c.exchange_asks_head-to_head.result c.carry_out.new.effects.items (rw c.number_at-id.ensures at c.in-Ok.ensures.ok) (omega (arith, (rw (← c.self.view_is) at c.requires.left), ap length same))
+    (woken_done s c.mark_free_at.new.connections.items c.carry_out.new.self.connections.items ks c.carry_out.new.self.links.items core c.wake.new.self c.self.inside.ends.first_link c.args.now c.args.i c.in-Ok.step.outcome
+    table c.exchange_asks_head-to_head.result (option_map question_of c.in-Ok.step.asked) c.carry_out.new.effects.items (rw c.number_at-id.ensures at c.in-Ok.ensures.ok) (omega (arith, (rw (← c.self.view_is) at c.requires.left), ap length same))
     table_is (rw c.number_at-id.ensures at c.exchange_asks_head-to_head.ensures)
-    (c.carry_out.ensures.effects ∙ ap (λ (b : List Effect). b ++ effects_of_outcome c.args.i (c.self.inside.ends.first_link + length ks) (outcome_by_table table c.in-Ok.outcome)) c.in_ok-effects.ensures.items)
-    (λ t k most represents. subst (λ (n : ℕ). EngineRepresents (engine_state c.carry_out.new.self.connections.items c.carry_out.new.self.links.items k n) (model_after_outcome c.args.i c.exchange_asks_head-to_head.result (outcome_by_table table c.in-Ok.outcome) t)) c.carry_out.ensures.first (c.carry_out.ensures.represents t k most represents))
+    (ap (option_map question_of) (rw c.number_at-id.ensures at c.in-Ok.ensures.asked))
+    (c.carry_out.ensures.effects ∙ ap (λ (b : List Effect). b ++ effects_of_outcome c.args.i (c.self.inside.ends.first_link + length ks) (option_map question_of c.in-Ok.step.asked) (outcome_by_table table c.in-Ok.step.outcome)) c.in_ok-effects.ensures.items)
+    (λ t k most represents. subst (λ (n : ℕ). EngineRepresents (engine_state c.carry_out.new.self.connections.items c.carry_out.new.self.links.items k n) (model_after_outcome c.args.i c.exchange_asks_head-to_head.result (outcome_by_table table c.in-Ok.step.outcome) t)) c.carry_out.ensures.first (c.carry_out.ensures.represents t k most represents))
     (c.mark_free_at.ensures.represents s ks core c.self.inside.ends.first_link here))
     )
 
@@ -62,6 +65,6 @@ invariant_of-self-2 g c =
     let ready = (rw (← c.self.view_is) at c.requires.ready) in
     let there = ap is_some ready.is_open in
     let paired = subst (λ (ls : List (Option Link)). ConnectionsAndLinksArePaired (activities_of cs) (owners_of ls) core.exchanges) (sym c.reserve_one.ensures.items) c.self.invariant in
-    paired_woken cs c.mark_free_at.new.connections.items c.carry_out.new.self.connections.items c.reserve_one.new.self.items c.carry_out.new.self.links.items core.exchanges c.wake.new.self.exchanges c.args.i c.in-Ok.outcome
+    paired_woken cs c.mark_free_at.new.connections.items c.carry_out.new.self.connections.items c.reserve_one.new.self.items c.carry_out.new.self.links.items core.exchanges c.wake.new.self.exchanges c.args.i c.in-Ok.step.outcome
     (ready_waits (activities_of cs) (owners_of c.self.inside.ends.links.items) core.exchanges c.args.i ready c.self.invariant) c.mark_free_at.ensures.activities c.carry_out.ensures.activities c.carry_out.ensures.owners there
-    (woken_remains core c.wake.new.self c.args.now (c.args.i + 1) c.in-Ok.outcome there (rw c.number_at-id.ensures at c.in-Ok.ensures.ok)) paired
+    (woken_remains core c.wake.new.self c.args.now (c.args.i + 1) c.in-Ok.step.outcome there (rw c.number_at-id.ensures at c.in-Ok.ensures.ok)) paired

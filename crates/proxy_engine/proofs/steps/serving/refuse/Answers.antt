@@ -14,11 +14,11 @@ returns-clause-ok c = λ s links core first a w h.
     let text = c.in_ok-bytes.ensures in
     record {
       after = with_connection s i (with_closed true);
-      does = refused_served s c.args.now i a c.args.why c.args.head c.send_reply.new.effects.items (with_connection s i (with_closed true)) w record {
+      does = refused_served s c.args.now i a c.args.why c.args.head c.args.question c.send_reply.new.effects.items (with_connection s i (with_closed true)) w record {
         emitted_is = c.send_reply.ensures.effects
-            ∙ (ap (λ (es : List Effect). es ++ Client (i + 1) c.in_ok-bytes.bytes (Some c.refusal.result) ∷ Close (i + 1) ∷ []) c.in_ok-effects.ensures.items
-            ∙ (ap (λ (a : About). Client (i + 1) c.in_ok-bytes.bytes (Some a) ∷ Close (i + 1) ∷ []) c.refusal.ensures
-            ∙ ap (λ (b : List ℕ). Client (i + 1) b (Some (about_refusal c.args.why)) ∷ Close (i + 1) ∷ []) text));
+            ∙ (ap (λ (es : List Effect). es ++ Client (i + 1) c.in_ok-bytes.bytes (Some (record { about = c.refusal.result; question = c.args.question })) ∷ Close (i + 1) ∷ []) c.in_ok-effects.ensures.items
+            ∙ (ap (λ (a : About). Client (i + 1) c.in_ok-bytes.bytes (Some (record { about = a; question = c.args.question })) ∷ Close (i + 1) ∷ []) c.refusal.ensures
+            ∙ ap (λ (b : List ℕ). Client (i + 1) b (Some (record { about = about_refusal c.args.why; question = c.args.question })) ∷ Close (i + 1) ∷ []) text));
         after_is = refl;
       };
       represents = c.send_reply.ensures.represents s links core first h;

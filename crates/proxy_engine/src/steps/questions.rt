@@ -1,0 +1,52 @@
+//! What a client asked for, as it is told with its reply.
+ghost use Rattle.std.specs.Prelude.{◌≡◌, IfOk};
+ghost use Rattle.std.specs.Option.{option_map};
+ghost use Rattle.proxy_engine.specs.Questions.{question_of, question_as_it_came};
+
+use http::Method;
+use hx_fields::Bytes;
+use hx_framing::Request;
+use hx_hop::Asked;
+use hx_status::{AskedTarget, Question};
+use hx_target::Key;
+use std::alloc::{AllocError, Global};
+use std::mem::replace;
+
+/// A key of no request. It takes no memory.
+fn empty_key(alloc: Global) -> Key {
+    Key {
+        host: Bytes::new(alloc),
+        port: 0,
+        path_query: Bytes::new(alloc),
+    }
+}
+
+/// What a request asked for. Its method and its key are taken out of it, so no memory is asked for.
+fn question_of(alloc: Global, mut asked: Asked) -> Question
+    ensures { result ≡ question_of asked }
+{
+    Question {
+        method: replace(&mut asked.method, Method::GET),
+        target: AskedTarget::Uri(replace(&mut asked.target.key, empty_key(alloc))),
+    }
+}
+
+/// The same of the request that a step answered, if it did.
+pub(crate) fn question_if_answered(alloc: Global, asked: Option<Asked>) -> Option<Question>
+    ensures { result ≡ option_map question_of asked }
+{
+    match asked {
+        Some(asked) => Some(question_of(alloc, asked)),
+        None => None,
+    }
+}
+
+/// What a request asks for that is refused because its target is none. Its only error is out of memory.
+pub(crate) fn question_as_it_came(alloc: Global, request: &Request) -> Result<Question, AllocError>
+    ensures { IfOk result (λ question. question ≡ question_as_it_came request.now) }
+{
+    Ok(Question {
+        method: request.method.clone()?,
+        target: AskedTarget::AsItCame(request.target.copy(alloc)?),
+    })
+}
