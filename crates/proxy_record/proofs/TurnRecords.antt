@@ -48,13 +48,13 @@ took_reads [] past = sym (append-nil (happenings_of_steps past))
 took_reads (r ∷ rs) past = took_reads rs (step_of_happening_if_any (happening_of_read r.end r.given) past) ∙ took_more (happening_of_read r.end r.given) past (happenings_of_calls (calls_of_reads rs))
 
 said_carried : (e : Effect) (more : List Call) → happenings_of_calls (calls_of_effect e Carried ++ more) ≡ happenings_of_calls more
-said_carried (effects.Client n bytes about) more = refl
+said_carried (effects.Client n bytes replied) more = refl
 said_carried (effects.Forward l address bytes) more = refl
 said_carried (effects.Close n) more = refl
 said_carried (effects.Drop l) more = refl
 
 said_passed : (e : Effect) (more : List Call) → happenings_of_calls (calls_of_effect e Passed ++ more) ≡ happenings_of_calls more
-said_passed (effects.Client n bytes about) more = refl
+said_passed (effects.Client n bytes replied) more = refl
 said_passed (effects.Forward l address bytes) more = refl
 said_passed (effects.Close n) more = refl
 said_passed (effects.Drop l) more = refl
@@ -63,7 +63,7 @@ abbrev IsSaid : Effect → List Call → FailKind → Type 0
 IsSaid e more kind = happenings_of_calls (calls_of_effect e (Lost kind) ++ more) ≡ happening_as_list (happening_of_loss (end_of_effect e) kind) ++ happenings_of_calls more
 
 said_lost : (e : Effect) (kind : FailKind) (more : List Call) → EffectFailsAs e kind → IsSaid e more kind
-said_lost (effects.Client n bytes about) kind more is = subst (IsSaid (effects.Client n bytes about) more) (sym is) refl
+said_lost (effects.Client n bytes replied) kind more is = subst (IsSaid (effects.Client n bytes replied) more) (sym is) refl
 said_lost (effects.Close n) kind more is = subst (IsSaid (effects.Close n) more) (sym is) refl
 said_lost (effects.Drop l) kind more is = subst (IsSaid (effects.Drop l) more) (sym is) refl
 said_lost (effects.Forward l address bytes) kind more (inl is) = subst (IsSaid (effects.Forward l address bytes) more) (sym is) refl
@@ -134,7 +134,7 @@ notes_in_order : (now : ℕ) (calls : List Call) (r : Record) (new : Option Reco
 notes_in_order now [] r new noted = (r, noted, inl refl)
 notes_in_order now (call.Accept n answer ∷ more) r new noted = noted_behind now more r new (λ k. notes_in_order now more k new) (happening_of_call (call.Accept n answer)) noted.0 noted.1 noted.2
 notes_in_order now (call.Read end given ∷ more) r new noted = noted_behind now more r new (λ k. notes_in_order now more k new) (happening_of_read end given) noted.0 noted.1 noted.2
-notes_in_order now (call.Write end bytes about done ∷ more) r new noted = told_behind now more r new (λ k. notes_in_order now more k new) done (happening_of_loss end kinds.Closed) noted.0 noted.1 noted.2
+notes_in_order now (call.Write end bytes replied done ∷ more) r new noted = told_behind now more r new (λ k. notes_in_order now more k new) done (happening_of_loss end kinds.Closed) noted.0 noted.1 noted.2
 notes_in_order now (call.Connect link address done ∷ more) r new noted = told_behind now more r new (λ k. notes_in_order now more k new) done (happening_of_loss (ends.Link link) kinds.Refused) noted.0 noted.1 noted.2
 notes_in_order now (call.Shut end done ∷ more) r new noted = told_behind now more r new (λ k. notes_in_order now more k new) done (happening_of_loss end kinds.Closed) noted.0 noted.1 noted.2
 

@@ -52,7 +52,7 @@ came_later failed later (call.Read end call.Nothing) below on (inr came) = inr (
 came_later failed later (call.Read end call.Ended) below on came = absurd came
 came_later failed later (call.Read end call.Broken) below on came = absurd came
 came_later failed later (call.Read end (call.Bytes bytes)) below on came = absurd came
-came_later failed later (call.Write end bytes about done) below on came = absurd came
+came_later failed later (call.Write end bytes replied done) below on came = absurd came
 came_later failed later (call.Connect link address done) below on came = absurd came
 came_later failed later (call.Shut end done) below on came = absurd came
 
@@ -95,13 +95,13 @@ happening_of_call (call.Accept n call.Came) = Some (Accepts n)
 happening_of_call (call.Accept n call.NoneCame) = None
 happening_of_call (call.Accept n call.Failed) = None
 happening_of_call (call.Read end given) = happening_of_read end given
-happening_of_call (call.Write end bytes about done) = cond done None (happening_of_loss end Closed)
+happening_of_call (call.Write end bytes replied done) = cond done None (happening_of_loss end Closed)
 happening_of_call (call.Connect link address done) = cond done None (happening_of_loss (ends.Link link) Refused)
 happening_of_call (call.Shut end done) = cond done None (happening_of_loss end Closed)
 
 -- a write, a connect or a close that failed
 abbrev pub call_failed : Call → Bool
-call_failed (call.Write end bytes about done) = not done
+call_failed (call.Write end bytes replied done) = not done
 call_failed (call.Connect link address done) = not done
 call_failed (call.Shut end done) = not done
 call_failed other = false
@@ -122,7 +122,7 @@ abbrev pub CallIsNoted : ℕ → Call → Option Record → Option Record → Ty
 CallIsNoted now (call.Accept n answer) old new =
     HappeningIfAnyIsNoted now (happening_of_call (call.Accept n answer)) old new
 CallIsNoted now (call.Read end given) old new = HappeningIfAnyIsNoted now (happening_of_read end given) old new
-CallIsNoted now (call.Write end bytes about done) old new = new ≡ cond done old (record_ends old)
+CallIsNoted now (call.Write end bytes replied done) old new = new ≡ cond done old (record_ends old)
 CallIsNoted now (call.Connect link address done) old new = new ≡ cond done old (record_ends old)
 CallIsNoted now (call.Shut end done) old new = new ≡ cond done old (record_ends old)
 
@@ -204,7 +204,7 @@ call_was_recorded now (call.Accept n answer) old new noted is =
     (refl, was_recording_before now (happening_of_call (call.Accept n answer)) old new noted is)
 call_was_recorded now (call.Read end given) old new noted is =
     (refl, was_recording_before now (happening_of_read end given) old new noted is)
-call_was_recorded now (call.Write end bytes about done) old new noted is =
+call_was_recorded now (call.Write end bytes replied done) old new noted is =
     let still = still_done done old new noted is in (ap not still.0, still.1)
 call_was_recorded now (call.Connect link address done) old new noted is =
     let still = still_done done old new noted is in (ap not still.0, still.1)

@@ -21,7 +21,7 @@ ghost use Rattle.proxy_turn.specs.Counts.{CountRisesBy, failed};
 ghost use Rattle.proxy_reads.specs.Received.{FitsTheBuffer};
 
 use crate::recorder::{RecordFault, Recorder};
-use hx_status::About;
+use hx_status::Replied;
 use proxy_script::Happening;
 use proxy_turn::{End, Received, SocketFailed, Sockets, happening_of_read};
 use std::io::Write;
@@ -285,8 +285,13 @@ impl<K: Sockets + Drop, W: Write + Drop> Sockets for Recording<K, W> {
         received
     }
 
-    fn write(&mut self, end: End, bytes: &[u8], about: Option<&About>) -> Result<(), SocketFailed> {
-        let written = self.sockets.write(end, bytes, about);
+    fn write(
+        &mut self,
+        end: End,
+        bytes: &[u8],
+        replied: Option<&Replied>,
+    ) -> Result<(), SocketFailed> {
+        let written = self.sockets.write(end, bytes, replied);
         self.pass_on(written)
     }
 

@@ -132,7 +132,7 @@ fine_forward l address bytes kinds.TooLarge h = true≢false h.1.0
 fine_effect : (e : Effect) (f : EffectFate) → NoCallFailed (calls_of_effect e f) → EffectIsntLost f
 fine_effect e Carried h = tt
 fine_effect e Passed h = tt
-fine_effect (effects.Client n bytes about) (Lost kind) h = true≢false h.0
+fine_effect (effects.Client n bytes replied) (Lost kind) h = true≢false h.0
 fine_effect (effects.Close n) (Lost kind) h = true≢false h.0
 fine_effect (effects.Forward l address bytes) (Lost kind) h = fine_forward l address bytes kind h
 fine_effect (effects.Drop l) (Lost kind) h = true≢false h.0
@@ -167,8 +167,8 @@ forward_gives l address bytes kinds.TooLarge = (refl, (refl, tt))
 
 effect_gives : (e : Effect) (f : EffectFate) → AllByRecursion GivesNothing (calls_of_effect e f)
 effect_gives e Passed = tt
-effect_gives (effects.Client n bytes about) Carried = (refl, tt)
-effect_gives (effects.Client n bytes about) (Lost kind) = (refl, tt)
+effect_gives (effects.Client n bytes replied) Carried = (refl, tt)
+effect_gives (effects.Client n bytes replied) (Lost kind) = (refl, tt)
 effect_gives (effects.Close n) Carried = (refl, tt)
 effect_gives (effects.Close n) (Lost kind) = (refl, tt)
 effect_gives (effects.Forward l address bytes) Carried = (refl, (refl, tt))

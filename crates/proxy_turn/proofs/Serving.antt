@@ -1,5 +1,5 @@
 -- What an engine has lived through goes on by what happens and by turns, under one table.
-use Rattle.std.proofs.Common.{◌≡◌, ℕ, List, [], ◌∷◌, ◌++◌, refl, sym, ap, ◌∙◌, subst, append_assoc, Bool, Result, Ok, Err}
+use Rattle.std.proofs.Common.{◌≡◌, ℕ, List, [], ◌∷◌, ◌++◌, refl, sym, ap, ◌∙◌, subst, append_assoc, Bool, Option, Result, Ok, Err}
 use Rattle.std.specs.List.{AllByRecursion}
 use Rattle.hx_allow.specs.TableLines.{Table}
 use Rattle.hx_framing.specs.declared.frame_fault.FrameFault.TheVariants as frame
@@ -8,6 +8,7 @@ use Rattle.hx_framing.specs.declared.messages.Next.TheVariants as next
 use Rattle.hx_framing.specs.declared.messages.Request.{Request}
 use Rattle.hx_hop.specs.declared.request_view.Asked.{Asked}
 use Rattle.hx_status.specs.declared.cause.Cause.{Cause}
+use Rattle.hx_status.specs.declared.question.Question.{Question}
 use Rattle.hx_store.specs.Stored.{Stored}
 use Rattle.proxy_core.specs.State.{State as CoreState}
 use Rattle.proxy_core.specs.Traces.{initial_state as core_begun}
@@ -17,7 +18,7 @@ use Rattle.proxy_engine.specs.Admitted.{Refusal}
 use Rattle.proxy_engine.specs.Happenings.{PlainHappening, Accepts, Sends, Hears, Ends, Leaves, Retires, Overdues, Shuts, Fails}
 use Rattle.proxy_engine.specs.EngineModel.{EngineModel, model_after_happening, with_core}
 use Rattle.proxy_engine.specs.Due.{Act, Abandons, Finishes, Wakes, Serves, Gives, Breaks}
-use Rattle.proxy_engine.specs.Acts.{ActIsDone, CoreIsStepped, RequestIsRefused, ConnectionIsClosed, ConnectionIsServed, RequestArrives, OutcomeOnConnection, Replies, Forwards, Queues, Nothing, outcome_by_table, model_after_outcome}
+use Rattle.proxy_engine.specs.Acts.{asks_head, ActIsDone, CoreIsStepped, RequestIsRefused, ConnectionIsClosed, ConnectionIsServed, RequestArrives, OutcomeOnConnection, Replies, Forwards, Queues, Nothing, outcome_by_table, model_after_outcome}
 use Rattle.proxy_engine.specs.Orderly.{ModelIsOrderly, NewModelIsOrderly, HappeningKeepsOrder, ActKeepsOrder}
 use Rattle.proxy_engine.specs.Executions.{ExecutionStep, Took, Worked, StepsLead, ExecutionsAreRuns}
 use Rattle.proxy_engine.specs.State.{State, EngineRepresents}
@@ -48,11 +49,11 @@ core_heard s (Overdues n) = refl
 core_heard s (Shuts l) = refl
 core_heard s (Fails l kind) = refl
 
-steps_keep : (s t : EngineModel) (i : ℕ) (to_head : Bool) (event : Event) (before emitted : List Effect) (after : EngineModel) → CoreIsStepped s t i to_head event before emitted after → kept after ≡ kept s
-steps_keep s t i to_head event before emitted after steps =
+steps_keep : (s t : EngineModel) (i : ℕ) (asked : Option Asked) (event : Event) (before emitted : List Effect) (after : EngineModel) → CoreIsStepped s t i asked event before emitted after → kept after ≡ kept s
+steps_keep s t i asked event before emitted after steps =
     ap kept steps.after_is ∙ (by (outcome_by_table s.core.table steps.outcome) ∙ ap kept_core steps.steps.leaves)
   where
-    by : (c : OutcomeOnConnection) → kept (model_after_outcome i to_head c (with_core t steps.core)) ≡ kept_core steps.core
+    by : (c : OutcomeOnConnection) → kept (model_after_outcome i (asks_head asked) c (with_core t steps.core)) ≡ kept_core steps.core
     by (Replies bytes about close) = refl
     by (Forwards address bytes) = refl
     by Queues = refl
@@ -65,30 +66,30 @@ does_keep s now (Finishes j (Breaks kind)) emitted after done = steps_keep s _ _
 does_keep s now (Wakes i) emitted after done = steps_keep s _ _ _ _ _ emitted after done.1
 does_keep s now (Serves i action) emitted after done = by_action action done
   where
-    refuses : (why : Cause) (head : Bool) → RequestIsRefused s now i why head emitted after → kept after ≡ kept s
-    refuses why head d = ap kept d.after_is
+    refuses : (why : Cause) (head : Bool) (question : Option Question) → RequestIsRefused s now i why head question emitted after → kept after ≡ kept s
+    refuses why head question d = ap kept d.after_is
 
     closes : ConnectionIsClosed s i emitted after → kept after ≡ kept s
     closes d = ap kept d.1
 
     arrives : (r : Request) (judged : Result Asked Refusal) → RequestArrives s now i r judged emitted after → kept after ≡ kept s
     arrives r (Ok asked) d = steps_keep s _ _ _ _ _ emitted after d.1
-    arrives r (Err refusal) d = refuses _ _ d
+    arrives r (Err refusal) d = refuses _ _ _ d
 
     by_action : (w : Next Request) → ConnectionIsServed s now i w emitted after → kept after ≡ kept s
     by_action next.More d = absurd d
     by_action next.NeedsContinue d = ap kept d.1
     by_action (next.Message r) d = arrives r d.0 d.2
     by_action (next.Refused frame.Truncated) d = closes d
-    by_action (next.Refused frame.Head) d = refuses _ _ d
-    by_action (next.Refused frame.Version) d = refuses _ _ d
-    by_action (next.Refused frame.BothLengths) d = refuses _ _ d
-    by_action (next.Refused frame.Length) d = refuses _ _ d
-    by_action (next.Refused frame.Coding) d = refuses _ _ d
-    by_action (next.Refused frame.Chunk) d = refuses _ _ d
-    by_action (next.Refused frame.TooLarge) d = refuses _ _ d
-    by_action (next.Refused frame.Expect) d = refuses _ _ d
-    by_action (next.Refused frame.Status) d = refuses _ _ d
+    by_action (next.Refused frame.Head) d = refuses _ _ _ d
+    by_action (next.Refused frame.Version) d = refuses _ _ _ d
+    by_action (next.Refused frame.BothLengths) d = refuses _ _ _ d
+    by_action (next.Refused frame.Length) d = refuses _ _ _ d
+    by_action (next.Refused frame.Coding) d = refuses _ _ _ d
+    by_action (next.Refused frame.Chunk) d = refuses _ _ _ d
+    by_action (next.Refused frame.TooLarge) d = refuses _ _ _ d
+    by_action (next.Refused frame.Expect) d = refuses _ _ _ d
+    by_action (next.Refused frame.Status) d = refuses _ _ _ d
     by_action next.End d = closes d
 
 executes_keep : (s : EngineModel) (steps : List ExecutionStep) (t : EngineModel) → StepsLead s steps t → kept t ≡ kept s

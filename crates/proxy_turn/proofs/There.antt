@@ -1,14 +1,16 @@
 -- Ends whose numbers were given: those that are read, and those that the effects of an act name.
-use Rattle.std.proofs.Common.{◌≡◌, inl, inr, ℕ, zero, suc, ◌+◌, ◌-◌, ◌<◌, ◌≤◌, List, [], ◌∷◌, ◌++◌, length, map, get_or, refl, sym, ap, ◌∙◌, subst, arith, Bool, true, false, cond, ◌&&◌, nat_lt, nat_le, None, Some, Result, Ok, Err}
+use Rattle.std.proofs.Common.{◌≡◌, inl, inr, ℕ, zero, suc, ◌+◌, ◌-◌, ◌<◌, ◌≤◌, List, [], ◌∷◌, ◌++◌, length, map, get_or, refl, sym, ap, ◌∙◌, subst, arith, Bool, true, false, cond, ◌&&◌, nat_lt, nat_le, Option, None, Some, Result, Ok, Err}
 use Rattle.std.proofs.Math.ListN.{get_or-eq_default}
 use Rattle.std.proofs.lemmas.List.{length-set, length-append}
 use Rattle.std.proofs.lemmas.Bool.{cases_order}
+use Rattle.std.specs.Option.{option_map}
 use Rattle.hx_framing.specs.declared.frame_fault.FrameFault.TheVariants as frame
 use Rattle.hx_framing.specs.declared.messages.Next.{Next}
 use Rattle.hx_framing.specs.declared.messages.Next.TheVariants as next
 use Rattle.hx_framing.specs.declared.messages.Request.{Request}
 use Rattle.hx_hop.specs.declared.request_view.Asked.{Asked}
 use Rattle.hx_status.specs.declared.about.About.{About}
+use Rattle.hx_status.specs.declared.question.Question.{Question}
 use Rattle.proxy_core.specs.declared.event.Event.{Event}
 use Rattle.proxy_core.specs.declared.event.Event.TheVariants as events
 use Rattle.proxy_script.specs.declared.effect_list.Effect.{Effect}
@@ -17,7 +19,8 @@ use Rattle.proxy_engine.specs.Admitted.{Refusal}
 use Rattle.proxy_engine.specs.EngineModel.{EngineModel, ConnectionModel, LinkModel, no_connection, no_link, new_link_model, connection_at, link_at, with_connection, with_core, connection_fault, link_fault}
 use Rattle.proxy_engine.specs.declared.endpoints.activities.Activity.TheVariants.{Free}
 use Rattle.proxy_engine.specs.Due.{Act, Abandons, Finishes, Wakes, Serves, Gives, Breaks}
-use Rattle.proxy_engine.specs.Acts.{ActIsDone, CoreIsStepped, RequestIsRefused, ConnectionIsClosed, ConnectionIsServed, RequestArrives, OutcomeOnConnection, Replies, Forwards, Queues, Nothing, outcome_by_table, effects_of_outcome, model_after_outcome, next_link_number, model_after_link_freed, with_activity, with_dropped, with_next_passed}
+use Rattle.proxy_engine.specs.Questions.{question_of}
+use Rattle.proxy_engine.specs.Acts.{asks_head, ActIsDone, CoreIsStepped, RequestIsRefused, ConnectionIsClosed, ConnectionIsServed, RequestArrives, OutcomeOnConnection, Replies, Forwards, Queues, Nothing, outcome_by_table, effects_of_outcome, model_after_outcome, next_link_number, model_after_link_freed, with_activity, with_dropped, with_next_passed}
 use Rattle.proxy_engine.specs.Orderly.{ConnectionIsOpen, LinkIsDropped, EffectsNameOpenEnds, EndedStaysEnded}
 use Rattle.proxy_engine.specs.declared.work.EngineFault.TheVariants.{NotAccepted, WrongNumber}
 use Rattle.proxy_engine.specs.declared.work.End.{End}
@@ -126,7 +129,7 @@ there_at s (e ∷ es) (suc i) end there l is = there_at s es i end there.1 (omeg
 -- a request goes forward among them
 abbrev forwards : List Effect → Bool
 forwards [] = false
-forwards (effects.Client n bytes about ∷ rest) = forwards rest
+forwards (effects.Client n bytes replied ∷ rest) = forwards rest
 forwards (effects.Close n ∷ rest) = forwards rest
 forwards (effects.Forward l address bytes ∷ rest) = true
 forwards (effects.Drop l ∷ rest) = forwards rest
@@ -135,19 +138,19 @@ not_both : {A : Type 0} (b : Bool) → b ≡ true → b ≡ false → A
 not_both true e f = absurd cc
 not_both false e f = absurd cc
 
-replies_none : (i number : ℕ) (bytes : List ℕ) (about : About) (close : Bool) → forwards (effects_of_outcome i number (Replies bytes about close)) ≡ false
-replies_none i number bytes about true = refl
-replies_none i number bytes about false = refl
+replies_none : (i number : ℕ) (question : Option Question) (bytes : List ℕ) (about : About) (close : Bool) → forwards (effects_of_outcome i number question (Replies bytes about close)) ≡ false
+replies_none i number question bytes about true = refl
+replies_none i number question bytes about false = refl
 
 -- a step whose effects name a new link opens it
-steps_open : (s t : EngineModel) (i : ℕ) (to_head : Bool) (event : Event) (before emitted : List Effect) (after : EngineModel) → length t.links ≡ length s.links → ((more : List Effect) → forwards (before ++ more) ≡ forwards more)
-    → CoreIsStepped s t i to_head event before emitted after → forwards emitted ≡ true → length s.links < length after.links
-steps_open s t i to_head event before emitted after same apart steps e = by (outcome_by_table s.core.table steps.outcome) steps.emitted_is steps.after_is
+steps_open : (s t : EngineModel) (i : ℕ) (asked : Option Asked) (event : Event) (before emitted : List Effect) (after : EngineModel) → length t.links ≡ length s.links → ((more : List Effect) → forwards (before ++ more) ≡ forwards more)
+    → CoreIsStepped s t i asked event before emitted after → forwards emitted ≡ true → length s.links < length after.links
+steps_open s t i asked event before emitted after same apart steps e = by (outcome_by_table s.core.table steps.outcome) steps.emitted_is steps.after_is
   where
-    by : (c : OutcomeOnConnection) → emitted ≡ before ++ effects_of_outcome i (next_link_number s) c → after ≡ model_after_outcome i to_head c (with_core t steps.core) → length s.links < length after.links
-    by (Replies bytes about close) emitted_is after_is = not_both (forwards emitted) e (ap forwards emitted_is ∙ (apart (effects_of_outcome i (next_link_number s) (Replies bytes about close)) ∙ replies_none i (next_link_number s) bytes about close))
+    by : (c : OutcomeOnConnection) → emitted ≡ before ++ effects_of_outcome i (next_link_number s) (option_map question_of asked) c → after ≡ model_after_outcome i (asks_head asked) c (with_core t steps.core) → length s.links < length after.links
+    by (Replies bytes about close) emitted_is after_is = not_both (forwards emitted) e (ap forwards emitted_is ∙ (apart (effects_of_outcome i (next_link_number s) (option_map question_of asked) (Replies bytes about close)) ∙ replies_none i (next_link_number s) (option_map question_of asked) bytes about close))
     by (Forwards address bytes) emitted_is after_is =
-        let long = ap (λ (u : EngineModel). length u.links) after_is ∙ length-append t.links (new_link_model steps.core.table.max_body to_head i ∷ []) in
+        let long = ap (λ (u : EngineModel). length u.links) after_is ∙ length-append t.links (new_link_model steps.core.table.max_body (asks_head asked) i ∷ []) in
         omega (arith, same, long)
     by Queues emitted_is after_is = not_both (forwards emitted) e (ap forwards emitted_is ∙ apart [])
     by Nothing emitted_is after_is = not_both (forwards emitted) e (ap forwards emitted_is ∙ apart [])
@@ -155,37 +158,37 @@ steps_open s t i to_head event before emitted after same apart steps e = by (out
 -- an act whose effects name a new link opens it
 opens : (s : EngineModel) (now : ℕ) (act : Act) (emitted : List Effect) (after : EngineModel) → ActIsDone s now act emitted after → forwards emitted ≡ true → length s.links < length after.links
 opens s now (Abandons i (Some l)) emitted after done e =
-    steps_open s (model_after_link_freed s l i) i false (events.Abandon (i + 1)) (effects.Drop (s.first + l) ∷ []) emitted after (length-set s.links l (with_dropped (link_at s l))) (λ more. refl) done e
-opens s now (Abandons i None) emitted after done e = steps_open s (with_connection s i (with_activity Free)) i false (events.Abandon (i + 1)) [] emitted after refl (λ more. refl) done e
+    steps_open s (model_after_link_freed s l i) i None (events.Abandon (i + 1)) (effects.Drop (s.first + l) ∷ []) emitted after (length-set s.links l (with_dropped (link_at s l))) (λ more. refl) done e
+opens s now (Abandons i None) emitted after done e = steps_open s (with_connection s i (with_activity Free)) i None (events.Abandon (i + 1)) [] emitted after refl (λ more. refl) done e
 opens s now (Finishes j (Gives r)) emitted after done e = steps_open s (model_after_link_freed s j (link_at s j).connection) _ _ _ (effects.Drop (s.first + j) ∷ []) emitted after (length-set s.links j (with_dropped (link_at s j))) (λ more. refl) done.1 e
 opens s now (Finishes j (Breaks kind)) emitted after done e = steps_open s (model_after_link_freed s j (link_at s j).connection) _ _ _ (effects.Drop (s.first + j) ∷ []) emitted after (length-set s.links j (with_dropped (link_at s j))) (λ more. refl) done e
 opens s now (Wakes i) emitted after done e = steps_open s (with_connection s i (with_activity Free)) i _ (events.Wake now (i + 1)) [] emitted after refl (λ more. refl) done.1 e
 opens s now (Serves i action) emitted after done e = by_action action done
   where
-    refuses : (why : Cause) (head : Bool) → RequestIsRefused s now i why head emitted after → length s.links < length after.links
-    refuses why head d = not_both (forwards emitted) e (ap forwards d.emitted_is)
+    refuses : (why : Cause) (head : Bool) (question : Option Question) → RequestIsRefused s now i why head question emitted after → length s.links < length after.links
+    refuses why head question d = not_both (forwards emitted) e (ap forwards d.emitted_is)
 
     closes : ConnectionIsClosed s i emitted after → length s.links < length after.links
     closes d = not_both (forwards emitted) e (ap forwards d.0)
 
     arrives : (r : Request) (judged : Result Asked Refusal) → RequestArrives s now i r judged emitted after → length s.links < length after.links
     arrives r (Ok asked) d = steps_open s (with_connection s i (with_next_passed (next.Message r))) _ _ _ [] emitted after refl (λ more. refl) d.1 e
-    arrives r (Err refusal) d = refuses _ _ d
+    arrives r (Err refusal) d = refuses _ _ _ d
 
     by_action : (w : Next Request) → ConnectionIsServed s now i w emitted after → length s.links < length after.links
     by_action next.More d = absurd d
     by_action next.NeedsContinue d = not_both (forwards emitted) e (ap forwards d.0)
     by_action (next.Message r) d = arrives r d.0 d.2
     by_action (next.Refused frame.Truncated) d = closes d
-    by_action (next.Refused frame.Head) d = refuses _ _ d
-    by_action (next.Refused frame.Version) d = refuses _ _ d
-    by_action (next.Refused frame.BothLengths) d = refuses _ _ d
-    by_action (next.Refused frame.Length) d = refuses _ _ d
-    by_action (next.Refused frame.Coding) d = refuses _ _ d
-    by_action (next.Refused frame.Chunk) d = refuses _ _ d
-    by_action (next.Refused frame.TooLarge) d = refuses _ _ d
-    by_action (next.Refused frame.Expect) d = refuses _ _ d
-    by_action (next.Refused frame.Status) d = refuses _ _ d
+    by_action (next.Refused frame.Head) d = refuses _ _ _ d
+    by_action (next.Refused frame.Version) d = refuses _ _ _ d
+    by_action (next.Refused frame.BothLengths) d = refuses _ _ _ d
+    by_action (next.Refused frame.Length) d = refuses _ _ _ d
+    by_action (next.Refused frame.Coding) d = refuses _ _ _ d
+    by_action (next.Refused frame.Chunk) d = refuses _ _ _ d
+    by_action (next.Refused frame.TooLarge) d = refuses _ _ _ d
+    by_action (next.Refused frame.Expect) d = refuses _ _ _ d
+    by_action (next.Refused frame.Status) d = refuses _ _ _ d
     by_action next.End d = closes d
 
 -- what isn't closed, or isn't dropped, is no stand-in
@@ -232,7 +235,7 @@ module _ (s after : EngineModel) (stays : EndedStaysEnded s after) where
 
   named : (emitted : List Effect) → EffectsNameOpenEnds s after emitted → (forwards emitted ≡ true → length s.links < length after.links) → EndsWereNumbered after (map end_of_effect emitted)
   named [] names long = tt
-  named (effects.Client n bytes about ∷ rest) names long = (client_named n names.0, named rest names.1 long)
+  named (effects.Client n bytes replied ∷ rest) names long = (client_named n names.0, named rest names.1 long)
   named (effects.Close n ∷ rest) names long = (client_named n names.0, named_last rest names.2)
     where
       named_last : (rest : List Effect) → rest ≡ [] → EndsWereNumbered after (map end_of_effect rest)

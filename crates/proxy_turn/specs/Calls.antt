@@ -5,7 +5,7 @@
 -- accept_outcome_of, read_outcome_of: of what they returned
 use Rattle.std.specs.Prelude.{ℕ, List, take, Bool, true, false, Option, Result, Ok, Err}
 use Rattle.std.specs.declared.net.socket_addr.SocketAddrV4.{SocketAddrV4}
-use Rattle.hx_status.specs.declared.about.About.{About}
+use Rattle.hx_status.specs.declared.about.Replied.{Replied}
 use Rattle.proxy_engine.specs.declared.work.End.{End}
 use Rattle.proxy_turn.specs.declared.sockets.SocketFailed.{SocketFailed}
 use Rattle.proxy_reads.specs.declared.received.Received.{Received}
@@ -20,11 +20,11 @@ pub data ReadOutcome : Type 0 where
   Nothing Ended Broken : ReadOutcome
   Bytes : (bytes : List ℕ) → ReadOutcome
 
--- A call of each method of `Sockets`. `about` says what reply the bytes are, `done` that it didn't fail.
+-- A call of each method of `Sockets`. `replied` says what reply the bytes are, `done` that it didn't fail.
 pub data Call : Type 0 where
   Accept : (n : ℕ) (answer : AcceptOutcome) → Call
   Read : (end : End) (given : ReadOutcome) → Call
-  Write : (end : End) (bytes : List ℕ) (about : Option About) (done : Bool) → Call
+  Write : (end : End) (bytes : List ℕ) (replied : Option Replied) (done : Bool) → Call
   Connect : (link : ℕ) (address : SocketAddrV4) (done : Bool) → Call
   Shut : (end : End) (done : Bool) → Call
 

@@ -20,7 +20,7 @@ logged_read_outcome gave.Failed = call.Broken
 abbrev pub logged_call : LoggedCall → Call
 logged_call (logged.Accept n came) = call.Accept n (accept_outcome_of came)
 logged_call (logged.Read end it) = call.Read end (logged_read_outcome it)
-logged_call (logged.Write end bytes about done) = call.Write end bytes about done
+logged_call (logged.Write end bytes replied done) = call.Write end bytes replied done
 logged_call (logged.Connect link address done) = call.Connect link address done
 logged_call (logged.Shut end done) = call.Shut end done
 

@@ -128,14 +128,14 @@ abbrev pub end_is_lost : List End → End → Bool
 end_is_lost gone end = list_any (λ other. same_end other end) gone
 
 abbrev pub end_of_effect : Effect → End
-end_of_effect (effects.Client n bytes about) = ends.Client n
+end_of_effect (effects.Client n bytes replied) = ends.Client n
 end_of_effect (effects.Close n) = ends.Client n
 end_of_effect (effects.Forward l address bytes) = ends.Link l
 end_of_effect (effects.Drop l) = ends.Link l
 
 -- A link that can't be opened counts as refused by the origin, a write that fails as its closing.
 abbrev pub EffectFailsAs : Effect → FailKind → Type 0
-EffectFailsAs (effects.Client n bytes about) kind = kind ≡ kinds.Closed
+EffectFailsAs (effects.Client n bytes replied) kind = kind ≡ kinds.Closed
 EffectFailsAs (effects.Close n) kind = kind ≡ kinds.Closed
 EffectFailsAs (effects.Forward l address bytes) kind = (kind ≡ kinds.Refused) ⊎ (kind ≡ kinds.Closed)
 EffectFailsAs (effects.Drop l) kind = kind ≡ kinds.Closed
@@ -198,8 +198,8 @@ calls_of_failed_forward l address bytes other =
 -- failed; for one that was passed over none is made.
 abbrev pub calls_of_effect : Effect → EffectFate → List Call
 calls_of_effect effect Passed = []
-calls_of_effect (effects.Client n bytes about) Carried = call.Write (ends.Client n) bytes about true ∷ []
-calls_of_effect (effects.Client n bytes about) (Lost kind) = call.Write (ends.Client n) bytes about false ∷ []
+calls_of_effect (effects.Client n bytes replied) Carried = call.Write (ends.Client n) bytes replied true ∷ []
+calls_of_effect (effects.Client n bytes replied) (Lost kind) = call.Write (ends.Client n) bytes replied false ∷ []
 calls_of_effect (effects.Close n) Carried = call.Shut (ends.Client n) true ∷ []
 calls_of_effect (effects.Close n) (Lost kind) = call.Shut (ends.Client n) false ∷ []
 calls_of_effect (effects.Forward l address bytes) Carried =

@@ -1,6 +1,6 @@
 -- What a turn refuses: the statements of laws, each of what isn't so.
 use Rattle.std.specs.Prelude.{◌≡◌, ◌≢◌, ℕ, ◌<◌, List, [], ◌∷◌, length, true, false, Option, Ok, Err}
-use Rattle.hx_status.specs.declared.about.About.{About}
+use Rattle.hx_status.specs.declared.about.Replied.{Replied}
 use Rattle.hx_status.specs.declared.cause.FailKind.TheVariants as kinds
 use Rattle.proxy_script.specs.declared.effect_list.Effect.TheVariants as effects
 use Rattle.proxy_engine.specs.EngineModel.{EngineModel}
@@ -68,15 +68,15 @@ ListenerFaultNeedsAFailedAccept =
 -- an effect to an end on which a call has failed, and one that is passed over though none has
 abbrev pub NoCallOnALostEnd : Type 0
 NoCallOnALostEnd =
-    (s t : EngineModel) (bytes : List ℕ) (about : Option About) (more : List End)
-    → EffectIsCarriedOut s (ends.Client 1 ∷ []) (effects.Client 1 bytes about) Carried t more → ⊥
+    (s t : EngineModel) (bytes : List ℕ) (replied : Option Replied) (more : List End)
+    → EffectIsCarriedOut s (ends.Client 1 ∷ []) (effects.Client 1 bytes replied) Carried t more → ⊥
 
 abbrev pub NoEffectIsPassedOverWithoutLoss : Type 0
 NoEffectIsPassedOverWithoutLoss =
-    (s t : EngineModel) (bytes : List ℕ) (about : Option About) (more : List End)
-    → EffectIsCarriedOut s (ends.Client 2 ∷ []) (effects.Client 1 bytes about) Passed t more → ⊥
+    (s t : EngineModel) (bytes : List ℕ) (replied : Option Replied) (more : List End)
+    → EffectIsCarriedOut s (ends.Client 2 ∷ []) (effects.Client 1 bytes replied) Passed t more → ⊥
 
 -- a write to a client that counts as an origin's refusal
 abbrev pub NoClientWriteCountsAsRefused : Type 0
 NoClientWriteCountsAsRefused =
-    (bytes : List ℕ) (about : Option About) → EffectFailsAs (effects.Client 1 bytes about) kinds.Refused → ⊥
+    (bytes : List ℕ) (replied : Option Replied) → EffectFailsAs (effects.Client 1 bytes replied) kinds.Refused → ⊥

@@ -93,8 +93,8 @@ fn call<K: Sockets>(sockets: &mut K, effect: &Effect) -> Result<(), FailKind>
     ensures failures { CountRisesBy (K.failures sockets.old) (K.failures sockets.new) (failed result) }
 {
     let done = match effect {
-        Effect::Client(n, bytes, about) => {
-            sockets.write(End::Client(*n), bytes.as_slice(), about.as_ref())
+        Effect::Client(n, bytes, replied) => {
+            sockets.write(End::Client(*n), bytes.as_slice(), replied.as_ref())
         }
         Effect::Forward(l, address, bytes) => {
             return open(sockets, *l, *address, bytes.as_slice());

@@ -7,6 +7,7 @@
 #![tactic(auto)]
 
 mod bounds;
+mod copies;
 mod effects;
 mod happenings;
 pub mod laws;

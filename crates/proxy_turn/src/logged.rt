@@ -1,5 +1,5 @@
 //! Sockets that keep a log of the calls made on them: what contracts say of calls, seen at run time.
-ghost use Rattle.std.specs.Prelude.{◌≡◌, ◌<◌, [], ◌∷◌, ◌++◌, map, false, option_copied};
+ghost use Rattle.std.specs.Prelude.{◌≡◌, ◌<◌, [], ◌∷◌, ◌++◌, map, false, IfOk, option_copied};
 ghost use Rattle.hx_fields.specs.declared.limits.TheConstants.{END_OF_TIME};
 ghost use Rattle.proxy_engine.specs.EngineModel.{EngineModel};
 ghost use Rattle.proxy_engine.specs.State.{EngineRepresents};
@@ -10,15 +10,16 @@ ghost use Rattle.proxy_turn.specs.Logs.{logged_call, LogGrewByCalls, log_grew_by
 ghost use Rattle.proxy_turn.specs.Counts.{calls};
 ghost use Rattle.proxy_turn.specs.Turn.{EngineTurnsWithCalls};
 
+use crate::copies::copy_replied;
 use crate::report::{Report, TurnFault};
 use crate::sockets::{SocketFailed, Sockets};
 use crate::turns::turn;
 use hx_fields::Bytes;
-use hx_status::About;
+use hx_status::Replied;
 use hx_store::Shelf;
 use proxy_engine::{End, Engine};
 use proxy_reads::Received;
-use std::alloc::Global;
+use std::alloc::{AllocError, Global};
 use std::net::SocketAddrV4;
 
 /// What a read gave.
@@ -30,15 +31,31 @@ pub enum LoggedReadOutcome {
     Failed,
 }
 
-/// A call, with its bytes, what reply they are, and what came of it; the last of a write, a connect and a shut says
-/// that it didn't fail.
+/// A call, with its bytes, what reply they are and what it answers, and what came of it; the last of a write, a connect
+/// and a shut says that it didn't fail.
 #[derive(Drop)]
 pub enum LoggedCall {
     Accept(u64, Result<bool, SocketFailed>),
     Read(End, LoggedReadOutcome),
-    Write(End, Bytes, Option<About>, bool),
+    Write(End, Bytes, Option<Replied>, bool),
     Connect(u64, SocketAddrV4, bool),
     Shut(End, bool),
+}
+
+/// A write as it stands in a log.
+fn write_call(
+    alloc: Global,
+    end: End,
+    bytes: &[u8],
+    replied: Option<&Replied>,
+    done: bool,
+) -> Result<LoggedCall, AllocError>
+    ensures { IfOk result
+        (λ it. logged_call it ≡ call.Write end bytes.now (option_copied replied.entry) done) }
+{
+    let bytes = Bytes::copy_of(alloc, bytes)?;
+    let replied = copy_replied(alloc, replied)?;
+    Ok(LoggedCall::Write(end, bytes, replied, done))
 }
 
 /// Sockets, and a log of the calls that were made on them.
@@ -110,13 +127,13 @@ impl<K: Sockets + Drop> LoggedSockets<K> {
         self.keep_call(LoggedCall::Read(end, gave));
     }
 
-    fn keep_write(&mut self, end: End, bytes: &[u8], about: Option<&About>, done: bool)
+    fn keep_write(&mut self, end: End, bytes: &[u8], replied: Option<&Replied>, done: bool)
         ensures sockets { self.new.sockets ≡ self.old.sockets }
         ensures kept { LogGrewByCalls self.old.lost self.old.calls.items self.new.lost self.new.calls.items
-            (call.Write end bytes.now (option_copied about.entry) done ∷ []) }
+            (call.Write end bytes.now (option_copied replied.entry) done ∷ []) }
     {
-        match Bytes::copy_of(self.alloc, bytes) {
-            Ok(bytes) => self.keep_call(LoggedCall::Write(end, bytes, about.copied(), done)),
+        match write_call(self.alloc, end, bytes, replied, done) {
+            Ok(written) => self.keep_call(written),
             Err(_) => self.lost = true,
         }
     }
@@ -148,9 +165,14 @@ impl<K: Sockets + Drop> Sockets for LoggedSockets<K> {
         received
     }
 
-    fn write(&mut self, end: End, bytes: &[u8], about: Option<&About>) -> Result<(), SocketFailed> {
-        let written = self.sockets.write(end, bytes, about);
-        self.keep_write(end, bytes, about, written.is_ok());
+    fn write(
+        &mut self,
+        end: End,
+        bytes: &[u8],
+        replied: Option<&Replied>,
+    ) -> Result<(), SocketFailed> {
+        let written = self.sockets.write(end, bytes, replied);
+        self.keep_write(end, bytes, replied, written.is_ok());
         written
     }
 

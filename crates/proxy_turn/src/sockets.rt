@@ -4,7 +4,7 @@ ghost use Rattle.proxy_turn.specs.Calls.{Call, Accept, Read, Write, Connect, Shu
 ghost use Rattle.proxy_turn.specs.Counts.{CountRisesBy, failed};
 ghost use Rattle.proxy_reads.specs.Received.{FitsTheBuffer};
 
-use hx_status::About;
+use hx_status::Replied;
 use proxy_engine::End;
 use proxy_reads::Received;
 use std::net::SocketAddrV4;
@@ -43,10 +43,15 @@ pub trait Sockets {
         ensures reads { CountRisesBy (reads self.old) (reads self.new) 1 }
         ensures failures { CountRisesBy (failures self.old) (failures self.new) (failed result) };
 
-    /// Writes all of the bytes to a client or on a link, or fails. To a client it says with them what reply they are,
-    /// unless they are an interim response; on a link it says nothing.
-    fn write(&mut self, end: End, bytes: &[u8], about: Option<&About>) -> Result<(), SocketFailed>
-        ensures did { Did self.old (Write end bytes.now (option_copied about.entry) (is_ok result) ∷ []) self.new }
+    /// Writes all of the bytes to a client or on a link, or fails. To a client it says with them what reply they are
+    /// and what it answers, unless they are an interim response; on a link it says nothing.
+    fn write(
+        &mut self,
+        end: End,
+        bytes: &[u8],
+        replied: Option<&Replied>,
+    ) -> Result<(), SocketFailed>
+        ensures did { Did self.old (Write end bytes.now (option_copied replied.entry) (is_ok result) ∷ []) self.new }
         ensures accepts { accepts self.new ≡ accepts self.old }
         ensures reads { reads self.new ≡ reads self.old }
         ensures failures { CountRisesBy (failures self.old) (failures self.new) (failed result) };

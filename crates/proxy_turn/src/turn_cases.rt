@@ -3,12 +3,12 @@
 
 ghost use Rattle.std.specs.Prelude.{◌≡◌, ◌∷◌, [], Some, None, true, false, codes};
 ghost use Rattle.hx_allow.specs.Addresses.{address_of_numbers};
-ghost use Rattle.hx_status.specs.Abouts.{about_purge};
 ghost use Rattle.hx_status.specs.declared.cause.FailKind.TheVariants as kinds;
 ghost use Rattle.proxy_script.specs.declared.effect_list.Effect.TheVariants as effects;
 ghost use Rattle.proxy_engine.specs.Happenings.{Accepts, Sends, Hears, Ends, Leaves, Retires, Overdues, Shuts, Fails};
 ghost use Rattle.proxy_engine.specs.Due.{Wakes};
 ghost use Rattle.proxy_engine.specs.Executions.{Took, Worked};
+ghost use Rattle.proxy_engine.specs.ModelCases.{replied_to_a};
 ghost use Rattle.proxy_engine.specs.declared.work.End.TheVariants as ends;
 ghost use Rattle.proxy_turn.specs.Calls as call;
 ghost use Rattle.proxy_turn.specs.Calls.{Nothing, Ended, Broken, Bytes};
@@ -22,13 +22,13 @@ ghost use Rattle.proxy_turn.specs.TurnCases.{ReportedTurnLeavesNoEndOut, Reporte
 ghost use Rattle.proxy_turn.specs.TurnCases.{ListenerFaultNeedsAFailedAccept, NoCallOnALostEnd};
 ghost use Rattle.proxy_turn.specs.TurnCases.{NoEffectIsPassedOverWithoutLoss, NoClientWriteCountsAsRefused};
 
-/// The calls of an effect: its bytes go to its end, whole and once, with what reply they are, and behind a failed call
-/// none is made. Of a forward that failed as refused the connect failed, of any other the write.
+/// The calls of an effect: its bytes go to its end, whole and once, with what reply they are and what it answers, and
+/// behind a failed call none is made. Of a forward that failed as refused the connect failed, of any other the write.
 pub fn worked_calls_of_effects()
-    ensures reply { calls_of_effect (effects.Client 1 (codes "x") (Some (about_purge 4))) Carried
-        ≡ call.Write (ends.Client 1) (codes "x") (Some (about_purge 4)) true ∷ [] }
-    ensures failed_reply { calls_of_effect (effects.Client 1 (codes "x") (Some (about_purge 4))) (Lost kinds.Closed)
-        ≡ call.Write (ends.Client 1) (codes "x") (Some (about_purge 4)) false ∷ [] }
+    ensures reply { calls_of_effect (effects.Client 1 (codes "x") (Some replied_to_a)) Carried
+        ≡ call.Write (ends.Client 1) (codes "x") (Some replied_to_a) true ∷ [] }
+    ensures failed_reply { calls_of_effect (effects.Client 1 (codes "x") (Some replied_to_a)) (Lost kinds.Closed)
+        ≡ call.Write (ends.Client 1) (codes "x") (Some replied_to_a) false ∷ [] }
     ensures interim { calls_of_effect (effects.Client 1 (codes "x") None) Carried
         ≡ call.Write (ends.Client 1) (codes "x") None true ∷ [] }
     ensures close { calls_of_effect (effects.Close 1) Carried ≡ call.Shut (ends.Client 1) true ∷ [] }

@@ -99,7 +99,7 @@ without_joined : (xs ys : List Call) → without_link_shuts (xs ++ ys) ≡ witho
 without_joined [] ys = refl
 without_joined (call.Accept n answer ∷ xs) ys = ap (λ (cs : List Call). call.Accept n answer ∷ cs) (without_joined xs ys)
 without_joined (call.Read end given ∷ xs) ys = ap (λ (cs : List Call). call.Read end given ∷ cs) (without_joined xs ys)
-without_joined (call.Write end bytes about done ∷ xs) ys = ap (λ (cs : List Call). call.Write end bytes about done ∷ cs) (without_joined xs ys)
+without_joined (call.Write end bytes replied done ∷ xs) ys = ap (λ (cs : List Call). call.Write end bytes replied done ∷ cs) (without_joined xs ys)
 without_joined (call.Connect l address done ∷ xs) ys = ap (λ (cs : List Call). call.Connect l address done ∷ cs) (without_joined xs ys)
 without_joined (call.Shut ends.Listener done ∷ xs) ys = ap (λ (cs : List Call). call.Shut ends.Listener done ∷ cs) (without_joined xs ys)
 without_joined (call.Shut (ends.Client n) done ∷ xs) ys = ap (λ (cs : List Call). call.Shut (ends.Client n) done ∷ cs) (without_joined xs ys)
@@ -113,9 +113,9 @@ module _ (s after : EngineModel) where
   effects_whole [] [] u t gone more below names fine out = refl
   effects_whole [] (f ∷ fs) u t gone more below names fine out = absurd out
   effects_whole (e ∷ es) [] u t gone more below names fine out = absurd out
-  effects_whole (effects.Client n bytes about ∷ es) (Carried ∷ fs) u t gone more below names fine out =
-      ap (λ (cs : List Call). call.Write (ends.Client n) bytes about true ∷ cs) (effects_whole es fs out.0 t out.1 more (subst (AllByRecursion (IsLinkBelow (next_link_number s))) (sym out.2.2) below) names.1 fine.1 out.3)
-  effects_whole (effects.Client n bytes about ∷ es) (Passed ∷ fs) u t gone more below names fine out = absurd (false≢true (sym (client_open (next_link_number s) n gone below) ∙ out.2.0))
+  effects_whole (effects.Client n bytes replied ∷ es) (Carried ∷ fs) u t gone more below names fine out =
+      ap (λ (cs : List Call). call.Write (ends.Client n) bytes replied true ∷ cs) (effects_whole es fs out.0 t out.1 more (subst (AllByRecursion (IsLinkBelow (next_link_number s))) (sym out.2.2) below) names.1 fine.1 out.3)
+  effects_whole (effects.Client n bytes replied ∷ es) (Passed ∷ fs) u t gone more below names fine out = absurd (false≢true (sym (client_open (next_link_number s) n gone below) ∙ out.2.0))
   effects_whole (effects.Close n ∷ es) (Carried ∷ fs) u t gone more below names fine out =
       ap (λ (cs : List Call). call.Shut (ends.Client n) true ∷ cs) (effects_whole es fs out.0 t out.1 more (subst (AllByRecursion (IsLinkBelow (next_link_number s))) (sym out.2.2) below) (subst (EffectsNameOpenEnds s after) (sym names.2) tt) fine.1 out.3)
   effects_whole (effects.Close n ∷ es) (Passed ∷ fs) u t gone more below names fine out = absurd (false≢true (sym (client_open (next_link_number s) n gone below) ∙ out.2.0))

@@ -19,7 +19,8 @@ use Rattle.hx_reuse.specs.Rules.{decision_of}
 use Rattle.hx_reuse.specs.declared.rule.ReuseRule.{ReuseRule}
 use Rattle.hx_reuse.specs.declared.decision.Decision.{Decision}
 use Rattle.hx_reuse.specs.declared.decision.Decision.TheVariants as decision
-use Rattle.hx_status.specs.declared.about.About.{About}
+use Rattle.hx_status.specs.declared.about.Replied.{Replied}
+use Rattle.hx_status.specs.declared.question.Question.{Question}
 use Rattle.hx_status.specs.declared.cause.Cause.{Cause}
 use Rattle.hx_status.specs.declared.cause.Cause.TheVariants as cause
 use Rattle.hx_status.specs.declared.cause.FailKind.{FailKind}
@@ -40,7 +41,6 @@ use Rattle.proxy_core.specs.Leading.{is_forwarded, waits_for}
 use Rattle.proxy_core.specs.Awaiting.{leader_of_request}
 use Rattle.proxy_core.specs.Outcomes.{find_exchange, exchange_id_of_event, fault_at_exchange, fallback_for, outcome_of, outcome_of_arrival, outcome_of_allowed_request, outcome_without_stored_response, outcome_of_waiting_or_forwarding, outcome_of_failure, outcome_of_wake, is_only_if_cached}
 use Rattle.proxy_core.specs.Promises.{is_arrival_event, outcome_ends_exchange, outcome_goes_forward}
-use Rattle.proxy_core.specs.Replies.{is_head}
 use Rattle.proxy_core.specs.Scopes.{Scope, is_in_scope}
 use Rattle.proxy_core.specs.State.{State as CoreState, state_after, released_exchange, overtaken_exchange, forwarded_exchange, waiting_exchange, StepIsAccepted, exchange_past_its_wait}
 use Rattle.proxy_core.specs.TraceMeaning.{opens_an_exchange}
@@ -53,7 +53,8 @@ use Rattle.proxy_core.proofs.Moves.{Move, apart, opens, queues, passes, again, w
 use Rattle.proxy_script.specs.declared.effect_list.Effect.{Effect}
 use Rattle.proxy_script.specs.declared.effect_list.Effect.TheVariants as effects
 use Rattle.proxy_engine.specs.Activities.{has_exchange, link_place_of_activity, forwarded_or_waiting}
-use Rattle.proxy_engine.specs.Acts.{OutcomeOnConnection, Replies, Forwards, Queues, Nothing, outcome_by_table, effects_of_outcome, model_after_outcome, next_link_number, CoreIsStepped, RequestIsRefused, ConnectionIsClosed, RequestArrives, ConnectionIsServed, ActIsDone, drop_effects}
+use Rattle.proxy_engine.specs.Questions.{question_of}
+use Rattle.proxy_engine.specs.Acts.{asks_head, OutcomeOnConnection, Replies, Forwards, Queues, Nothing, outcome_by_table, effects_of_outcome, model_after_outcome, next_link_number, CoreIsStepped, RequestIsRefused, ConnectionIsClosed, RequestArrives, ConnectionIsServed, ActIsDone, drop_effects}
 use Rattle.proxy_engine.specs.Admitted.{Refusal, RequestIsAdmittedOrRefused, asked_on_connection}
 use Rattle.proxy_engine.specs.Due.{Act, Abandons, Finishes, Wakes, Serves, Gives, Breaks, IsDueFirst, ConnectionActionUnlessBusy, takes_no_request}
 use Rattle.proxy_engine.specs.EngineModel.{EngineModel, ConnectionModel, no_connection, connection_at, link_at, with_core, happening_fault, model_after_happening}
@@ -83,23 +84,23 @@ closing : (n m : ℕ) (close : Bool) → replies_to n (cond close (effects.Close
 closing n m true = refl
 closing n m false = refl
 
-client_told : (n m : ℕ) (bytes : List ℕ) (about : Option About) (close b : Bool) → (m == n) ≡ b → replies_to n (effects.Client m bytes about ∷ cond close (effects.Close m ∷ []) []) ≡ cond b (ReplyWent bytes ∷ []) []
-client_told n m bytes about close b test =
+client_told : (n m : ℕ) (bytes : List ℕ) (replied : Option Replied) (close b : Bool) → (m == n) ≡ b → replies_to n (effects.Client m bytes replied ∷ cond close (effects.Close m ∷ []) []) ≡ cond b (ReplyWent bytes ∷ []) []
+client_told n m bytes replied close b test =
     ap (λ (xs : List Said). xs ++ cond (m == n) (ReplyWent bytes ∷ []) []) (closing n m close) ∙ ap (λ (c : Bool). cond c (ReplyWent bytes ∷ []) []) test
 
-told_here : (i n : ℕ) (table : Table) (o : Outcome) → replies_to (i + 1) (effects_of_outcome i n (outcome_by_table table o)) ≡ told_by o
-told_here i n table (outcomes.Reply r) = client_told (i + 1) (i + 1) r.bytes (Some r.about) r.close true (eq-eqb (i + 1) (i + 1) refl)
-told_here i n table (outcomes.Forward line bytes) = refl
-told_here i n table (outcomes.Waits leader) = refl
-told_here i n table outcomes.Ended = refl
-told_here i n table outcomes.WaitsNoMore = refl
+told_here : (i n : ℕ) (question : Option Question) (table : Table) (o : Outcome) → replies_to (i + 1) (effects_of_outcome i n question (outcome_by_table table o)) ≡ told_by o
+told_here i n question table (outcomes.Reply r) = client_told (i + 1) (i + 1) r.bytes (Some (record { about = r.about; question = question })) r.close true (eq-eqb (i + 1) (i + 1) refl)
+told_here i n question table (outcomes.Forward line bytes) = refl
+told_here i n question table (outcomes.Waits leader) = refl
+told_here i n question table outcomes.Ended = refl
+told_here i n question table outcomes.WaitsNoMore = refl
 
-told_away : (i p n : ℕ) (table : Table) (o : Outcome) → (p == i) ≡ false → replies_to (i + 1) (effects_of_outcome p n (outcome_by_table table o)) ≡ []
-told_away i p n table (outcomes.Reply r) off = client_told (i + 1) (p + 1) r.bytes (Some r.about) r.close false (off_more p i off)
-told_away i p n table (outcomes.Forward line bytes) off = refl
-told_away i p n table (outcomes.Waits leader) off = refl
-told_away i p n table outcomes.Ended off = refl
-told_away i p n table outcomes.WaitsNoMore off = refl
+told_away : (i p n : ℕ) (question : Option Question) (table : Table) (o : Outcome) → (p == i) ≡ false → replies_to (i + 1) (effects_of_outcome p n question (outcome_by_table table o)) ≡ []
+told_away i p n question table (outcomes.Reply r) off = client_told (i + 1) (p + 1) r.bytes (Some (record { about = r.about; question = question })) r.close false (off_more p i off)
+told_away i p n question table (outcomes.Forward line bytes) off = refl
+told_away i p n question table (outcomes.Waits leader) off = refl
+told_away i p n question table outcomes.Ended off = refl
+told_away i p n question table outcomes.WaitsNoMore off = refl
 
 drops_silent : (n first : ℕ) (l : Option ℕ) (es : List Effect) → replies_to n (drop_effects first l ++ es) ≡ replies_to n es
 drops_silent n first None es = refl
@@ -400,12 +401,12 @@ module _ (i : ℕ) where
   gone_stays s t h g = let more = h.connections in let less = g.0 in (omega (arith, more, less), h.gone i g.0 g.1)
 
   -- an act by a step of the core, in this model, which led to that one
-  module _ (s base t : EngineModel) (p : ℕ) (to_head : Bool) (event : Event) (before emitted : List Effect) (said : List Said) (d : CoreIsStepped s base p to_head event before emitted t) (own : exchange_id_of_event event ≡ p + 1) (silent : (es : List Effect) → replies_to (i + 1) (before ++ es) ≡ replies_to (i + 1) es) where
+  module _ (s base t : EngineModel) (p : ℕ) (asked : Option Asked) (event : Event) (before emitted : List Effect) (said : List Said) (d : CoreIsStepped s base p asked event before emitted t) (own : exchange_id_of_event event ≡ p + 1) (silent : (es : List Effect) → replies_to (i + 1) (before ++ es) ≡ replies_to (i + 1) es) where
     abbrev behind : CoreState
     behind = state_after s.core event d.outcome
 
     core_is : t.core ≡ behind
-    core_is = (ap (λ (u : EngineModel). u.core) d.after_is ∙ core_after p to_head (outcome_by_table s.core.table d.outcome) (with_core base d.core)) ∙ d.steps.leaves
+    core_is = (ap (λ (u : EngineModel). u.core) d.after_is ∙ core_after p (asks_head asked) (outcome_by_table s.core.table d.outcome) (with_core base d.core)) ∙ d.steps.leaves
 
     moved : Move (i + 1) (find_exchange (exchange_id_of_event event) s.core.exchanges) event d.outcome (open_at s) (find_exchange (i + 1) behind.exchanges)
     moved = move_of s.core.table s.core (record { event = event; outcome = d.outcome }) (i + 1) refl (record { allowed = d.steps.allowed; outcome_is = d.steps.outcome_is })
@@ -415,13 +416,13 @@ module _ (i : ℕ) where
 
     says_here : p ≡ i → replies_to (i + 1) emitted ≡ told_by d.outcome
     says_here same =
-        (ap (replies_to (i + 1)) d.emitted_is ∙ silent (effects_of_outcome p (next_link_number s) (outcome_by_table s.core.table d.outcome)))
-        ∙ subst (λ (q : ℕ). replies_to (i + 1) (effects_of_outcome q (next_link_number s) (outcome_by_table s.core.table d.outcome)) ≡ told_by d.outcome) (sym same) (told_here i (next_link_number s) s.core.table d.outcome)
+        (ap (replies_to (i + 1)) d.emitted_is ∙ silent (effects_of_outcome p (next_link_number s) (option_map question_of asked) (outcome_by_table s.core.table d.outcome)))
+        ∙ subst (λ (q : ℕ). replies_to (i + 1) (effects_of_outcome q (next_link_number s) (option_map question_of asked) (outcome_by_table s.core.table d.outcome)) ≡ told_by d.outcome) (sym same) (told_here i (next_link_number s) (option_map question_of asked) s.core.table d.outcome)
 
     says_away : (p == i) ≡ false → replies_to (i + 1) emitted ≡ []
     says_away off =
-        (ap (replies_to (i + 1)) d.emitted_is ∙ silent (effects_of_outcome p (next_link_number s) (outcome_by_table s.core.table d.outcome)))
-        ∙ told_away i p (next_link_number s) s.core.table d.outcome off
+        (ap (replies_to (i + 1)) d.emitted_is ∙ silent (effects_of_outcome p (next_link_number s) (option_map question_of asked) (outcome_by_table s.core.table d.outcome)))
+        ∙ told_away i p (next_link_number s) (option_map question_of asked) s.core.table d.outcome off
 
     own_here : p ≡ i → exchange_id_of_event event ≡ i + 1
     own_here same = own ∙ ap (λ (q : ℕ). q + 1) same
@@ -463,7 +464,7 @@ module _ (i : ℕ) where
             (subst (λ (told : List Said). Here (IsGone s) (told ++ said) (open_at t)) (says_away off) (away_step (IsGone s) off here)))
 
   -- a request arrives at the core
-  arrived_step : (G : Type 0) (s base t : EngineModel) (p now : ℕ) (r : Request) (asked : Asked) (emitted : List Effect) (said : List Said) → RequestCameAs r asked → CoreIsStepped s base p (is_head asked) (events.Arrive now (p + 1) asked) [] emitted t
+  arrived_step : (G : Type 0) (s base t : EngineModel) (p now : ℕ) (r : Request) (asked : Asked) (emitted : List Effect) (said : List Said) → RequestCameAs r asked → CoreIsStepped s base p (Some asked) (events.Arrive now (p + 1) asked) [] emitted t
       → (p ≡ i → StandsAt Answered said) → Here G said (open_at s) → Here G ((replies_to (i + 1) emitted ++ cond (p == i) (RequestCame (next.Message r) ∷ []) []) ++ said) (open_at t)
   arrived_step G s base t p now r asked emitted said admitted d ready here = by_place (cases_Bool (p == i))
     where
@@ -479,22 +480,22 @@ module _ (i : ℕ) where
           let came : List Said = RequestCame (next.Message r) ∷ [] in
           let there : Move (i + 1) (find_exchange (p + 1) s.core.exchanges) (events.Arrive now (i + 1) asked) d.outcome (open_at s) (find_exchange (i + 1) (state_after s.core event d.outcome).exchanges) =
           subst (λ (q : ℕ). Move (i + 1) (find_exchange (p + 1) s.core.exchanges) (events.Arrive now (q + 1) asked) d.outcome (open_at s) (find_exchange (i + 1) (state_after s.core event d.outcome).exchanges)) same
-          (moved s base t p (is_head asked) event [] emitted said d refl (λ es. refl)) in
+          (moved s base t p (Some asked) event [] emitted said d refl (λ es. refl)) in
           let told = arrives_here G (i + 1) now asked r (find_exchange (p + 1) s.core.exchanges) (open_at s) (find_exchange (i + 1) (state_after s.core event d.outcome).exchanges) said admitted (ready same) d.outcome tells there in
           let joined : Here G ((told_by d.outcome ++ came) ++ said) (open_at t) =
-          subst (λ (xs : List Said). Here G xs (open_at t)) (sym (append_assoc (told_by d.outcome) came said)) (on_t s base t p (is_head asked) event [] emitted said d refl (λ es. refl) G (told_by d.outcome ++ (RequestCame (next.Message r) ∷ said)) told) in
-          subst (λ (xs : List Said). Here G ((xs ++ cond (p == i) came []) ++ said) (open_at t)) (sym (says_here s base t p (is_head asked) event [] emitted said d refl (λ es. refl) same))
+          subst (λ (xs : List Said). Here G xs (open_at t)) (sym (append_assoc (told_by d.outcome) came said)) (on_t s base t p (Some asked) event [] emitted said d refl (λ es. refl) G (told_by d.outcome ++ (RequestCame (next.Message r) ∷ said)) told) in
+          subst (λ (xs : List Said). Here G ((xs ++ cond (p == i) came []) ++ said) (open_at t)) (sym (says_here s base t p (Some asked) event [] emitted said d refl (λ es. refl) same))
           (subst (λ (b : Bool). Here G ((told_by d.outcome ++ cond b came []) ++ said) (open_at t)) (sym test) joined)
       by_place (inr off) =
-          let none = says_away s base t p (is_head asked) event [] emitted said d refl (λ es. refl) off in
+          let none = says_away s base t p (Some asked) event [] emitted said d refl (λ es. refl) off in
           subst (λ (xs : List Said). Here G ((xs ++ cond (p == i) (RequestCame (next.Message r) ∷ []) []) ++ said) (open_at t)) (sym none)
           (subst (λ (b : Bool). Here G (cond b (RequestCame (next.Message r) ∷ []) [] ++ said) (open_at t)) (sym off)
-          (subst (λ (xs : List Said). Here G (xs ++ said) (open_at t)) none (away_step s base t p (is_head asked) event [] emitted said d refl (λ es. refl) G off here)))
+          (subst (λ (xs : List Said). Here G (xs ++ said) (open_at t)) none (away_step s base t p (Some asked) event [] emitted said d refl (λ es. refl) G off here)))
 
   -- the proxy answers what is no request that it passes on, and closes
-  refused_step : (G : Type 0) (s t : EngineModel) (p : ℕ) (what : Next Request) (bytes : List ℕ) (about : Option About) (emitted : List Effect) (said : List Said) → emitted ≡ effects.Client (p + 1) bytes about ∷ effects.Close (p + 1) ∷ [] → t.core ≡ s.core
+  refused_step : (G : Type 0) (s t : EngineModel) (p : ℕ) (what : Next Request) (bytes : List ℕ) (replied : Option Replied) (emitted : List Effect) (said : List Said) → emitted ≡ effects.Client (p + 1) bytes replied ∷ effects.Close (p + 1) ∷ [] → t.core ≡ s.core
       → (p ≡ i → StandsAt Answered said × (open_at s ≡ None)) → Here G said (open_at s) → Here G ((replies_to (i + 1) emitted ++ cond (p == i) (RequestCame what ∷ []) []) ++ said) (open_at t)
-  refused_step G s t p what bytes about emitted said emitted_is core ready here = by_place (cases_Bool (p == i))
+  refused_step G s t p what bytes replied emitted said emitted_is core ready here = by_place (cases_Bool (p == i))
     where
       on : (xs : List Said) → Here G xs (open_at s) → Here G xs (open_at t)
       on xs h = subst (λ (c : CoreState). Here G xs (find_exchange (i + 1) c.exchanges)) (sym core) h
@@ -556,7 +557,7 @@ module _ (i : ℕ) where
     arrives p r (Ok asked) due admitted h = arrived_step (IsGone s) s _ t p now r (asked_on_connection (connection_at s p).retired asked) emitted said ((connection_at s p).retired, (asked, admitted, refl)) h.1 (λ same. (ready p (next.Message r) due same).0) here
     arrives p r (Err refusal) due admitted h = refused_step (IsGone s) s t p (next.Message r) _ _ emitted said h.emitted_is (ap (λ (u : EngineModel). u.core) h.after_is) (ready p (next.Message r) due) here
 
-    refused : (p : ℕ) (fault : FrameFault) (why : Cause) → IsDueFirst s (Some (Serves p (next.Refused fault))) → RequestIsRefused s now p why false emitted t → Here (IsGone s) ((replies_to (i + 1) emitted ++ cond (p == i) (RequestCame (next.Refused fault) ∷ []) []) ++ said) (open_at t)
+    refused : (p : ℕ) (fault : FrameFault) (why : Cause) → IsDueFirst s (Some (Serves p (next.Refused fault))) → RequestIsRefused s now p why false None emitted t → Here (IsGone s) ((replies_to (i + 1) emitted ++ cond (p == i) (RequestCame (next.Refused fault) ∷ []) []) ++ said) (open_at t)
     refused p fault why due h = refused_step (IsGone s) s t p (next.Refused fault) _ _ emitted said h.emitted_is (ap (λ (u : EngineModel). u.core) h.after_is) (ready p (next.Refused fault) due) here
 
     closed_silent : (p : ℕ) → ConnectionIsClosed s p emitted t → replies_to (i + 1) emitted ≡ []
@@ -581,26 +582,26 @@ module _ (i : ℕ) where
     serves p next.End due h =
         quiet_step (IsGone s) s t (replies_to (i + 1) emitted) said (closed_silent p h) (ap (λ (u : EngineModel). u.core) h.1) here
 
-    finishes : (j : ℕ) (p : ℕ) (r : Response) (base : EngineModel) (to_head : Bool) → CoreIsStepped s base p to_head (events.Answer now (p + 1) r) (effects.Drop (s.first + j) ∷ []) emitted t → Here (IsGone s) (replies_to (i + 1) emitted ++ said) (open_at t)
-    finishes j p r base to_head d =
-        later_step s base t p to_head (events.Answer now (p + 1) r) (effects.Drop (s.first + j) ∷ []) emitted said d refl (λ es. refl) (IsGone s) refl
+    finishes : (j : ℕ) (p : ℕ) (r : Response) (base : EngineModel) (asked : Option Asked) → CoreIsStepped s base p asked (events.Answer now (p + 1) r) (effects.Drop (s.first + j) ∷ []) emitted t → Here (IsGone s) (replies_to (i + 1) emitted ++ said) (open_at t)
+    finishes j p r base asked d =
+        later_step s base t p asked (events.Answer now (p + 1) r) (effects.Drop (s.first + j) ∷ []) emitted said d refl (λ es. refl) (IsGone s) refl
         (ap is_end d.steps.outcome_is ∙ answer_tells s.core.table s.core.entries s.core.exchanges s.core.next now (p + 1) r (find_exchange (p + 1) s.core.exchanges) d.steps.allowed) here
 
-    fails : (j : ℕ) (p : ℕ) (kind : FailKind) (base : EngineModel) (to_head : Bool) → CoreIsStepped s base p to_head (events.Fail now (p + 1) kind) (effects.Drop (s.first + j) ∷ []) emitted t → Here (IsGone s) (replies_to (i + 1) emitted ++ said) (open_at t)
-    fails j p kind base to_head d =
-        later_step s base t p to_head (events.Fail now (p + 1) kind) (effects.Drop (s.first + j) ∷ []) emitted said d refl (λ es. refl) (IsGone s) refl
+    fails : (j : ℕ) (p : ℕ) (kind : FailKind) (base : EngineModel) (asked : Option Asked) → CoreIsStepped s base p asked (events.Fail now (p + 1) kind) (effects.Drop (s.first + j) ∷ []) emitted t → Here (IsGone s) (replies_to (i + 1) emitted ++ said) (open_at t)
+    fails j p kind base asked d =
+        later_step s base t p asked (events.Fail now (p + 1) kind) (effects.Drop (s.first + j) ∷ []) emitted said d refl (λ es. refl) (IsGone s) refl
         (ap is_end d.steps.outcome_is ∙ fail_tells s.core.table s.core.entries s.core.exchanges s.core.next now (p + 1) kind (find_exchange (p + 1) s.core.exchanges) d.steps.allowed) here
 
-    woken : (p : ℕ) (base : EngineModel) (to_head : Bool) → CoreIsStepped s base p to_head (events.Wake now (p + 1)) [] emitted t → Here (IsGone s) (replies_to (i + 1) emitted ++ said) (open_at t)
-    woken p base to_head d =
-        later_step s base t p to_head (events.Wake now (p + 1)) [] emitted said d refl (λ es. refl) (IsGone s) refl
+    woken : (p : ℕ) (base : EngineModel) (asked : Option Asked) → CoreIsStepped s base p asked (events.Wake now (p + 1)) [] emitted t → Here (IsGone s) (replies_to (i + 1) emitted ++ said) (open_at t)
+    woken p base asked d =
+        later_step s base t p asked (events.Wake now (p + 1)) [] emitted said d refl (λ es. refl) (IsGone s) refl
         (ap is_end d.steps.outcome_is ∙ wake_tells s.core.table s.core.entries s.core.exchanges s.core.next now (p + 1) (find_exchange (p + 1) s.core.exchanges) d.steps.allowed) here
 
     by_act : (act : Act) → IsDueFirst s (Some act) → ActIsDone s now act emitted t → Goes act
     by_act (Abandons p l) due d =
         let c = connection_at s p in
         let lost = lost_by c.gone (has_exchange c.activity) (link_place_of_activity c.activity) l (sym due.1) in
-        abandoned_step s _ t p false (events.Abandon (p + 1)) (drop_effects s.first l) emitted said d refl (drops_silent (i + 1) s.first l) (due.0, lost.0) refl d.steps.outcome_is here
+        abandoned_step s _ t p None (events.Abandon (p + 1)) (drop_effects s.first l) emitted said d refl (drops_silent (i + 1) s.first l) (due.0, lost.0) refl d.steps.outcome_is here
     by_act (Finishes j (Gives r)) due d = finishes j (link_at s j).connection r _ _ d.1
     by_act (Finishes j (Breaks kind)) due d = fails j (link_at s j).connection kind _ _ d
     by_act (Wakes p) due d = woken p _ _ d.1

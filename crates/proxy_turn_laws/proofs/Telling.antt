@@ -23,9 +23,9 @@ module _ (rounds : List ActRound) where
   failed_forward_tells l address bytes kinds.TooLarge = (tt, (refl, tt))
 
   effect_tells : (r : ActRound) (e : Effect) (f : EffectFate) → Contains rounds r → Contains r.emitted e → AllByRecursion (CallTellsItsEffect rounds) (calls_of_effect e f)
-  effect_tells r (effects.Client n bytes about) Carried there has = ((r, there, has), tt)
-  effect_tells r (effects.Client n bytes about) Passed there has = tt
-  effect_tells r (effects.Client n bytes about) (Lost kind) there has = ((r, there, has), tt)
+  effect_tells r (effects.Client n bytes replied) Carried there has = ((r, there, has), tt)
+  effect_tells r (effects.Client n bytes replied) Passed there has = tt
+  effect_tells r (effects.Client n bytes replied) (Lost kind) there has = ((r, there, has), tt)
   effect_tells r (effects.Close n) Carried there has = (tt, tt)
   effect_tells r (effects.Close n) Passed there has = tt
   effect_tells r (effects.Close n) (Lost kind) there has = (tt, tt)

@@ -11,7 +11,7 @@ use Rattle.hx_framing.specs.Reading.{Spelled}
 use Rattle.hx_framing.specs.RequestReading.{Reads as ReadsRequest}
 use Rattle.hx_framing.specs.Written.{request_as_read_back}
 use Rattle.hx_hop.specs.Forwarding.{forwarded_of}
-use Rattle.hx_status.specs.declared.about.About.{About}
+use Rattle.hx_status.specs.declared.about.Replied.{Replied}
 use Rattle.hx_status.specs.declared.cause.FailKind.{FailKind}
 use Rattle.hx_status.specs.declared.cause.FailKind.TheVariants as kinds
 use Rattle.std.specs.declared.net.socket_addr.SocketAddrV4.{SocketAddrV4}
@@ -74,9 +74,9 @@ module _ (name : List ℕ) where
   abbrev Writes : Call → Type 0
   Writes c = CallWritesOneMessage name c
 
-  reply : (h : Bool) (n : ℕ) (bytes : List ℕ) (about : Option About) → ReplyIsOneResponse h (effects.Client n bytes about) → (bytes ≡ continue_text) ⊎ ((to_head : Bool) × BytesAreOneResponse to_head bytes)
-  reply h n bytes about (inl is) = inl is
-  reply h n bytes about (inr is) = inr (h, is)
+  reply : (h : Bool) (n : ℕ) (bytes : List ℕ) (replied : Option Replied) → ReplyIsOneResponse h (effects.Client n bytes replied) → (bytes ≡ continue_text) ⊎ ((to_head : Bool) × BytesAreOneResponse to_head bytes)
+  reply h n bytes replied (inl is) = inl is
+  reply h n bytes replied (inr is) = inr (h, is)
 
   failed_forward : (l : ℕ) (address : SocketAddrV4) (bytes : List ℕ) (kind : FailKind) → BytesAreOneRequest name bytes → AllByRecursion Writes (calls_of_failed_forward l address bytes kind)
   failed_forward l address bytes kinds.Refused one = (tt, tt)
@@ -86,9 +86,9 @@ module _ (name : List ℕ) where
   failed_forward l address bytes kinds.TooLarge one = (tt, (one, tt))
 
   effect_written : (h : Bool) (e : Effect) (f : EffectFate) → ForwardIsOneRequest name e → ReplyIsOneResponse h e → AllByRecursion Writes (calls_of_effect e f)
-  effect_written h (effects.Client n bytes about) Carried one is = (reply h n bytes about is, tt)
-  effect_written h (effects.Client n bytes about) Passed one is = tt
-  effect_written h (effects.Client n bytes about) (Lost kind) one is = (reply h n bytes about is, tt)
+  effect_written h (effects.Client n bytes replied) Carried one is = (reply h n bytes replied is, tt)
+  effect_written h (effects.Client n bytes replied) Passed one is = tt
+  effect_written h (effects.Client n bytes replied) (Lost kind) one is = (reply h n bytes replied is, tt)
   effect_written h (effects.Close n) Carried one is = (tt, tt)
   effect_written h (effects.Close n) Passed one is = tt
   effect_written h (effects.Close n) (Lost kind) one is = (tt, tt)
@@ -121,7 +121,7 @@ module _ (name : List ℕ) where
 
   forward_of : (e : Effect) → ((l : ℕ) (address : SocketAddrV4) (bytes : List ℕ) → e ≡ effects.Forward l address bytes → BytesAreOneRequest name bytes) → ForwardIsOneRequest name e
   forward_of (effects.Forward l address bytes) f = f l address bytes refl
-  forward_of (effects.Client n bytes about) f = tt
+  forward_of (effects.Client n bytes replied) f = tt
   forward_of (effects.Close n) f = tt
   forward_of (effects.Drop l) f = tt
 
@@ -225,13 +225,13 @@ text_not_empty r h =
     no_line 13 (10 ∷ []) (right_empty front crlf (left_empty (front ++ crlf) (content_bytes r.content) h))
 
 pub no_request_is_empty : NoRequestIsEmpty
-no_request_is_empty name l about done one = text_not_empty (forwarded_of one.keeps one.asked name one.conditions) one.text_is
+no_request_is_empty name l replied done one = text_not_empty (forwarded_of one.keeps one.asked name one.conditions) one.text_is
 
 pub two_are_not_one : OneRequestIsNoMore → TwoRequestsAreNotOne
-two_are_not_one no_more name one other l most about done first second small within both within_both =
+two_are_not_one no_more name one other l most replied done first second small within both within_both =
     let reading = subst (λ (bytes : List ℕ). ReadsRequest most false false bytes (Spelled (request_as_read_back (forwarded_of both.keeps both.asked name both.conditions)) [])) (append-nil (one ++ other)) (both.alone most small within_both false false []) in
     let found = no_more name one other first most false false (request_as_read_back (forwarded_of both.keeps both.asked name both.conditions)) [] small within reading in
     text_not_empty (forwarded_of second.keeps second.asked name second.conditions) (found.1 ∙ second.text_is)
 
 pub none_to_the_listener : NothingIsWrittenToTheListener
-none_to_the_listener name bytes about done h = h
+none_to_the_listener name bytes replied done h = h

@@ -44,7 +44,7 @@ done_acts_of (r ∷ rounds) = record { act = r.act; effects = r.emitted } ∷ do
 -- To a client its bytes with what reply they are, on a new link the request, whole and once; a client is closed. Of a
 -- link that is dropped nothing is written.
 abbrev pub writes_of_effect : Effect → List Call
-writes_of_effect (effects.Client n bytes about) = call.Write (ends.Client n) bytes about true ∷ []
+writes_of_effect (effects.Client n bytes replied) = call.Write (ends.Client n) bytes replied true ∷ []
 writes_of_effect (effects.Close n) = call.Shut (ends.Client n) true ∷ []
 writes_of_effect (effects.Forward l address bytes) =
     call.Connect l address true ∷ call.Write (ends.Link l) bytes None true ∷ []
@@ -59,7 +59,8 @@ abbrev pub without_link_shuts : List Call → List Call
 without_link_shuts [] = []
 without_link_shuts (call.Accept n answer ∷ more) = call.Accept n answer ∷ without_link_shuts more
 without_link_shuts (call.Read end given ∷ more) = call.Read end given ∷ without_link_shuts more
-without_link_shuts (call.Write end bytes about done ∷ more) = call.Write end bytes about done ∷ without_link_shuts more
+without_link_shuts (call.Write end bytes replied done ∷ more) =
+    call.Write end bytes replied done ∷ without_link_shuts more
 without_link_shuts (call.Connect l address done ∷ more) = call.Connect l address done ∷ without_link_shuts more
 without_link_shuts (call.Shut ends.Listener done ∷ more) = call.Shut ends.Listener done ∷ without_link_shuts more
 without_link_shuts (call.Shut (ends.Client n) done ∷ more) = call.Shut (ends.Client n) done ∷ without_link_shuts more

@@ -14,7 +14,7 @@ use Rattle.hx_framing.specs.declared.frame_fault.FrameFault.TheVariants as frame
 use Rattle.hx_framing.specs.declared.messages.Next.{Next}
 use Rattle.hx_framing.specs.declared.messages.Next.TheVariants as next
 use Rattle.hx_framing.specs.Text.{continue_text}
-use Rattle.hx_status.specs.declared.about.About.{About}
+use Rattle.hx_status.specs.declared.about.Replied.{Replied}
 use Rattle.proxy_core.specs.Outcomes.{find_exchange}
 use Rattle.proxy_core.specs.Starts.{StoreAtStart}
 use Rattle.proxy_core.specs.Traces.{initial_state as core_begun}
@@ -41,7 +41,7 @@ pub data Said : Type 0 where
 -- the replies to the client of this number, the latest first
 abbrev pub replies_to : ℕ → List Effect → List Said
 replies_to n [] = []
-replies_to n (effects.Client m bytes about ∷ rest) = replies_to n rest ++ cond (m == n) (ReplyWent bytes ∷ []) []
+replies_to n (effects.Client m bytes replied ∷ rest) = replies_to n rest ++ cond (m == n) (ReplyWent bytes ∷ []) []
 replies_to n (effects.Forward l address bytes ∷ rest) = replies_to n rest
 replies_to n (effects.Close m ∷ rest) = replies_to n rest
 replies_to n (effects.Drop l ∷ rest) = replies_to n rest
@@ -49,7 +49,7 @@ replies_to n (effects.Drop l ∷ rest) = replies_to n rest
 -- but for the 25 bytes of a continue, an interim response (RFC 9110, section 15.2)
 abbrev pub final_replies_to : ℕ → List Effect → List Said
 final_replies_to n [] = []
-final_replies_to n (effects.Client m bytes about ∷ rest) =
+final_replies_to n (effects.Client m bytes replied ∷ rest) =
     final_replies_to n rest ++ cond (bytes_eq bytes continue_text) [] (cond (m == n) (ReplyWent bytes ∷ []) [])
 final_replies_to n (effects.Forward l address bytes ∷ rest) = final_replies_to n rest
 final_replies_to n (effects.Close m ∷ rest) = final_replies_to n rest
@@ -168,7 +168,7 @@ NothingIsSaidBehindALeave =
 abbrev pub NoActAnswersTwice : Type 0
 NoActAnswersTwice =
     (table : Table) (start : StoreAtStart) (first link now i : ℕ) (past : List ExecutionStep) (one other : List ℕ)
-    (of_one of_other : Option About) (t : EngineModel)
+    (of_one of_other : Option Replied) (t : EngineModel)
     → StepsLead (new_engine_model (core_begun table start first) link)
     (Worked now (Wakes i) (effects.Client (connection_number i) one of_one
     ∷ effects.Client (connection_number i) other of_other ∷ []) ∷ past) t

@@ -16,10 +16,10 @@ use Rattle.proxy_turn.specs.Over.{calls_of_turn_over}
 abbrev pub CallTellsItsEffect : List ActRound → Call → Type 0
 CallTellsItsEffect rounds (call.Accept n answer) = Unit {0}
 CallTellsItsEffect rounds (call.Read end given) = Unit {0}
-CallTellsItsEffect rounds (call.Write ends.Listener bytes about done) = ⊥
-CallTellsItsEffect rounds (call.Write (ends.Client n) bytes about done) =
-    (round : ActRound) × Contains rounds round × Contains round.emitted (effects.Client n bytes about)
-CallTellsItsEffect rounds (call.Write (ends.Link l) bytes about done) = about ≡ None
+CallTellsItsEffect rounds (call.Write ends.Listener bytes replied done) = ⊥
+CallTellsItsEffect rounds (call.Write (ends.Client n) bytes replied done) =
+    (round : ActRound) × Contains rounds round × Contains round.emitted (effects.Client n bytes replied)
+CallTellsItsEffect rounds (call.Write (ends.Link l) bytes replied done) = replied ≡ None
 CallTellsItsEffect rounds (call.Connect link address done) = Unit {0}
 CallTellsItsEffect rounds (call.Shut end done) = Unit {0}
 

@@ -10,7 +10,7 @@ use Rattle.hx_fields.specs.declared.limits.TheConstants.{END_OF_TIME}
 use Rattle.hx_framing.specs.Text.{continue_text}
 use Rattle.hx_hop.specs.Forwarding.{forwarded_of}
 use Rattle.hx_hop_laws.specs.OneMessage.{RequestIsWithinLimits}
-use Rattle.hx_status.specs.declared.about.About.{About}
+use Rattle.hx_status.specs.declared.about.Replied.{Replied}
 use Rattle.hx_store.specs.Stored.{Stored}
 use Rattle.proxy_core.specs.Starts.{EachHeldAtFirst}
 use Rattle.proxy_core_laws.specs.SentMessages.{CanBeSent, BytesAreOneRequest, BytesAreOneResponse}
@@ -42,7 +42,7 @@ BytesAreOneMessageFor name (ends.Client n) bytes =
 abbrev pub CallWritesOneMessage : List ℕ → Call → Type 0
 CallWritesOneMessage name (call.Accept n answer) = Unit {0}
 CallWritesOneMessage name (call.Read end given) = Unit {0}
-CallWritesOneMessage name (call.Write end bytes about done) = BytesAreOneMessageFor name end bytes
+CallWritesOneMessage name (call.Write end bytes replied done) = BytesAreOneMessageFor name end bytes
 CallWritesOneMessage name (call.Connect link address done) = Unit {0}
 CallWritesOneMessage name (call.Shut end done) = Unit {0}
 
@@ -88,20 +88,21 @@ ATurnWritesNothingElse =
 -- no bytes are no request
 abbrev pub NoRequestIsEmpty : Type 0
 NoRequestIsEmpty =
-    (name : List ℕ) (l : ℕ) (about : Option About) (done : Bool)
-    → CallWritesOneMessage name (call.Write (ends.Link l) [] about done) → ⊥
+    (name : List ℕ) (l : ℕ) (replied : Option Replied) (done : Bool)
+    → CallWritesOneMessage name (call.Write (ends.Link l) [] replied done) → ⊥
 
 -- Two requests in one write are no write of a turn, within the limits of a reader: who reads them finds the first, and
 -- the second behind it.
 abbrev pub TwoRequestsAreNotOne : Type 0
 TwoRequestsAreNotOne =
-    (name one other : List ℕ) (l most : ℕ) (about : Option About) (done : Bool) (first : BytesAreOneRequest name one)
+    (name one other : List ℕ) (l most : ℕ) (replied : Option Replied) (done : Bool)
+    (first : BytesAreOneRequest name one)
     → BytesAreOneRequest name other → most < 2 ^ 64
     → RequestIsWithinLimits most (forwarded_of first.keeps first.asked name first.conditions)
-    → (both : CallWritesOneMessage name (call.Write (ends.Link l) (one ++ other) about done))
+    → (both : CallWritesOneMessage name (call.Write (ends.Link l) (one ++ other) replied done))
     → RequestIsWithinLimits most (forwarded_of both.keeps both.asked name both.conditions) → ⊥
 
 abbrev pub NothingIsWrittenToTheListener : Type 0
 NothingIsWrittenToTheListener =
-    (name bytes : List ℕ) (about : Option About) (done : Bool)
-    → CallWritesOneMessage name (call.Write ends.Listener bytes about done) → ⊥
+    (name bytes : List ℕ) (replied : Option Replied) (done : Bool)
+    → CallWritesOneMessage name (call.Write ends.Listener bytes replied done) → ⊥
