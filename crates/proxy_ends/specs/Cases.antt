@@ -21,7 +21,6 @@ limits = record {
   origin_timeout = 20;
   exchange_timeout = 100;
   content = 1000;
-  max_body = 1000;
 }
 
 -- a peer from which something came last at 100, of which something may be left to be read, and that hasn't taken this

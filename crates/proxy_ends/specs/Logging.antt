@@ -1,30 +1,38 @@
--- The line of the log about a reply.
+-- What a log keeps of a client, and the line about a reply.
 --
--- words_about_reply: what it says, of a client at this address that asked this
+-- words_answered: what a reply answers
+-- words_about_reply: what its line says, of a client at this address
 -- logged_address: whose lines these are
 -- LineAboutReplyIsAdded: what becomes of the line about a reply
-use Rattle.std.specs.Prelude.{◌≡◌, ◌⊎◌, ℕ, List, Option, None, Some, option_map, string_bytes}
+-- PieceIsKept, NextRequestBegins: what is kept of a request line, until its request is answered
+use Rattle.std.specs.Prelude.{◌≡◌, ◌⊎◌, ℕ, List, [], ◌++◌, Option, None, Some, option_map, string_bytes}
 use Rattle.std.specs.Global.{Box}
 use Rattle.hx_status.specs.Abouts.{reason_text}
-use Rattle.proxy_log.specs.Asked.{next_question}
+use Rattle.hx_status.specs.declared.question.Question.{Question}
+use Rattle.proxy_log.specs.Asked.{AskedWords, words_of_head, words_of_question}
+use Rattle.proxy_log.specs.KeptLine.{HeadIsKept, LineIsOver}
 use Rattle.proxy_log.specs.Line.{LineWords, log_line_text}
 use Rattle.proxy_log.specs.PendingLines.{LineIsAdded, LineIsLost}
-use Rattle.proxy_log.specs.declared.asked.UnansweredRequests.{UnansweredRequests}
-use Rattle.proxy_log.specs.declared.asked.Question.{Question}
+use Rattle.proxy_log.specs.declared.kept_line.RequestLine.{RequestLine}
 use Rattle.proxy_log.specs.declared.pending_lines.Lines.{Lines}
 use Rattle.proxy_ends.specs.declared.clients.client.Logged.{Logged}
 use Rattle.proxy_ends.specs.declared.replies.Reply.{Reply}
 
--- its client's address, the words of the question, what the reply is, and what was seen of it
-abbrev pub words_about_reply : Question → List ℕ → Reply → LineWords
-words_about_reply question address reply = record {
+-- what the reply says that it answers; else what the request line says, where that came whole and has no fault
+abbrev pub words_answered : Option Question → RequestLine → AskedWords
+words_answered None line = words_of_head line.text.items
+words_answered (Some question) line = words_of_question question
+
+-- its client's address, what was asked, what the reply is, and what was seen of it
+abbrev pub words_about_reply : AskedWords → List ℕ → Reply → LineWords
+words_about_reply asked address reply = record {
   moment = reply.moment;
   client = address;
-  method = question.method;
-  target = question.target;
-  status = reply.about.now.status;
+  method = asked.method;
+  target = asked.target;
+  status = reply.replied.now.about.status;
   length = reply.length;
-  reason = reason_text reply.about.now.told;
+  reason = reason_text reply.replied.now.about.told;
   took = reply.took;
   origin = reply.origin.now;
 }
@@ -32,14 +40,29 @@ words_about_reply question address reply = record {
 abbrev pub logged_address : Option (Box Logged) → Option (List ℕ)
 logged_address logged = option_map (λ one. string_bytes one.value.address) logged
 
--- The line by the question that is next stands behind the others, or it is lost, and counts as that.
-abbrev pub LineAboutNextQuestionIsAdded : UnansweredRequests → List ℕ → Reply → Lines → Lines → Type 0
-LineAboutNextQuestionIsAdded asked address reply old new =
-    LineIsAdded (log_line_text (words_about_reply (next_question asked.questions.items asked.begun) address reply))
-    old new ⊎ LineIsLost old new
+-- the line stands behind the others, or it is lost, and counts as that
+abbrev pub LineOfLoggedIsAdded : Logged → Reply → Lines → Lines → Type 0
+LineOfLoggedIsAdded logged reply old new =
+    LineIsAdded (log_line_text (words_about_reply (words_answered reply.replied.now.question logged.line)
+    (string_bytes logged.address) reply)) old new
+    ⊎ LineIsLost old new
 
 -- of a client of which a log is kept there is one; of any other none
 abbrev pub LineAboutReplyIsAdded : Option (Box Logged) → Reply → Lines → Lines → Type 0
 LineAboutReplyIsAdded None reply old new = new ≡ old
-LineAboutReplyIsAdded (Some logged) reply old new
-    = LineAboutNextQuestionIsAdded logged.value.asked (string_bytes logged.value.address) reply old new
+LineAboutReplyIsAdded (Some logged) reply old new = LineOfLoggedIsAdded logged.value reply old new
+
+-- A piece came. If of a head this was kept, so it is with the piece behind it, or nothing is kept of it.
+abbrev pub PieceIsKept : List ℕ → Option (Box Logged) → Option (Box Logged) → Type 0
+PieceIsKept piece None new = new ≡ None
+PieceIsKept piece (Some old) None = ⊥
+PieceIsKept piece (Some old) (Some new) =
+    (new.value.address ≡ old.value.address)
+    × ((head : List ℕ) → HeadIsKept head old.value.line
+    → HeadIsKept (head ++ piece) new.value.line ⊎ LineIsOver new.value.line)
+
+-- nothing of the next request has come
+abbrev pub NextRequestBegins : Option (Box Logged) → Option (Box Logged) → Type 0
+NextRequestBegins None new = new ≡ None
+NextRequestBegins (Some old) None = ⊥
+NextRequestBegins (Some old) (Some new) = (new.value.address ≡ old.value.address) × HeadIsKept [] new.value.line

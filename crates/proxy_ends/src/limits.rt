@@ -26,8 +26,6 @@ pub struct Limits {
     pub exchange_timeout: u64,
     /// Bytes of requests and answers in progress, and of those that clients haven't taken yet, of all of them.
     pub content: usize,
-    /// Bytes of the content of one message.
-    pub max_body: u64,
 }
 
 impl Limits {
@@ -88,3 +86,6 @@ pub const MOST_EVENTS: usize = 1024;
 
 /// The longest wait, in milliseconds: what has had its time is looked for once a second.
 pub const LONGEST_WAIT: u64 = SECOND;
+
+/// Bytes that one segment of TCP takes, on any usual path.
+pub(crate) const ONE_SEGMENT: usize = 1200;

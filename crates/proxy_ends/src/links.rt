@@ -15,7 +15,7 @@ ghost use Rattle.proxy_ends.specs.Streams.{link_is_to_be_listed, listed_link, un
 
 pub mod link;
 
-use crate::limits::{Limits, SECOND};
+use crate::limits::{Limits, ONE_SEGMENT, SECOND};
 use crate::links::link::{Link, mark_peer_ready};
 use crate::socket_tokens::Holder;
 use mio::Poll;
@@ -69,6 +69,18 @@ impl Links {
             }
         }
         Ok(())
+    }
+
+    /// Has a message for a link go without a wait, where it takes more than one segment.
+    pub fn send_at_once(&self, number: u64, length: usize) {
+        if length <= ONE_SEGMENT {
+            return;
+        }
+        if let Some(link) = self.items.get(&number) {
+            if let Some(peer) = &link.peer {
+                peer.send_at_once();
+            }
+        }
     }
 
     /// Asks for the events of a link that was written to. Fails where the system refuses it.

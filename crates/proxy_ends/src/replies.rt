@@ -1,14 +1,14 @@
 //! What is told of a reply that was written.
 
-use hx_status::About;
+use hx_status::Replied;
 
 /// A reply that was written.
-#[derive(Clone, Copy, Debug)]
+#[derive(Clone, Copy)]
 pub struct Reply<'a> {
     /// When, in milliseconds since 1970.
     pub moment: u64,
-    /// What it is.
-    pub about: &'a About,
+    /// What it is, and what it answers.
+    pub replied: &'a Replied,
     /// The bytes of its content.
     pub length: u64,
     /// Milliseconds since the first byte of its request came.

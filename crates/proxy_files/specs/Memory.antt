@@ -14,8 +14,8 @@ abbrev pub most_stored : ℕ → ℕ → Option ℕ → ℕ
 most_stored capacity max_stored None = most_by_number capacity max_stored
 most_stored capacity max_stored (Some weight) = min (most_by_number capacity max_stored) (weight + weight / 10)
 
--- contents and heads in progress, whose room grows by doubling, held once more where a log is kept; and 16 KiB a
--- connection
+-- contents and heads in progress, whose room grows by doubling, counted once more where a log is kept, as when a log
+-- held uploads too; and 16 KiB a connection
 abbrev pub most_in_progress : ℕ → Bool → ℕ
 most_in_progress content has_log = min (content * (if has_log then 4 else 2)) greatest
 

@@ -44,8 +44,8 @@ pub fn most_stored(config: &Config) -> u64
     }
 }
 
-/// Bytes that are held beside the store, at most: what is in progress, whose room is up to twice its size and which a
-/// log holds once more, and connections.
+/// Bytes that are held beside the store, at most: what is in progress, whose room is up to twice its size, and
+/// connections. Where a log is kept what is in progress counts twice, as when a log held uploads too.
 pub fn most_held(content: usize, has_log: bool, connections: usize) -> u64
     ensures { result ≡ most_held content has_log connections }
 {

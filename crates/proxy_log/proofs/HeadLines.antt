@@ -14,7 +14,7 @@ not_is false h = refl
 not_is true h = absurd (false≢true h)
 
 -- a line without LF, and what stands behind its own
-first_line_is : (line rest : List ℕ) → list_all (λ b. not (b == 10)) line ≡ true → whole_lines (line ++ (10 ∷ rest)) ≡ (line, rest) ∷ whole_lines rest
+pub first_line_is : (line rest : List ℕ) → list_all (λ b. not (b == 10)) line ≡ true → whole_lines (line ++ (10 ∷ rest)) ≡ (line, rest) ∷ whole_lines rest
 first_line_is [] rest none = refl
 first_line_is (b ∷ bs) rest none =
     let parts = both (not (b == 10)) (list_all (λ b. not (b == 10)) bs) none in

@@ -1,5 +1,5 @@
 pub mod HeadLines
-pub mod Hearing
+pub mod KeptLines
 pub mod LineBytes
 pub mod LineParts
 pub mod LineSteps

@@ -1,12 +1,15 @@
 -- Which bytes the text of a line has.
-use Rattle.std.proofs.Common.{◌≡◌, ℕ, ◌+◌, ◌<◌, ◌/◌, ◌%◌, ◌^◌, ◌==◌, ◌&&◌, not, Bool, true, false, cond, List, [], ◌∷◌, ◌++◌, codes, refl, ◌∙◌, arith, decimal}
+use Rattle.std.proofs.Common.{◌≡◌, ℕ, ◌+◌, ◌<◌, ◌/◌, ◌%◌, ◌^◌, ◌==◌, ◌&&◌, not, Bool, true, false, cond, List, [], ◌∷◌, ◌++◌, codes, refl, sym, ap, ◌∙◌, arith, decimal}
 use Rattle.std.proofs.lemmas.Bool.{false≢true}
 use Rattle.std.proofs.lemmas.Grind.{common_steps}
+use Rattle.std.proofs.lemmas.List.{append_assoc}
 use Rattle.std.proofs.lemmas.List.Folds.{list_all-append}
 use Rattle.std.specs.List.{list_all}
 use Rattle.std.specs.Char.{is_ascii_digit}
 use Rattle.hx_framing.proofs.WrittenFields.{decimal_back}
-use Rattle.proxy_log.specs.Line.{LineWords, stands_for_itself, hex_digit, logged_byte, logged_text, logged_word, log_line_text, status_word}
+use Rattle.hx_target.specs.declared.keys.Key.{Key}
+use Rattle.proxy_log.specs.Asked.{port_suffix, uri_text}
+use Rattle.proxy_log.specs.Line.{LineWords, stands_for_itself, hex_digit, logged_byte, logged_text, logged_word, log_line_text, shown_uri, status_word}
 use Rattle.proxy_log.specs.OneLine.{TextIsOneLine, LineIsInRange, is_byte, is_visible, is_log_word}
 use Rattle.proxy_log.specs.Seconds.{seconds_text, three_digits}
 
@@ -137,3 +140,47 @@ line_is_one_line line given = record {
   is = refl;
   visible = (words_are_visible line given).are;
 }
+
+-- ---- a target URI
+
+plain_is_shown : (blanks : Bool) (b : ℕ) → stands_for_itself false b ≡ true → stands_for_itself blanks b ≡ true
+plain_is_shown blanks b is = grind (arith, common_steps)
+
+pub shown_all : (blanks : Bool) (bs : List ℕ) → list_all (stands_for_itself false) bs ≡ true → logged_text blanks bs ≡ bs
+shown_all blanks [] all = refl
+shown_all blanks (b ∷ bs) all =
+    let parts = both (stands_for_itself false b) (list_all (stands_for_itself false) bs) all in
+    rw (plain_is_shown blanks b parts.0) (ap (λ (text : List ℕ). b ∷ text) (shown_all blanks bs parts.1))
+
+digit_is_shown : (b : ℕ) → is_ascii_digit b ≡ true → stands_for_itself false b ≡ true
+digit_is_shown b is = grind (arith, common_steps)
+
+number_is_shown : (n : ℕ) → n < 2 ^ 64 → logged_text false (decimal n) ≡ decimal n
+number_is_shown n below = shown_all false (decimal n) (all_weaker is_ascii_digit (stands_for_itself false) digit_is_shown (decimal n) (decimal_back n below).1)
+
+pub port_shown : (port : ℕ) → port < 2 ^ 64 → logged_text false (port_suffix port) ≡ port_suffix port
+port_shown port below = by_test (port == 80)
+  where
+    by_test : (t : Bool) → logged_text false (cond t [] (codes ":" ++ decimal port)) ≡ cond t [] (codes ":" ++ decimal port)
+    by_test true = refl
+    by_test false = ap (λ (text : List ℕ). 58 ∷ text) (number_is_shown port below)
+
+shown_both : (xs ys : List ℕ) → logged_text false (xs ++ ys) ≡ logged_text false xs ++ logged_text false ys
+shown_both [] ys = refl
+shown_both (x ∷ xs) ys = ap (λ (text : List ℕ). logged_byte false x ++ text) (shown_both xs ys) ∙ sym (append_assoc (logged_byte false x) (logged_text false xs) (logged_text false ys))
+
+-- part by part it is the word
+pub uri_shown : (key : Key) → logged_text false (port_suffix key.port) ≡ port_suffix key.port → shown_uri key ≡ logged_word (uri_text key) ++ codes " "
+unfolding shown_uri
+uri_shown key port = ap (λ (text : List ℕ). text ++ codes " ") (sym parts)
+  where
+    front : logged_text false (codes "http://" ++ key.host ++ port_suffix key.port) ≡ codes "http://" ++ logged_text false key.host ++ port_suffix key.port
+    front =
+        shown_both (codes "http://" ++ key.host) (port_suffix key.port)
+        ∙ ap (λ (text : List ℕ). text ++ logged_text false (port_suffix key.port)) (shown_both (codes "http://") key.host)
+        ∙ ap (λ (text : List ℕ). codes "http://" ++ logged_text false key.host ++ text) port
+
+    parts : logged_text false (uri_text key) ≡ codes "http://" ++ logged_text false key.host ++ port_suffix key.port ++ logged_text false key.path_query
+    parts =
+        shown_both (codes "http://" ++ key.host ++ port_suffix key.port) key.path_query
+        ∙ ap (λ (text : List ℕ). text ++ logged_text false key.path_query) front

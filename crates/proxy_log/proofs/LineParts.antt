@@ -1,6 +1,7 @@
 -- A line is its three parts, and a part is its words.
-use Rattle.std.proofs.Common.{◌≡◌, ◌<◌, ◌≤◌, ◌+◌, ℕ, Bool, List, ◌++◌, length, ap, sym, ◌∙◌, arith, Result, Ok, Err, OnOk, OnErr, codes, decimal, true}
+use Rattle.std.proofs.Common.{◌≡◌, ◌<◌, ◌≤◌, ◌+◌, ℕ, Bool, List, ◌++◌, length, ap, sym, ◌∙◌, arith, Result, Ok, Err, OnOk, OnErr, codes, decimal, refl, true}
 use Rattle.std.proofs.lemmas.List.{append_assoc, length-append}
+use Rattle.std.specs.Fmt.{digits}
 use Rattle.proxy_log.specs.Line.{LineWords, logged_byte, logged_text, logged_word, log_line_text, log_line_front, log_line_answer, log_line_end, status_word}
 use Rattle.proxy_log.specs.Seconds.{seconds_text}
 
@@ -11,6 +12,15 @@ on_err (Err x) holds = holds
 pub on_ok : {A E P Q : Type 0} (r : Result A E) → (P → Q) → OnOk r P → OnOk r Q
 on_ok (Ok x) f holds = f holds
 on_ok (Err x) f holds = tt
+
+-- what most lines have
+pub no_time : seconds_text 0 ≡ codes "0.000"
+unfolding digits
+no_time = refl
+
+pub status_of_most : status_word 200 ≡ codes "200"
+unfolding digits
+status_of_most = refl
 
 -- a text in front of a part of a line
 before_six : (f d s l r : List ℕ) → f ++ (d ++ s ++ l ++ s ++ r ++ s) ≡ f ++ d ++ s ++ l ++ s ++ r ++ s

@@ -1,57 +1,39 @@
 -- What a client asked for, as a line of the log names it (RFC 9112, section 3; RFC 9110, section 7.1).
 --
--- uri_text, logged_target: the target of a request
--- QuestionIsOfRequest: what a request asks for
+-- uri_text, target_text: the text of a target
 -- request_line_of_head: method and target of the line with which a head begins that is no request
--- next_question, begun_after_reply: what the next reply answers, and whether what has begun is still to be answered
-use Rattle.std.specs.Prelude.{◌≡◌, ℕ, ◌==◌, not, Bool, ◌&&◌, nat_eq, nat_lt, if◌then◌else◌, List, [], ◌∷◌, ◌++◌, length}
-use Rattle.std.specs.Prelude.{slice_index, codes, decimal, Option, Some, None, unwrap_or, Result, Ok, Err}
-use Rattle.std.specs.Option.{option_map, option_and_then}
+-- AskedWords, asked_words: what a line names
+-- words_of_question, words_of_head: of what a reply answers, and of a head that was refused, or isn't whole
+use Rattle.std.specs.Prelude.{ℕ, ◌==◌, not, Bool, ◌&&◌, nat_eq, nat_lt, if◌then◌else◌, List, [], ◌∷◌, ◌++◌, length}
+use Rattle.std.specs.Prelude.{slice_index, codes, decimal, Option, Some, None}
+use Rattle.std.specs.Option.{option_and_then}
 use Rattle.std.specs.List.{starts_with, list_all}
 use Rattle.std.specs.Char.{is_ascii_digit}
 use Rattle.hx_fields.specs.Names.{cut_at}
 use Rattle.hx_fields.specs.Tokens.{is_token}
-use Rattle.hx_fields.specs.FieldLines.{values_of}
 use Rattle.hx_framing.specs.HeadLines.{is_empty_line}
 use Rattle.hx_framing.specs.Version.{without_return}
-use Rattle.hx_framing.specs.declared.messages.Request.{Request}
-use Rattle.hx_target.specs.Judgement.{TargetIsJudged}
-use Rattle.hx_target.specs.declared.target_fault.TargetFault.{TargetFault}
-use Rattle.hx_target.specs.declared.targets.Target.{Target}
+use Rattle.hx_status.specs.declared.question.AskedTarget.{AskedTarget}
+use Rattle.hx_status.specs.declared.question.AskedTarget.TheVariants as asked
+use Rattle.hx_status.specs.declared.question.Question.{Question}
+use Rattle.hx_target.specs.declared.keys.Key.{Key}
 use Rattle.proxy_log.specs.TextLines.{whole_lines}
-use Rattle.proxy_log.specs.declared.asked.Question.{Question}
-
-abbrev pub no_question_read : Question
-no_question_read = record { method = []; target = [] }
+use Rattle.proxy_log.specs.declared.logged_request.LoggedRequest.{LoggedRequest}
+use Rattle.proxy_log.specs.declared.logged_request.LoggedTarget.{LoggedTarget}
+use Rattle.proxy_log.specs.declared.logged_request.LoggedTarget.TheVariants as logged
 
 -- a port other than the default, behind a colon (RFC 9110, section 4.2.1)
 abbrev pub port_suffix : ℕ → List ℕ
 port_suffix port = if port == 80 then [] else codes ":" ++ decimal port
 
 -- a target URI
-abbrev pub uri_text : Target → List ℕ
-uri_text target = codes "http://" ++ target.key.host ++ port_suffix target.key.port ++ target.key.path_query
+abbrev pub uri_text : Key → List ℕ
+uri_text key = codes "http://" ++ key.host ++ port_suffix key.port ++ key.path_query
 
 -- the target URI, or where it is none the target as it came
-abbrev pub logged_target : List ℕ → Result Target TargetFault → List ℕ
-logged_target target (Ok t) = uri_text t
-logged_target target (Err fault) = target
-
--- the text names what the target of a request and its Host lines spell
-pub record TextNamesTarget (request : Request) (text : List ℕ) : Type 0 where
-  pub result : Result Target TargetFault
-  pub judged : TargetIsJudged request.target (values_of request.fields (codes "Host")) result
-  pub is : text ≡ logged_target request.target result
-
-pub record QuestionIsOfRequest (request : Request) (question : Question) : Type 0 where
-  pub method : question.method ≡ request.method
-  pub target : TextNamesTarget request question.target
-
--- what a request asks for stands behind what those in front of it ask for
-pub record QuestionIsKept (request : Request) (before after : List Question) : Type 0 where
-  pub question : Question
-  pub asks : QuestionIsOfRequest request question
-  pub last : after ≡ before ++ question ∷ []
+abbrev pub target_text : LoggedTarget → List ℕ
+target_text (logged.Uri key) = uri_text key.now
+target_text (logged.AsItCame target) = target.now
 
 -- the first line that isn't empty (RFC 9112, section 2.2); it has to be whole
 abbrev pub first_nonempty_line : List (List ℕ × List ℕ) → Option (List ℕ)
@@ -85,18 +67,25 @@ method_and_target line =
 abbrev pub request_line_of_head : List ℕ → Option (List ℕ × List ℕ)
 request_line_of_head head = option_and_then method_and_target (first_line head)
 
--- what a head asks for that was refused, or whose content is to come; the target is as it came
-abbrev pub question_of_head : List ℕ → Question
-question_of_head head = unwrap_or (option_map (λ p. record { method = p.0; target = p.1 })
-    (request_line_of_head head)) no_question_read
+-- a method and a target; both are empty where no request could be read
+pub record AskedWords : Type 0 where
+  pub method : List ℕ
+  pub target : List ℕ
 
--- what the next reply answers: the oldest request that came whole, else the one that has begun
-abbrev pub next_question : List Question → Option Question → Question
-next_question (q ∷ qs) begun = q
-next_question [] (Some q) = q
-next_question [] None = no_question_read
+abbrev pub asked_words : LoggedRequest → AskedWords
+asked_words request = record { method = request.method.now; target = target_text request.target }
 
--- behind that reply the request that has begun is still to be answered, unless it was the one
-abbrev pub begun_after_reply : List Question → Option Question → Option Question
-begun_after_reply (q ∷ qs) begun = begun
-begun_after_reply [] begun = None
+abbrev pub asked_target_text : AskedTarget → List ℕ
+asked_target_text (asked.Uri key) = uri_text key
+asked_target_text (asked.AsItCame target) = target
+
+abbrev pub words_of_question : Question → AskedWords
+words_of_question question = record { method = question.method; target = asked_target_text question.target }
+
+abbrev pub words_of_request_line : Option (List ℕ × List ℕ) → AskedWords
+words_of_request_line None = record { method = []; target = [] }
+words_of_request_line (Some line) = record { method = line.0; target = line.1 }
+
+-- of a head that was refused, or whose content is to come; the target is as it came
+abbrev pub words_of_head : List ℕ → AskedWords
+words_of_head head = words_of_request_line (request_line_of_head head)

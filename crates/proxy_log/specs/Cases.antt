@@ -4,6 +4,8 @@ use Rattle.hx_reuse.specs.declared.rule.ReuseRule.TheVariants.{UriMiss}
 use Rattle.hx_status.specs.declared.about.Told.{Told}
 use Rattle.hx_status.specs.declared.about.Told.TheVariants.{Handled}
 use Rattle.hx_status.specs.declared.status.How.TheVariants.{Hit, Fwd}
+use Rattle.hx_target.specs.declared.keys.Key.{Key}
+use Rattle.proxy_log.specs.Asked.{AskedWords}
 use Rattle.proxy_log.specs.Line.{LineWords}
 
 -- a GET for a target URI that was answered 200 with five bytes, when, why, after how long and by which origin
@@ -89,3 +91,11 @@ told_of_stored_miss seconds = Handled (record {
   detail = None;
   not_stored = None;
 })
+
+-- a key: its host, its port, its path and query
+abbrev pub key_of : List ℕ → ℕ → List ℕ → Key
+key_of host port path_query = record { host = host; port = port; path_query = path_query }
+
+-- a method and a target; or nothing that could be read
+abbrev pub asks_for : List ℕ → List ℕ → AskedWords
+asks_for method target = record { method = method; target = target }

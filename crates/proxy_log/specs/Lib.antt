@@ -1,6 +1,6 @@
 pub mod Asked
 pub mod Cases
-pub mod Hearing
+pub mod KeptLine
 pub mod Line
 pub mod PendingLines
 pub mod OneLine

@@ -9,6 +9,8 @@
 -- unanswered_reason: what stands in the place of the reason where a request was never answered
 use Rattle.std.specs.Prelude.{ℕ, ◌+◌, ◌/◌, ◌%◌, ◌==◌, Bool, true, false, not, ◌&&◌, ◌||◌, nat_lt, if◌then◌else◌, List}
 use Rattle.std.specs.Prelude.{[], ◌∷◌, ◌++◌, codes, decimal}
+use Rattle.hx_target.specs.declared.keys.Key.{Key}
+use Rattle.proxy_log.specs.Asked.{port_suffix, target_text}
 use Rattle.proxy_log.specs.Seconds.{seconds_text}
 use Rattle.proxy_log.specs.declared.line.Line.{Line}
 
@@ -51,8 +53,8 @@ abbrev pub words_of : Line → LineWords
 words_of line = record {
   moment = line.moment;
   client = line.client.now;
-  method = line.method.now;
-  target = line.target.now;
+  method = line.asked.method.now;
+  target = target_text line.asked.target;
   status = line.status;
   length = line.length;
   reason = line.reason.now;
@@ -76,6 +78,11 @@ log_line_text line =
 -- in the place of the reason where a request was never answered: `left`, and why
 abbrev pub unanswered_reason : List ℕ → List ℕ
 unanswered_reason cause = codes "left;cause=" ++ cause
+
+-- a target URI as it stands in a line: its scheme and its port are no words of a client
+unfoldable pub shown_uri : Key → List ℕ
+shown_uri key = codes "http://" ++ logged_text false key.host ++ port_suffix key.port
+    ++ logged_text false key.path_query ++ codes " "
 
 -- the same in three parts: who asked for what, what it was told, and what that took
 unfoldable pub log_line_front : LineWords → List ℕ

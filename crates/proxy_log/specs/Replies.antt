@@ -1,21 +1,21 @@
 -- What a line says of a reply, and of a request that never had one.
 --
--- reply_words: of a reply that answers a question, by what it is
+-- reply_words: of a reply that answers what was asked, by what it is
 -- unanswered_words: of a request that was never answered, for a cause
 use Rattle.std.specs.Prelude.{ℕ, List}
 use Rattle.hx_status.specs.Abouts.{reason_text}
 use Rattle.hx_status.specs.declared.about.About.{About}
+use Rattle.proxy_log.specs.Asked.{AskedWords}
 use Rattle.proxy_log.specs.Line.{LineWords, unanswered_reason}
-use Rattle.proxy_log.specs.declared.asked.Question.{Question}
 use Rattle.proxy_log.specs.declared.seen.SeenOfReply.{SeenOfReply}
 
 -- what the reply tells of itself stands there, whatever its bytes say
-abbrev pub reply_words : Question → About → ℕ → SeenOfReply → LineWords
-reply_words question about content_length seen = record {
+abbrev pub reply_words : AskedWords → About → ℕ → SeenOfReply → LineWords
+reply_words asked about content_length seen = record {
   moment = seen.moment;
   client = seen.client.now;
-  method = question.method;
-  target = question.target;
+  method = asked.method;
+  target = asked.target;
   status = about.status;
   length = content_length;
   reason = reason_text about.told;
@@ -24,12 +24,12 @@ reply_words question about content_length seen = record {
 }
 
 -- no status, and no byte was sent
-abbrev pub unanswered_words : Question → List ℕ → SeenOfReply → LineWords
-unanswered_words question cause seen = record {
+abbrev pub unanswered_words : AskedWords → List ℕ → SeenOfReply → LineWords
+unanswered_words asked cause seen = record {
   moment = seen.moment;
   client = seen.client.now;
-  method = question.method;
-  target = question.target;
+  method = asked.method;
+  target = asked.target;
   status = 0;
   length = 0;
   reason = unanswered_reason cause;

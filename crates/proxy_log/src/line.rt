@@ -1,12 +1,16 @@
 //! A line of the log, and its text.
 ghost use Rattle.std.specs.Prelude.{◌≡◌, ◌+◌, ◌<◌, ◌≤◌, ◌++◌, codes, decimal, false, length, take, vec_capacity};
 ghost use Rattle.std.specs.Prelude.{OnErr, OnOk, IsTrue};
+ghost use Rattle.std.specs.List.{list_all};
+ghost use Rattle.proxy_log.specs.Asked.{port_suffix, target_text, uri_text};
 ghost use Rattle.proxy_log.specs.Line.{stands_for_itself, hex_digit, logged_byte, logged_text, logged_word};
 ghost use Rattle.proxy_log.specs.Line.{words_of, log_line_text, status_word};
-ghost use Rattle.proxy_log.specs.Line.{log_line_front, log_line_answer, log_line_end};
+ghost use Rattle.proxy_log.specs.Line.{log_line_front, log_line_answer, log_line_end, shown_uri};
 ghost use Rattle.proxy_log.specs.Seconds.{seconds_text};
 
+use crate::logged_request::{LoggedRequest, LoggedTarget};
 use crate::seconds::push_seconds;
+use hx_target::Key;
 use itoa::Buffer;
 use std::alloc::AllocError;
 
@@ -17,11 +21,8 @@ pub struct Line<'a> {
     pub moment: u64,
     /// The client's address and port.
     pub client: &'a [u8],
-    /// The request's method; empty where none could be read.
-    pub method: &'a [u8],
-    /// The target URI (RFC 9110, section 7.1), or the target as it came where it is none; empty where none could be
-    /// read.
-    pub target: &'a [u8],
+    /// What the reply answers.
+    pub asked: LoggedRequest<'a>,
     /// 0 where none was sent, and the line has `000`.
     pub status: u16,
     /// The bytes of content that were sent.
@@ -32,6 +33,34 @@ pub struct Line<'a> {
     pub took: u64,
     /// The address of the origin that was asked; empty where none was.
     pub origin: &'a [u8],
+}
+
+// 1 at each byte that stands for itself in any word.
+#[rattlefmt::skip]
+static PLAIN_BYTES: [u8; 256] = [
+    0, 0, 0, 0, 0, 0, 0, 0, 0, 0, 0, 0, 0, 0, 0, 0,
+    0, 0, 0, 0, 0, 0, 0, 0, 0, 0, 0, 0, 0, 0, 0, 0,
+    0, 1, 1, 1, 1, 1, 1, 1, 1, 1, 1, 1, 1, 1, 1, 1,
+    1, 1, 1, 1, 1, 1, 1, 1, 1, 1, 1, 1, 1, 1, 1, 1,
+    1, 1, 1, 1, 1, 1, 1, 1, 1, 1, 1, 1, 1, 1, 1, 1,
+    1, 1, 1, 1, 1, 1, 1, 1, 1, 1, 1, 1, 0, 1, 1, 1,
+    1, 1, 1, 1, 1, 1, 1, 1, 1, 1, 1, 1, 1, 1, 1, 1,
+    1, 1, 1, 1, 1, 1, 1, 1, 1, 1, 1, 1, 1, 1, 1, 0,
+    0, 0, 0, 0, 0, 0, 0, 0, 0, 0, 0, 0, 0, 0, 0, 0,
+    0, 0, 0, 0, 0, 0, 0, 0, 0, 0, 0, 0, 0, 0, 0, 0,
+    0, 0, 0, 0, 0, 0, 0, 0, 0, 0, 0, 0, 0, 0, 0, 0,
+    0, 0, 0, 0, 0, 0, 0, 0, 0, 0, 0, 0, 0, 0, 0, 0,
+    0, 0, 0, 0, 0, 0, 0, 0, 0, 0, 0, 0, 0, 0, 0, 0,
+    0, 0, 0, 0, 0, 0, 0, 0, 0, 0, 0, 0, 0, 0, 0, 0,
+    0, 0, 0, 0, 0, 0, 0, 0, 0, 0, 0, 0, 0, 0, 0, 0,
+    0, 0, 0, 0, 0, 0, 0, 0, 0, 0, 0, 0, 0, 0, 0, 0,
+];
+
+/// Whether a byte stands for itself in any word.
+fn is_plain(b: u8) -> bool
+    ensures { result ≡ stands_for_itself false b }
+{
+    PLAIN_BYTES[usize::from(b)] == 1
 }
 
 /// Whether a byte stands for itself in a line.
@@ -61,20 +90,41 @@ fn push_byte(text: &mut Vec<u8>, blanks: bool, b: u8) -> Result<(), AllocError>
     text.extend_from_slice(&[b'\\', b'x', hex_digit(b / 16), hex_digit(b % 16)])
 }
 
-/// Whether each of these bytes stands for itself.
+/// Whether each of these bytes stands for itself in any word.
+fn are_plain(bytes: &[u8]) -> bool
+    ensures { result ≡ list_all (stands_for_itself false) bytes.now }
+{
+    for b in bytes {
+        if !is_plain(*b) {
+            return false;
+        }
+    }
+    true
+}
+
+/// Whether these bytes stand in a line as they are. Blanks are for whoever looks at each byte.
 fn are_shown(blanks: bool, bytes: &[u8]) -> bool
     ensures { IsTrue result → logged_text blanks bytes.now ≡ bytes.now }
 {
-    let mut are = true;
-    // No byte ends the loop, so that several are looked at in one step.
-    for b in bytes {
-        if !stands_for_itself(blanks, *b) {
-            are = false;
-        }
-    }
-    are
+    are_plain(bytes)
 }
 
+/// Adds bytes one by one, each as it stands in a line.
+#[inline(never)]
+fn push_escaped(text: &mut Vec<u8>, blanks: bool, bytes: &[u8]) -> Result<(), AllocError>
+    ensures ok { OnOk result (text.new.items ≡ text.old.items ++ logged_text blanks bytes.now) }
+    ensures full { OnErr result (vec_capacity text.old < length text.old.items + length
+        (logged_text blanks bytes.now)) }
+    ensures capacity { vec_capacity text.old ≤ vec_capacity text.new }
+    ensures front { take (length text.old.items) text.new.items ≡ text.old.items }
+{
+    for b in bytes {
+        push_byte(text, blanks, *b)?;
+    }
+    Ok(())
+}
+
+#[inline]
 fn push_shown(text: &mut Vec<u8>, blanks: bool, bytes: &[u8]) -> Result<(), AllocError>
     ensures ok { OnOk result (text.new.items ≡ text.old.items ++ logged_text blanks bytes.now) }
     ensures full { OnErr result (vec_capacity text.old < length text.old.items + length
@@ -86,10 +136,7 @@ fn push_shown(text: &mut Vec<u8>, blanks: bool, bytes: &[u8]) -> Result<(), Allo
     if are_shown(blanks, bytes) {
         return text.extend_from_slice(bytes);
     }
-    for b in bytes {
-        push_byte(text, blanks, *b)?;
-    }
-    Ok(())
+    push_escaped(text, blanks, bytes)
 }
 
 fn push_word(text: &mut Vec<u8>, bytes: &[u8]) -> Result<(), AllocError>
@@ -106,6 +153,68 @@ fn push_word(text: &mut Vec<u8>, bytes: &[u8]) -> Result<(), AllocError>
     text.extend_from_slice(b" ")
 }
 
+/// Each byte of a port stands for itself.
+fn port_is_shown(port: u16)
+    ensures { logged_text false (port_suffix port) ≡ port_suffix port }
+{}
+
+/// A port other than the default, behind a colon.
+fn push_port(text: &mut Vec<u8>, port: u16) -> Result<(), AllocError>
+    ensures ok { OnOk result (text.new.items ≡ text.old.items ++ port_suffix port) }
+    ensures full { OnErr result (vec_capacity text.old < length text.old.items + length (port_suffix port)) }
+    ensures capacity { vec_capacity text.old ≤ vec_capacity text.new }
+    ensures front { take (length text.old.items) text.new.items ≡ text.old.items }
+{
+    if port == 80 {
+        return Ok(());
+    }
+    let mut digits = Buffer::new();
+    text.extend_from_slice(b":")?;
+    text.extend_from_slice(digits.format(port).as_bytes())
+}
+
+/// A target URI, part by part.
+#[tactic(auto, unfolding(crate::specs::Line::shown_uri))]
+fn push_uri_parts(text: &mut Vec<u8>, key: &Key) -> Result<(), AllocError>
+    ensures ok { OnOk result (text.new.items ≡ text.old.items ++ shown_uri key.now) }
+    ensures full { OnErr result (vec_capacity text.old < length text.old.items + length (shown_uri key.now)) }
+    ensures capacity { vec_capacity text.old ≤ vec_capacity text.new }
+    ensures front { take (length text.old.items) text.new.items ≡ text.old.items }
+{
+    text.extend_from_slice(b"http://")?;
+    push_shown(text, false, key.host.as_slice())?;
+    push_port(text, key.port)?;
+    push_shown(text, false, key.path_query.as_slice())?;
+    text.extend_from_slice(b" ")
+}
+
+/// A target URI, and the blank behind it.
+fn push_uri(text: &mut Vec<u8>, key: &Key) -> Result<(), AllocError>
+    ensures ok { OnOk result (text.new.items ≡ text.old.items ++ (logged_word (uri_text key.now) ++ codes " ")) }
+    ensures full { OnErr result (vec_capacity text.old < length text.old.items + length
+        (logged_word (uri_text key.now) ++ codes " ")) }
+    ensures capacity { vec_capacity text.old ≤ vec_capacity text.new }
+    ensures front { take (length text.old.items) text.new.items ≡ text.old.items }
+{
+    port_is_shown(key.port);
+    push_uri_parts(text, key)
+}
+
+/// A target, and the blank behind it.
+fn push_target(text: &mut Vec<u8>, target: &LoggedTarget<'_>) -> Result<(), AllocError>
+    ensures ok { OnOk result (text.new.items ≡ text.old.items ++ (logged_word (target_text target.now) ++ codes " ")) }
+    ensures full { OnErr result (vec_capacity text.old < length text.old.items + length
+        (logged_word (target_text target.now) ++ codes " ")) }
+    ensures capacity { vec_capacity text.old ≤ vec_capacity text.new }
+    ensures front { take (length text.old.items) text.new.items ≡ text.old.items }
+{
+    match target {
+        LoggedTarget::Uri(key) => push_uri(text, key),
+        LoggedTarget::AsItCame(target) => push_word(text, target),
+    }
+}
+
+#[tactic(auto, using(crate::proofs::LineParts::no_time))]
 fn push_time(text: &mut Vec<u8>, milliseconds: u64) -> Result<(), AllocError>
     ensures ok { OnOk result (text.new.items ≡ text.old.items ++ (seconds_text milliseconds ++ codes " ")) }
     ensures full { OnErr result (vec_capacity text.old < length text.old.items + length
@@ -113,6 +222,10 @@ fn push_time(text: &mut Vec<u8>, milliseconds: u64) -> Result<(), AllocError>
     ensures capacity { vec_capacity text.old ≤ vec_capacity text.new }
     ensures front { take (length text.old.items) text.new.items ≡ text.old.items }
 {
+    // A hit mostly takes no time.
+    if milliseconds == 0 {
+        return text.extend_from_slice(b"0.000 ");
+    }
     push_seconds(text, milliseconds)?;
     text.extend_from_slice(b" ")
 }
@@ -129,6 +242,7 @@ fn push_number(text: &mut Vec<u8>, n: u64) -> Result<(), AllocError>
 }
 
 /// A status, zeros where none was sent.
+#[tactic(auto, using(crate::proofs::LineParts::status_of_most))]
 fn push_status(text: &mut Vec<u8>, status: u16) -> Result<(), AllocError>
     ensures ok { OnOk result (text.new.items ≡ text.old.items ++ (status_word status ++ codes " ")) }
     ensures full { OnErr result (vec_capacity text.old < length text.old.items + length
@@ -136,10 +250,12 @@ fn push_status(text: &mut Vec<u8>, status: u16) -> Result<(), AllocError>
     ensures capacity { vec_capacity text.old ≤ vec_capacity text.new }
     ensures front { take (length text.old.items) text.new.items ≡ text.old.items }
 {
-    if status == 0 {
-        return text.extend_from_slice(b"000 ");
+    match status {
+        0 => text.extend_from_slice(b"000 "),
+        // Most replies have it.
+        200 => text.extend_from_slice(b"200 "),
+        _ => push_number(text, u64::from(status)),
     }
-    push_number(text, u64::from(status))
 }
 
 /// The last word, and the end of the line.
@@ -168,8 +284,8 @@ fn push_front(text: &mut Vec<u8>, line: &Line<'_>) -> Result<(), AllocError>
 {
     push_time(text, line.moment)?;
     push_word(text, line.client)?;
-    push_word(text, line.method)?;
-    push_word(text, line.target)
+    push_word(text, line.asked.method)?;
+    push_target(text, &line.asked.target)
 }
 
 /// What it was told.

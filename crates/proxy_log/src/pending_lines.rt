@@ -1,12 +1,13 @@
 //! Lines that wait to be written.
 
 ghost use Rattle.std.specs.Prelude.{◌≡◌, ◌⊎◌, ◌+◌, ◌<◌, ◌++◌, [], length, vec_capacity, OnErr, OnOk};
+ghost use Rattle.proxy_log.specs.Asked.{asked_words};
 ghost use Rattle.proxy_log.specs.Line.{log_line_text, unanswered_reason, words_of};
 ghost use Rattle.proxy_log.specs.PendingLines.{HasNoRoomForLine, LineIsAdded, LineIsLost};
 ghost use Rattle.proxy_log.specs.Replies.{reply_words, unanswered_words};
 
-use crate::asked::Question;
 use crate::line::{Line, push_line};
+use crate::logged_request::LoggedRequest;
 use crate::seen::SeenOfReply;
 use hx_status::{About, push_reason};
 use std::alloc::{AllocError, Global};
@@ -61,25 +62,24 @@ impl Lines {
         }
     }
 
-    /// Adds the line about a reply that answers a question, and has so many bytes of content. Where there is neither
-    /// room nor memory for it, it is lost, and counted.
+    /// Adds the line about a reply that answers what was asked, and has so many bytes of content. Where there is
+    /// neither room nor memory for it, it is lost, and counted.
     pub fn add_reply(
         &mut self,
-        question: &Question,
+        asked: &LoggedRequest<'_>,
         about: &About,
         content_length: u64,
         seen: &SeenOfReply<'_>,
     )
-        ensures { LineIsAdded (log_line_text (reply_words question.now about.now content_length seen.now)) self.old
-            self.new ⊎ LineIsLost self.old self.new }
+        ensures { LineIsAdded (log_line_text (reply_words (asked_words asked.now) about.now content_length seen.now))
+            self.old self.new ⊎ LineIsLost self.old self.new }
     {
         let mut reason = self.take_reason();
         match push_reason(&mut reason, &about.told) {
             Ok(()) => self.add(&Line {
                 moment: seen.moment,
                 client: seen.client,
-                method: question.method.as_slice(),
-                target: question.target.as_slice(),
+                asked: *asked,
                 status: about.status,
                 length: content_length,
                 reason: reason.as_slice(),
@@ -93,8 +93,14 @@ impl Lines {
 
     /// Adds the line about a request that was never answered, for this cause: it has the status 0, and no byte was
     /// sent. Where there is neither room nor memory for it, it is lost, and counted.
-    pub fn add_unanswered(&mut self, question: &Question, cause: &[u8], seen: &SeenOfReply<'_>)
-        ensures { LineIsAdded (log_line_text (unanswered_words question.now cause.now seen.now)) self.old self.new
+    pub fn add_unanswered(
+        &mut self,
+        asked: &LoggedRequest<'_>,
+        cause: &[u8],
+        seen: &SeenOfReply<'_>,
+    )
+        ensures { LineIsAdded (log_line_text (unanswered_words (asked_words asked.now) cause.now seen.now)) self.old
+            self.new
             ⊎ LineIsLost self.old self.new }
     {
         let mut reason = self.take_reason();
@@ -102,8 +108,7 @@ impl Lines {
             Ok(()) => self.add(&Line {
                 moment: seen.moment,
                 client: seen.client,
-                method: question.method.as_slice(),
-                target: question.target.as_slice(),
+                asked: *asked,
                 status: 0,
                 length: 0,
                 reason: reason.as_slice(),

@@ -6,6 +6,8 @@ ghost use Rattle.hx_status.specs.Abouts.{reason_text};
 ghost use Rattle.hx_status.specs.declared.about.Told.TheVariants.{Refused, Purged};
 ghost use Rattle.hx_status.specs.declared.cause.Cause.TheVariants.{Denied, Origin};
 ghost use Rattle.hx_status.specs.declared.cause.FailKind.TheVariants.{TimedOut};
+ghost use Rattle.proxy_log.specs.Asked.{uri_text, words_of_head};
+ghost use Rattle.proxy_log.specs.Cases.{asks_for, key_of};
 ghost use Rattle.proxy_log.specs.Cases.{get_line, refused_post_line, unread_request_line, line_with_target};
 ghost use Rattle.proxy_log.specs.Cases.{told_of_hit, told_of_stored_miss};
 ghost use Rattle.proxy_log.specs.Line.{log_line_text};
@@ -63,4 +65,21 @@ pub fn contents_of_replies()
         ≡ codes "a\r\n\r\nb\r\n\r\n" }
     ensures bare { content_of (codes "HTTP/1.1 200 OK\nCache-Status: p;hit\n\nhi") ≡ codes "hi" }
     ensures begun { content_of (codes "HTTP/1.1 200 OK\r\nCache-Status: p;hit\r\n") ≡ [] }
+{}
+
+/// The default port is left out of a target URI, and any other isn't.
+pub fn target_uris_are_written()
+    ensures default { uri_text (key_of (codes "h.example") 80 (codes "/a?b=c")) ≡ codes "http://h.example/a?b=c" }
+    ensures other { uri_text (key_of (codes "[::1]") 8080 (codes "/")) ≡ codes "http://[::1]:8080/" }
+{}
+
+/// A request line names what a head asks for that is refused, as it came: behind empty lines, without a CR, whatever
+/// stands behind it, and in no other form.
+pub fn request_lines_of_heads()
+    ensures plain { words_of_head (codes "GET /a HTTP/1.1\r\nHost : h") ≡ asks_for (codes "GET") (codes "/a") }
+    ensures behind { words_of_head (codes "\r\n\nPUT http://O:80/u HTTP/2.0\n") ≡ asks_for (codes "PUT") (codes "http://O:80/u") }
+    ensures begun { words_of_head (codes "GET /a HTTP/1.1") ≡ asks_for [] [] }
+    ensures spaces { words_of_head (codes "GET  /a HTTP/1.1\r\n") ≡ asks_for [] [] }
+    ensures name { words_of_head (codes "G(T /a HTTP/1.1\r\n") ≡ asks_for [] [] }
+    ensures version { words_of_head (codes "GET /a HTTP/11\r\n") ≡ asks_for [] [] }
 {}

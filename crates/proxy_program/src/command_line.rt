@@ -482,7 +482,6 @@ fn limits_of(matches: &ArgMatches<'_>) -> Option<Limits> {
         origin_timeout: milliseconds_of(matches, "origin-timeout")?,
         exchange_timeout: milliseconds_of(matches, "exchange-timeout")?,
         content: content_of(matches)?,
-        max_body: 0,
     })
 }
 

@@ -527,8 +527,7 @@ pub(crate) fn serve<R: Net + Clock + Files + Print + Eprint + AllocGlobal + Rand
     let table = read_table(rt, service.table)?;
     let config = config_of(rt.alloc(), table.as_slice())?;
     let allows = descriptors_allowed(rt);
-    let mut limits = within_descriptors(service.limits, allows);
-    limits.max_body = config.max_body();
+    let limits = within_descriptors(service.limits, allows);
     let sockets = sockets_of(rt, service.listen, limits)?;
     let name = record_name(rt, service.record)?;
     let name = match &name {

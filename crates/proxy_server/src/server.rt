@@ -1,12 +1,16 @@
 //! A server: a wait, what failed or was silent since the last turn, and a turn, again and again.
 ghost use Rattle.std.specs.Prelude.{◌≡◌, ◌<◌, ◌||◌, Bool, true, false, [], length, Some, IfOk, IfSome};
+ghost use Rattle.std.specs.Prelude.{option_copied, option_map};
 ghost use Rattle.proxy_engine.specs.Happenings.{Overdues, Retires};
 ghost use Rattle.hx_allow.specs.Tables.{TableWasRead};
 ghost use Rattle.hx_fields.specs.declared.limits.TheConstants.{END_OF_TIME};
 ghost use Rattle.proxy_engine.specs.Beginnings.{MayBeHeldAtFirst, begun_model};
+ghost use Rattle.proxy_engine.specs.EngineModel.{EngineModel};
 ghost use Rattle.proxy_engine.specs.State.{EngineRepresents, new_engine_model};
 ghost use Rattle.proxy_turn.specs.Served.{EngineIsServing, EngineGoesOn};
 ghost use Rattle.proxy_server.specs.Losses.{EndIsLost, LossIfAnyIsTaken, ServerTakesLosses};
+ghost use Rattle.proxy_log.specs.Asked.{asked_words};
+ghost use Rattle.proxy_server.specs.OpenRequests.{open_request_of_end, words_of_open_request};
 ghost use Rattle.proxy_server.specs.Paces.{next_turn_must_not_wait};
 ghost use Rattle.proxy_server.specs.ServerState.{may_take_one};
 ghost use Rattle.proxy_server.specs.Serving.{turn_settles, ServeTurnAnswers, ServerServesTurn};
@@ -15,12 +19,13 @@ use crate::pace::{Pace, milliseconds_of_duration, moment_and_milliseconds};
 use crate::sockets::live_sockets::LiveSockets;
 use hx_allow::Config;
 use hx_fields::END_OF_TIME;
+use hx_hop::Asked;
 use hx_status::FailKind;
 use hx_store::Shelf;
 use proxy_ends::{MOST_ACCEPTED, MOST_OPEN, MOST_READ};
 use proxy_engine::Engine;
 use proxy_figures::Troubles;
-use proxy_log::Lines;
+use proxy_log::{Lines, LoggedRequest, LoggedTarget};
 use proxy_record::{RecordFault, Recorder, Recording};
 use proxy_script::Happening;
 use proxy_turn::laws::{a_turn_is_served_behind_losses, engines_go_on};
@@ -139,6 +144,28 @@ fn look_ahead<R: Net, W: Write + Drop>(
 {
     let free = ends.sockets.has_more();
     pace.note(reported, free || ends.has_passed());
+}
+
+/// What an open request asks for, as a line of the log names it.
+fn logged_request(asked: Option<&Asked>) -> Option<LoggedRequest<'_>>
+    ensures { option_map asked_words result ≡ option_map words_of_open_request (option_copied asked.entry) }
+{
+    let asked = asked?;
+    Some(LoggedRequest {
+        method: asked.method.as_str().as_bytes(),
+        target: LoggedTarget::Uri(&asked.target.key),
+    })
+}
+
+/// What the request of an end asks for that is open.
+fn open_request<S: Shelf + Drop>(engine: &Engine<S>, end: End) -> Option<LoggedRequest<'_>>
+    ensures { (s : EngineModel) → EngineRepresents engine.now s
+        → option_map asked_words result ≡ option_map words_of_open_request (open_request_of_end end s) }
+{
+    match end {
+        End::Client(n) => logged_request(engine.asked(n)),
+        _ => None,
+    }
 }
 
 /// The client that a sweep finds next.
@@ -428,7 +455,8 @@ impl<'a, S: Shelf + Drop, R: Net, W: Write + Drop> Server<'a, S, R, W> {
                 End::Client(n) => self.engine.link_of_client(n),
                 _ => None,
             };
-            self.ends.sockets.note_lost(end, link);
+            let request = open_request(&self.engine, end);
+            self.ends.sockets.note_lost(end, link, request);
             // It takes no memory, and the end was there.
             if self.engine.take(self.alloc, happening).is_ok() {
                 // Where that can't be recorded, the server ends behind this turn.

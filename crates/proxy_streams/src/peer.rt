@@ -82,7 +82,6 @@ impl Peer<Socket> {
         ensures unsent { result.unsent.bytes ≡ [] }
     {
         let mut peer = Peer::new(alloc, stream, now);
-        peer.stream.send_at_once();
         peer.connecting = true;
         peer.readable = false;
         peer
@@ -119,13 +118,10 @@ impl Peer<Socket> {
         self.stream.register(poll, token, with_writing)
     }
 
-    /// Why the connection can't be made, if that is known: it had been made where its peer has broken it off. Fails
-    /// where the system can't tell.
-    pub fn take_error(&mut self) -> io::Result<Option<io::Error>>
-        ensures refused { IfOk result (λ refused. IfSome refused (λ e. is_broken_off (error_kind e) ≡ false)) }
-        ensures rest { self.new ≡ record self.old { stream = self.new.stream } }
-    {
-        self.stream.take_error()
+    /// Has the last piece of what is written sent at once, though the peer hasn't acknowledged those before (RFC 9293,
+    /// section 3.7.4).
+    pub fn send_at_once(&self) {
+        self.stream.send_at_once();
     }
 }
 

@@ -6,7 +6,8 @@ ghost use Rattle.proxy_ends.specs.Timeouts.{client_has_left, has_lasted_longer, 
 ghost use Rattle.proxy_ends.specs.GivingWay.{client_is_quiet, client_takes_nothing};
 ghost use Rattle.proxy_reads.specs.Received.{FitsTheBuffer};
 ghost use Rattle.proxy_ends.specs.Departures.{departure_of, departed_client};
-ghost use Rattle.proxy_ends.specs.Logging.{LineAboutReplyIsAdded, logged_address};
+ghost use Rattle.proxy_ends.specs.Logging.{LineAboutReplyIsAdded, LineOfLoggedIsAdded, NextRequestBegins, PieceIsKept};
+ghost use Rattle.proxy_ends.specs.Logging.{logged_address};
 ghost use Rattle.proxy_ends.specs.Streams.{client_has_rest, client_may_give, rest_bytes, ClientIsRead};
 ghost use Rattle.proxy_ends.specs.Streams.{number_of_place, client_is_idle, new_client, ClientIsReadOn};
 
@@ -14,7 +15,7 @@ use crate::clients::departures::Departure;
 use crate::limits::SECOND;
 use crate::replies::Reply;
 use proxy_figures::UnansweredCause;
-use proxy_log::{Lines, SeenOfReply, UnansweredRequests};
+use proxy_log::{Lines, LoggedRequest, RequestLine, SeenOfReply};
 use proxy_pacing::{LEAST_HANDED_IN, Rest, StreamQueue, head_end};
 use proxy_reads::Received;
 use proxy_streams::{Peer, Socket, Stream};
@@ -36,8 +37,29 @@ pub enum Place {
 pub struct Logged {
     /// The text of its address and port, which each line has.
     pub address: String,
-    /// What it asks for.
-    pub asked: UnansweredRequests,
+    /// The request line of its request that isn't answered yet, as it came.
+    pub line: RequestLine,
+}
+
+impl Logged {
+    /// Adds the line about a reply: it names what the reply says that it answers, else what the request line says.
+    fn log_reply(&self, reply: &Reply<'_>, lines: &mut Lines)
+        ensures { LineOfLoggedIsAdded self.now reply.now lines.old lines.new }
+    {
+        let seen = SeenOfReply {
+            moment: reply.moment,
+            client: self.address.as_str().as_bytes(),
+            took: reply.took,
+            origin: reply.origin,
+        };
+        let (about, length) = (&reply.replied.about, reply.length);
+        match &reply.replied.question {
+            Some(question) => {
+                lines.add_reply(&LoggedRequest::of_question(question), about, length, &seen);
+            }
+            None => lines.add_reply(&self.line.asked(), about, length, &seen),
+        }
+    }
 }
 
 /// A client's stream. Moments are milliseconds of the clock that never goes back.
@@ -136,26 +158,24 @@ impl<S: Stream + Drop> Client<S> {
         }
     }
 
-    /// Keeps what a log needs: who it is, and what it asks for from now on. An `Err` changes nothing.
-    pub fn keep_log(&mut self, address: SocketAddr, max_body: u64) -> Result<(), AllocError>
+    /// Keeps what a log needs: who it is, and its request line from now on. An `Err` changes nothing.
+    pub fn keep_log(&mut self, address: SocketAddr) -> Result<(), AllocError>
         ensures ok { OnOk result (logged_address self.new.logged ≡ Some (socket_text address)) }
         ensures err { OnErr result (self.new ≡ self.old) }
     {
-        let asked = UnansweredRequests::new(self.alloc, max_body);
+        let line = RequestLine::new(self.alloc);
         let address = address.to_string(self.alloc)?;
-        let logged = Box::new(self.alloc, Logged { address, asked })?;
+        let logged = Box::new(self.alloc, Logged { address, line })?;
         self.logged = Some(logged);
         Ok(())
     }
 
-    /// Takes what came, for a log.
+    /// Takes what came, for a log: of a request that isn't answered yet its request line is kept.
     pub fn read_piece(&mut self, piece: &[u8])
-        ensures { logged_address self.new.logged ≡ logged_address self.old.logged }
+        ensures { PieceIsKept piece.now self.old.logged self.new.logged }
     {
-        let alloc = self.alloc;
         if let Some(logged) = &mut self.logged {
-            // Without memory for it, lines about what follows on this connection don't name what was asked.
-            let _ = logged.asked.read_piece(alloc, piece);
+            logged.line.take(piece);
         }
     }
 
@@ -185,24 +205,16 @@ impl<S: Stream + Drop> Client<S> {
         }
     }
 
-    /// Adds the line about a reply, where a log is kept. Where there is neither room nor memory for it, it is lost, and
-    /// counted.
+    /// Adds the line about a reply, where a log is kept. Of the next request nothing has come then. Where there is
+    /// neither room nor memory for the line, it is lost, and counted.
     pub fn log_reply(&mut self, reply: &Reply<'_>, lines: &mut Lines)
-        ensures { LineAboutReplyIsAdded self.old.logged reply.now lines.old lines.new }
+        ensures line { LineAboutReplyIsAdded self.old.logged reply.now lines.old lines.new }
+        ensures next { NextRequestBegins self.old.logged self.new.logged }
     {
-        let alloc = self.alloc;
-        let Some(kept) = &mut self.logged else {
-            return;
-        };
-        let logged = &mut **kept;
-        let question = logged.asked.next_question(alloc);
-        let seen = SeenOfReply {
-            moment: reply.moment,
-            client: logged.address.as_str().as_bytes(),
-            took: reply.took,
-            origin: reply.origin,
-        };
-        lines.add_reply(&question, reply.about, reply.length, &seen);
+        if let Some(logged) = &mut self.logged {
+            logged.log_reply(reply, lines);
+            logged.line.clear();
+        }
     }
 
     /// Keeps what came and isn't handed in yet. An `Err` changes nothing.

@@ -1,12 +1,14 @@
 //! Clients that go with a request that isn't answered, and what is told of them.
-ghost use Rattle.std.specs.Prelude.{◌≡◌};
-ghost use Rattle.proxy_ends.specs.Departures.{DepartureIsLogged};
+ghost use Rattle.std.specs.Prelude.{◌≡◌, ◌⊎◌};
+ghost use Rattle.proxy_log.specs.Line.{log_line_text};
+ghost use Rattle.proxy_log.specs.PendingLines.{LineIsAdded, LineIsLost};
+ghost use Rattle.proxy_log.specs.Replies.{unanswered_words};
+ghost use Rattle.proxy_ends.specs.Departures.{DepartureIsLogged, words_asked};
 ghost use Rattle.proxy_ends.specs.Timeouts.{milliseconds_since};
 
 use crate::clients::client::Logged;
 use proxy_figures::UnansweredCause;
-use proxy_log::{Lines, SeenOfReply};
-use std::alloc::Global;
+use proxy_log::{Lines, LoggedRequest, RequestLine, SeenOfReply};
 
 /// A client that went with a request that isn't answered.
 #[derive(Drop)]
@@ -25,6 +27,23 @@ pub struct LostClient {
     pub departure: Option<Departure>,
 }
 
+/// Adds the line about a request that has no answer: what it asks for if it is open, else what the request line says.
+fn add_unanswered(
+    lines: &mut Lines,
+    request: &Option<LoggedRequest<'_>>,
+    line: &RequestLine,
+    cause: &[u8],
+    seen: &SeenOfReply<'_>,
+)
+    ensures { LineIsAdded (log_line_text (unanswered_words (words_asked request.now line.now) cause.now seen.now))
+        lines.old lines.new ⊎ LineIsLost lines.old lines.new }
+{
+    match request {
+        Some(request) => lines.add_unanswered(request, cause, seen),
+        None => lines.add_unanswered(&line.asked(), cause, seen),
+    }
+}
+
 impl Departure {
     /// Milliseconds since the first byte of its request came.
     pub fn milliseconds_taken(&self, now: u64) -> u64
@@ -37,22 +56,28 @@ impl Departure {
     }
 
     /// Adds the line about it, where a log is kept: at this moment in milliseconds since 1970, so many milliseconds
-    /// after its request began, where this origin was asked. Where there is neither room nor memory for it, it is
-    /// lost, and counted.
-    pub fn log(&mut self, alloc: Global, moment: u64, took: u64, origin: &[u8], lines: &mut Lines)
-        ensures { DepartureIsLogged self.old moment took origin.now lines.old lines.new }
+    /// after its request began, where this origin was asked. It names what the request asks for that is open, else what
+    /// the request line says. Where there is neither room nor memory for it, it is lost, and counted.
+    pub fn log(
+        &self,
+        request: Option<LoggedRequest<'_>>,
+        moment: u64,
+        took: u64,
+        origin: &[u8],
+        lines: &mut Lines,
+    )
+        ensures { DepartureIsLogged self.now request.entry moment took origin.now lines.old lines.new }
     {
-        let Some(kept) = &mut self.logged else {
+        let Some(logged) = &self.logged else {
             return;
         };
-        let logged = &mut **kept;
-        let question = logged.asked.next_question(alloc);
         let seen = SeenOfReply {
             moment,
             client: logged.address.as_str().as_bytes(),
             took,
             origin,
         };
-        lines.add_unanswered(&question, self.cause.name().as_bytes(), &seen);
+        let cause = self.cause.name().as_bytes();
+        add_unanswered(lines, &request, &logged.line, cause, &seen);
     }
 }

@@ -117,9 +117,8 @@ impl<'a, R: Net> LiveSockets<'a, R> {
         let Some(key) = self.clients.add(peer, n, self.now) else {
             return Err(io::Error::from(ErrorKind::OutOfMemory));
         };
-        let max_body = self.limits.max_body;
         if let Some(client) = self.clients.stream_mut(key) {
-            if self.log.is_some() && client.keep_log(address, max_body).is_err() {
+            if self.log.is_some() && client.keep_log(address).is_err() {
                 let _ = self.clients.forget(n, UnansweredCause::Closed);
                 return Err(io::Error::from(ErrorKind::OutOfMemory));
             }

@@ -12,8 +12,8 @@ use std::alloc::Global;
 use std::io;
 use std::net::{Net, SocketAddr, SocketAddrV4};
 
-/// Begins a connection to an origin. A refusal near by is known at once. Its events are asked for once it was written
-/// to.
+/// Begins a connection to an origin. It is written to next: where a refusal is known by then, that write is told. Its
+/// events are asked for behind it.
 fn begin_link<R: Net>(
     net: &R,
     alloc: Global,
@@ -21,11 +21,7 @@ fn begin_link<R: Net>(
     now: u64,
 ) -> io::Result<Peer<Socket>> {
     let stream = TcpStream::connect(net, SocketAddr::V4(address))?;
-    let mut peer = Peer::connecting(alloc, stream, now);
-    if let Some(e) = peer.take_error()? {
-        return Err(e);
-    }
-    Ok(peer)
+    Ok(Peer::connecting(alloc, stream, now))
 }
 
 impl<'a, R: Net> LiveSockets<'a, R> {

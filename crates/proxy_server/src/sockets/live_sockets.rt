@@ -20,7 +20,7 @@ use crate::pace::turn_end_of;
 use crate::sockets::call_counts::CallCounts;
 use crate::sockets::table_origins::place_origins;
 use hx_allow::Config;
-use hx_status::{About, FailKind};
+use hx_status::{FailKind, Replied};
 use mio::net::{TcpListener, TcpStream};
 use mio::{Events, Interest, Poll};
 use proxy_ends::{Clients, Departure, Holder, LONGEST_WAIT, Limits, Links, MOST_EVENTS, SECOND};
@@ -28,7 +28,7 @@ use proxy_figures::{
     AcceptCounts, CutReason, LineOrigins, ReplyCounts, Troubles, Turns, UnansweredCause,
 };
 use proxy_listener::{ListenAt, listen};
-use proxy_log::Lines;
+use proxy_log::{Lines, LoggedRequest};
 use proxy_turn::{End, Received, Report, SocketFailed, Sockets, TurnFault};
 use std::alloc::{AllocError, Global};
 use std::collections::VecDeque;
@@ -162,7 +162,7 @@ fn list(ready: &mut VecDeque<End>, clients: &mut Clients, end: End) {
     }
 }
 
-/// Hands what a client sent to who reads for the log.
+/// Hands what a client sent to what is kept for the log.
 fn read_piece(
     clients: &mut Clients,
     end: End,
@@ -469,9 +469,9 @@ impl<'a, R: Net> LiveSockets<'a, R> {
         Some((End::Client(lost.number), FailKind::Closed))
     }
 
-    /// The engine is told that an end is lost: no call on it follows. The request of a client had gone forward on this
-    /// link, if it wasn't answered.
-    pub fn note_lost(&mut self, end: End, link: Option<u64>)
+    /// The engine is told that an end is lost: no call on it follows. The request of a client that is open had gone
+    /// forward on this link, and asks for this.
+    pub fn note_lost(&mut self, end: End, link: Option<u64>, request: Option<LoggedRequest<'_>>)
         ensures { self.new ≡ record self.old {
           links = self.new.links;
           departing = self.new.departing;
@@ -483,7 +483,7 @@ impl<'a, R: Net> LiveSockets<'a, R> {
             End::Link(l) => self.links.remove(l, self.now),
             End::Client(_) => {
                 let departure = self.departing.take();
-                self.log_departure(departure, link);
+                self.log_departure(departure, link, request);
             }
         }
     }
@@ -583,20 +583,20 @@ impl<'a, R: Net> LiveSockets<'a, R> {
     }
 
     /// Writes to a client: a reply that is this, or an interim response, which answers nothing yet.
-    fn write_client(&mut self, n: u64, bytes: &[u8], about: Option<&About>)
+    fn write_client(&mut self, n: u64, bytes: &[u8], replied: Option<&Replied>)
         ensures calls { self.new.calls ≡ self.old.calls }
     {
         if !self.clients.write_to(n, bytes, self.now) {
             return;
         }
-        if let Some(about) = about {
-            self.note_answered(n, bytes, about);
+        if let Some(replied) = replied {
+            self.note_answered(n, bytes, replied);
         }
         self.keep_within();
     }
 
     /// The request of a client was answered by these bytes, which are this reply: it may be read again.
-    fn note_answered(&mut self, n: u64, bytes: &[u8], about: &About)
+    fn note_answered(&mut self, n: u64, bytes: &[u8], replied: &Replied)
         ensures calls { self.new.calls ≡ self.old.calls }
     {
         let Some(key) = self.clients.key_of(n) else {
@@ -605,7 +605,7 @@ impl<'a, R: Net> LiveSockets<'a, R> {
         let took = self.clients.answered(key, self.now);
         self.may_have_room = true;
         if self.notes_replies() {
-            self.note_reply(key, bytes, about, took);
+            self.note_reply(key, bytes, replied, took);
         }
         self.list_again(End::Client(n));
     }
@@ -616,12 +616,15 @@ impl<'a, R: Net> LiveSockets<'a, R> {
         ensures calls { self.new.calls ≡ self.old.calls }
     {
         let was_connecting = self.links.is_connecting(l);
+        self.links.send_at_once(l, bytes.len());
         // What an origin had said before it broke off can still be read; its end is told then. A link is written to
         // once, so where all of it went out its events are those of reading.
-        if self.links.write(l, bytes, self.now)
-            && (!was_connecting || self.links.watch(l, &self.poll).is_ok())
-        {
+        let is_written = self.links.write(l, bytes, self.now);
+        if is_written && (!was_connecting || self.links.watch(l, &self.poll).is_ok()) {
             return Ok(());
+        }
+        if !is_written {
+            self.links.count_failed_connect(l);
         }
         self.links.drop_stream(l);
         self.disconnect_link(l, FailKind::Refused)
@@ -661,7 +664,7 @@ impl<'a, R: Net> LiveSockets<'a, R> {
     {
         let mut departed = None;
         let received = read_client(&mut self.clients, &mut departed, n, buf, self.now);
-        self.log_departure(departed, None);
+        self.log_departure(departed, None, None);
         received
     }
 
@@ -671,7 +674,7 @@ impl<'a, R: Net> LiveSockets<'a, R> {
     {
         let departed = self.clients.depart(n);
         self.clients.close(n, self.now);
-        self.log_departure(departed, None);
+        self.log_departure(departed, None, None);
     }
 }
 
@@ -709,11 +712,16 @@ impl<'a, R: Net> Sockets for LiveSockets<'a, R> {
         received
     }
 
-    fn write(&mut self, end: End, bytes: &[u8], about: Option<&About>) -> Result<(), SocketFailed> {
+    fn write(
+        &mut self,
+        end: End,
+        bytes: &[u8],
+        replied: Option<&Replied>,
+    ) -> Result<(), SocketFailed> {
         let written = match end {
             End::Listener => Ok(()),
             End::Client(n) => {
-                self.write_client(n, bytes, about);
+                self.write_client(n, bytes, replied);
                 Ok(())
             }
             End::Link(l) => self.write_link(l, bytes),

@@ -2,25 +2,31 @@
 ghost use Rattle.std.specs.Prelude.{◌≡◌};
 
 use crate::sockets::live_sockets::LiveSockets;
-use hx_status::About;
+use hx_status::Replied;
 use proxy_ends::{Departure, Reply};
 use proxy_figures::sort_of;
-use proxy_log::content_length;
+use proxy_log::{LoggedRequest, content_length};
 use std::mem::replace;
 use std::net::Net;
 
 impl<'a, R: Net> LiveSockets<'a, R> {
-    /// Adds the line about a client that went with a request that isn't answered, which had gone forward on this link.
-    pub(crate) fn log_departure(&mut self, departure: Option<Departure>, link: Option<u64>)
+    /// Adds the line about a client that went with a request that isn't answered. One that is open had gone forward on
+    /// this link, and asks for this.
+    pub(crate) fn log_departure(
+        &mut self,
+        departure: Option<Departure>,
+        link: Option<u64>,
+        request: Option<LoggedRequest<'_>>,
+    )
         ensures { self.new ≡ record self.old { log = self.new.log } }
     {
-        let (Some(lines), Some(mut departure)) = (&mut self.log, departure) else {
+        let (Some(lines), Some(departure)) = (&mut self.log, departure) else {
             return;
         };
         let took = departure.milliseconds_taken(self.now);
         let origin = self.links.origin_of(link);
         let name = self.links.origins.name(origin).as_bytes();
-        departure.log(self.alloc, self.moment, took, name, lines);
+        departure.log(request, self.moment, took, name, lines);
     }
 
     /// Counts lines about clients that have gone for which there was no memory.
@@ -34,9 +40,10 @@ impl<'a, R: Net> LiveSockets<'a, R> {
     }
 
     /// Counts a reply that took so many milliseconds, and adds the line about it, to the client of this key.
-    pub(crate) fn note_reply(&mut self, key: usize, bytes: &[u8], about: &About, took: u64)
+    pub(crate) fn note_reply(&mut self, key: usize, bytes: &[u8], replied: &Replied, took: u64)
         ensures calls { self.new.calls ≡ self.old.calls }
     {
+        let about = &replied.about;
         let origin = self.line_origins.place(about.origin_line);
         if let Some(replies) = &mut self.replies {
             let sort = sort_of(&about.told);
@@ -50,7 +57,7 @@ impl<'a, R: Net> LiveSockets<'a, R> {
         };
         let reply = Reply {
             moment: self.moment,
-            about,
+            replied,
             length: content_length(bytes),
             took,
             origin: self.links.origins.name(origin).as_bytes(),

@@ -8,8 +8,8 @@ pub returns-clause-ok : goal.returns-clause-ok
 unfolding log_line_front
 returns-clause-ok c =
     let line = words_of c.args.line.now in
-    on_ok c.push_word-3.result
+    on_ok c.push_target.result
     (λ last. four_words c.args.text.now.items (seconds_text line.moment) (logged_word line.client) (logged_word line.method) (logged_word line.target) (codes " ")
-    c.push_time.new.text.items c.push_word.new.text.items c.push_word-2.new.text.items c.push_word-3.new.text.items
+    c.push_time.new.text.items c.push_word.new.text.items c.push_word-2.new.text.items c.push_target.new.text.items
     c.in_ok-push_time.ensures.ok c.in_ok-push_word.ensures.ok c.in_ok-push_word-2.ensures.ok last)
-    c.push_word-3.ensures.ok
+    c.push_target.ensures.ok
