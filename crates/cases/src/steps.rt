@@ -152,13 +152,22 @@ fn outcome_of(
         }
         What::Answered(status, content) => {
             let response = response_of(alloc, step, status, content)?;
-            Ok(core.answer(alloc, happens.now, happens.id, &response))
+            Ok(
+                core.answer(alloc, happens.now, happens.id, &response)
+                    .map(|done| done.outcome),
+            )
         }
         _ if !step.fields.is_empty() => Err(
             step.happens.fault("field lines where there is no message"),
         ),
-        What::Fails(kind) => Ok(core.fail(alloc, happens.now, happens.id, kind)),
-        What::Woken => Ok(core.wake(alloc, happens.now, happens.id)),
+        What::Fails(kind) => Ok(
+            core.fail(alloc, happens.now, happens.id, kind)
+                .map(|done| done.outcome),
+        ),
+        What::Woken => Ok(
+            core.wake(alloc, happens.now, happens.id)
+                .map(|done| done.outcome),
+        ),
         What::Abandoned => Ok(core.abandon(happens.id)),
         What::Overdue => Ok(core.overdue(happens.id)),
     }

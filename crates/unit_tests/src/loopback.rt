@@ -44,7 +44,6 @@ fn server_before<'a>(
         origin_timeout: silence.saturating_mul(1000),
         exchange_timeout: 300_000,
         content: 1_000_000,
-        max_body: config.max_body(),
     };
     let sockets = LiveSockets::listen(rt, alloc, ListenAt::Address(any), limits)?;
     let address = sockets.address();

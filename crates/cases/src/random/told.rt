@@ -1,8 +1,9 @@
 //! What an effect tells of a reply, beside what the reply's bytes say.
 
 use super::fields::last_value;
+use super::requests::Asked;
 use bstr::ByteSlice;
-use hx_status::{About, push_reason};
+use hx_status::{About, AskedTarget, Cause, Question, Replied, Told, push_reason};
 use std::alloc::{AllocError, Global};
 
 /// What the line says that the proxy adds by itself, as a log has it.
@@ -35,12 +36,36 @@ fn has_status(bytes: &[u8], status: u16) -> bool {
     }
 }
 
-/// Whether what is told of these bytes is what they say: of an interim response nothing, of a reply its status and its
-/// reason. Its only error is out of memory.
-pub fn is_told(alloc: Global, bytes: &[u8], about: &Option<About>) -> Result<bool, AllocError> {
-    let Some(about) = about else {
-        return Ok(bytes.starts_with(b"HTTP/1.1 100 "));
+/// Whether a host is written so, without case.
+fn is_host(host: &[u8], written: &str) -> bool {
+    host.eq_ignore_ascii_case(written.as_bytes())
+}
+
+/// Whether it is what a request asks for.
+fn is_question_of(question: &Question, asked: &Asked) -> bool {
+    let names_target = match &question.target {
+        AskedTarget::Uri(key) => {
+            is_host(key.host.as_slice(), asked.host)
+                && key.port == 80
+                && key.path_query.as_slice() == asked.path.as_bytes()
+        }
+        AskedTarget::AsItCame(target) => target.as_slice() == asked.path.as_bytes(),
     };
+    names_target && question.method.as_str() == asked.method
+}
+
+/// Whether what is told of the request that a reply answers is what it asks for: nothing where its head or its content
+/// is refused, and only there.
+pub fn is_told_of(replied: &Replied, asked: &Asked) -> bool {
+    match &replied.question {
+        Some(question) => is_question_of(question, asked),
+        None => matches!(replied.about.told, Told::Refused(Cause::Frame(_))),
+    }
+}
+
+/// Whether what is told of these bytes is what they say: of a reply its status and its reason. Its only error is out of
+/// memory.
+pub fn is_told(alloc: Global, bytes: &[u8], about: &About) -> Result<bool, AllocError> {
     let Some((head, _content)) = bytes.split_once_str(b"\r\n\r\n") else {
         return Ok(false);
     };

@@ -7,10 +7,10 @@ use super::life::Life;
 use super::log::{Log, Occurred, Step};
 use super::requests::{Asked, push_request};
 use super::tables::Table;
-use super::told::is_told;
+use super::told::{is_told, is_told_of};
 use crate::text::push_item;
 use hx_allow::Config;
-use hx_status::FailKind;
+use hx_status::{FailKind, Replied};
 use hx_store::ListShelf;
 use proxy_engine::{Engine, EngineFault, Work};
 use proxy_kept_store::read_kept_store;
@@ -40,7 +40,7 @@ pub enum Stopped {
     NoRestart,
     /// A replay over the store that a process began with does something else.
     OtherReplay,
-    /// An effect tells something else of a reply than its bytes say.
+    /// An effect tells something else of a reply than its bytes or its request say.
     ToldOtherwise,
 }
 
@@ -68,7 +68,7 @@ impl fmt::Display for Stopped {
             Stopped::NoRestart => "no process goes on over its store",
             Stopped::OtherReplay => "a replay over a store does something else",
             Stopped::ToldOtherwise =>
-                "an effect tells something else of a reply than its bytes say",
+                "an effect tells something else of a reply than its bytes or its request say",
         })
     }
 }
@@ -78,6 +78,8 @@ struct Caller {
     number: u64,
     /// How many requests it has begun.
     begun: u64,
+    /// How many of them were answered.
+    answered: u64,
     /// What of its requests isn't sent yet.
     rest: Vec<u8>,
     /// How many bytes it has sent that count: those before its end.
@@ -93,6 +95,7 @@ impl Drop for Caller {
         let Caller {
             number: _,
             begun: _,
+            answered: _,
             rest: _,
             sent: _,
             wholes: _,
@@ -106,6 +109,7 @@ impl Caller {
         Caller {
             number,
             begun: 0,
+            answered: 0,
             rest: Vec::new(alloc),
             sent: 0,
             wholes: Vec::new(alloc),
@@ -597,16 +601,50 @@ impl World {
 
     fn note_effect(&mut self, effect: &Effect) -> Result<(), Stopped> {
         match effect {
-            Effect::Client(_, bytes, about) => {
-                if !is_told(self.alloc, bytes.as_slice(), about)? {
-                    return Err(Stopped::ToldOtherwise);
-                }
+            Effect::Client(number, bytes, replied) => {
+                self.note_reply(*number, bytes.as_slice(), replied.as_ref())?;
             }
             Effect::Forward(number, _, bytes) => self.open(*number, bytes.as_slice())?,
             Effect::Close(number) => self.callers.retain(|caller| caller.number != *number),
             Effect::Drop(number) => self.links.retain(|link| link.number != *number),
         }
         Ok(())
+    }
+
+    /// A reply goes to a client: the next of its requests is answered. An interim response, of which nothing is told,
+    /// answers none.
+    fn note_reply(
+        &mut self,
+        number: u64,
+        bytes: &[u8],
+        replied: Option<&Replied>,
+    ) -> Result<(), Stopped> {
+        let Some(replied) = replied else {
+            return match bytes.starts_with(b"HTTP/1.1 100 ") {
+                true => Ok(()),
+                false => Err(Stopped::ToldOtherwise),
+            };
+        };
+        let Some(caller) = self.callers.iter_mut().find(|it| it.number == number) else {
+            return Err(Stopped::ToldOtherwise);
+        };
+        caller.answered = caller.answered.saturating_add(1);
+        let ordinal = caller.answered;
+        let asked = self
+            .log
+            .asked
+            .iter()
+            .rev()
+            .find(|it| it.connection == number && it.ordinal == ordinal);
+        let is_of_it = match asked {
+            Some(asked) => is_told_of(replied, asked),
+            None => false,
+        };
+        if is_of_it && is_told(self.alloc, bytes, &replied.about)? {
+            Ok(())
+        } else {
+            Err(Stopped::ToldOtherwise)
+        }
     }
 
     /// There is a new link, with this request.

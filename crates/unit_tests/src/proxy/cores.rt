@@ -87,5 +87,5 @@ pub(super) fn answer(
     id: u64,
     response: &Response,
 ) -> Result<Outcome, CoreFault> {
-    core.answer(alloc, 101, id, response)
+    Ok(core.answer(alloc, 101, id, response)?.outcome)
 }

@@ -2,7 +2,7 @@
 ghost use Rattle.std.specs.Prelude.{◌≡◌, length};
 ghost use Rattle.proxy_reads.specs.Received.{FitsTheBuffer};
 
-use hx_status::About;
+use hx_status::Replied;
 use proxy_turn::{End, Received, SocketFailed, Sockets};
 use std::alloc::Global;
 use std::net::SocketAddrV4;
@@ -164,7 +164,7 @@ impl Sockets for MemorySockets {
         &mut self,
         end: End,
         bytes: &[u8],
-        _about: Option<&About>,
+        _replied: Option<&Replied>,
     ) -> Result<(), SocketFailed> {
         if self.calls.fails(Call::Write(end)) {
             self.failures = self.failures.saturating_add(1);

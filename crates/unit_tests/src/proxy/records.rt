@@ -5,7 +5,7 @@ ghost use Rattle.proxy_reads.specs.Received.{FitsTheBuffer};
 use super::first_run::{FIRST_TABLE, engine};
 use super::memory_sockets::give;
 use hx_fields::Bytes;
-use hx_status::About;
+use hx_status::Replied;
 use proxy_record::{RecordFault, Recorder, Recording};
 use proxy_replay::replayed;
 use proxy_script::{Effect, Happening, effects_text};
@@ -108,16 +108,12 @@ impl Crowd {
         }
     }
 
-    fn effect_of(
-        &self,
-        end: End,
-        bytes: &[u8],
-        about: Option<&About>,
-    ) -> Result<Effect, AllocError> {
+    /// The effect of a write; what it tells isn't in its text.
+    fn effect_of(&self, end: End, bytes: &[u8]) -> Result<Effect, AllocError> {
         let bytes = bytes_of(self.alloc, bytes)?;
         match end {
             End::Link(l) => Ok(Effect::Forward(l, self.address.ok_or(AllocError)?, bytes)),
-            End::Client(n) => Ok(Effect::Client(n, bytes, about.copied())),
+            End::Client(n) => Ok(Effect::Client(n, bytes, None)),
             End::Listener => Err(AllocError),
         }
     }
@@ -152,8 +148,13 @@ impl Sockets for Crowd {
         }
     }
 
-    fn write(&mut self, end: End, bytes: &[u8], about: Option<&About>) -> Result<(), SocketFailed> {
-        let effect = self.effect_of(end, bytes, about);
+    fn write(
+        &mut self,
+        end: End,
+        bytes: &[u8],
+        _replied: Option<&Replied>,
+    ) -> Result<(), SocketFailed> {
+        let effect = self.effect_of(end, bytes);
         keep(&mut self.done, &mut self.lost, effect);
         Ok(())
     }
