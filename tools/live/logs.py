@@ -305,9 +305,9 @@ REFUSER = os.path.join(os.path.dirname(os.path.dirname(os.path.realpath(__file__
 
 
 def told_of_a_denial(stage, library, n):
-    """A server whose Nth request for memory is refused is asked twice for what is denied: how many requests there were before the second
-    answer and behind it, and what it has said on standard output and standard error; or nothing, where an answer itself took the request
-    that was refused, so that its connection was closed."""
+    """A server whose Nth request for memory is refused is asked for what is denied: how many requests there were before the answer and
+    behind it, and what it has said on standard output and standard error; or nothing, where the answer itself took the request that was
+    refused, so that its connection was closed. (The lines behind the first go where that stood, and take no memory.)"""
     file = f"{stage.room.name}/count"
     with open(file, "wb") as it:
         it.write(bytes(8))
@@ -315,10 +315,8 @@ def told_of_a_denial(stage, library, n):
     table, log = table_of([("/", ["*"], "deny")]), f"{stage.room.name}/log"
     proxy = Proxy(stage.program, stage.room.name, table, options=["--log", log], records=False, environment=more)
     try:
-        client = proxy.client()
+        client, before = proxy.client(), number_in(file)
         try:
-            client.ask("/a")
-            before = number_in(file)
             answer = client.ask("/a")
         except Unexpected:
             return None
