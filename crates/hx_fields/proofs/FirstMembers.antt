@@ -4,7 +4,7 @@ use Rattle.std.specs.Prelude.{map, filter}
 use Rattle.std.proofs.lemmas.List.{length-take}
 use Rattle.hx_fields.specs.FieldLines.{is_named, members_of}
 use Rattle.hx_fields.specs.Names.{is_same_name, joined_lists, members_of_value}
-use Rattle.hx_fields.specs.declared.field_line.Field.{Field}
+use Rattle.hx_fields.specs.Line.{Field}
 
 -- what the first list has too many of counts for nothing
 pub take_front : (most : ℕ) (front more : List (List ℕ)) → take most (take most front ++ more) ≡ take most (front ++ more)

@@ -1,9 +1,10 @@
 -- Which bytes a string of bytes has, wherever they are.
 use Rattle.std.specs.Prelude.{ℕ, List}
 use Rattle.hx_fields.specs.declared.byte_string.Kept.{Kept}
-use Rattle.hx_fields.specs.declared.byte_string.Kept.TheVariants.{Whole, Part}
+use Rattle.hx_fields.specs.declared.byte_string.Kept.TheVariants.{Short, Whole, Part}
 
--- those of its vector, or its part of a shared buffer
+-- those that stand in the value, those of its vector, or its part of a shared buffer
 abbrev pub bytes_kept : Kept → List ℕ
+bytes_kept (Short bytes) = bytes.items
 bytes_kept (Whole bytes) = bytes.items
 bytes_kept (Part part) = part

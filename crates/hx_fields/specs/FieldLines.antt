@@ -7,7 +7,7 @@
 -- without_named: the other lines
 use Rattle.std.specs.Prelude.{ℕ, Bool, not, List, [], ◌∷◌, map, filter, length, Option, Some, None}
 use Rattle.std.specs.List.{list_any}
-use Rattle.hx_fields.specs.declared.field_line.Field.{Field}
+use Rattle.hx_fields.specs.Line.{Field}
 use Rattle.hx_fields.specs.Names.{is_same_name, joined, members_of_value, joined_lists}
 
 -- a line of this name

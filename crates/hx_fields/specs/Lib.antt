@@ -1,3 +1,4 @@
+pub mod Line
 pub mod ByteStrings
 pub mod Names
 pub mod LongMembers

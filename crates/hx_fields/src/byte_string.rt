@@ -1,10 +1,12 @@
-//! Bytes on the heap, which contracts see as a list of numbers.
+//! Bytes, which contracts see as a list of numbers.
 //!
-//! They are a vector of their own, or a part of a buffer that others share: a copy of a part takes no memory.
-ghost use Rattle.std.specs.Prelude.{◌≡◌, ◌≤◌, ◌==◌, ◌++◌, [], length, IfOk, OnOk, OnErr, slice_range};
+//! Few stand in the value itself. More are a vector of their own, or a part of a buffer that others share: neither
+//! few bytes nor a copy of a part takes memory.
+ghost use Rattle.std.specs.Prelude.{◌≡◌, ◌≤◌, ◌==◌, ◌++◌, [], length, IfOk, IfSome, OnOk, OnErr, slice_range};
 ghost use Rattle.hx_fields.specs.ByteStrings.{bytes_kept};
 
-use crate::limits::LEAST_SHARED_BYTES;
+use crate::limits::{LEAST_SHARED_BYTES, MOST_SHORT_BYTES};
+use arrayvec::ArrayVec;
 use std::alloc::{AllocError, Global};
 use std::marker::Model;
 use std::rc::Rc;
@@ -18,6 +20,7 @@ pub struct Bytes {
 /// Where the bytes are.
 #[derive(Debug)]
 enum Kept {
+    Short(ArrayVec<u8, MOST_SHORT_BYTES>),
     Whole(Vec<u8>),
     Part(Part),
 }
@@ -26,6 +29,7 @@ enum Kept {
 impl Drop for Kept {
     fn drop(self) {
         match self {
+            Kept::Short(_) => {}
             Kept::Whole(_) => {}
             Kept::Part(_) => {}
         }
@@ -38,6 +42,7 @@ impl Kept {
         ensures { IfOk result (λ bytes. bytes.items ≡ bytes_kept self) }
     {
         match self {
+            Kept::Short(bytes) => Vec::from_slice(alloc, bytes.as_slice()),
             Kept::Whole(bytes) => Ok(bytes),
             Kept::Part(part) => Vec::from_slice(alloc, part.as_slice()),
         }
@@ -103,6 +108,16 @@ impl Part {
     }
 }
 
+/// Two slices, one behind the other, where they are few bytes.
+fn short_of_both(first: &[u8], second: &[u8]) -> Option<ArrayVec<u8, MOST_SHORT_BYTES>>
+    ensures { IfSome result (λ bytes. bytes.items ≡ first.now ++ second.now) }
+{
+    let mut bytes = ArrayVec::new();
+    bytes.try_extend_from_slice(first).ok()?;
+    bytes.try_extend_from_slice(second).ok()?;
+    Some(bytes)
+}
+
 impl Bytes {
     /// No bytes.
     pub fn new(alloc: Global) -> Bytes
@@ -143,11 +158,35 @@ impl Bytes {
         }
     }
 
-    /// A copy of a slice.
+    /// A copy of a slice. Few bytes take no memory.
     pub fn copy_of(alloc: Global, bytes: &[u8]) -> Result<Bytes, AllocError>
         ensures { IfOk result (λ copied. copied ≡ bytes.now) }
     {
-        Ok(Bytes::from_vec(Vec::from_slice(alloc, bytes)?))
+        match ArrayVec::try_from(bytes) {
+            Ok(short) => Ok(Bytes {
+                kept: Kept::Short(short),
+            }),
+            Err(_) => Ok(Bytes::from_vec(Vec::from_slice(alloc, bytes)?)),
+        }
+    }
+
+    /// A copy of two slices, one behind the other. Few bytes take no memory.
+    pub(crate) fn copy_of_both(
+        alloc: Global,
+        first: &[u8],
+        second: &[u8],
+    ) -> Result<Bytes, AllocError>
+        ensures { IfOk result (λ copied. copied ≡ first.now ++ second.now) }
+    {
+        if let Some(short) = short_of_both(first, second) {
+            return Ok(Bytes {
+                kept: Kept::Short(short),
+            });
+        }
+        let mut bytes = Vec::with_capacity(alloc, first.len().saturating_add(second.len()))?;
+        bytes.extend_from_slice(first)?;
+        bytes.extend_from_slice(second)?;
+        Ok(Bytes::from_vec(bytes))
     }
 
     /// A copy of a slice, whose parts and copies share it.
@@ -171,10 +210,10 @@ impl Bytes {
         ensures { IfOk result (λ part. part ≡ slice_range self.now start end) }
     {
         match &self.kept {
-            Kept::Whole(bytes) => Bytes::copy_of(alloc, &bytes.as_slice()[start..end]),
             Kept::Part(part) => Ok(Bytes {
                 kept: Kept::Part(part.part(start, end)?),
             }),
+            _ => Bytes::copy_of(alloc, &self.as_slice()[start..end]),
         }
     }
 
@@ -183,10 +222,10 @@ impl Bytes {
         ensures { IfOk result (λ copied. copied ≡ self.now) }
     {
         match &self.kept {
-            Kept::Whole(bytes) => Bytes::copy_of(alloc, bytes.as_slice()),
             Kept::Part(part) => Ok(Bytes {
                 kept: Kept::Part(part.copy()?),
             }),
+            _ => Bytes::copy_of(alloc, self.as_slice()),
         }
     }
 
@@ -205,6 +244,7 @@ impl Bytes {
         ensures { result.now ≡ self.now }
     {
         match &self.kept {
+            Kept::Short(bytes) => bytes.as_slice(),
             Kept::Whole(bytes) => bytes.as_slice(),
             Kept::Part(part) => part.as_slice(),
         }

@@ -25,7 +25,7 @@ pub struct Fields {
 
 impl Model for Fields {
     ghost use Rattle.std.specs.Prelude.{List};
-    ghost use Rattle.hx_fields.specs.declared.field_line.Field.{Field};
+    ghost use Rattle.hx_fields.specs.Line.{Field};
     ghost use Rattle.hx_fields.specs.NamePlaces.{PlacesAreMarked};
 
     ghost Value = { List Field };
@@ -62,7 +62,7 @@ impl Fields {
         ensures err { OnErr result (self.new ≡ self.old) }
     {
         let mut places = self.places;
-        places.add(line.name.as_slice());
+        places.add(line.name());
         self.lines.push(line)?;
         self.places = places;
         Ok(())
@@ -146,8 +146,8 @@ impl Fields {
             return None;
         }
         for line in &self.lines {
-            if is_same_name(line.name.as_slice(), name) {
-                return Some(line.value.as_slice());
+            if is_same_name(line.name(), name) {
+                return Some(line.value());
             }
         }
         None
@@ -193,8 +193,8 @@ impl Fields {
             return Ok(found);
         }
         for line in &self.lines {
-            if is_same_name(line.name.as_slice(), name) {
-                push_members(alloc, &mut found, line.value.as_slice())?;
+            if is_same_name(line.name(), name) {
+                push_members(alloc, &mut found, line.value())?;
             }
         }
         Ok(found)
@@ -214,8 +214,8 @@ impl Fields {
             return Ok(found);
         }
         for line in &self.lines {
-            if is_same_name(line.name.as_slice(), name) {
-                push_members_up_to(alloc, &mut found, line.value.as_slice(), most)?;
+            if is_same_name(line.name(), name) {
+                push_members_up_to(alloc, &mut found, line.value(), most)?;
             }
         }
         Ok(found)
@@ -229,8 +229,8 @@ impl Fields {
             return None;
         }
         for line in &self.lines {
-            if is_same_name(line.name.as_slice(), name) {
-                if let Some((member, _)) = next_member(line.value.as_slice()) {
+            if is_same_name(line.name(), name) {
+                if let Some((member, _)) = next_member(line.value()) {
                     return Some(member);
                 }
             }
@@ -242,9 +242,7 @@ impl Fields {
 fn has_line(lines: &[Field], name: &[u8]) -> bool
     ensures { result ≡ has_field lines.now name.now }
 {
-    lines
-        .iter()
-        .any(|line| is_same_name(line.name.as_slice(), name))
+    lines.iter().any(|line| is_same_name(line.name(), name))
 }
 
 fn count_lines(lines: &[Field], name: &[u8]) -> usize
@@ -252,7 +250,7 @@ fn count_lines(lines: &[Field], name: &[u8]) -> usize
 {
     let mut n = 0;
     for line in lines {
-        if is_same_name(line.name.as_slice(), name) {
+        if is_same_name(line.name(), name) {
             n += 1;
         }
     }
@@ -262,7 +260,7 @@ fn count_lines(lines: &[Field], name: &[u8]) -> usize
 fn retain_others(lines: &mut Vec<Field>, name: &[u8])
     ensures { lines.new.items ≡ without_named lines.old.items name.now }
 {
-    lines.retain(|line| !is_same_name(line.name.as_slice(), name));
+    lines.retain(|line| !is_same_name(line.name(), name));
 }
 
 fn combined_value(alloc: Global, lines: &[Field], name: &[u8]) -> Result<Option<Bytes>, AllocError>
@@ -271,11 +269,11 @@ fn combined_value(alloc: Global, lines: &[Field], name: &[u8]) -> Result<Option<
     let mut text = Vec::new(alloc);
     let mut any = false;
     for line in lines {
-        if is_same_name(line.name.as_slice(), name) {
+        if is_same_name(line.name(), name) {
             if any {
                 text.extend_from_slice(b", ")?;
             }
-            text.extend_from_slice(line.value.as_slice())?;
+            text.extend_from_slice(line.value())?;
             any = true;
         }
     }
