@@ -4,7 +4,7 @@ use Rattle.std.specs.List.{filter, filter_map}
 use Rattle.std.proofs.lemmas.List.Elements.{filter_map-append}
 use Rattle.hx_fields.specs.Names.{is_same_name, members_of_value, joined_lists}
 use Rattle.hx_fields.specs.FieldLines.{is_named, members_of}
-use Rattle.hx_fields.specs.declared.field_line.Field.{Field}
+use Rattle.hx_fields.specs.Line.{Field}
 use Rattle.hx_directives.specs.declared.occurrences.Occurrence.{Occurrence}
 use Rattle.hx_directives.specs.Occurrences.{occurrence_of, line_occurrences, occurrences_of}
 

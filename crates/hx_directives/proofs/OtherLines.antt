@@ -8,7 +8,7 @@ use Rattle.std.proofs.lemmas.List.{length-map}
 use Rattle.std.proofs.lemmas.Slice.Eq.{bytes_eq-Decides}
 use Rattle.hx_fields.specs.Names.{is_same_name, members_of_value, joined_lists}
 use Rattle.hx_fields.specs.FieldLines.{is_named, without_named}
-use Rattle.hx_fields.specs.declared.field_line.Field.{Field}
+use Rattle.hx_fields.specs.Line.{Field}
 use Rattle.hx_directives.specs.Occurrences.{occurrence_of, occurrences_of}
 
 module _ (name other : List ℕ) (differ : (q : List ℕ) → is_same_name q name ≡ true → is_same_name q other ≡ false) where

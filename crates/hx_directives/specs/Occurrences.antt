@@ -5,7 +5,7 @@ use Rattle.std.specs.List.{filter_map}
 use Rattle.hx_fields.specs.Names.{is_same_name, trimmed, members_of_value}
 use Rattle.hx_fields.specs.Tokens.{is_token}
 use Rattle.hx_fields.specs.FieldLines.{members_of}
-use Rattle.hx_fields.specs.declared.field_line.Field.{Field}
+use Rattle.hx_fields.specs.Line.{Field}
 use Rattle.hx_directives.specs.declared.names.Directive.{Directive}
 use Rattle.hx_directives.specs.declared.names.Directive.TheVariants.{MaxAge, SMaxage, MaxStale, MinFresh, StaleIfError}
 use Rattle.hx_directives.specs.declared.names.Directive.TheVariants.{StaleWhileRevalidate}

@@ -9,9 +9,10 @@ use crate::numbers::capped_seconds;
 use std::alloc::{AllocError, Global};
 
 /// What an argument says as seconds.
-#[derive(Clone, Copy, Debug, PartialEq, Eq)]
+#[derive(Clone, Copy, Debug, Default, PartialEq, Eq)]
 pub enum Argument {
     /// There is none.
+    #[default]
     Absent,
     /// Seconds, at most 2147483648.
     Delta(u32),

@@ -15,13 +15,14 @@ use crate::limits::SHORTEST_NAME;
 use crate::names::Directive;
 use crate::occurrences::{Occurrence, occurrence_of};
 use hx_fields::{Field, Fields, is_same_name, next_long_member};
+use smallvec::SmallVec;
 use std::alloc::{AllocError, Global};
 use std::marker::Model;
 
-/// The directives of a message.
+/// The directives of a message. Two take no memory of their own: most messages have no more.
 #[derive(Drop)]
 pub struct Directives {
-    found: Vec<Occurrence>,
+    found: SmallVec<Occurrence, 2>,
 }
 
 impl Model for Directives {
@@ -38,7 +39,7 @@ impl Directives {
     pub fn of(alloc: Global, fields: &Fields) -> Result<Directives, AllocError>
         ensures { IfOk result (λ d. d ≡ occurrences_of fields.now) }
     {
-        let mut found = Vec::new(alloc);
+        let mut found = SmallVec::new(alloc);
         for line in fields.as_slice() {
             push_line(alloc, &mut found, line)?;
         }
@@ -49,7 +50,10 @@ impl Directives {
     pub fn has(&self, directive: Directive) -> bool
         ensures { result ≡ directive_occurs self.now directive }
     {
-        self.found.iter().any(|o| o.directive == directive)
+        self.found
+            .as_slice()
+            .iter()
+            .any(|o| o.directive == directive)
     }
 
     /// The seconds of a directive that is to occur once.
@@ -72,7 +76,7 @@ impl Directives {
     pub fn first_valid(&self, directive: Directive) -> Option<u32>
         ensures { result ≡ first_valid self.now directive }
     {
-        for o in &self.found {
+        for o in self.found.as_slice() {
             if let Argument::Delta(n) = o.argument {
                 if o.directive == directive {
                     return Some(n);
@@ -86,7 +90,7 @@ impl Directives {
     pub fn max_stale(&self) -> MaxStale
         ensures { result ≡ max_stale self.now }
     {
-        for o in &self.found {
+        for o in self.found.as_slice() {
             if o.directive == Directive::MaxStale {
                 match o.argument {
                     Argument::Absent => return MaxStale::Any,
@@ -103,23 +107,31 @@ impl Directives {
         ensures { IfOk result (λ d. d ≡ self.now) }
     {
         Ok(Directives {
-            found: Vec::from_slice(alloc, self.found.as_slice())?,
+            found: SmallVec::from_slice(alloc, self.found.as_slice())?,
         })
     }
 }
 
 /// Puts the directives of a line at the end; another line than Cache-Control has none.
-fn push_line(alloc: Global, found: &mut Vec<Occurrence>, line: &Field) -> Result<(), AllocError>
+fn push_line(
+    alloc: Global,
+    found: &mut SmallVec<Occurrence, 2>,
+    line: &Field,
+) -> Result<(), AllocError>
     ensures { OnOk result (found.new.items ≡ found.old.items ++ line_occurrences line.now) }
 {
-    if is_same_name(line.name.as_slice(), b"Cache-Control") {
-        push_value(alloc, found, line.value.as_slice())?;
+    if is_same_name(line.name(), b"Cache-Control") {
+        push_value(alloc, found, line.value())?;
     }
     Ok(())
 }
 
 /// Puts the directives of a line's value at the end.
-fn push_value(alloc: Global, found: &mut Vec<Occurrence>, value: &[u8]) -> Result<(), AllocError>
+fn push_value(
+    alloc: Global,
+    found: &mut SmallVec<Occurrence, 2>,
+    value: &[u8],
+) -> Result<(), AllocError>
     ensures { OnOk result (found.new.items ≡ found.old.items ++ filter_map occurrence_of (members_of_value value.now)) }
 {
     let mut rest = value;

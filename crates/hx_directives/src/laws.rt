@@ -1,7 +1,7 @@
 //! What the definitions say of the standard's cases and of worked ones, computed.
 
 ghost use Rattle.std.specs.Prelude.{◌≡◌, ℕ, true, false, List, [], ◌∷◌, codes, Some, None};
-ghost use Rattle.hx_fields.specs.declared.field_line.Field.{Field};
+ghost use Rattle.hx_fields.specs.Line.{Field};
 ghost use Rattle.hx_directives.specs.Occurrences.{directive_of, directive_name, occurrences_of};
 ghost use Rattle.hx_directives.specs.declared.names.Directive.{Directive as Read};
 ghost use Rattle.hx_directives.specs.declared.names.Directive.TheVariants as directive;

@@ -8,8 +8,10 @@ ghost use Rattle.hx_directives.specs.Occurrences.{directive_of};
 use hx_fields::is_same_name;
 
 /// A directive of a request or a response (RFC 9111, sections 5.2.1 and 5.2.2; RFC 5861).
-#[derive(Clone, Copy, Debug, PartialEq, Eq)]
+#[derive(Clone, Copy, Debug, Default, PartialEq, Eq)]
 pub enum Directive {
+    /// Also what an unused place of a list holds, which nobody sees.
+    #[default]
     MaxAge,
     SMaxage,
     MaxStale,

@@ -9,7 +9,7 @@ use hx_fields::trim_blanks;
 use std::alloc::{AllocError, Global};
 
 /// A directive with its argument.
-#[derive(Clone, Copy, Debug, PartialEq, Eq)]
+#[derive(Clone, Copy, Debug, Default, PartialEq, Eq)]
 pub struct Occurrence {
     pub directive: Directive,
     pub argument: Argument,
