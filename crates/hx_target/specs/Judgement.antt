@@ -63,10 +63,10 @@ has_other_scheme None = false
 has_other_scheme (Some scheme) = not (is_http scheme)
 
 -- the only one of a list
-abbrev pub only_one_of : List (List ℕ) → Option (List ℕ)
-only_one_of [] = None
-only_one_of (x ∷ []) = Some x
-only_one_of (x ∷ (y ∷ ys)) = None
+abbrev pub single_value_of : List (List ℕ) → Option (List ℕ)
+single_value_of [] = None
+single_value_of (x ∷ []) = Some x
+single_value_of (x ∷ (y ∷ ys)) = None
 
 -- the value, where its host is valid
 abbrev pub host_if_valid : List ℕ → Option (List ℕ)
@@ -74,7 +74,7 @@ host_if_valid value = if has_valid_host value then Some value else None
 
 -- the value of the Host line, where exactly one stands and its host is valid (RFC 9112, section 3.2)
 abbrev pub host_value : List (List ℕ) → Option (List ℕ)
-host_value hosts = option_and_then host_if_valid (only_one_of hosts)
+host_value hosts = option_and_then host_if_valid (single_value_of hosts)
 
 -- the port of that line
 abbrev pub host_port : List (List ℕ) → Option ℕ

@@ -1,8 +1,8 @@
 //! Hosts and ports, as a Host field spells them (RFC 9110, section 7.2).
 //!
 //! Which texts are hosts and ports is in `specs/Hosts.antt`.
-ghost use Rattle.std.specs.Prelude.{◌≡◌, ◌≤◌, ◌<◌, ◌^◌, ◌+◌, ◌-◌, ◌*◌, length, slice_get, drop, codes, Some, IfOk};
-ghost use Rattle.std.specs.Prelude.{true};
+ghost use Rattle.std.specs.Prelude.{◌≡◌, ◌≤◌, ◌<◌, ◌^◌, ◌+◌, ◌-◌, ◌*◌, length, slice_get, drop, codes, Some};
+ghost use Rattle.std.specs.Prelude.{IfOk, take, true};
 ghost use Rattle.std.specs.Char.{is_ascii_digit};
 ghost use Rattle.std.specs.Option.{option_copied};
 ghost use Rattle.std.specs.List.{list_all};
@@ -99,7 +99,9 @@ pub fn index_after_last(byte: u8, text: &[u8]) -> usize
 
 /// The host of a Host value.
 pub fn host_part(value: &[u8]) -> &[u8]
-    ensures { result.now ≡ host_part value.now }
+    ensures host { result.now ≡ host_part value.now }
+    ensures front { result.now ≡ take (length result.now) value.now }
+    ensures within { length result.now ≤ length value.now }
 {
     if value.first() == Some(&b'[') {
         let end = index_of(b']', value);

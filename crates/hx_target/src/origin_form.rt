@@ -8,16 +8,17 @@ ghost use Rattle.std.specs.List.{list_any};
 ghost use Rattle.http_uri.specs.ByteClasses.{slash};
 ghost use Rattle.http_uri.specs.Grammar.{path_of};
 ghost use Rattle.hx_fields.specs.FieldLines.{values_of};
+ghost use Rattle.hx_target.specs.Hosts.{host_part, lowercase};
 ghost use Rattle.hx_target.specs.Judgement.{first_fault, judged_of};
 ghost use Rattle.hx_target.specs.Paths.{table_path_of};
 
 use crate::escapes::table_path;
-use crate::hosts::{host_part, index_of, port_part};
+use crate::hosts::{host_part, index_of, lowercase, port_part};
 use crate::limits::MOST_TARGET_BYTES;
-use crate::sharing::{has_percent_sign, lower_host};
-use crate::target_reading::host_value;
+use crate::sharing::{has_capital, has_percent_sign};
+use crate::target_reading::valid_host_line;
 use crate::{Key, Target, TargetFault, has_bad_escape, names_a_dot_segment};
-use hx_fields::{Bytes, Fields};
+use hx_fields::{Bytes, Field, Fields};
 use std::alloc::{AllocError, Global};
 
 /// Whether a byte may stand neither in a path nor in a query, or in one of them alone. `?` isn't one.
@@ -68,6 +69,18 @@ fn compared_path(alloc: Global, path: &[u8], target: &Bytes) -> Result<Bytes, Al
     }
 }
 
+/// The host of a Host line, with its letters in lower case. One without capitals shares the buffer of the line.
+fn host_of_line(alloc: Global, line: &Field) -> Result<Bytes, AllocError>
+    ensures { IfOk result (λ host. host ≡ lowercase (host_part line.now.value)) }
+{
+    let host = host_part(line.value());
+    if has_capital(host) {
+        lowercase(alloc, host)
+    } else {
+        line.value_part(alloc, host.len())
+    }
+}
+
 /// What a target of origin form asks for, or its least fault.
 #[tactic(auto, unfolding(crate::specs::Judgement::judged_of))]
 pub(crate) fn judge_origin_form(
@@ -92,10 +105,10 @@ pub(crate) fn judge_origin_form(
       hosts = values_of fields.now (codes "Host");
     }) ≡ None }
 {
-    let Some(value) = host_value(fields) else {
+    let Some(line) = valid_host_line(fields) else {
         return Err(TargetFault::Host);
     };
-    let Some(port) = port_part(value.as_slice()) else {
+    let Some(port) = port_part(line.value()) else {
         return Err(TargetFault::Port);
     };
     let path = path_of(target.as_slice());
@@ -107,7 +120,7 @@ pub(crate) fn judge_origin_form(
     }
     Ok(Target {
         key: Key {
-            host: lower_host(alloc, host_part(value.as_slice()), value)?,
+            host: host_of_line(alloc, line)?,
             port,
             path_query: target.copy(alloc)?,
         },

@@ -1,6 +1,6 @@
 //! Parts of a target that are kept as they came: they share the buffer of the head that they came in.
 ghost use Rattle.std.specs.Prelude.{◌≡◌, ◌==◌, IfOk, codes, slice_get};
-ghost use Rattle.std.specs.Option.{option_copied};
+ghost use Rattle.std.specs.Option.{option_copied, option_map};
 ghost use Rattle.std.specs.List.{list_any};
 ghost use Rattle.std.specs.Char.{is_ascii_uppercase};
 ghost use Rattle.hx_fields.specs.FieldLines.{values_of};
@@ -9,7 +9,7 @@ ghost use Rattle.hx_target.specs.Paths.{table_path_of};
 
 use crate::escapes::table_path;
 use crate::hosts::lowercase;
-use hx_fields::{Bytes, Fields, is_same_name};
+use hx_fields::{Bytes, Field, Fields, is_same_name};
 use std::alloc::{AllocError, Global};
 
 /// A copy of a text. Where other bytes begin with it, it shares their buffer.
@@ -26,30 +26,45 @@ pub(crate) fn copy_of(alloc: Global, text: &[u8], whole: &Bytes) -> Result<Bytes
     Bytes::copy_of(alloc, text)
 }
 
-/// The value of the first Host line.
-pub(crate) fn host_line(fields: &Fields) -> Option<&Bytes>
-    ensures { option_copied result ≡ slice_get (values_of fields.now (codes "Host")) 0 }
+/// The first Host line.
+pub(crate) fn host_line(fields: &Fields) -> Option<&Field>
+    ensures { option_map (λ line. line.value) (option_copied result)
+        ≡ slice_get (values_of fields.now (codes "Host")) 0 }
 {
     for line in fields.as_slice() {
-        if is_same_name(line.name.as_slice(), b"Host") {
-            return Some(&line.value);
+        if is_same_name(line.name(), b"Host") {
+            return Some(line);
         }
     }
     None
 }
 
-/// A host with its letters in lower case.
-pub(crate) fn lower_host(alloc: Global, host: &[u8], whole: &Bytes) -> Result<Bytes, AllocError>
+/// A copy of a text. Where the value of a line begins with it, it shares that line's buffer.
+fn copy_of_value(alloc: Global, text: &[u8], line: &Field) -> Result<Bytes, AllocError>
+    ensures { IfOk result (λ copied. copied ≡ text.now) }
+{
+    let n = text.len();
+    if n <= line.value().len() {
+        let part = line.value_part(alloc, n)?;
+        if part.as_slice() == text {
+            return Ok(part);
+        }
+    }
+    Bytes::copy_of(alloc, text)
+}
+
+/// A host, which mostly stands in this Host line, with its letters in lower case.
+pub(crate) fn lowercase_host(alloc: Global, host: &[u8], line: &Field) -> Result<Bytes, AllocError>
     ensures { IfOk result (λ lower. lower ≡ lowercase host.now) }
 {
     if has_capital(host) {
         lowercase(alloc, host)
     } else {
-        copy_of(alloc, host, whole)
+        copy_of_value(alloc, host, line)
     }
 }
 
-fn has_capital(text: &[u8]) -> bool
+pub(crate) fn has_capital(text: &[u8]) -> bool
     ensures { result ≡ list_any is_ascii_uppercase text.now }
 {
     text.iter().any(|b| b.is_ascii_uppercase())

@@ -5,7 +5,7 @@
 ghost use Rattle.std.specs.Prelude.{◌≡◌, ◌==◌, ◌||◌, ◌&&◌, not, codes, Err, Ok, None, false, slice_index, is_some};
 ghost use Rattle.std.specs.Prelude.{true, IfErr, IfOk, IfSome, MatchResult};
 ghost use Rattle.std.specs.List.{list_any};
-ghost use Rattle.std.specs.Option.{option_copied};
+ghost use Rattle.std.specs.Option.{option_copied, option_map};
 ghost use Rattle.http_uri.specs.ByteClasses.{slash, at_sign, rsplit_once_back};
 ghost use Rattle.http_uri.specs.Error.{IsOutOfMemory, UnlessOutOfMemory};
 ghost use Rattle.http_uri.specs.Uri.{Spells, SpellsNone, uri_scheme, uri_authority};
@@ -19,10 +19,10 @@ ghost use Rattle.hx_target.specs.Judgement.{TargetIsJudged};
 use crate::hosts::{has_valid_host, host_part, index_after_last, port_part};
 use crate::limits::MOST_TARGET_BYTES;
 use crate::origin_form::{is_plain_origin_form, judge_origin_form};
-use crate::sharing::{compared_path, copy_of, host_line, lower_host};
+use crate::sharing::{compared_path, copy_of, host_line, lowercase_host};
 use crate::{Key, Target, TargetFault, has_bad_escape, names_a_dot_segment};
 use http_uri::{PathAndQuery, Uri, UriError};
-use hx_fields::{Bytes, Fields};
+use hx_fields::{Bytes, Field, Fields};
 use std::alloc::{AllocError, Global};
 
 fn has_bad_byte(target: &[u8]) -> bool
@@ -62,16 +62,17 @@ fn has_other_scheme(uri: &Uri) -> bool
     }
 }
 
-/// The value of the only Host line, where its host is valid.
-pub(crate) fn host_value(fields: &Fields) -> Option<&Bytes>
-    ensures value { option_copied result ≡ host_value (values_of fields.now (codes "Host")) }
-    ensures valid { IfSome result (λ value. has_valid_host value.now ≡ true) }
+/// The only Host line, where the host in its value is valid.
+pub(crate) fn valid_host_line(fields: &Fields) -> Option<&Field>
+    ensures value { option_map (λ line. line.value) (option_copied result)
+        ≡ host_value (values_of fields.now (codes "Host")) }
+    ensures valid { IfSome result (λ line. has_valid_host line.now.value ≡ true) }
 {
     if fields.count(b"Host") != 1 {
         return None;
     }
     match host_line(fields) {
-        Some(value) if has_valid_host(value.as_slice()) => Some(value),
+        Some(line) if has_valid_host(line.value()) => Some(line),
         _ => None,
     }
 }
@@ -163,14 +164,14 @@ fn judge_parts(
     if has_other_scheme(uri) {
         return Err(TargetFault::Scheme);
     }
-    let Some(value) = host_value(fields) else {
+    let Some(line) = valid_host_line(fields) else {
         return Err(TargetFault::Host);
     };
-    let named = authority_or_host(uri, value.as_slice());
-    if !names_valid_host(uri, value.as_slice()) {
+    let named = authority_or_host(uri, line.value());
+    if !names_valid_host(uri, line.value()) {
         return Err(TargetFault::Host);
     }
-    let (Some(_), Some(port)) = (port_part(value.as_slice()), port_part(named)) else {
+    let (Some(_), Some(port)) = (port_part(line.value()), port_part(named)) else {
         return Err(TargetFault::Port);
     };
     if has_userinfo(uri) {
@@ -188,7 +189,7 @@ fn judge_parts(
     }
     Ok(Target {
         key: Key {
-            host: lower_host(alloc, host_part(named), value)?,
+            host: lowercase_host(alloc, host_part(named), line)?,
             port,
             path_query: path_query(alloc, kept, target)?,
         },
