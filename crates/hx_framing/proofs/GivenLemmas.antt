@@ -8,7 +8,7 @@ use Rattle.std.proofs.lemmas.List.Elements.{All-append, All-cons, All-head, All-
 use Rattle.std.proofs.lemmas.List.Sums.{list_all-from_AllPass, AllPass-from_list_all}
 use Rattle.httparse.specs.Grammar.{Field, IsField, field_value, is_token_byte, is_value_byte, is_ows, skip_ows, trim_ows}
 use Rattle.httparse.proofs.TrimLemmas.{AllPass-trim_ows, AllPass-reverse}
-use Rattle.hx_fields.specs.declared.field_line.Field.{Field as Line}
+use Rattle.hx_fields.specs.Line.{Field as Line}
 use Rattle.hx_fields.specs.Names.{is_blank, is_nonempty}
 use Rattle.hx_fields.specs.Tokens as tokens
 use Rattle.hx_framing.specs.Head.{field_of_grammar}

@@ -7,7 +7,7 @@ use Rattle.httparse.specs.Spans.{IsRequestAt, IsResponseAt, header_bytes, name_a
 use Rattle.httparse.specs.declared.spans.HeaderSpan.{HeaderSpan}
 use Rattle.httparse.specs.declared.spans.RequestSpans.{RequestSpans}
 use Rattle.httparse.specs.declared.spans.ResponseSpans.{ResponseSpans}
-use Rattle.hx_fields.specs.declared.field_line.Field.{Field}
+use Rattle.hx_fields.specs.Line.{Field}
 use Rattle.hx_framing.specs.Head.{field_at_span, field_of_grammar, head_at_spans, head_of_grammar}
 use Rattle.hx_framing.specs.StatusHead.{status_head_at, status_head_of}
 

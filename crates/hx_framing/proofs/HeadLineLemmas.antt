@@ -13,7 +13,7 @@ use Rattle.httparse.specs.Pieces.{is_newline}
 use Rattle.httparse.proofs.GrammarLemmas.{print_request-append, print_response-append, cons-append}
 use Rattle.httparse.proofs.PieceLemmas.{print_field-append, token_is_no_newline, colon_ends_token}
 use Rattle.httparse.proofs.TrimLemmas.{AllPass-trim_ows}
-use Rattle.hx_fields.specs.declared.field_line.Field.{Field as Line}
+use Rattle.hx_fields.specs.Line.{Field as Line}
 use Rattle.hx_fields.specs.Tokens as tokens
 use Rattle.hx_framing.specs.HeadEnd.{empty_lines_from, empty_lines_length}
 use Rattle.hx_framing.specs.Version.{without_return}

@@ -5,7 +5,7 @@ use Rattle.std.specs.Char.{is_ascii_digit}
 use Rattle.std.specs.Str.Parse.{digits_value}
 use Rattle.std.proofs.lemmas.Bool.{and_parts, eq-eqb}
 use Rattle.std.proofs.lemmas.List.Folds.{list_all-append, list_all-map}
-use Rattle.hx_fields.specs.declared.field_line.Field.{Field}
+use Rattle.hx_fields.specs.Line.{Field}
 use Rattle.hx_fields.specs.Names.{joined_lists, is_nonempty}
 use Rattle.hx_fields.specs.FieldLines.{is_named, has_field, values_of}
 use Rattle.hx_framing.specs.ContentLength.{content_length_name, comma_pieces, is_digits, is_text_of_number, is_number, without_leading_zeros, agreed_number, length_pieces, announced_length}

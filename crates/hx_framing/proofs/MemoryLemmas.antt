@@ -10,7 +10,7 @@ use Rattle.hx_framing.specs.declared.heads.request_head.Head.{Head}
 use Rattle.hx_framing.specs.declared.heads.status_head.StatusHead.{StatusHead}
 use Rattle.hx_framing.specs.declared.contents.content.Content.{Content}
 use Rattle.hx_framing.specs.declared.contents.content.Content.TheVariants as content
-use Rattle.hx_fields.specs.declared.field_line.Field.{Field}
+use Rattle.hx_fields.specs.Line.{Field}
 use Rattle.hx_framing.specs.Body.{ContentFound, Short, Bad, Whole}
 use Rattle.hx_framing.specs.SizeLine.{size_of_line, is_size, without_last_byte, ends_in_cr, number_at_most, size_of}
 use Rattle.hx_framing.specs.Chunking.{Chunking}

@@ -8,7 +8,7 @@ use Rattle.std.proofs.lemmas.List.Elements.{All-head, All-tail}
 use Rattle.httparse.specs.Grammar.{is_token_byte, is_uri_byte, is_value_byte, AllPass}
 use Rattle.httparse.specs.Pieces.{Stops, is_newline}
 use Rattle.httparse.proofs.PieceLemmas.{Stops_token}
-use Rattle.hx_fields.specs.declared.field_line.Field.{Field}
+use Rattle.hx_fields.specs.Line.{Field}
 use Rattle.hx_framing.specs.declared.messages.Request.{Request}
 use Rattle.hx_framing.specs.HeadEnd.{empty_lines_length, head_end_from, head_length, most_head_bytes}
 use Rattle.hx_framing.specs.Text.{field_line_text, field_lines_text, content_bytes, request_text}

@@ -15,7 +15,7 @@ use Rattle.std.proofs.lemmas.List.Elements.{All-nil, All-cons, All-head, All-tai
 use Rattle.httparse.specs.Grammar as grammar
 use Rattle.httparse.specs.Grammar.{crlf, print_field, print_end, print_version, print_section, print_request, field_value, IsField, IsRequestHead, RequestHead, ReadsRequest, is_token_byte, IsToken, AllPass, is_ows, is_value_byte, skip_ows, trim_ows}
 use Rattle.httparse.proofs.GrammarLemmas.{print_request-append}
-use Rattle.hx_fields.specs.declared.field_line.Field.{Field}
+use Rattle.hx_fields.specs.Line.{Field}
 use Rattle.hx_framing.specs.declared.messages.Request.{Request}
 use Rattle.hx_framing.specs.Head.{field_of_grammar, head_of_grammar, IsHeadOfRequest}
 use Rattle.hx_framing.specs.Text as text

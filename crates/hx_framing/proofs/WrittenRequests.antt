@@ -8,7 +8,7 @@ use Rattle.std.proofs.lemmas.Bool.{and_parts, and_from, le-ltb, leb-true, lt-ltb
 use Rattle.std.proofs.lemmas.List.Elements.{All-nil, All-cons}
 use Rattle.std.proofs.lemmas.List.Splits.{slice_split_none}
 use Rattle.std.proofs.Math.Seq.{take-append_seam, drop-append_seam}
-use Rattle.hx_fields.specs.declared.field_line.Field.{Field}
+use Rattle.hx_fields.specs.Line.{Field}
 use Rattle.hx_fields.specs.Names.{joined_lists, is_nonempty, joined}
 use Rattle.hx_fields.specs.FieldLines.{is_named, has_field, values_of, without_named}
 use Rattle.hx_framing.specs.declared.frame_fault.FrameFault.TheVariants as fault

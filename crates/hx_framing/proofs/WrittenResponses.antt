@@ -16,7 +16,7 @@ use Rattle.http_header.proofs.TokenLemmas.{AllPass-from_test}
 use Rattle.httparse.specs.Grammar as grammar
 use Rattle.httparse.specs.Grammar.{IsResponseHead, ResponseHead, print_end, print_field, print_reason, print_response, print_version, status_code}
 use Rattle.httparse.proofs.GrammarLemmas.{print_response-append}
-use Rattle.hx_fields.specs.declared.field_line.Field.{Field}
+use Rattle.hx_fields.specs.Line.{Field}
 use Rattle.hx_fields.specs.Names.{joined_lists}
 use Rattle.hx_fields.specs.FieldLines.{is_named, has_field, values_of, without_named}
 use Rattle.hx_framing.specs.declared.frame_fault.FrameFault.{FrameFault}

@@ -10,7 +10,7 @@ use Rattle.std.specs.Prelude.{Err, nat_le, ◌==◌, codes}
 use Rattle.std.specs.List.{list_all, prefix_len, slice_split}
 use Rattle.std.specs.Char.{is_ascii_digit}
 use Rattle.std.specs.Str.Parse.{digits_value}
-use Rattle.hx_fields.specs.declared.field_line.Field.{Field}
+use Rattle.hx_fields.specs.Line.{Field}
 use Rattle.hx_fields.specs.Names.{comma, is_nonempty, joined_lists}
 use Rattle.hx_fields.specs.FieldLines.{values_of}
 use Rattle.hx_framing.specs.declared.frame_fault.FrameFault.{FrameFault}

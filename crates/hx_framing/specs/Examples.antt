@@ -1,6 +1,6 @@
 -- Messages of a first run: a request goes to its origin, the response is stored and then sent again.
 use Rattle.std.specs.Prelude.{ℕ, List, [], ◌∷◌, codes, None}
-use Rattle.hx_fields.specs.declared.field_line.Field.{Field}
+use Rattle.hx_fields.specs.Line.{Field}
 use Rattle.hx_framing.specs.declared.messages.Request.{Request}
 
 abbrev pub line : List ℕ → List ℕ → Field

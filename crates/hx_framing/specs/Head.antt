@@ -5,7 +5,7 @@ use Rattle.httparse.specs.Grammar as grammar
 use Rattle.httparse.specs.Spans.{span_bytes}
 use Rattle.httparse.specs.declared.spans.HeaderSpan.{HeaderSpan}
 use Rattle.httparse.specs.declared.spans.RequestSpans.{RequestSpans}
-use Rattle.hx_fields.specs.declared.field_line.Field.{Field}
+use Rattle.hx_fields.specs.Line.{Field}
 use Rattle.hx_framing.specs.declared.heads.request_head.Head.{Head}
 use Rattle.hx_framing.specs.declared.frame_fault.FrameFault.{FrameFault}
 use Rattle.hx_framing.specs.declared.frame_fault.FrameFault.TheVariants as fault

@@ -1,6 +1,6 @@
 -- Heads with these field lines, for worked examples of length fields.
 use Rattle.std.specs.Prelude.{ℕ, List, codes, true, false, Result, Ok}
-use Rattle.hx_fields.specs.declared.field_line.Field.{Field}
+use Rattle.hx_fields.specs.Line.{Field}
 use Rattle.hx_fields.specs.Examples.{line}
 use Rattle.hx_framing.specs.declared.frame_fault.FrameFault.{FrameFault}
 use Rattle.hx_framing.specs.declared.lengths.framing.Framing.{Framing}

@@ -10,7 +10,7 @@
 use Rattle.std.specs.Prelude.{ℕ, ◌-◌, ◌^◌, ◌&&◌, ◌||◌, Bool, true, false, cond, not, List, [], length, Option, Some}
 use Rattle.std.specs.Prelude.{None, is_some, Result, Ok, Err, nat_lt, nat_le, ◌==◌, codes, count_by, slice_index_or}
 use Rattle.std.specs.List.{list_all}
-use Rattle.hx_fields.specs.declared.field_line.Field.{Field}
+use Rattle.hx_fields.specs.Line.{Field}
 use Rattle.hx_fields.specs.Names.{is_same_name}
 use Rattle.hx_fields.specs.FieldLines.{has_field, combined_of, members_of, without_named}
 use Rattle.hx_framing.specs.declared.frame_fault.FrameFault.{FrameFault}

@@ -1,7 +1,7 @@
 -- Messages of the RFCs and others, for worked readings: what whole streams read as where at most 1000 bytes
 -- of content are taken.
 use Rattle.std.specs.Prelude.{ℕ, Bool, true, false, List, [], ◌∷◌, ◌++◌, codes, Option, Some, None}
-use Rattle.hx_fields.specs.declared.field_line.Field.{Field}
+use Rattle.hx_fields.specs.Line.{Field}
 use Rattle.hx_fields.specs.Examples.{line}
 use Rattle.hx_framing.specs.declared.messages.Request.{Request}
 use Rattle.hx_framing.specs.declared.messages.Response.{Response}
@@ -93,8 +93,8 @@ requests_in_a_row =
     ++ codes "3\r\nabc\r\n0\r\n\r\nPUT"
 
 -- how far its reader has come
-abbrev pub progress_behind_requests : Bool → List Request → Progress Request
-progress_behind_requests ended given =
+abbrev pub progress_after_requests : Bool → List Request → Progress Request
+progress_after_requests ended given =
     record {
       max_body = 1000;
       to_head = false;
@@ -106,8 +106,8 @@ progress_behind_requests ended given =
     }
 
 -- how far a reader of the response has come
-abbrev pub progress_behind_hello : Bool → List Response → Progress Response
-progress_behind_hello ended given =
+abbrev pub progress_after_hello : Bool → List Response → Progress Response
+progress_after_hello ended given =
     record {
       max_body = 1000;
       to_head = false;

@@ -56,5 +56,6 @@ pub use crate::messages::{Next, Request, Response};
 pub use crate::readers::message_head::MessageHead;
 pub use crate::readers::message_reader::{MessageReader, RequestReader, ResponseReader};
 pub use crate::writing::{
-    AddedLine, ResponseLines, write_continue, write_request, write_response, write_response_with,
+    AddedLine, ResponseLines, write_continue, write_request, write_response,
+    write_response_with_added_lines,
 };

@@ -23,7 +23,7 @@ pub struct ResponseLines<'a> {
     pub added: &'a [AddedLine<'a>],
     /// The Content-Length in bytes, where one is told.
     pub length: Option<u64>,
-    /// Whether the connection closes behind the response.
+    /// Whether the connection closes after the response.
     pub close: bool,
 }
 
@@ -42,7 +42,7 @@ fn write_lines(text: &mut Vec<u8>, lines: &[Field]) -> Result<(), AllocError>
     ensures { OnOk result (text.new.items ≡ text.old.items ++ field_lines_text lines.now) }
 {
     for line in lines {
-        write_line(text, line.name.as_slice(), line.value.as_slice())?;
+        write_line(text, line.name(), line.value())?;
     }
     Ok(())
 }
@@ -128,15 +128,15 @@ fn length_bound_of_message(fields: &Fields, content: usize) -> usize {
     let mut room = content.saturating_add(256);
     for line in fields.as_slice() {
         room = room
-            .saturating_add(line.name.len())
-            .saturating_add(line.value.len())
+            .saturating_add(line.name().len())
+            .saturating_add(line.value().len())
             .saturating_add(4);
     }
     room
 }
 
 /// The bytes of a response that is sent to a client. `length` is the Content-Length in bytes, where one is told;
-/// `close` tells that the connection closes behind it.
+/// `close` tells that the connection closes after it.
 pub fn write_response(
     alloc: Global,
     status: u16,
@@ -154,11 +154,11 @@ pub fn write_response(
         length,
         close,
     };
-    write_response_with(alloc, status, &lines, content)
+    write_response_with_added_lines(alloc, status, &lines, content)
 }
 
 /// The same of lines that are told apart, with further ones behind the fields.
-pub fn write_response_with(
+pub fn write_response_with_added_lines(
     alloc: Global,
     status: u16,
     lines: &ResponseLines<'_>,

@@ -10,7 +10,7 @@ use Rattle.std.proofs.lemmas.List.Folds.{list_all-append}
 use Rattle.std.proofs.lemmas.List.Splits.{slice_split_at}
 use Rattle.std.proofs.lemmas.List.Sums.{list_all-from_AllPass, AllPass-from_list_all}
 use Rattle.httparse.specs.Grammar.{AllPass, is_token_byte, is_uri_byte}
-use Rattle.hx_fields.specs.declared.field_line.Field.{Field}
+use Rattle.hx_fields.specs.Line.{Field}
 use Rattle.hx_fields.specs.Names.{is_blank}
 use Rattle.hx_fields.specs.Tokens.{is_token}
 use Rattle.hx_framing.specs.GivenFields.{IsTrimmed}

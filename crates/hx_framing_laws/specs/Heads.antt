@@ -5,7 +5,7 @@
 -- IsRequestHead, IsResponseHead: a text is the head of a request, or of a response, with such parts
 use Rattle.std.specs.Prelude.{◌≡◌, ℕ, ◌++◌, ◌≤◌, List, [], ◌∷◌, length, All}
 use Rattle.std.specs.List.{flat_map}
-use Rattle.hx_fields.specs.declared.field_line.Field.{Field}
+use Rattle.hx_fields.specs.Line.{Field}
 use Rattle.hx_framing.specs.declared.heads.request_head.Head.{Head}
 use Rattle.hx_framing.specs.declared.heads.status_head.StatusHead.{StatusHead}
 use Rattle.hx_framing.specs.HeadEnd.{most_field_lines, most_head_bytes}

@@ -7,7 +7,7 @@ use Rattle.std.specs.Prelude.{Option, Some, None}
 use Rattle.std.specs.List.{list_all, flat_map}
 use Rattle.std.specs.Char.{is_ascii_digit}
 use Rattle.std.specs.Str.Parse.{digits_value}
-use Rattle.hx_fields.specs.declared.field_line.Field.{Field}
+use Rattle.hx_fields.specs.Line.{Field}
 use Rattle.hx_fields.specs.Names.{is_blank, is_nonempty}
 use Rattle.hx_fields.specs.Tokens.{is_token}
 use Rattle.hx_framing_laws.specs.Characters.{is_field_vchar, is_text_byte}

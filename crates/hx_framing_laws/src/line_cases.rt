@@ -1,6 +1,6 @@
 //! Worked cases of lines and heads, of RFC 9112.
 ghost use Rattle.std.specs.Prelude.{◌≡◌, ℕ, List, [], ◌∷◌, ◌++◌, codes};
-ghost use Rattle.hx_fields.specs.declared.field_line.Field.{Field};
+ghost use Rattle.hx_fields.specs.Line.{Field};
 ghost use Rattle.hx_framing_laws.specs.Lines.{IsFieldLine, IsRequestLine, IsStatusLine};
 ghost use Rattle.hx_framing_laws.specs.Heads.{IsRequestHead, IsResponseHead};
 ghost use Rattle.hx_framing_laws.specs.Examples.{field_of, where_text, where_text_otherwise, where_head};

@@ -20,10 +20,13 @@ fn field_at_span(alloc: Global, head: &Bytes, span: HeaderSpan) -> Result<Field,
     requires { IsHeaderWithin (length head.now) span }
     ensures { IfOk result (λ field. field ≡ field_at_span head.now span) }
 {
-    Ok(Field {
-        name: part_at(alloc, head, span.name)?,
-        value: part_at(alloc, head, span.value)?,
-    })
+    let (name, value) = (span.name, span.value);
+    Field::part_of(
+        alloc,
+        head,
+        (name.start, name.end),
+        (value.start, value.end),
+    )
 }
 
 /// The field lines of a head that the spans cover.

@@ -78,7 +78,7 @@ pub fn response_heads_are_lines()
 {}
 
 /// A folded line, one with a space before its colon and one without a name are no field lines.
-pub fn field_lines_of_heads()
+pub fn malformed_lines_are_no_field_lines()
     ensures plain { is_field_line (codes "a: b\r") ≡ true }
     ensures line_feed_alone { is_field_line (codes "a:b") ≡ true }
     ensures empty_value { is_field_line (codes "a:\r") ≡ true }

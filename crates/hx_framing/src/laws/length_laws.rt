@@ -143,7 +143,7 @@ pub fn worked_announced_lengths_to_head()
 {}
 
 /// The length fields are taken out, and the other lines stay in order.
-pub fn lines_without_lengths()
+pub fn length_fields_are_taken_out()
     ensures expectation { without_lengths (expect_line (codes "x") ∷ []) ≡ expect_line (codes "x") ∷ [] }
     ensures lengths { without_lengths (line (codes "a") (codes "1") ∷ line (codes "content-length") (codes "2")
         ∷ line (codes "b") (codes "2") ∷ line (codes "TRANSFER-ENCODING") (codes "chunked")

@@ -88,7 +88,7 @@ pub fn both_lengths_are_refused()
 {}
 
 /// chunked is the one coding that is read; a request whose last coding is another has no end (RFC 9112, section 6.3).
-pub fn codings_are_read()
+pub fn only_chunked_is_read()
     ensures any_case { request_stream_reads (put_request_with (codes "transfer-encoding: CHUNKED\r\n")
         ++ codes "0\r\n\r\n") (Spelled (put_request_read [] (Some [])) []) }
     ensures two { request_stream_reads (put_request_with (codes "Transfer-Encoding: gzip, chunked\r\n")) (Faulty fault.Coding) }

@@ -1,6 +1,6 @@
 //! Laws on what a response stream spells. They hold of the definitions, so each body is empty.
 ghost use Rattle.std.specs.Prelude.{◌≡◌, ◌≤◌, ◌+◌, ◌*◌, ◌++◌, ◌∷◌, [], ℕ, Bool, List, None, Some, length, true, false};
-ghost use Rattle.hx_fields.specs.declared.field_line.Field.{Field};
+ghost use Rattle.hx_fields.specs.Line.{Field};
 ghost use Rattle.hx_framing.specs.declared.contents.content.Content.{Content};
 ghost use Rattle.hx_framing.specs.declared.contents.content.Content.TheVariants as content;
 ghost use Rattle.hx_framing.specs.declared.readers.progress.ReaderPhase.TheVariants as phase;

@@ -8,7 +8,7 @@ ghost use Rattle.hx_framing.specs.Progress.{Progress, AnswerIsDue, cost_of_answe
 ghost use Rattle.hx_framing.specs.Progress.{stream_after_answer, answer_needs_memory, next_of_reading, no_stream};
 ghost use Rattle.hx_framing.specs.Reading.{Continue, Faulty, Incomplete, ReadingIsSettled, Over, Spelled};
 ghost use Rattle.hx_framing.specs.Reading.{reading_with_more};
-ghost use Rattle.hx_framing.specs.ReadingExamples.{progress_behind_requests, hello_answered, progress_behind_hello};
+ghost use Rattle.hx_framing.specs.ReadingExamples.{progress_after_requests, hello_answered, progress_after_hello};
 ghost use Rattle.hx_framing.specs.ReadingExamples.{put_request_hi, requests_in_a_row, put_request_read};
 ghost use Rattle.hx_framing.specs.ReadingExamples.{request_progress};
 ghost use Rattle.hx_framing.specs.RequestStream as request;
@@ -18,22 +18,22 @@ ghost use Rattle.hx_framing.specs.ResponseStream as response;
 pub fn requests_in_a_row_are_given()
     ensures spelled { request.StreamSpells 1000 requests_in_a_row
         (put_request_read [] (Some (codes "hi")) ∷ put_request_read [] (Some (codes "abc")) ∷ []) (codes "PUT") }
-    ensures first { request.Answers (progress_behind_requests false [])
+    ensures first { request.Answers (progress_after_requests false [])
         (next.Message (put_request_read [] (Some (codes "hi")))) }
-    ensures second { request.Answers (progress_behind_requests false (put_request_read [] (Some (codes "hi")) ∷ []))
+    ensures second { request.Answers (progress_after_requests false (put_request_read [] (Some (codes "hi")) ∷ []))
         (next.Message (put_request_read [] (Some (codes "abc")))) }
-    ensures third { request.Answers (progress_behind_requests false
+    ensures third { request.Answers (progress_after_requests false
         (put_request_read [] (Some (codes "hi")) ∷ put_request_read [] (Some (codes "abc")) ∷ [])) next.More }
-    ensures cut { request.Answers (progress_behind_requests true
+    ensures cut { request.Answers (progress_after_requests true
         (put_request_read [] (Some (codes "hi")) ∷ put_request_read [] (Some (codes "abc")) ∷ []))
         (next.Refused fault.Truncated) }
 {}
 
 /// A response is given, and then the end, whether its stream goes on or not.
-pub fn a_response_is_given()
-    ensures first { response.Answers (progress_behind_hello false []) (next.Message hello_answered) }
-    ensures end { response.Answers (progress_behind_hello false (hello_answered ∷ [])) next.End }
-    ensures closed { response.Answers (progress_behind_hello true (hello_answered ∷ [])) next.End }
+pub fn a_response_is_given_then_the_end()
+    ensures first { response.Answers (progress_after_hello false []) (next.Message hello_answered) }
+    ensures end { response.Answers (progress_after_hello false (hello_answered ∷ [])) next.End }
+    ensures closed { response.Answers (progress_after_hello true (hello_answered ∷ [])) next.End }
 {}
 
 /// A stream grows by its pieces, ends once, and remembers what was given of it and whether the next
@@ -122,7 +122,7 @@ pub fn worked_needs_of_memory()
 {}
 
 /// So out of memory never hides the end of a stream, nor that what stands there is no head.
-pub fn out_of_memory_hides_no_end()
+pub fn an_end_is_told_even_without_memory()
     ensures requests { (p : Progress Request) → request.Answers p next.End → ¬ (request.NeedsMemory p) }
     ensures no_request { (p : Progress Request) → request.Answers p (next.Refused fault.Head)
         → ¬ (request.NeedsMemory p) }

@@ -46,7 +46,7 @@ pub fn worked_head_lengths()
 {}
 
 /// Empty lines in front of a head are dropped: each CRLF or LF, and no CR alone.
-pub fn empty_lines_in_front()
+pub fn empty_lines_before_a_head_are_dropped()
     ensures nothing { empty_lines_length [] ≡ 0 }
     ensures none { empty_lines_length (codes "A\n") ≡ 0 }
     ensures lone_byte { empty_lines_length (codes "A") ≡ 0 }

@@ -61,8 +61,8 @@ fn are_all_lengths_this_number(digits: &[u8], lines: &[Field]) -> bool
 {
     lines
         .iter()
-        .filter(|line| is_same_name(line.name.as_slice(), b"content-length"))
-        .all(|line| are_all_this_number(digits, line.value.as_slice()))
+        .filter(|line| is_same_name(line.name(), b"content-length"))
+        .all(|line| are_all_this_number(digits, line.value()))
 }
 
 /// The digits of the length that the lines tell, without zeros in front.

@@ -16,7 +16,7 @@ pub trait MessageHead: Drop {
 
     /// What stands at the front of the unread bytes, before a continue was given. A head takes `head_length` of them;
     /// `to_head` says that the message answers a HEAD.
-    fn read_front(
+    fn read_next_head(
         alloc: Global,
         rest: &Rest<'_>,
         to_head: bool,
@@ -35,7 +35,7 @@ pub trait MessageHead: Drop {
     fn into_message(self, alloc: Global, to_head: bool, content: Option<Bytes>) -> Self::Message
         ensures { result ≡ kind.message_of to_head self content };
 
-    /// Where the reader is behind a message.
+    /// Where the reader is after a message.
     fn behind_message() -> ReaderPhase<Self>
         ensures { result ≡ kind.behind_message };
 }

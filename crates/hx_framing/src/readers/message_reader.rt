@@ -133,8 +133,8 @@ impl<H: MessageHead> MessageReader<H> {
         self.unread.reserve(n)
     }
 
-    /// Gives back the room that was made and isn't used, where no byte is kept. A later `feed` takes memory anew. No
-    /// memory is taken.
+    /// Gives back the room that was made and isn't used, where no byte is kept. A later `feed` allocates anew.
+    /// This call allocates nothing.
     pub fn release_room(&mut self, alloc: Global)
         ensures same { self.new ≡ record self.old { spare = self.new.spare } }
         ensures released { self.old.unread ≡ [] → self.new.spare ≡ 0 }
@@ -161,7 +161,7 @@ impl<H: MessageHead> MessageReader<H> {
         }
     }
 
-    /// The stream has ended. No memory is taken.
+    /// The stream has ended. Nothing is allocated.
     pub fn finish(&mut self)
         ensures represents { (p : Progress H.Message) → H.kind.RepresentsStream self.old p
             → H.kind.RepresentsStream self.new (stream_finished p) }
@@ -194,7 +194,7 @@ impl<H: MessageHead> MessageReader<H> {
         matches!(&self.phase, ReaderPhase::BeforeHead) && self.unread.len() == 0
     }
 
-    /// What is due behind the messages given. An `Err` changes nothing. Out of memory hides neither the end nor a
+    /// What is due after the messages given. An `Err` changes nothing. Out of memory hides neither the end nor a
     /// refusal of bytes that are no head; a fault behind a head it may hide, since the head is copied first.
     pub fn next(&mut self, alloc: Global) -> Result<Next<H::Message>, AllocError>
         ensures answers { IfOk result (λ answer. (p : Progress H.Message) → H.kind.RepresentsStream self.old p
@@ -259,10 +259,10 @@ impl<H: MessageHead> MessageReader<H> {
             ended: self.ended,
             bytes: self.unread.as_slice(),
         };
-        H::read_front(alloc, &rest, self.to_head, head_length)
+        H::read_next_head(alloc, &rest, self.to_head, head_length)
     }
 
-    /// Goes on behind what was found before a head.
+    /// Goes on after what was found before a head.
     fn pass(&mut self, found: HeadProgress<H, H::Message>) -> Next<H::Message>
         requires within { bytes_taken found ≤ length self.old.unread }
         requires waiting { self.old.phase ≡ phase.BeforeHead }

@@ -22,7 +22,7 @@ use hx_fields::Bytes;
 use std::alloc::{AllocError, Global};
 
 /// Where no head ends within the limit.
-fn without_head(rest: &Rest<'_>) -> HeadProgress<Head, Request>
+fn progress_without_head(rest: &Rest<'_>) -> HeadProgress<Head, Request>
     requires { head_length_of (take most_head_bytes rest.now.bytes.now) ≡ None }
     ensures { IsHeadProgress rest.now.max_body rest.now.ended rest.now.bytes.now result }
 {
@@ -78,7 +78,7 @@ fn read_request(
     ensures memory_last { OnErr result (RequestHeadStands rest.now.bytes.now) }
 {
     let Some(at) = head_length else {
-        return Ok(without_head(rest));
+        return Ok(progress_without_head(rest));
     };
     let (front, _) = rest.bytes.split_at(at);
     match judge_head::<RequestSpans>(alloc, front)? {
@@ -97,7 +97,7 @@ impl MessageHead for Head {
 
     ghost kind = { request_kind };
 
-    fn read_front(
+    fn read_next_head(
         alloc: Global,
         rest: &Rest<'_>,
         _to_head: bool,

@@ -97,7 +97,7 @@ fn skip_interim(
 }
 
 /// Where no head ends within the limit behind the interim responses, which take `at` bytes.
-fn without_head(rest: &Rest<'_>, at: usize) -> HeadProgress<StatusHead, Response>
+fn progress_without_head(rest: &Rest<'_>, at: usize) -> HeadProgress<StatusHead, Response>
     requires within { at ≤ length rest.now.bytes.now }
     requires open { FinalHeadIsFound rest.now.bytes.now (final_head.Incomplete at) }
     ensures { (to_head : Bool) → IsHeadProgress rest.now.max_body to_head rest.now.ended rest.now.bytes.now result }
@@ -147,7 +147,7 @@ fn read_response(
     ensures memory_last { OnErr result (FinalHeadStands rest.now.bytes.now) }
 {
     match skip_interim(alloc, rest.bytes, head_length)? {
-        FinalHead::Incomplete(at) => Ok(without_head(rest, at)),
+        FinalHead::Incomplete(at) => Ok(progress_without_head(rest, at)),
         FinalHead::Faulty(fault) => Ok(HeadProgress::Faulty(fault)),
         FinalHead::Complete(head, at) => {
             match framing_of_response(alloc, rest.max_body, to_head, &head)? {
@@ -165,7 +165,7 @@ impl MessageHead for StatusHead {
 
     ghost kind = { response_kind };
 
-    fn read_front(
+    fn read_next_head(
         alloc: Global,
         rest: &Rest<'_>,
         to_head: bool,

@@ -6,7 +6,7 @@ use Rattle.std.proofs.lemmas.Str.{IsUtf8-from_ascii}
 use Rattle.std.proofs.lemmas.List.Elements.{All-nil, All-cons}
 use Rattle.http_header.proofs.TokenLemmas.{AllPass-from_test}
 use Rattle.httparse.specs.Grammar.{is_token_byte, is_uri_byte, is_value_byte, trim_ows}
-use Rattle.hx_fields.specs.declared.field_line.Field.{Field}
+use Rattle.hx_fields.specs.Line.{Field}
 use Rattle.hx_framing.specs.Examples.{line}
 use Rattle.hx_framing.specs.Written.{FieldIsWritable}
 use Rattle.hx_framing.proofs.laws.writing_laws.worked_request_is_writable.Goals as goal

@@ -6,7 +6,7 @@ use Rattle.hx_framing.proofs.ResponseProgressLemmas.{progress_refused, progress_
 use Rattle.hx_framing.proofs.readers.response_reading.read_response.Goals as goal
 
 pub returns-in-Incomplete-clause-progress : goal.returns-in-Incomplete-clause-progress
-returns-in-Incomplete-clause-progress c = c.without_head.ensures c.args.to_head
+returns-in-Incomplete-clause-progress c = c.progress_without_head.ensures c.args.to_head
 
 pub returns-in-Faulty-clause-progress : goal.returns-in-Faulty-clause-progress
 returns-in-Faulty-clause-progress c =

@@ -1,6 +1,6 @@
 use Rattle.std.proofs.Common.{arith, length-drop}
 use Rattle.hx_framing.proofs.ResponseProgressLemmas.{progress_open}
-use Rattle.hx_framing.proofs.readers.response_reading.without_head.Goals as goal
+use Rattle.hx_framing.proofs.readers.response_reading.progress_without_head.Goals as goal
 
 pub returns-else-rest : goal.returns-else-rest
 returns-else-rest c = λ to_head.

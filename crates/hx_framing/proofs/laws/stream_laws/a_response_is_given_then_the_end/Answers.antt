@@ -6,7 +6,7 @@ use Rattle.hx_framing.specs.Reading.{Spelled}
 use Rattle.hx_framing.specs.ReadingExamples.{hello_response, hello_answered}
 use Rattle.hx_framing.specs.ResponseReading.{Reads}
 use Rattle.hx_framing.proofs.ReadingLemmas.{field, answered, reads_response}
-use Rattle.hx_framing.proofs.laws.stream_laws.a_response_is_given.Goals as goal
+use Rattle.hx_framing.proofs.laws.stream_laws.a_response_is_given_then_the_end.Goals as goal
 
 abbrev hello : ResponseHead
 hello = answered 1 (codes "200") (Some (codes "OK"))

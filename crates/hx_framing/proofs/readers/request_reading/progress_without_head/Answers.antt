@@ -2,7 +2,7 @@ use Rattle.std.proofs.Common.{false, refl}
 use Rattle.hx_framing.specs.Reading.{Incomplete}
 use Rattle.hx_framing.proofs.HeadSearches.{open_head}
 use Rattle.hx_framing.proofs.RequestProgressLemmas.{reads_without, waits_for_head}
-use Rattle.hx_framing.proofs.readers.request_reading.without_head.Goals as goal
+use Rattle.hx_framing.proofs.readers.request_reading.progress_without_head.Goals as goal
 
 pub returns-else-rest-2 : goal.returns-else-rest-2
 returns-else-rest-2 c = (

@@ -4,7 +4,7 @@ use Rattle.httparse.specs.Grammar.{RequestHead, ResponseHead}
 use Rattle.httparse.proofs.OnLiterals.{httparse_on_literals}
 use Rattle.hx_framing.specs.ReadingExamples.{put_request_with, ok_response_with}
 use Rattle.hx_framing.proofs.ReadingLemmas.{field, asked, answered, reads_request, reads_response}
-use Rattle.hx_framing.proofs.laws.reading_laws.codings_are_read.Goals as goal
+use Rattle.hx_framing.proofs.laws.reading_laws.only_chunked_is_read.Goals as goal
 
 abbrev any_case_head : RequestHead
 any_case_head = asked (codes "PUT") (codes "/a") 1 (field (codes "transfer-encoding") (codes " CHUNKED") ∷ [])

@@ -1,7 +1,7 @@
 use Rattle.std.proofs.Common.{◌≡◌, true, false}
 use Rattle.hx_framing.specs.declared.messages.Next.TheVariants as next
 use Rattle.hx_framing.specs.declared.frame_fault.FrameFault.TheVariants as fault
-use Rattle.hx_framing.proofs.laws.stream_laws.out_of_memory_hides_no_end.Goals as goal
+use Rattle.hx_framing.proofs.laws.stream_laws.an_end_is_told_even_without_memory.Goals as goal
 
 pub returns-clause-requests : goal.returns-clause-requests
 returns-clause-requests c p answers needs = let no : false ≡ true = needs next.End answers in cc
