@@ -1,7 +1,7 @@
 -- One test of each line keeps what three filters, one behind the other, keep.
 use Rattle.std.proofs.Common.{◌≡◌, Bool, true, false, not, ◌||◌, List, [], ◌∷◌, cond, refl, ap, sym, ◌∙◌, codes}
 use Rattle.std.specs.Prelude.{filter, ◌&&◌}
-use Rattle.hx_fields.specs.declared.field_line.Field.{Field}
+use Rattle.hx_fields.specs.Line.{Field}
 use Rattle.hx_fields.specs.FieldLines.{is_named, members_of}
 use Rattle.hx_hop.specs.Stripping.{connection_names, is_hop_line, is_hop_name}
 use Rattle.hx_hop.specs.Asking.{fields_that_go_on_of}

@@ -6,4 +6,5 @@ pub mod Forwards
 pub mod SentLines
 pub mod NamedLemmas
 mod Kept
+pub mod NoneNamed
 pub mod Passed

@@ -10,7 +10,7 @@ use Rattle.std.proofs.lemmas.Slice.Eq.{bytes_eq-Decides}
 use Rattle.hx_fields.specs.Folded.{folded, folded_cmp, folded_ties}
 use Rattle.hx_fields.specs.FieldLines.{is_named, members_of}
 use Rattle.hx_fields.specs.Names.{is_same_name, joined_lists, members_of_value}
-use Rattle.hx_fields.specs.declared.field_line.Field.{Field}
+use Rattle.hx_fields.specs.Line.{Field}
 use Rattle.hx_hop.specs.Stripping.{cache_names, connection_names, name_is_among, is_hop_line, is_hop_name, lists_cache_field, stripped}
 use Rattle.hx_hop.specs.NamedLines.{AreUnmarkedNames, NamesAreMarkedBy, gives_name, is_looked_for, is_present_and_marked, is_present_and_unmarked, mark_after_naming, names_in_connection, name_is_present}
 

@@ -13,7 +13,7 @@ use Rattle.hx_fields.specs.Folded.{folded, folded_cmp, number_of}
 use Rattle.hx_fields.specs.NameBuckets.{bucket_of, falls_in}
 use Rattle.hx_fields.specs.LongMembers.{long_members}
 use Rattle.hx_fields.specs.Names.{is_same_name, members_of_value}
-use Rattle.hx_fields.specs.declared.field_line.Field.{Field}
+use Rattle.hx_fields.specs.Line.{Field}
 use Rattle.hx_fields.proofs.LongNames.{long_ones_decide, shorter_differs}
 use Rattle.hx_hop.specs.Stripping.{cache_names}
 use Rattle.hx_hop.specs.NamedLines.{AreSignsOf, AreTaken, AreUnmarkedNames, gives_name, is_looked_for, is_present_and_unmarked, mark_after_naming, name_is_present, NamesAreMarkedBy, UnmarkedShow}

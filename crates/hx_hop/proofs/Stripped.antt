@@ -1,6 +1,6 @@
 -- What stripping leaves.
 use Rattle.std.proofs.Common.{◌≡◌, ℕ, Bool, true, false, not, ◌||◌, List, [], map, refl, ap, codes}
-use Rattle.hx_fields.specs.declared.field_line.Field.{Field}
+use Rattle.hx_fields.specs.Line.{Field}
 use Rattle.hx_fields.specs.FieldLines.{is_named, members_of}
 use Rattle.hx_fields.specs.Names.{joined_lists, members_of_value}
 use Rattle.hx_hop.specs.Stripping.{connection_names, hop_names, name_is_among, is_hop_line, is_hop_name, stripped}

@@ -1,7 +1,7 @@
 -- What every later rule sees of a response (RFC 9110, sections 6.6.1 and 7.6.1).
 use Rattle.std.specs.Prelude.{ℕ, if◌then◌else◌, Bool, false, List, [], ◌∷◌, ◌++◌, codes, is_some}
 use Rattle.httpdate.specs.Date.{parse_secs}
-use Rattle.hx_fields.specs.declared.field_line.Field.{Field}
+use Rattle.hx_fields.specs.Line.{Field}
 use Rattle.hx_fields.specs.FieldLines.{values_of, without_named}
 use Rattle.hx_framing.specs.declared.messages.Response.{Response}
 use Rattle.hx_hop.specs.declared.response_view.Answered.{Answered}

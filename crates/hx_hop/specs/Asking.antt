@@ -1,6 +1,6 @@
 -- What every later rule sees of a request (RFC 9110, section 7.6.1).
 use Rattle.std.specs.Prelude.{◌≡◌, ◌==◌, Bool, ◌||◌, List, codes, Result, Ok, Err}
-use Rattle.hx_fields.specs.declared.field_line.Field.{Field}
+use Rattle.hx_fields.specs.Line.{Field}
 use Rattle.hx_fields.specs.FieldLines.{values_of, without_named}
 use Rattle.hx_framing.specs.declared.messages.Request.{Request}
 use Rattle.hx_target.specs.declared.target_fault.TargetFault.{TargetFault}

@@ -1,7 +1,7 @@
 -- The request that goes to an origin (RFC 9110, section 7.6).
 use Rattle.std.specs.Prelude.{ℕ, ◌==◌, Bool, not, ◌&&◌, ◌||◌, if◌then◌else◌, List, [], ◌∷◌, ◌++◌, filter, codes}
 use Rattle.std.specs.Prelude.{decimal, Option, Some, None, is_some}
-use Rattle.hx_fields.specs.declared.field_line.Field.{Field}
+use Rattle.hx_fields.specs.Line.{Field}
 use Rattle.hx_fields.specs.FieldLines.{is_named}
 use Rattle.hx_framing.specs.declared.messages.Request.{Request}
 use Rattle.hx_target.specs.declared.keys.Key.{Key}

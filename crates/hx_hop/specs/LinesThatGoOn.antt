@@ -1,6 +1,6 @@
 -- The lines of a request that go on, told by one test of each line: what `Asking` says in three steps.
 use Rattle.std.specs.Prelude.{ℕ, Bool, not, ◌&&◌, List, codes}
-use Rattle.hx_fields.specs.declared.field_line.Field.{Field}
+use Rattle.hx_fields.specs.Line.{Field}
 use Rattle.hx_fields.specs.FieldLines.{is_named}
 use Rattle.hx_hop.specs.Stripping.{name_is_among, is_hop_name}
 

@@ -8,7 +8,7 @@ use Rattle.hx_fields.specs.Folded.{folded, folded_cmp}
 use Rattle.hx_fields.specs.NameBuckets.{bucket_of}
 use Rattle.hx_fields.specs.FieldLines.{count_of, is_named, members_of}
 use Rattle.hx_fields.specs.Names.{members_of_value}
-use Rattle.hx_fields.specs.declared.field_line.Field.{Field}
+use Rattle.hx_fields.specs.Line.{Field}
 use Rattle.hx_hop.specs.declared.named_lines.Signs.{Signs}
 
 -- Connection has several lines, or a long one

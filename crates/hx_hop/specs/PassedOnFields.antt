@@ -5,7 +5,7 @@ use Rattle.std.specs.Prelude.{Option}
 use Rattle.std.specs.Prelude.{Some, None}
 use Rattle.httpdate.specs.Date.{parse_secs}
 use Rattle.hx_fields.specs.declared.limits.TheConstants.{END_OF_TIME}
-use Rattle.hx_fields.specs.declared.field_line.Field.{Field}
+use Rattle.hx_fields.specs.Line.{Field}
 use Rattle.hx_fields.specs.FieldLines.{count_of, has_field, values_of}
 use Rattle.hx_framing.specs.declared.messages.Request.{Request}
 use Rattle.hx_target.specs.declared.targets.Target.{Target}

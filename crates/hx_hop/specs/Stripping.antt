@@ -5,7 +5,7 @@
 -- stripped: the lines that go on                        lists_cache_field: Connection names what a cache reads
 use Rattle.std.specs.Prelude.{ℕ, Bool, not, ◌||◌, List, [], ◌∷◌, filter, codes}
 use Rattle.std.specs.List.{list_any}
-use Rattle.hx_fields.specs.declared.field_line.Field.{Field}
+use Rattle.hx_fields.specs.Line.{Field}
 use Rattle.hx_fields.specs.FieldLines.{members_of}
 use Rattle.hx_fields.specs.Names.{is_same_name}
 

@@ -60,7 +60,7 @@ fn keep_few(alloc: Global, fields: &Fields, named: &Members) -> Result<Fields, A
 fn line_goes_on(named: &Members, line: &Field) -> bool
     ensures { result ≡ line_goes_on named.now line.now }
 {
-    let name = line.name.as_slice();
+    let name = line.name();
     !is_same_name(name, b"Host")
         && !is_same_name(name, b"Expect")
         && !is_hop_name(name)

@@ -48,8 +48,7 @@ fn via_text(alloc: Global, minor: u8, name: &[u8]) -> Result<Vec<u8>, AllocError
 fn is_condition(line: &Field) -> bool
     ensures { result ≡ is_condition line.now }
 {
-    is_same_name(line.name.as_slice(), b"If-None-Match")
-        || is_same_name(line.name.as_slice(), b"If-Modified-Since")
+    is_same_name(line.name(), b"If-None-Match") || is_same_name(line.name(), b"If-Modified-Since")
 }
 
 /// Puts the client's lines at the end, without its conditions where the proxy sends its own or keeps them.

@@ -142,7 +142,7 @@ pub fn an_answer_keeps_its_status()
 {}
 
 /// The fields of one connection (RFC 9110, section 7.6.1), and the four that this proxy adds to them.
-pub fn fields_of_one_connection()
+pub fn hop_by_hop_names_are_known()
     ensures connection { is_hop_name (codes "Connection") ≡ true }
     ensures proxy_connection { is_hop_name (codes "Proxy-Connection") ≡ true }
     ensures keep_alive { is_hop_name (codes "Keep-Alive") ≡ true }
@@ -156,7 +156,7 @@ pub fn fields_of_one_connection()
 {}
 
 /// Other fields go on, among them those of the origin's own authentication, and what a cache reads.
-pub fn fields_that_go_on()
+pub fn other_names_are_not_hop_by_hop()
     ensures via { is_hop_name (codes "Via") ≡ false }
     ensures host { is_hop_name (codes "Host") ≡ false }
     ensures authorization { is_hop_name (codes "Authorization") ≡ false }
@@ -200,7 +200,7 @@ pub fn cache_fields_are_seen_in_connection()
 
 /// Content, ranges and the preconditions that only the origin can judge (RFC 9110, sections 13.1.1,
 /// 13.1.4, 13.1.5 and 14.2); the two that a cache judges aren't among them.
-pub fn what_goes_past_the_cache()
+pub fn content_ranges_and_preconditions_go_past_the_cache()
     ensures range { asks_for_range (first_asked_with_line (codes "Range") (codes "bytes=0-1")) ≡ true }
     ensures if_range { asks_for_range (first_asked_with_line (codes "If-Range") (codes "\"e\"")) ≡ true }
     ensures no_range { asks_for_range (first_asked_with_line (codes "Accept-Ranges") (codes "bytes")) ≡ false }

@@ -32,14 +32,18 @@ const MANY_BYTES: usize = 64;
 pub(crate) fn has_many_members(fields: &Fields) -> bool
     ensures { result ≡ has_many_members fields.now }
 {
-    fields.count(b"Connection") > 1 || has_long_line(fields.as_slice())
+    match fields.count(b"Connection") {
+        0 => false,
+        1 => has_long_line(fields.as_slice()),
+        _ => true,
+    }
 }
 
 fn has_long_line(lines: &[Field]) -> bool
     ensures { result ≡ list_any (λ line. nat_lt 64 (length line.value) && is_named (codes "Connection") line) lines.now }
 {
-    lines.iter().any(|line| line.value.len() > MANY_BYTES
-        && is_same_name(line.name.as_slice(), b"Connection"))
+    lines.iter().any(|line| line.value().len() > MANY_BYTES
+        && is_same_name(line.name(), b"Connection"))
 }
 
 /// What names begin with, and with which of these bytes more than one of them does.
@@ -188,7 +192,7 @@ fn names_looked_for(
     names.insert(FoldedName::of(alloc, b"close")?, false)?;
     signs.add(b"close");
     for line in fields.as_slice() {
-        let name = line.name.as_slice();
+        let name = line.name();
         // A name that stands twice doesn't share its signs.
         if names.insert(FoldedName::of(alloc, name)?, false)?.is_none() {
             signs.add(name);
@@ -209,8 +213,8 @@ fn mark_members(
 {
     let mut name = FoldedName::new(alloc);
     for line in fields.as_slice() {
-        if is_same_name(line.name.as_slice(), b"Connection") {
-            mark_value(alloc, names, signs, &mut name, line.value.as_slice())?;
+        if is_same_name(line.name(), b"Connection") {
+            mark_value(alloc, names, signs, &mut name, line.value())?;
         }
     }
     Ok(())
@@ -292,7 +296,7 @@ fn keep_unmarked(
     let mut kept = Fields::with_capacity(alloc, fields.len())?;
     let mut name = FoldedName::new(alloc);
     for line in fields.as_slice() {
-        name.set(line.name.as_slice())?;
+        name.set(line.name())?;
         if goes_on(names, &name, line) {
             kept.push_line(line.copy(alloc)?)?;
         }
@@ -304,5 +308,5 @@ fn keep_unmarked(
 fn goes_on(names: &BTreeMap<FoldedName, bool>, name: &FoldedName, line: &Field) -> bool
     ensures { result ≡ not (is_hop_name line.now.name || is_present_and_marked (get folded_cmp names.now name.now)) }
 {
-    !is_hop_name(line.name.as_slice()) && !is_present_and_marked(names, name)
+    !is_hop_name(line.name()) && !is_present_and_marked(names, name)
 }

@@ -55,7 +55,7 @@ fn strip_few(alloc: Global, fields: &Fields) -> Result<Fields, AllocError>
     let named = fields.members(alloc, b"Connection")?;
     let mut kept = Fields::with_capacity(alloc, fields.len())?;
     for line in fields.as_slice() {
-        if !is_hop_name(line.name.as_slice()) && !name_is_among(&named, line.name.as_slice()) {
+        if !is_hop_name(line.name()) && !name_is_among(&named, line.name()) {
             kept.push_line(line.copy(alloc)?)?;
         }
     }
@@ -98,10 +98,11 @@ fn value_lists_cache_field(value: &[u8]) -> bool
 pub fn lists_cache_field(fields: &Fields) -> bool
     ensures { result ≡ lists_cache_field fields.now }
 {
+    if fields.count(b"Connection") == 0 {
+        return false;
+    }
     for line in fields.as_slice() {
-        if is_same_name(line.name.as_slice(), b"Connection")
-            && value_lists_cache_field(line.value.as_slice())
-        {
+        if is_same_name(line.name(), b"Connection") && value_lists_cache_field(line.value()) {
             return true;
         }
     }

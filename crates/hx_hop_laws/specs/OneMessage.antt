@@ -41,8 +41,8 @@ pub record RequestIsWithinLimits (max_body : ℕ) (sent : Request) : Type 0 wher
   pub short : length (request_head_text sent) ≤ most_head_bytes
   pub content : length (content_bytes sent.content) ≤ max_body
 
-abbrev pub RequestIsReadInCleanParts : Type 0
-RequestIsReadInCleanParts = (max_body : ℕ) (ended continue_sent : Bool) (bytes rest : List ℕ) (request : Request)
+abbrev pub ReadRequestHasWritableParts : Type 0
+ReadRequestHasWritableParts = (max_body : ℕ) (ended continue_sent : Bool) (bytes rest : List ℕ) (request : Request)
     → Reads max_body ended continue_sent bytes (Spelled request rest) → RequestIsClean request
 
 -- what was read and asked goes forward in parts that stand in its text as they are: no CR, no LF

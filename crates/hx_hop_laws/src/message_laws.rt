@@ -1,5 +1,5 @@
 //! The laws: each function's contract is one, and its body is empty.
-ghost use Rattle.hx_hop_laws.specs.OneMessage.{OneRequestIsForwarded, RequestIsReadInCleanParts};
+ghost use Rattle.hx_hop_laws.specs.OneMessage.{OneRequestIsForwarded, ReadRequestHasWritableParts};
 ghost use Rattle.hx_hop_laws.specs.OneMessage.{PartsAreForwardedAsTheyAre};
 ghost use Rattle.hx_hop_laws.specs.OneResponse.{OneResponseGoesOn};
 
@@ -14,8 +14,8 @@ pub fn one_request_goes_forward()
 
 /// What a client's bytes spell as a request has parts that can be written again as they are (RFC
 /// 9110, sections 5 and 9.1).
-pub fn a_request_is_read_in_clean_parts()
-    ensures { RequestIsReadInCleanParts }
+pub fn a_read_request_has_writable_parts()
+    ensures { ReadRequestHasWritableParts }
 {}
 
 /// What an origin's bytes spell as a response goes on as one response, within the limits of a

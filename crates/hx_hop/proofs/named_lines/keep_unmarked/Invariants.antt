@@ -2,7 +2,7 @@ use Rattle.std.proofs.Common.{◌≡◌, ◌++◌, drop, not, ◌||◌}
 use Rattle.std.specs.Prelude.{filter}
 use Rattle.std.specs.BTreeMap.{get}
 use Rattle.hx_fields.specs.Folded.{folded, folded_cmp}
-use Rattle.hx_fields.specs.declared.field_line.Field.{Field}
+use Rattle.hx_fields.specs.Line.{Field}
 use Rattle.hx_hop.specs.Stripping.{is_hop_name}
 use Rattle.hx_hop.specs.NamedLines.{is_present_and_marked}
 use Rattle.hx_hop.proofs.named_lines.keep_unmarked.Given as goal

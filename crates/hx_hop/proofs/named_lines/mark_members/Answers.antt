@@ -23,7 +23,7 @@ loop-line-preserved c =
     let marks : MarksOn (gives_name rest) new all start = elim c.if-is_same_name.branch [
       | then-is_same_name+in_ok-mark_value w ↦ (
           let named : is_same_name line.name (codes "Connection") ≡ true = search rules in
-          let value : w.as_slice-then-is_same_name.result.now ≡ line.value = search rules in
+          let value : w.value.result.now ≡ line.value = search rules in
           let marked : NamesAreMarkedBy (gives_name (members_of_value line.value)) old w.mark_value.new.names =
           subst (λ v. NamesAreMarkedBy (gives_name (members_of_value v)) old w.mark_value.new.names) value w.in_ok-mark_value.ensures.marked in
           subst (λ (n : Marked). MarksOn (gives_name rest) n all start) (sym w.names-is)

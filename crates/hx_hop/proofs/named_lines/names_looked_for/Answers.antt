@@ -24,7 +24,7 @@ loop-line-preserved c =
     c.in_ok-insert-2.ensures.updates.0 in
     let show : AreSignsOf (is_looked_for (done ++ line ∷ [])) c.if-is_none.signs = elim c.if-is_none.branch [
       | then-is_none w ↦ (
-          let name : c.as_slice-name.result.now ≡ line.name = search rules in
+          let name : c.name-name.result.now ≡ line.name = search rules in
           subst (λ (s : Signs). AreSignsOf (is_looked_for (done ++ line ∷ [])) s) (sym w.signs-is)
           (new_name_shows done line w.add-then-is_none.new.self
           (subst (λ n. AreSignsOf (λ q. is_looked_for done q || bytes_eq (folded n) q) w.add-then-is_none.new.self) name
