@@ -3,7 +3,7 @@
 use Rattle.std.specs.Prelude.{ℕ, ◌+◌, ◌-◌, max, min, nat_lt, ℤ, pos, ◌-ℤ◌, Bool, List, codes, unwrap_or}
 use Rattle.std.specs.Prelude.{option_and_then, option_map, Option, None, Some, slice_get}
 use Rattle.hx_fields.specs.FieldLines.{members_of}
-use Rattle.hx_fields.specs.declared.field_line.Field.{Field}
+use Rattle.hx_fields.specs.Line.{Field}
 use Rattle.hx_directives.specs.Seconds.{capped, seconds_of}
 use Rattle.hx_age.specs.declared.moments.Times.{Times}
 use Rattle.hx_age.specs.declared.lifetimes.Lifetime.{Lifetime}

@@ -2,7 +2,7 @@
 use Rattle.std.specs.Prelude.{ℕ, List, [], ◌∷◌, codes, Option, None}
 use Rattle.httpdate.specs.Date.{parse_secs}
 use Rattle.hx_fields.specs.FieldLines.{values_of}
-use Rattle.hx_fields.specs.declared.field_line.Field.{Field}
+use Rattle.hx_fields.specs.Line.{Field}
 
 -- the moment of a name that has one line, where that line is a date
 abbrev pub single_date : List (List ℕ) → Option ℕ

@@ -2,7 +2,7 @@
 -- own: no lifetime is guessed; a response that states none has 0 seconds, and isn't explicit.
 use Rattle.std.specs.Prelude.{ℕ, ◌-◌, if◌then◌else◌, true, false, List, codes, unwrap_or}
 use Rattle.hx_fields.specs.FieldLines.{has_field as has_line}
-use Rattle.hx_fields.specs.declared.field_line.Field.{Field}
+use Rattle.hx_fields.specs.Line.{Field}
 use Rattle.hx_directives.specs.Seconds.{capped}
 use Rattle.hx_directives.specs.Occurrences.{occurrences_of}
 use Rattle.hx_directives.specs.Answers.{directive_occurs, seconds_of_directive}

@@ -2,7 +2,7 @@
 
 ghost use Rattle.std.specs.Prelude.{◌≡◌, ℕ, ◌-◌, ◌^◌, ◌<◌, ◌≤◌, true, false, List, [], ◌++◌, codes, pos, negsuc, None};
 ghost use Rattle.std.specs.Prelude.{Some};
-ghost use Rattle.hx_fields.specs.declared.field_line.Field.{Field};
+ghost use Rattle.hx_fields.specs.Line.{Field};
 ghost use Rattle.hx_age.specs.declared.moments.Times.{Times as Moments};
 ghost use Rattle.hx_age.specs.declared.lifetimes.Lifetime.{Lifetime as StatedLifetime};
 ghost use Rattle.hx_age.specs.Dates.{date_of};

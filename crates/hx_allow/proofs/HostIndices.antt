@@ -15,7 +15,7 @@ use Rattle.std.proofs.lemmas.Map.Text.{is_eq-slice_cmp}
 use Rattle.hx_target.specs.declared.targets.Target.{Target}
 use Rattle.hx_allow.specs.TableLines.{Line}
 use Rattle.hx_allow.specs.declared.host_index.HostIndex.{HostIndex}
-use Rattle.hx_allow.specs.Index.{hosts_above, is_one, is_below, is_every, has_host, can_match, numbers_of_hosts, line_numbers_from, line_numbers_of, Numbers, numbers_for, HasNoLonger, IsHostIndexOf, with_number, IsEntered, matches_beside_host, verdict_of_line_or_later, is_found_by, verdict_among, verdict_above, verdict_where}
+use Rattle.hx_allow.specs.Index.{hosts_above, names_exact_host, is_below, is_every, has_host, can_match, numbers_of_hosts, line_numbers_from, line_numbers_of, Numbers, numbers_for, HasNoLonger, IsHostIndexOf, with_number, IsEntered, matches_beside_host, verdict_of_line_or_later, is_found_by, verdict_among, verdict_above, verdict_where}
 use Rattle.hx_allow.specs.LineHosts.{is_below_host, any_host_matches}
 use Rattle.hx_allow.specs.Matching.{is_never_allowed, is_star_or_same, any_path_matches, matches_line, over_line, verdict_of_line, verdict_from, verdict_of, line_of_number, VerdictNamesAnOrigin}
 use Rattle.hx_allow.specs.declared.line_hosts.LineHost.{LineHost}
@@ -345,16 +345,16 @@ or_true false = refl
 
 -- a host is named, or those below a host behind one of its dots, or every host
 hosts_match : (host : List ℕ) (hosts : List LineHost) →
-    ((list_any (is_one host) hosts || list_any (λ above. list_any (is_below above) hosts) (hosts_above host)) || list_any is_every hosts) ≡ any_host_matches hosts host
+    ((list_any (names_exact_host host) hosts || list_any (λ above. list_any (is_below above) hosts) (hosts_above host)) || list_any is_every hosts) ≡ any_host_matches hosts host
 hosts_match host [] = ap (λ t. t || false) (none_of_none (hosts_above host))
-hosts_match host (One own ∷ hosts) = one_matches (bytes_eq own host) (list_any (is_one host) hosts) (list_any (λ above. list_any (is_below above) hosts) (hosts_above host)) (list_any is_every hosts) (any_host_matches hosts host) (hosts_match host hosts)
+hosts_match host (One own ∷ hosts) = one_matches (bytes_eq own host) (list_any (names_exact_host host) hosts) (list_any (λ above. list_any (is_below above) hosts) (hosts_above host)) (list_any is_every hosts) (any_host_matches hosts host) (hosts_match host hosts)
 hosts_match host (Below own ∷ hosts) =
-    ap (λ t. (list_any (is_one host) hosts || t) || list_any is_every hosts) (
+    ap (λ t. (list_any (names_exact_host host) hosts || t) || list_any is_every hosts) (
     any_of_either (bytes_eq own) (λ above. list_any (is_below above) hosts) (hosts_above host)
     ∙ ap (λ t. t || list_any (λ above. list_any (is_below above) hosts) (hosts_above host)) (sym (below_by_dots own host))
     )
-    ∙ below_matches (is_below_host own host) (list_any (is_one host) hosts) (list_any (λ above. list_any (is_below above) hosts) (hosts_above host)) (list_any is_every hosts) (any_host_matches hosts host) (hosts_match host hosts)
-hosts_match host (Every ∷ hosts) = or_true (list_any (is_one host) hosts || list_any (λ above. list_any (is_below above) hosts) (hosts_above host))
+    ∙ below_matches (is_below_host own host) (list_any (names_exact_host host) hosts) (list_any (λ above. list_any (is_below above) hosts) (hosts_above host)) (list_any is_every hosts) (any_host_matches hosts host) (hosts_match host hosts)
+hosts_match host (Every ∷ hosts) = or_true (list_any (names_exact_host host) hosts || list_any (λ above. list_any (is_below above) hosts) (hosts_above host))
 
 pub found_by_index : (lines : List Line) (index : HostIndex) (host method path own others : List ℕ) (named below result : Verdict) → IsHostIndexOf lines index →
     own ≡ numbers_for index.named host → others ≡ index.every.items → named ≡ verdict_among lines own method path NoLine →
@@ -368,13 +368,13 @@ found_by_index lines index host method path own others named below result is_ind
     ∙ ap (verdict_above lines index.below (hosts_above host) method path) (
     named_is
     ∙ ap (λ (ns : List ℕ). verdict_among lines ns method path NoLine) (own_are ∙ is_index.0 host)
-    ∙ ap (verdict_among lines (line_numbers_of (is_one host) lines) method path) (sym (none_where 1 lines method path))
-    ∙ of_either lines method path (λ line. false) (is_one host) 0 lines at
+    ∙ ap (verdict_among lines (line_numbers_of (names_exact_host host) lines) method path) (sym (none_where 1 lines method path))
+    ∙ of_either lines method path (λ line. false) (names_exact_host host) 0 lines at
     )
-    ∙ through lines index.below method path is_index.1 (has_host (is_one host)) (hosts_above host)
+    ∙ through lines index.below method path is_index.1 (has_host (names_exact_host host)) (hosts_above host)
     )
-    ∙ of_either lines method path (λ line. has_host (is_one host) line || list_any (λ above. has_host (is_below above) line) (hosts_above host)) is_every 0 lines at
-    ∙ where_alike (λ line. (has_host (is_one host) line || list_any (λ above. has_host (is_below above) line) (hosts_above host)) || has_host is_every line) (can_match host) (λ line. hosts_match host line.hosts) 1 lines method path
+    ∙ of_either lines method path (λ line. has_host (names_exact_host host) line || list_any (λ above. has_host (is_below above) line) (hosts_above host)) is_every 0 lines at
+    ∙ where_alike (λ line. (has_host (names_exact_host host) line || list_any (λ above. has_host (is_below above) line) (hosts_above host)) || has_host is_every line) (can_match host) (λ line. hosts_match host line.hosts) 1 lines method path
   where
     at : (j : ℕ) → slice_get lines (0 + j) ≡ slice_get lines j
     at j = let e : 0 + j ≡ j = omega arith in ap (slice_get lines) e

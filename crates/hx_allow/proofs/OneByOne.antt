@@ -9,7 +9,7 @@ use Rattle.hx_allow.specs.TableLines.{Line}
 use Rattle.hx_allow.specs.LineHosts.{matches_host, any_host_matches}
 use Rattle.hx_allow.specs.Matching.{matches_method, matches_path, any_path_matches, matches_line}
 use Rattle.hx_allow.specs.Deciding.{deciding_line}
-use Rattle.hx_allow.specs.OneByOne.{line_of_one, lines_of_hosts, one_by_one, all_one_by_one, said_by}
+use Rattle.hx_allow.specs.OneByOne.{line_with_host_and_path, lines_of_hosts, one_by_one, all_one_by_one, said_by}
 use Rattle.hx_allow.specs.declared.line_hosts.LineHost.{LineHost}
 use Rattle.hx_allow.proofs.Deciding.{first_decides}
 
@@ -18,7 +18,7 @@ module _ (method : List ℕ) (target : Target) where
   decides line = matches_line line method target
 
   -- a line of one host and one path
-  one_matches : (line : Line) (host : LineHost) (path : List ℕ) → decides (line_of_one line host path) ≡ (matches_host host target.key.host && matches_method line.methods method && matches_path path target.table_path)
+  one_matches : (line : Line) (host : LineHost) (path : List ℕ) → decides (line_with_host_and_path line host path) ≡ (matches_host host target.key.host && matches_method line.methods method && matches_path path target.table_path)
   unfolding matches_line
   one_matches line host path = by_tests (matches_host host target.key.host) (matches_method line.methods method) (matches_path path target.table_path)
     where
@@ -29,14 +29,14 @@ module _ (method : List ℕ) (target : Target) where
       by_tests false b c = refl
 
   -- a host with each of some paths
-  paths_match : (line : Line) (host : LineHost) (paths : List (List ℕ)) → list_any decides (map (line_of_one line host) paths) ≡ (matches_host host target.key.host && matches_method line.methods method && any_path_matches paths target.table_path)
+  paths_match : (line : Line) (host : LineHost) (paths : List (List ℕ)) → list_any decides (map (line_with_host_and_path line host) paths) ≡ (matches_host host target.key.host && matches_method line.methods method && any_path_matches paths target.table_path)
   paths_match line host [] = sym (none (matches_host host target.key.host && matches_method line.methods method))
     where
       none : (a : Bool) → (a && false) ≡ false
       none true = refl
       none false = refl
   paths_match line host (path ∷ paths) =
-      ap (λ t. t || list_any decides (map (line_of_one line host) paths)) (one_matches line host path)
+      ap (λ t. t || list_any decides (map (line_with_host_and_path line host) paths)) (one_matches line host path)
       ∙ ap (λ t. (matches_host host target.key.host && matches_method line.methods method && matches_path path target.table_path) || t) (paths_match line host paths)
       ∙ by_test (matches_host host target.key.host && matches_method line.methods method) (matches_path path target.table_path) (any_path_matches paths target.table_path)
     where
@@ -47,7 +47,7 @@ module _ (method : List ℕ) (target : Target) where
   hosts_match : (line : Line) (hosts : List LineHost) → list_any decides (lines_of_hosts line hosts) ≡ (any_host_matches hosts target.key.host && matches_method line.methods method && any_path_matches line.paths target.table_path)
   hosts_match line [] = refl
   hosts_match line (host ∷ hosts) =
-      list_any-append decides (map (line_of_one line host) line.paths) (lines_of_hosts line hosts)
+      list_any-append decides (map (line_with_host_and_path line host) line.paths) (lines_of_hosts line hosts)
       ∙ ap (λ t. t || list_any decides (lines_of_hosts line hosts)) (paths_match line host line.paths)
       ∙ ap (λ t. (matches_host host target.key.host && matches_method line.methods method && any_path_matches line.paths target.table_path) || t) (hosts_match line hosts)
       ∙ by_test (matches_host host target.key.host) (any_host_matches hosts target.key.host) (matches_method line.methods method) (any_path_matches line.paths target.table_path)
@@ -121,11 +121,11 @@ module _ (line : Line) (P : Line → Bool) where
   abbrev Says : Option Line → Type 0
   Says o = (o ≡ None) ⊎ (option_map said_by o ≡ Some (said_by line))
 
-  said_of_paths : (host : LineHost) (paths : List (List ℕ)) (rest : List Line) → Says (find P rest) → Says (find P (map (line_of_one line host) paths ++ rest))
+  said_of_paths : (host : LineHost) (paths : List (List ℕ)) (rest : List Line) → Says (find P rest) → Says (find P (map (line_with_host_and_path line host) paths ++ rest))
   said_of_paths host [] rest says = says
-  said_of_paths host (path ∷ paths) rest says = by_test (P (line_of_one line host path)) (said_of_paths host paths rest says)
+  said_of_paths host (path ∷ paths) rest says = by_test (P (line_with_host_and_path line host path)) (said_of_paths host paths rest says)
     where
-      by_test : (b : Bool) → Says (find P (map (line_of_one line host) paths ++ rest)) → Says (cond b (Some (line_of_one line host path)) (find P (map (line_of_one line host) paths ++ rest)))
+      by_test : (b : Bool) → Says (find P (map (line_with_host_and_path line host) paths ++ rest)) → Says (cond b (Some (line_with_host_and_path line host path)) (find P (map (line_with_host_and_path line host) paths ++ rest)))
       by_test true says = inr refl
       by_test false says = says
 

@@ -3,7 +3,7 @@ use Rattle.std.proofs.Common.{◌≡◌, ◌⊎◌, ℕ, Bool, true, false, cond
 use Rattle.std.specs.Prelude.{bytes_eq, Decides, is_some, is_none, unwrap_or}
 use Rattle.std.specs.List.{list_any}
 use Rattle.std.proofs.lemmas.Slice.Eq.{bytes_eq-Decides}
-use Rattle.hx_fields.specs.declared.field_line.Field.{Field}
+use Rattle.hx_fields.specs.Line.{Field}
 use Rattle.hx_fields.specs.FieldLines.{has_field, values_of}
 use Rattle.hx_allow.specs.PurgeModes.{mode_of_values, purge_mode_of, mode_to_purge, ModeIsKnown}
 use Rattle.hx_allow.specs.Purges.{asks_for_more, is_unknown_purge_field, purge_scope_of, scope_of_values, scope_without_word}

@@ -1,7 +1,7 @@
 -- A request that is allowed goes over the line that its method and target say, and past the store by its cookies.
 use Rattle.std.proofs.Common.{◌≡◌, ℕ, Bool, true, false, cond, List, [], ◌∷◌, refl, sym, ◌∙◌, ap, subst}
 use Rattle.std.specs.Prelude.{◌&&◌}
-use Rattle.hx_fields.specs.declared.field_line.Field.{Field}
+use Rattle.hx_fields.specs.Line.{Field}
 use Rattle.hx_target.specs.declared.targets.Target.{Target}
 use Rattle.hx_allow.specs.Cookies.{has_cookie_of}
 use Rattle.hx_allow.specs.TableLines.{Table}

@@ -15,7 +15,7 @@ use Rattle.hx_allow.specs.LineTables.{is_path_byte, does_not_end_with_slash, is_
 use Rattle.hx_allow.specs.LineHosts.{any_host_matches}
 use Rattle.hx_allow.specs.Matching.{matches_method, any_path_matches, matches_line, verdict_of_line, verdict_from, verdict_of}
 use Rattle.hx_allow.specs.Tables.{BytesReadAs, version_of}
-use Rattle.hx_allow.specs.Values.{first_unknown, is_some_and, has_one_to_most, all_items, texts_with, texts_of, texts_or_one}
+use Rattle.hx_allow.specs.Values.{first_unknown, is_some_and, count_is_from_1_to, all_items, texts_with, texts_of, texts_or_one}
 use Rattle.hx_allow.specs.declared.config_faults.ConfigFault.TheVariants.{UnknownKey}
 use Rattle.hx_allow.specs.declared.rows.LineKey.TheVariants.{Path}
 use Rattle.hx_allow.specs.declared.values.Scope.TheVariants.{Line}
@@ -82,7 +82,7 @@ text_alone false false e = absurd cc
 paths_of_list : Once → (version : TableVersion) (ds : Items) → (false || (has_keys_of version Four && are_texts_of version a_path ds)) ≡ true → All IsTablePath (map table_path_of (texts_of ds))
 paths_of_list once version ds is =
     let list = and_parts (has_keys_of version Four) (are_texts_of version a_path ds) is in
-    let each = and_parts (has_one_to_most 32 ds) (all_items (λ d. is_some_and (is_text_of version a_path) (as_str d)) ds) list.1 in
+    let each = and_parts (count_is_from_1_to 32 ds) (all_items (λ d. is_some_and (is_text_of version a_path) (as_str d)) ds) list.1 in
     each_is once version ds each.1
 
 paths_are : Once → (version : TableVersion) (value : Option Data) →

@@ -8,7 +8,7 @@
 -- CookiePair: a line as it is written, for the law that it is read so
 use Rattle.std.specs.Prelude.{ℕ, ◌==◌, Bool, not, ◌&&◌, List, [], ◌∷◌, ◌++◌, codes, bytes_eq, take}
 use Rattle.std.specs.List.{list_any, list_all, prefix_len, slice_split}
-use Rattle.hx_fields.specs.declared.field_line.Field.{Field}
+use Rattle.hx_fields.specs.Line.{Field}
 use Rattle.hx_fields.specs.FieldLines.{values_of}
 use Rattle.hx_fields.specs.Names.{trimmed}
 use Rattle.hx_fields.specs.Tokens.{is_token}

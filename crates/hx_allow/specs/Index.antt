@@ -31,9 +31,9 @@ hosts_above [] = []
 hosts_above (b ∷ bytes) = if b == 46 then bytes ∷ hosts_above bytes else hosts_above bytes
 
 -- a line's host is this one, those below this one, or every host
-abbrev pub is_one : List ℕ → LineHost → Bool
-is_one host (One own) = bytes_eq own host
-is_one host _ = false
+abbrev pub names_exact_host : List ℕ → LineHost → Bool
+names_exact_host host (One own) = bytes_eq own host
+names_exact_host host _ = false
 
 abbrev pub is_below : List ℕ → LineHost → Bool
 is_below host (Below own) = bytes_eq own host
@@ -84,7 +84,7 @@ HasNoLonger longest kept = (host : List ℕ) → longest < length host → numbe
 -- lines for every host
 abbrev pub IsHostIndexOf : List Line → HostIndex → Type 0
 IsHostIndexOf lines index =
-    ((host : List ℕ) → numbers_for index.named host ≡ line_numbers_of (is_one host) lines)
+    ((host : List ℕ) → numbers_for index.named host ≡ line_numbers_of (names_exact_host host) lines)
     × ((host : List ℕ) → numbers_for index.below host ≡ line_numbers_of (is_below host) lines)
     × (index.every.items ≡ line_numbers_of is_every lines) × HasNoLonger index.longest index.below
 
@@ -95,7 +95,7 @@ with_number belongs numbers n = if belongs then numbers ++ n ∷ [] else numbers
 abbrev pub AreNoted : List LineHost → ℕ → HostIndex → HostIndex → Type 0
 AreNoted hosts n old new =
     ((host : List ℕ) → numbers_for new.named host
-    ≡ numbers_for old.named host ++ numbers_of_hosts n (is_one host) hosts)
+    ≡ numbers_for old.named host ++ numbers_of_hosts n (names_exact_host host) hosts)
     × ((host : List ℕ) → numbers_for new.below host
     ≡ numbers_for old.below host ++ numbers_of_hosts n (is_below host) hosts)
     × (new.every.items ≡ old.every.items ++ numbers_of_hosts n is_every hosts)

@@ -22,7 +22,7 @@ use Rattle.hx_allow.specs.Rows.{Kind, a_number, some_seconds, one_of, a_host, so
 use Rattle.hx_allow.specs.Rows.{some_names, one_of_in_four, one_of_three, a_purge_key, word_row}
 use Rattle.hx_allow.specs.Rows.{line_row, has_keys_of}
 use Rattle.hx_allow.specs.Rows.{line_keys, fault_of_line_key}
-use Rattle.hx_allow.specs.Values.{first_unknown, text_at, number_between, is_some_and, has_one_to_most, all_items}
+use Rattle.hx_allow.specs.Values.{first_unknown, text_at, number_between, is_some_and, count_is_from_1_to, all_items}
 use Rattle.hx_allow.specs.Values.{texts_of, texts_at, items_at}
 use Rattle.hx_allow.specs.declared.values.Scope.TheVariants.{Line}
 use Rattle.hx_allow.specs.declared.values.TableVersion.{TableVersion}
@@ -100,7 +100,7 @@ most_texts _ = 32
 -- 1 to so many of these
 abbrev pub are_texts_of : TableVersion → Kind → Items → Bool
 are_texts_of version kind ds =
-    has_one_to_most (most_texts kind) ds && all_items (λ d. is_some_and (is_text_of version kind) (as_str d)) ds
+    count_is_from_1_to (most_texts kind) ds && all_items (λ d. is_some_and (is_text_of version kind) (as_str d)) ds
 
 -- one of these, or in the fourth version a list of 1 to 32
 abbrev pub is_text_or_list : TableVersion → Kind → List ℕ → Members → Bool

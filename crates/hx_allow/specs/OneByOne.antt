@@ -8,13 +8,13 @@ use Rattle.hx_allow.specs.TableLines.{Line}
 use Rattle.hx_allow.specs.declared.line_hosts.LineHost.{LineHost}
 
 -- the line, of this host and this path alone
-abbrev pub line_of_one : Line → LineHost → List ℕ → Line
-line_of_one line host path = record line { hosts = host ∷ []; paths = path ∷ [] }
+abbrev pub line_with_host_and_path : Line → LineHost → List ℕ → Line
+line_with_host_and_path line host path = record line { hosts = host ∷ []; paths = path ∷ [] }
 
 -- of each of these hosts, in order, with each path of the line, in order
 abbrev pub lines_of_hosts : Line → List LineHost → List Line
 lines_of_hosts line [] = []
-lines_of_hosts line (host ∷ hosts) = map (line_of_one line host) line.paths ++ lines_of_hosts line hosts
+lines_of_hosts line (host ∷ hosts) = map (line_with_host_and_path line host) line.paths ++ lines_of_hosts line hosts
 
 abbrev pub one_by_one : Line → List Line
 one_by_one line = lines_of_hosts line line.hosts

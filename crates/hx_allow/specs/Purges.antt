@@ -8,7 +8,7 @@ use Rattle.std.specs.Prelude.{codes}
 use Rattle.std.specs.Prelude.{bytes_eq, slice_index, Option, Some, None, is_none, unwrap_or, option_map, if◌then◌else◌}
 use Rattle.std.specs.List.{list_any, list_all}
 use Rattle.std.specs.Char.{is_ascii_uppercase, is_ascii_lowercase, is_ascii_digit}
-use Rattle.hx_fields.specs.declared.field_line.Field.{Field}
+use Rattle.hx_fields.specs.Line.{Field}
 use Rattle.hx_fields.specs.FieldLines.{has_field, is_named, values_of}
 use Rattle.hx_fields.specs.Names.{is_same_name, cut_at}
 use Rattle.hx_target.specs.declared.keys.Key.{Key}

@@ -1,7 +1,7 @@
 -- What is within the scope of a purge, and which orders of a purge are known, in words.
 use Rattle.std.specs.Prelude.{◌≡◌, ◌⊎◌, ℕ, Bool, true, false, List, [], ◌∷◌, ◌++◌, codes, is_some}
 use Rattle.std.specs.List.{list_any}
-use Rattle.hx_fields.specs.declared.field_line.Field.{Field}
+use Rattle.hx_fields.specs.Line.{Field}
 use Rattle.hx_fields.specs.FieldLines.{values_of}
 use Rattle.hx_target.specs.declared.keys.Key.{Key}
 use Rattle.hx_allow.specs.PurgeModes.{ModeIsKnown}

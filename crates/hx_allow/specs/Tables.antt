@@ -15,7 +15,7 @@ use Rattle.toml.specs.Parse.{parse_document}
 use Rattle.hx_allow.specs.TableLines.{Table}
 use Rattle.hx_allow.specs.LineTables.{lines_fault, lines_read}
 use Rattle.hx_allow.specs.Rows.{number_row, top_keys, fault_of_top_key}
-use Rattle.hx_allow.specs.Values.{first_unknown, text_at, number_in, is_some_and, has_one_to_most, all_items}
+use Rattle.hx_allow.specs.Values.{first_unknown, text_at, number_in, is_some_and, count_is_from_1_to, all_items}
 use Rattle.hx_allow.specs.Values.{items_at}
 use Rattle.hx_allow.specs.declared.values.Scope.TheVariants.{Top}
 use Rattle.hx_allow.specs.declared.values.TableVersion.{TableVersion}
@@ -53,7 +53,7 @@ version_of t =
 
 -- an array of tables, of as many as the version has
 abbrev pub are_lines : TableVersion → Items → Bool
-are_lines version ds = has_one_to_most (line_limit version) ds && all_items (λ d. is_some (as_table d)) ds
+are_lines version ds = count_is_from_1_to (line_limit version) ds && all_items (λ d. is_some (as_table d)) ds
 
 abbrev pub items_if_lines : TableVersion → Items → Option Items
 items_if_lines version ds = if are_lines version ds then Some ds else None

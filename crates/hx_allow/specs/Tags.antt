@@ -1,12 +1,12 @@
 -- The tags that a response names, and the one that a request to purge asks for.
 --
 -- tags_of, names_tag: of a response          is_tag, purge_tag_of, tag_to_purge: of a request
--- left_behind, left_behind_lines: how many more may be looked at
+-- comparisons_left, comparisons_left_after_lines: how many more may be looked at
 use Rattle.std.specs.Prelude.{ℕ, ◌==◌, ◌-◌, nat_lt, Bool, true, not, ◌&&◌, ◌||◌, List, [], ◌∷◌, length, codes, bytes_eq}
 use Rattle.std.specs.Prelude.{Option, Some, None, unwrap_or, if◌then◌else◌}
 use Rattle.std.specs.List.{list_any, list_all}
 use Rattle.std.specs.Option.{option_and_then}
-use Rattle.hx_fields.specs.declared.field_line.Field.{Field}
+use Rattle.hx_fields.specs.Line.{Field}
 use Rattle.hx_fields.specs.FieldLines.{is_named, values_of, members_of}
 use Rattle.hx_fields.specs.Names.{is_blank, comma, members_of_value}
 
@@ -51,16 +51,16 @@ tag_to_purge fields = unwrap_or (purge_tag_of fields) None
 -- ---- one member after the other
 
 -- how many more may be looked at behind these, unless one of them is the tag or they are too many
-abbrev pub left_behind : List ℕ → ℕ → List (List ℕ) → Option ℕ
-left_behind tag left [] = Some left
-left_behind tag left (member ∷ members) =
-    if (left == 0) || bytes_eq tag member then None else left_behind tag (left - 1) members
+abbrev pub comparisons_left : List ℕ → ℕ → List (List ℕ) → Option ℕ
+comparisons_left tag left [] = Some left
+comparisons_left tag left (member ∷ members) =
+    if (left == 0) || bytes_eq tag member then None else comparisons_left tag (left - 1) members
 
 -- the same of lines
-abbrev pub left_behind_lines : List ℕ → ℕ → List Field → Option ℕ
-left_behind_lines tag left [] = Some left
-left_behind_lines tag left (field ∷ fields) =
+abbrev pub comparisons_left_after_lines : List ℕ → ℕ → List Field → Option ℕ
+comparisons_left_after_lines tag left [] = Some left
+comparisons_left_after_lines tag left (field ∷ fields) =
     if is_named (codes "Cache-Tag") field
-    then option_and_then (λ still. left_behind_lines tag still fields) (left_behind tag left
+    then option_and_then (λ still. comparisons_left_after_lines tag still fields) (comparisons_left tag left
     (members_of_value field.value))
-    else left_behind_lines tag left fields
+    else comparisons_left_after_lines tag left fields

@@ -52,8 +52,8 @@ abbrev pub all_items : (Data → Bool) → Items → Bool
 all_items test no_items = true
 all_items test (item d ds) = test d && all_items test ds
 
-abbrev pub has_one_to_most : ℕ → Items → Bool
-has_one_to_most most ds = nat_le 1 (item_count ds) && nat_le (item_count ds) most
+abbrev pub count_is_from_1_to : ℕ → Items → Bool
+count_is_from_1_to most ds = nat_le 1 (item_count ds) && nat_le (item_count ds) most
 
 abbrev pub texts_with : Option (List ℕ) → List (List ℕ) → List (List ℕ)
 texts_with None texts = texts

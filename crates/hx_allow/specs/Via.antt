@@ -9,7 +9,7 @@
 use Rattle.std.specs.Prelude.{ℕ, ◌+◌, ◌-◌, ◌==◌, nat_le, Bool, true, false, not, ◌&&◌, ◌||◌, if◌then◌else◌, List, []}
 use Rattle.std.specs.Prelude.{◌∷◌, ◌++◌, codes, take, drop, map, sum, count_by, Option, Some, None}
 use Rattle.std.specs.List.{prefix_len, list_all}
-use Rattle.hx_fields.specs.declared.field_line.Field.{Field}
+use Rattle.hx_fields.specs.Line.{Field}
 use Rattle.hx_fields.specs.FieldLines.{values_of}
 use Rattle.hx_fields.specs.Names.{is_same_name, is_blank, comma, quote, backslash, piece_with_byte, is_nonempty}
 use Rattle.hx_fields.specs.Tokens.{is_token_byte}

@@ -2,7 +2,7 @@
 //! empty.
 ghost use Rattle.std.specs.Prelude.{◌≡◌, ◌||◌, ◌++◌, ◌∷◌, List, [], ℕ, true, bytes_eq};
 ghost use Rattle.std.specs.List.{list_any, list_all};
-ghost use Rattle.hx_fields.specs.declared.field_line.Field.{Field};
+ghost use Rattle.hx_fields.specs.Line.{Field};
 ghost use Rattle.hx_target.specs.declared.targets.Target.{Target};
 ghost use Rattle.hx_allow.specs.Cookies.{has_cookie_of, line_has_cookie_of, CookiePair, is_cookie_pair};
 ghost use Rattle.hx_allow.specs.Cookies.{cookie_line_text};

@@ -53,9 +53,7 @@ pub(crate) fn has_cookie_of(names: &[Bytes], fields: &[Field]) -> bool
         return false;
     }
     for line in fields {
-        if is_same_name(line.name.as_slice(), b"Cookie")
-            && line_has_cookie_of(names, line.value.as_slice())
-        {
+        if is_same_name(line.name(), b"Cookie") && line_has_cookie_of(names, line.value()) {
             return true;
         }
     }

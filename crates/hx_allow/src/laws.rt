@@ -38,10 +38,10 @@ pub use crate::fault_text_cases::{
 };
 pub use crate::line_word_cases::{
     a_table_with_a_lifetime_of_errors_is_read, a_table_with_words_is_read,
-    worked_conditions_of_versions, worked_cookies_of_responses_in_versions,
-    worked_cookies_of_versions, worked_keys_of_words, worked_lifetimes_of_versions,
-    worked_places_of_words, worked_policies_of_words, worked_seconds_of_a_line,
-    worked_staleness_meanwhile_of_versions, worked_texts_of_a_line,
+    worked_conditions_by_version, worked_cookies_by_version,
+    worked_cookies_of_responses_by_version, worked_error_lifetimes_by_version,
+    worked_keys_of_words, worked_places_of_words, worked_policies_of_words,
+    worked_seconds_of_a_line, worked_stale_while_revalidate_by_version, worked_texts_of_a_line,
 };
 pub use crate::list_cases::{
     faults_of_lists, hosts_of_each_version, lines_with_lists_decide, worked_lines_with_lists,
@@ -69,7 +69,7 @@ pub use crate::purge_laws::{
 pub use crate::table_cases::{
     a_table_has_1_to_256_lines, faults_of_a_line_in_order, faults_of_a_store_bound,
     faults_of_a_table_in_order, lines_in_their_order, missing_keys_of_a_line,
-    which_faults_take_memory, worked_cache_of_a_line, worked_faults_of_texts, worked_lines,
+    worked_cache_of_a_line, worked_faults_of_texts, worked_faults_that_allocate, worked_lines,
     worked_spellings_of_lines, worked_store_bounds, worked_tables, worked_versions_of_tables,
 };
 pub use crate::table_laws::{

@@ -36,7 +36,7 @@ use crate::purges::is_purge_key;
 use crate::rows::{Kind, LINE_KEYS, LineKey, Place, Row};
 use crate::values::TableVersion::Four;
 use crate::values::{
-    Scope, TableVersion, array_at, first_unknown, has_one_to_most, number_between, text_at,
+    Scope, TableVersion, array_at, count_is_from_1_to, first_unknown, number_between, text_at,
     value_at,
 };
 use hx_fields::{Bytes, is_token};
@@ -168,7 +168,7 @@ fn most_texts(kind: Kind) -> usize
 fn are_texts_of(version: TableVersion, kind: Kind, values: &[Value]) -> bool
     ensures { result ≡ are_texts_of version (plain_kind kind) (items_view values.now) }
 {
-    if !has_one_to_most(most_texts(kind), values) {
+    if !count_is_from_1_to(most_texts(kind), values) {
         return false;
     }
     for value in values {

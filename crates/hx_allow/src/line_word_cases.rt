@@ -191,7 +191,7 @@ pub fn worked_texts_of_a_line()
         ≡ Some (BadWord 1 RequestDirectives) }
 {}
 
-/// A line that denies or has its cache off takes no word. The words are looked at in the table's order, behind `cache`.
+/// A line that denies or has its cache off takes no word. The words are looked at in the table's order, after `cache`.
 #[tactic(auto, unfolding(crate::specs::LineTables::line_fault, crate::specs::LineTables::is_line_host, crate::specs::LineTables::is_line_method, crate::specs::LineTables::is_line_path, crate::specs::Addresses::address_of, hx_target::specs::Hosts::is_host, hx_target::specs::Hosts::short_number, hx_target::specs::Paths::has_dot_segment))]
 pub fn worked_places_of_words()
     ensures denying { line_fault Three 2 (denying_line_table_with (key_with_number (codes "lifetime") 60 ∷ [])) ≡ Some
@@ -299,7 +299,7 @@ pub fn worked_policies_of_words()
 
 /// In the fourth version errors have a lifetime of their own, or none; in the third they have that of all others.
 #[tactic(auto, unfolding(crate::specs::LineTables::line_read))]
-pub fn worked_lifetimes_of_versions()
+pub fn worked_error_lifetimes_by_version()
     ensures none { (line_read Four (line_table_with_keys [])).policy ≡ plain_of_four }
     ensures lifetime { (line_read Four (line_table_with_keys (key_with_number (codes "lifetime") 60 ∷ []))).policy
         ≡ record plain_of_four { lifetime = Some 60 } }
@@ -322,7 +322,7 @@ pub fn worked_lifetimes_of_versions()
 /// In the fourth version the conditions of clients stay with the proxy, unless the line says else, denies or has its
 /// cache off; in the third they are the origin's.
 #[tactic(auto, unfolding(crate::specs::LineTables::line_read))]
-pub fn worked_conditions_of_versions()
+pub fn worked_conditions_by_version()
     ensures of_three { (line_read Three (line_table_with_keys [])).policy.forwards_conditions ≡ true }
     ensures of_four { (line_read Four (line_table_with_keys [])).policy.forwards_conditions ≡ false }
     ensures answered { (line_read Four (line_table_with_keys (key_with_text (codes "conditions") (codes "answered") ∷ []))).policy
@@ -337,7 +337,7 @@ pub fn worked_conditions_of_versions()
 /// In the fourth version a line gives its lifetimes to no request with a cookie, unless it says else, denies or has its
 /// cache off; in the third it gives them to each.
 #[tactic(auto, unfolding(crate::specs::LineTables::line_read))]
-pub fn worked_cookies_of_versions()
+pub fn worked_cookies_by_version()
     ensures of_three { (line_read Three
         (line_table_with_keys (key_with_number (codes "lifetime") 60 ∷ []))).policy.gives_to_cookies ≡ true }
     ensures of_four { (line_read Four
@@ -354,7 +354,7 @@ pub fn worked_cookies_of_versions()
 /// In the fourth version a line gives its lifetimes to no response with Set-Cookie, unless it says what becomes of
 /// those, denies or has its cache off; in the third it gives them to each. Only the fourth has `removed`.
 #[tactic(auto, unfolding(crate::specs::LineTables::line_read))]
-pub fn worked_cookies_of_responses_in_versions()
+pub fn worked_cookies_of_responses_by_version()
     ensures of_three { (line_read Three
         (line_table_with_keys (key_with_number (codes "lifetime") 60 ∷ []))).policy.gives_to_set_cookie ≡ true }
     ensures of_four { (line_read Four
@@ -375,7 +375,7 @@ pub fn worked_cookies_of_responses_in_versions()
 /// In the fourth version a line that lets others wait for what is stale sends it while it is validated, for as long as
 /// it or the line says; in the third it doesn't.
 #[tactic(auto, unfolding(crate::specs::LineTables::line_read))]
-pub fn worked_staleness_meanwhile_of_versions()
+pub fn worked_stale_while_revalidate_by_version()
     ensures of_three { (line_read Three (line_table_with_keys (key_with_text (codes "wait") (codes "missing-or-stale")
         ∷ []))).policy.sends_while_revalidating ≡ false }
     ensures of_four { (line_read Four (line_table_with_keys (key_with_text (codes "wait") (codes "missing-or-stale") ∷ []))).policy

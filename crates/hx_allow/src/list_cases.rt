@@ -7,7 +7,7 @@ ghost use Rattle.hx_policy.specs.Policies.{plain_with_tags};
 ghost use Rattle.hx_allow.specs.Examples.{line_table_of, list_of_texts, lines_with_lists, line_with_lists};
 ghost use Rattle.hx_allow.specs.Examples.{line_with_method, origin_8081};
 ghost use Rattle.hx_allow.specs.Examples.{repeated_value, array_of_values, target_for_path};
-ghost use Rattle.hx_allow.specs.Index.{hosts_above, is_one, is_below, is_every, line_numbers_of};
+ghost use Rattle.hx_allow.specs.Index.{hosts_above, names_exact_host, is_below, is_every, line_numbers_of};
 ghost use Rattle.hx_allow.specs.LineHosts.{line_host_of, matches_host};
 ghost use Rattle.hx_allow.specs.LineTables.{is_line_host, line_fault, line_read};
 ghost use Rattle.hx_allow.specs.Matching.{verdict_of, over_line};
@@ -151,10 +151,10 @@ pub fn lines_with_lists_decide()
         ≡ Allowed (over_line 3) }
     ensures connect { verdict_of lines_with_lists (codes "CONNECT") (target_for_path (codes "a") (codes "/p"))
         ≡ NoLine }
-    ensures named { line_numbers_of (is_one (codes "b")) lines_with_lists ≡ 1 ∷ [] }
+    ensures named { line_numbers_of (names_exact_host (codes "b")) lines_with_lists ≡ 1 ∷ [] }
     ensures named_below { line_numbers_of (is_below (codes "c")) lines_with_lists ≡ 1 ∷ 2 ∷ [] }
     ensures every { line_numbers_of is_every lines_with_lists ≡ 3 ∷ [] }
-    ensures twice { line_numbers_of (is_one (codes "a"))
+    ensures twice { line_numbers_of (names_exact_host (codes "a"))
         (line_with_lists (OneHost (codes "a") ∷ OneHost (codes "a") ∷ []) (codes "/" ∷ []) None ∷ [])
         ≡ 1 ∷ 1 ∷ [] }
 {}

@@ -2,7 +2,7 @@
 ghost use Rattle.std.specs.Prelude.{◌≡◌, ◌≤◌, ◌+◌, ◌++◌, ◌∷◌, ℕ, List, true, false, not, codes, count_by, Ok};
 ghost use Rattle.std.specs.List.{list_all};
 ghost use Rattle.toml.specs.Data.{Members};
-ghost use Rattle.hx_fields.specs.declared.field_line.Field.{Field};
+ghost use Rattle.hx_fields.specs.Line.{Field};
 ghost use Rattle.hx_fields.specs.Names.{is_same_name};
 ghost use Rattle.hx_target.specs.declared.targets.Target.{Target};
 ghost use Rattle.hx_allow.specs.TableLines.{Table};

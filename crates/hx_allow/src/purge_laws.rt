@@ -2,7 +2,7 @@
 ghost use Rattle.std.specs.Prelude.{Decides, ◌≡◌, ◌&&◌, ◌||◌, ◌++◌, ℕ, List, true, false, not, Some, None, Ok};
 ghost use Rattle.std.specs.List.{All};
 ghost use Rattle.toml.specs.Data.{Members};
-ghost use Rattle.hx_fields.specs.declared.field_line.Field.{Field};
+ghost use Rattle.hx_fields.specs.Line.{Field};
 ghost use Rattle.hx_target.specs.declared.keys.Key.{Key};
 ghost use Rattle.hx_target.specs.declared.targets.Target.{Target as Aim};
 ghost use Rattle.hx_allow.specs.TableLines.{Table};

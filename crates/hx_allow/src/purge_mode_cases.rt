@@ -1,7 +1,7 @@
 //! What a purge does with what it takes, and by which of its lines: each function's contract is a law or worked cases,
 //! and its body is empty.
 ghost use Rattle.std.specs.Prelude.{Decides, ◌≡◌, ◌∷◌, [], List, true, false, not, None, Some, codes, is_some};
-ghost use Rattle.hx_fields.specs.declared.field_line.Field.{Field};
+ghost use Rattle.hx_fields.specs.Line.{Field};
 ghost use Rattle.hx_fields.specs.Examples.{line};
 ghost use Rattle.hx_fields.specs.FieldLines.{has_field, values_of};
 ghost use Rattle.hx_allow.specs.PurgeModes.{purge_mode_of, mode_to_purge, ModeIsKnown};

@@ -64,9 +64,7 @@ fn shows_key(key: &[u8], fields: &[Field]) -> bool
     ensures { result ≡ shows_key key.now fields.now }
 {
     for line in fields {
-        if is_same_name(line.name.as_slice(), b"Purge-Key")
-            && is_same_secret(key, line.value.as_slice())
-        {
+        if is_same_name(line.name(), b"Purge-Key") && is_same_secret(key, line.value()) {
             return true;
         }
     }
@@ -130,7 +128,7 @@ fn begins_with_purge(name: &[u8]) -> bool
 fn is_unknown_purge_field(field: &Field) -> bool
     ensures { result ≡ is_unknown_purge_field field.now }
 {
-    let name = field.name.as_slice();
+    let name = field.name();
     begins_with_purge(name)
         && !(is_same_name(name, b"Purge-Key")
             || is_same_name(name, b"Purge-Scope")

@@ -61,7 +61,7 @@ pub fn worked_words_on_ranges()
 /// In the fourth version ranges are cut from what is stored, unless the line says else, denies or has its cache off; in
 /// the third they are the origin's. They are filled where the line says that.
 #[tactic(auto, unfolding(crate::specs::LineTables::line_read))]
-pub fn worked_ranges_of_versions()
+pub fn worked_ranges_by_version()
     ensures of_three { (line_read Three (line_table_with_keys [])).policy.forwards_ranges ≡ true }
     ensures of_four { (line_read Four (line_table_with_keys [])).policy.forwards_ranges ≡ false }
     ensures served { (line_read Four (line_table_with_keys (key_with_text (codes "ranges") (codes "served") ∷ []))).policy

@@ -73,7 +73,7 @@ pub fn missing_keys_of_a_line()
 {}
 
 /// `cache` in a line: two words, in the second version, and not in a line that denies. It is looked
-/// at behind the origin.
+/// at after the origin.
 #[tactic(auto, unfolding(crate::specs::LineTables::line_fault, crate::specs::LineTables::is_line_host, crate::specs::LineTables::is_line_method, crate::specs::LineTables::is_line_path, crate::specs::Addresses::address_of, hx_target::specs::Hosts::is_host, hx_target::specs::Hosts::short_number, hx_target::specs::Paths::has_dot_segment))]
 pub fn worked_cache_of_a_line()
     ensures on { line_fault Two 1 (line_table_with_keys (key_with_text (codes "cache") (codes "on") ∷ [])) ≡ None }
@@ -233,8 +233,8 @@ pub fn worked_tables()
         }) }
 {}
 
-/// The bound of the store's bytes: a key of version 4, which needn't stand. It is looked at behind `max_stored` and in
-/// front of the lines.
+/// The bound of the store's bytes: a key of version 4, which needn't stand. It is looked at after `max_stored` and
+/// before the lines.
 #[tactic(auto, unfolding(crate::specs::Tables::judge_table, crate::specs::Tables::table_fault, crate::specs::Tables::is_name, crate::specs::LineTables::line_fault, crate::specs::LineTables::is_line_host, crate::specs::LineTables::is_line_method, crate::specs::LineTables::is_line_path, crate::specs::Addresses::address_of, hx_target::specs::Hosts::is_host, hx_target::specs::Hosts::short_number, hx_target::specs::Paths::has_dot_segment))]
 pub fn faults_of_a_store_bound()
     ensures below { judge_table (bounded_table 4 1000 (integer (pos 65535)) no_items) ≡ Err (BadNumber MaxStore) }
@@ -289,8 +289,8 @@ pub fn worked_store_bounds()
         }) }
 {}
 
-/// Memory is taken before a fault is told for the bytes of a key alone.
-pub fn which_faults_take_memory()
+/// Of the faults, that of an unknown key alone allocates, for the bytes of the key, before it is told.
+pub fn worked_faults_that_allocate()
     ensures none { is_out_of_memory None ≡ true }
     ensures unknown { is_out_of_memory (Some (UnknownKey [])) ≡ true }
     ensures name { is_out_of_memory (Some BadName) ≡ false }

@@ -18,7 +18,7 @@ use crate::limits::MOST_LINES;
 use crate::line_tables::{lines_fault, lines_read};
 use crate::rows::{TOP_KEYS, TopKey};
 use crate::values::{
-    Scope, TableVersion, array_at, first_unknown, has_one_to_most, number_in, text_at, value_at,
+    Scope, TableVersion, array_at, count_is_from_1_to, first_unknown, number_in, text_at, value_at,
 };
 use crate::{Config, ConfigFault, NumberKey};
 use hx_fields::Bytes;
@@ -90,7 +90,7 @@ fn are_lines(version: TableVersion, values: &[Value]) -> bool
     ensures lines { result ≡ are_lines version (items_view values.now) }
     ensures few { result ≡ true → length values.now ≤ 4096 }
 {
-    if !has_one_to_most(line_limit(version), values) {
+    if !count_is_from_1_to(line_limit(version), values) {
         return false;
     }
     for value in values {

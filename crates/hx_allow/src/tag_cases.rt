@@ -3,7 +3,7 @@
 ghost use Rattle.std.specs.Prelude.{Decides, ◌≡◌, ◌⊎◌, ◌<◌, ◌∷◌, ◌++◌, [], List, ℕ, true, false, None, Some, codes};
 ghost use Rattle.std.specs.Prelude.{length};
 ghost use Rattle.std.specs.List.{Contains};
-ghost use Rattle.hx_fields.specs.declared.field_line.Field.{Field};
+ghost use Rattle.hx_fields.specs.Line.{Field};
 ghost use Rattle.hx_fields.specs.Examples.{line};
 ghost use Rattle.hx_allow.specs.Examples.{seven_tags_and_a_comma};
 ghost use Rattle.hx_allow.specs.Tags.{is_tag, names_tag, names_tag_if_any, tag_to_purge, tags_of};

@@ -1,10 +1,10 @@
-//! The tags that a response names, and the one that a request to purge asks for. No function here takes memory.
+//! The tags that a response names, and the one that a request to purge asks for. No function here allocates.
 ghost use Rattle.std.specs.Prelude.{◌≡◌, ◌==◌, ◌||◌, not, length, is_some};
 ghost use Rattle.std.specs.List.{list_all};
 ghost use Rattle.std.specs.Option.{option_copied};
 ghost use Rattle.hx_fields.specs.Names.{is_blank, members_of_value};
 ghost use Rattle.hx_allow.specs.Tags.{is_tag, purge_tag_of, tag_to_purge};
-ghost use Rattle.hx_allow.specs.Tags.{left_behind, left_behind_lines, names_tag};
+ghost use Rattle.hx_allow.specs.Tags.{comparisons_left, comparisons_left_after_lines, names_tag};
 
 use hx_fields::{Field, Fields, is_same_name, next_member};
 
@@ -50,10 +50,10 @@ pub fn tag_to_purge(fields: &Fields) -> Option<&[u8]>
     }
 }
 
-/// How many more members may be looked at behind those of this value, unless one of them is the tag or they are too
+/// How many more members may be looked at after those of this value, unless one of them is the tag or they are too
 /// many.
-fn left_behind(tag: &[u8], value: &[u8], left: usize) -> Option<usize>
-    ensures { result ≡ left_behind tag.now left (members_of_value value.now) }
+fn comparisons_left(tag: &[u8], value: &[u8], left: usize) -> Option<usize>
+    ensures { result ≡ comparisons_left tag.now left (members_of_value value.now) }
 {
     let mut rest = value;
     let mut left = left;
@@ -67,13 +67,13 @@ fn left_behind(tag: &[u8], value: &[u8], left: usize) -> Option<usize>
     Some(left)
 }
 
-fn left_behind_lines(tag: &[u8], fields: &[Field]) -> Option<usize>
-    ensures { result ≡ left_behind_lines tag.now 64 fields.now }
+fn comparisons_left_after_lines(tag: &[u8], fields: &[Field]) -> Option<usize>
+    ensures { result ≡ comparisons_left_after_lines tag.now 64 fields.now }
 {
     let mut left = MOST_TAGS;
     for line in fields {
-        if is_same_name(line.name.as_slice(), b"Cache-Tag") {
-            left = left_behind(tag, line.value.as_slice(), left)?;
+        if is_same_name(line.name(), b"Cache-Tag") {
+            left = comparisons_left(tag, line.value(), left)?;
         }
     }
     Some(left)
@@ -83,5 +83,5 @@ fn left_behind_lines(tag: &[u8], fields: &[Field]) -> Option<usize>
 pub fn names_tag(tag: &[u8], fields: &Fields) -> bool
     ensures { result ≡ names_tag tag.now fields.now }
 {
-    left_behind_lines(tag, fields.as_slice()).is_none()
+    comparisons_left_after_lines(tag, fields.as_slice()).is_none()
 }

@@ -7,7 +7,7 @@ ghost use Rattle.toml.specs.Data.{get_member};
 ghost use Rattle.toml.specs.View.{table_view, array_view, items_view, view};
 ghost use Rattle.hx_allow.specs.Rows.{plain_row, plain_kind, greatest_number};
 ghost use Rattle.hx_allow.specs.Values.{is_known, is_key_of, first_unknown, text_at, items_at};
-ghost use Rattle.hx_allow.specs.Values.{number_between, number_in, has_one_to_most};
+ghost use Rattle.hx_allow.specs.Values.{number_between, number_in, count_is_from_1_to};
 
 use crate::rows::{LINE_KEYS, Row, TOP_KEYS};
 use toml::value::Array;
@@ -155,8 +155,8 @@ pub(crate) fn seconds_in(row: Row, table: &Table) -> Option<u32>
 
 /// Whether there are 1 to `most` values.
 #[tactic(auto, using(crate::proofs::Items::item_count_view))]
-pub fn has_one_to_most(most: usize, values: &[Value]) -> bool
-    ensures within { result ≡ has_one_to_most most (items_view values.now) }
+pub fn count_is_from_1_to(most: usize, values: &[Value]) -> bool
+    ensures within { result ≡ count_is_from_1_to most (items_view values.now) }
     ensures few { result ≡ true → length values.now ≤ most }
 {
     1 <= values.len() && values.len() <= most

@@ -154,8 +154,8 @@ fn is_named(name: &[u8], fields: &[Field], least: usize) -> bool
 {
     let mut found = 0;
     for line in fields {
-        if is_same_name(line.name.as_slice(), b"Via") {
-            found += times_named_in(name, line.value.as_slice());
+        if is_same_name(line.name(), b"Via") {
+            found += times_named_in(name, line.value());
             if found >= least {
                 return true;
             }

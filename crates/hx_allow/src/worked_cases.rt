@@ -8,7 +8,7 @@ ghost use Rattle.hx_allow.specs.Examples.{target_for_path, repeated_byte, first_
 ghost use Rattle.hx_allow.specs.Examples.{line_without_cache, repeated_value};
 ghost use Rattle.hx_allow.specs.Examples.{key_with_number, array_of_values, table_of_pairs, origin_8081};
 ghost use Rattle.hx_allow.specs.Examples.{line_with_method, several_lines, key_with_text};
-ghost use Rattle.hx_allow.specs.Index.{is_one, is_every, line_numbers_of, verdict_among};
+ghost use Rattle.hx_allow.specs.Index.{names_exact_host, is_every, line_numbers_of, verdict_among};
 ghost use Rattle.hx_allow.specs.Keys.{fault_number, key_text};
 ghost use Rattle.hx_allow.specs.LineHosts.{matches_host};
 ghost use Rattle.hx_allow.specs.LineTables.{are_texts_of, is_line_host, is_line_method, is_line_origin};
@@ -365,8 +365,8 @@ pub fn lines_of_a_host_decide()
     ensures behind_it { verdict_of indexed_lines (codes "POST") (target_for_path (codes "x") (codes "/"))
         ≡ Allowed (over_line 3) }
     ensures other_host { verdict_of indexed_lines (codes "POST") (target_for_path (codes "y") (codes "/")) ≡ NoLine }
-    ensures numbers { line_numbers_of (is_one (codes "x")) indexed_lines ≡ 1 ∷ 3 ∷ [] }
-    ensures numbers_of_others { line_numbers_of (is_one (codes "y")) indexed_lines ≡ [] }
+    ensures numbers { line_numbers_of (names_exact_host (codes "x")) indexed_lines ≡ 1 ∷ 3 ∷ [] }
+    ensures numbers_of_others { line_numbers_of (names_exact_host (codes "y")) indexed_lines ≡ [] }
     ensures numbers_for_every_host { line_numbers_of is_every indexed_lines ≡ 2 ∷ [] }
     ensures among { verdict_among indexed_lines (1 ∷ 2 ∷ 3 ∷ []) (codes "POST") (codes "/") NoLine ≡ Allowed (over_line 3) }
     ensures among_others { verdict_among indexed_lines (2 ∷ []) (codes "POST") (codes "/") NoLine ≡ NoLine }

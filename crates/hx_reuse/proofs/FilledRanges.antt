@@ -4,7 +4,7 @@ use Rattle.std.specs.Prelude.{ℕ, not, ◌&&◌, ◌||◌, bytes_eq, filter, ma
 use Rattle.std.specs.List.{list_any}
 use Rattle.std.specs.Str.{str_to_ascii_lowercase}
 use Rattle.std.proofs.lemmas.Slice.Eq.{bytes_eq-Decides}
-use Rattle.hx_fields.specs.declared.field_line.Field.{Field}
+use Rattle.hx_fields.specs.Line.{Field}
 use Rattle.hx_fields.specs.FieldLines.{has_field, is_named, values_of, without_named}
 use Rattle.hx_fields.specs.Names.{is_same_name}
 use Rattle.hx_hop.specs.declared.request_view.Asked.{Asked}

@@ -41,13 +41,13 @@ module _ (policy : Policy) (held : List Stored) (asked : Asked) (now : ℕ) wher
   unfolding reuse_rule_of
   rule_is_least rule h =
       record {
-        it_applies = passes reuse_rule_number (λ r. reuse_rule_applies r policy held asked now) reuse_rules rule h;
+        rule_applies = passes reuse_rule_number (λ r. reuse_rule_applies r policy held asked now) reuse_rules rule h;
         none_before = λ r l. fails_before reuse_rule_number (λ r. reuse_rule_applies r policy held asked now) 0 reuse_rules rule r in_order h (listed r) l;
       }
 
   pub least_is_rule : (rule : ReuseRule) → IsLeastReuseRule policy held asked now rule → reuse_rule_of policy held asked now ≡ Some rule
   unfolding reuse_rule_of
-  least_is_rule rule least = first_found reuse_rule_number (λ r. reuse_rule_applies r policy held asked now) 0 reuse_rules rule in_order (listed rule) least.it_applies least.none_before
+  least_is_rule rule least = first_found reuse_rule_number (λ r. reuse_rule_applies r policy held asked now) 0 reuse_rules rule in_order (listed rule) least.rule_applies least.none_before
 
   pub no_rule_applies : reuse_rule_of policy held asked now ≡ None → (rule : ReuseRule) → reuse_rule_applies rule policy held asked now ≡ false
   unfolding reuse_rule_of

@@ -113,7 +113,7 @@ module _ (policy : Policy) (held : List Stored) (asked : Asked) (now : ℕ) wher
   names_the_least rule named h =
       let r = forward_of (reuse_rule_of policy held asked now) (option_map (λ e. e.serial) (chosen_of held asked)) rule named h in
       let least = rule_is_least policy held asked now rule r.0 in
-      (least, names_the_response rule named least.it_applies (named_by rule (option_map (λ e. e.serial) (chosen_of held asked)) named (names_chosen rule) refl r.1))
+      (least, names_the_response rule named least.rule_applies (named_by rule (option_map (λ e. e.serial) (chosen_of held asked)) named (names_chosen rule) refl r.1))
 
   pub forwards : (rule : ReuseRule) → IsLeastReuseRule policy held asked now rule → (named : Option ℕ) × (decision_of policy held asked now ≡ Forward rule named)
   unfolding decision_of

@@ -47,14 +47,14 @@ module _ (policy : Policy) (response : Stored) (request : List Occurrence) (now 
   pub least_on_error : (least : ErrorRule) → error_rule_on policy response request now ≡ Some least → IsLeastErrorRule policy response request now least
   unfolding error_rule_on
   least_on_error least h = record {
-    it_applies = passes error_rule_number (λ r. error_rule_condition r here) error_rules least h;
+    rule_applies = passes error_rule_number (λ r. error_rule_condition r here) error_rules least h;
     none_before = λ r l. fails_before error_rule_number (λ r. error_rule_condition r here) 0 error_rules least r in_order h (listed r) l;
   }
 
   pub named_on_error : (least : ErrorRule) → IsLeastErrorRule policy response request now least → error_rule_on policy response request now ≡ Some least
   unfolding error_rule_on
   named_on_error least is =
-      first_found error_rule_number (λ r. error_rule_condition r here) 0 error_rules least in_order (listed least) is.it_applies is.none_before
+      first_found error_rule_number (λ r. error_rule_condition r here) 0 error_rules least in_order (listed least) is.rule_applies is.none_before
 
   none_on_error : error_rule_on policy response request now ≡ None → (rule : ErrorRule) → error_rule_condition rule here ≡ false
   unfolding error_rule_on

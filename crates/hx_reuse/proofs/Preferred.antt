@@ -7,7 +7,7 @@ use Rattle.hx_vary.specs.Vary.{vary_matches}
 use Rattle.hx_hop.specs.declared.request_view.Asked.{Asked}
 use Rattle.hx_store.specs.Stored.{Stored}
 use Rattle.hx_target.specs.Keys.{same_key}
-use Rattle.hx_fields.specs.declared.field_line.Field.{Field}
+use Rattle.hx_fields.specs.Line.{Field}
 use Rattle.hx_store.specs.Serials.{Distinct}
 use Rattle.hx_store.specs.Shelf.{find_entry, entry_matches, matching_serials, serials as serials_held, serials_of}
 use Rattle.hx_reuse.specs.Chosen.{entries_of_key, nominates, is_more_recent, is_preferred, preferred_of, most_preferred, chosen_of}

@@ -1,7 +1,7 @@
 -- The requests and stored responses that the laws of worked cases speak of.
 use Rattle.std.specs.Prelude.{ℕ, List, [], ◌∷◌, codes, None, Some, true, false}
 use Rattle.hx_fields.specs.Examples.{line}
-use Rattle.hx_fields.specs.declared.field_line.Field.{Field}
+use Rattle.hx_fields.specs.Line.{Field}
 use Rattle.hx_directives.specs.Occurrences.{occurrences_of}
 use Rattle.hx_directives.specs.declared.occurrences.Occurrence.{Occurrence}
 use Rattle.hx_target.specs.declared.keys.Key.{Key}

@@ -45,7 +45,7 @@ pub record ResponseMayBeSent (policy : Policy) (held : List Stored) (asked : Ask
 -- the rule stands, and none of a smaller number does
 pub record IsLeastReuseRule (policy : Policy) (held : List Stored) (asked : Asked) (now : ℕ)
     (rule : ReuseRule) : Type 0 where
-  pub it_applies : reuse_rule_applies rule policy held asked now ≡ true
+  pub rule_applies : reuse_rule_applies rule policy held asked now ≡ true
   pub none_before : (other : ReuseRule) → reuse_rule_number other < reuse_rule_number rule
       → reuse_rule_applies other policy held asked now ≡ false
 

@@ -5,7 +5,7 @@
 -- lifetime_under: the lifetime under a policy
 -- lifetime_of_held: that of a held response, which a purge may have ended
 use Rattle.std.specs.Prelude.{ℕ, min, if◌then◌else◌, true, List, Option, Some, None}
-use Rattle.hx_fields.specs.declared.field_line.Field.{Field}
+use Rattle.hx_fields.specs.Line.{Field}
 use Rattle.hx_directives.specs.Seconds.{capped}
 use Rattle.hx_age.specs.declared.lifetimes.Lifetime.{Lifetime}
 use Rattle.hx_age.specs.Lifetime.{lifetime_of}

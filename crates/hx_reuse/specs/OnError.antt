@@ -62,7 +62,7 @@ pub record ResponseMayBeSentOnError (policy : Policy) (response : Stored) (reque
 -- the rule stands, and none of a smaller number does
 pub record IsLeastErrorRule (policy : Policy) (response : Stored) (request : List Occurrence) (now : ℕ)
     (least : ErrorRule) : Type 0 where
-  pub it_applies : error_rule_condition least (situation_of_stored policy response request now) ≡ true
+  pub rule_applies : error_rule_condition least (situation_of_stored policy response request now) ≡ true
   pub none_before : (other : ErrorRule) → error_rule_number other < error_rule_number least
       → error_rule_condition other (situation_of_stored policy response request now) ≡ false
 

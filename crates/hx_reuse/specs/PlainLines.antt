@@ -7,7 +7,7 @@
 -- Below them are the statements that the law `default_policy_changes_nothing` proves.
 use Rattle.std.specs.Prelude.{◌≡◌, ℕ, ◌+◌, ◌==◌, nat_lt, Bool, false, not, ◌&&◌, ◌||◌, List, length, find, codes}
 use Rattle.std.specs.Prelude.{bytes_eq, is_some, is_none, option_map, Result}
-use Rattle.hx_fields.specs.declared.field_line.Field.{Field}
+use Rattle.hx_fields.specs.Line.{Field}
 use Rattle.hx_directives.specs.Occurrences.{occurrences_of}
 use Rattle.hx_directives.specs.Answers.{directive_occurs, seconds_of_directive, first_valid, max_stale}
 use Rattle.hx_directives.specs.declared.occurrences.Occurrence.{Occurrence}

@@ -7,7 +7,7 @@
 use Rattle.std.specs.Prelude.{◌≡◌, ℕ, ◌<◌, ◌≤◌, ◌⊎◌, true, List, None, Some}
 use Rattle.std.specs.List.{Contains}
 use Rattle.hx_fields.specs.FieldLines.{combined_of}
-use Rattle.hx_fields.specs.declared.field_line.Field.{Field}
+use Rattle.hx_fields.specs.Line.{Field}
 use Rattle.hx_directives.specs.Occurrences.{occurrences_of}
 use Rattle.hx_directives.specs.Answers.{directive_occurs}
 use Rattle.hx_directives.specs.declared.occurrences.Occurrence.{Occurrence}

@@ -47,15 +47,15 @@ ghost use Rattle.hx_reuse.specs.RuleTables.{ErrorRulesAreInOrder, EachErrorRuleI
 
 pub use crate::worked_cases::{
     a_variant_comes_before_the_default, age_equal_to_lifetime_is_stale, bypass_rules_in_order,
-    least_error_rule, least_reuse_rule, line_without_cache, minute_after_an_error, minute_at_most,
-    minute_from_the_line, moment_goes_backwards, no_lifetime_is_only_validated,
+    least_reuse_rule, line_without_cache, moment_goes_backwards, no_lifetime_is_only_validated,
     of_two_alike_the_later_comes_first, purged_is_stale, reload_is_ignored,
-    request_max_age_and_only_if_cached, seconds_of_errors, stale_if_error_of_request,
-    stale_if_error_of_response, stale_while_revalidate_of_line, stale_while_revalidate_of_response,
-    vary_values_are_compared, which_ranges_are_answered, which_ranges_are_filled,
-    whose_condition_stays,
+    request_max_age_and_only_if_cached, stale_if_error_of_request, stale_if_error_of_response,
+    stale_while_revalidate_of_line, stale_while_revalidate_of_response, vary_values_are_compared,
+    which_ranges_are_answered, which_ranges_are_filled, whose_condition_stays,
+    worked_error_lifetime_from_the_line, worked_least_error_rule, worked_lifetime_from_the_line,
+    worked_lifetime_limited_by_the_line, worked_stale_if_error_of_line,
 };
-use hx_vary::laws::kept_is_enough;
+use hx_vary::laws::kept_values_decide_as_the_request_does;
 
 /// The chosen response is held, has the request's key and nominated values, and none that has is
 /// preferred to it: it has a Vary where one of them has, and of those that are like it in this none
@@ -121,7 +121,7 @@ pub fn no_other_variant_is_sent()
 pub fn no_other_requests_variant_is_sent()
     ensures { NoVariantOfAnotherRequestIsSent }
 {
-    kept_is_enough();
+    kept_values_decide_as_the_request_does();
 }
 
 /// Whatever a request and the operator's line say, a response with must-revalidate,

@@ -153,7 +153,7 @@ pub fn stale_if_error_of_request()
 {}
 
 /// The least rule after an error, where several stand; a limit that stands twice is none.
-pub fn least_error_rule()
+pub fn worked_least_error_rule()
     ensures no_cache { permission_on_error (plain true) (stored_with_cache_control (codes "no-cache, must-revalidate"))
         (request_directives (codes "no-cache")) 20 ≡ Err ErrorRule.NoCache }
     ensures s_maxage { permission_on_error (plain true)
@@ -173,7 +173,7 @@ pub fn least_error_rule()
 /// A response that states no lifetime, under a line that gives it a minute: fresh at 59 and stale
 /// at 60, when a max-stale takes it. One of status 302 isn't given any, nor a 404 by a line that gives
 /// errors none, and one of 10 seconds keeps its own.
-pub fn minute_from_the_line()
+pub fn worked_lifetime_from_the_line()
     ensures fresh { decision_of (lifetime_policy 60) (one_held_of_status 200) (get_a_with []) 59 ≡ Decision.Hit 1 }
     ensures stale { decision_of (lifetime_policy 60) (one_held_of_status 200) (get_a_with []) 60
         ≡ Decision.Forward ReuseRule.NoMaxStale (Some 1) }
@@ -207,7 +207,7 @@ pub fn minute_from_the_line()
 
 /// Under a line that gives a minute, and errors five seconds: a 404 is fresh at 4 and stale at 5,
 /// when a 200 is fresh. A 500 isn't given any, and a 404 of 10 seconds keeps its own.
-pub fn seconds_of_errors()
+pub fn worked_error_lifetime_from_the_line()
     ensures fresh { decision_of (error_lifetime_policy 60 5) (one_held_of_status 404) (get_a_with []) 4
         ≡ Decision.Hit 1 }
     ensures stale { decision_of (error_lifetime_policy 60 5) (one_held_of_status 404) (get_a_with []) 5
@@ -231,7 +231,7 @@ pub fn seconds_of_errors()
 /// Under a line that gives an hour and takes a minute at most of what is stated: a response of a year is fresh at 59
 /// and stale at 60, when it isn't sent in place of an error for longer than it allows; one of ten seconds keeps its
 /// own, one that states none has the hour, and one of no second is stale.
-pub fn minute_at_most()
+pub fn worked_lifetime_limited_by_the_line()
     ensures fresh { decision_of (lifetime_most_policy 3600 60) (one_held_with_cache_control (codes "max-age=31536000"))
         (get_a_with []) 59 ≡ Decision.Hit 1 }
     ensures stale { decision_of (lifetime_most_policy 3600 60) (one_held_with_cache_control (codes "max-age=31536000"))
@@ -298,7 +298,7 @@ pub fn reload_is_ignored()
 /// A line that allows a minute of staleness after an error, and a response of 10 seconds: stale by
 /// 60 and by 61; with a limit of its own, or of the request, or one of these that can't be read;
 /// and with what forbids it.
-pub fn minute_after_an_error()
+pub fn worked_stale_if_error_of_line()
     ensures within { permission_on_error (stale_if_error_policy 60)
         (stored_with_cache_control (codes "max-age=10")) [] 70 ≡ Ok tt }
     ensures past { permission_on_error (stale_if_error_policy 60)

@@ -5,10 +5,11 @@ ghost use Rattle.hx_status.specs.Refusals.{FrameWordsDiffer, FailKindWordsDiffer
 ghost use Rattle.hx_status.specs.Refusals.{TargetWordsDiffer, TextsOfRulesDiffer, TheTableForbids};
 
 pub use crate::worked_cases::{
-    bypass_rules_in_order, failed_origins, least_reuse_rule, line_without_cache,
-    no_lifetime_is_only_validated, refused_messages, refused_targets, second_request_waits,
-    stale_if_error_of_request, stale_if_error_of_response, stale_while_revalidate,
-    statuses_of_refused_messages, statuses_of_refused_targets, stored_comes_before_collapsed,
+    bypass_rules_in_order, each_origin_failure_has_its_status, each_refused_message_has_its_status,
+    each_refused_message_has_its_text, each_refused_target_has_its_status,
+    each_refused_target_has_its_text, least_reuse_rule, line_without_cache,
+    no_lifetime_is_only_validated, second_request_waits, stale_if_error_of_request,
+    stale_if_error_of_response, stale_while_revalidate, stored_comes_before_collapsed,
     storing_rules_are_named, worked_texts,
 };
 

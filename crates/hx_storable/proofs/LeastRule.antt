@@ -41,14 +41,14 @@ module _ (asked : Asked) (answered : Answered) (facts : StoringFacts) where
   unfolding storage_rule_of
   rule_is_least least h =
       record {
-        it_applies = passes storing_rule_number (λ r. storing_rule_applies r asked answered facts) storage_rules least h;
+        rule_applies = passes storing_rule_number (λ r. storing_rule_applies r asked answered facts) storage_rules least h;
         none_before = λ r l. fails_before storing_rule_number (λ r. storing_rule_applies r asked answered facts) 0 storage_rules least r in_order h (listed r) l;
       }
 
   pub least_is_rule : (least : StoreRule) → IsLeastStoringRule asked answered facts least → storage_rule_of asked answered facts ≡ Some least
   unfolding storage_rule_of
   least_is_rule least is =
-      first_found storing_rule_number (λ r. storing_rule_applies r asked answered facts) 0 storage_rules least in_order (listed least) is.it_applies is.none_before
+      first_found storing_rule_number (λ r. storing_rule_applies r asked answered facts) 0 storage_rules least in_order (listed least) is.rule_applies is.none_before
 
   pub no_rule_applies : (any : StoreRule) → ResponseIsStored asked answered facts → storing_rule_applies any asked answered facts ≡ false
   unfolding storage_rule_of

@@ -1,7 +1,7 @@
 -- The messages that the laws of worked cases speak of.
 use Rattle.std.specs.Prelude.{ℕ, List, [], ◌∷◌, codes, None, Some, true, false}
 use Rattle.hx_fields.specs.Examples.{line}
-use Rattle.hx_fields.specs.declared.field_line.Field.{Field}
+use Rattle.hx_fields.specs.Line.{Field}
 use Rattle.hx_hop.specs.declared.request_view.Asked.{Asked}
 use Rattle.hx_hop.specs.declared.response_view.Answered.{Answered}
 use Rattle.hx_policy.specs.Policies.{plain}

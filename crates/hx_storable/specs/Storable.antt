@@ -131,7 +131,7 @@ pub record ResponseMayBeStored (asked : Asked) (answered : Answered) (facts : St
 -- the rule stands, and none of a smaller number does
 pub record IsLeastStoringRule (asked : Asked) (answered : Answered) (facts : StoringFacts)
     (least : StoreRule) : Type 0 where
-  pub it_applies : storing_rule_applies least asked answered facts ≡ true
+  pub rule_applies : storing_rule_applies least asked answered facts ≡ true
   pub none_before : (other : StoreRule) → storing_rule_number other < storing_rule_number least
       → storing_rule_applies other asked answered facts ≡ false
 

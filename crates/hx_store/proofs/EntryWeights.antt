@@ -8,8 +8,8 @@ use Rattle.std.proofs.lemmas.List.Filters.{sum_by-filter_both}
 use Rattle.std.proofs.lemmas.Option.{same_Some, IfSome_then}
 use Rattle.hx_store.specs.Serials.{serial_is_in}
 use Rattle.hx_store.specs.Stored.{Stored}
-use Rattle.hx_store.specs.Shelf.{serials, find_entry, without_serials, with_promoted, with_in_front}
-use Rattle.hx_store.specs.Weights.{weight_of, StoreBounds, IsWithin, AreWeightsOf, front_of_weight, front_of_weight_if_any, front_within, cut_to_bounds}
+use Rattle.hx_store.specs.Shelf.{serials, find_entry, without_serials, with_promoted, with_first_if_any}
+use Rattle.hx_store.specs.Weights.{weight_of, StoreBounds, IsWithin, AreWeightsOf, prefix_of_weight, prefix_of_weight_if_any, longest_prefix_within, cut_to_bounds}
 use Rattle.hx_store.proofs.Fronts.{within_stays}
 use Rattle.hx_store.proofs.EntryLists.{eqb_comm, not_only, length-filter_le, length-without, held_is_found}
 
@@ -50,7 +50,7 @@ promoted_weighs s (e ∷ es) x h = elim (cases_Bool (eqb e.serial s)) [
 pub promoted_is_within : (bounds : StoreBounds) (s : ℕ) (es : List Stored) → IsWithin bounds weight_of es → IsWithin bounds weight_of (with_promoted s es)
 promoted_is_within bounds s es h = found (find_entry s es) refl
   where
-    found : (o : Option Stored) → find_entry s es ≡ o → IsWithin bounds weight_of (with_in_front o (without_serials (s ∷ []) es))
+    found : (o : Option Stored) → find_entry s es ≡ o → IsWithin bounds weight_of (with_first_if_any o (without_serials (s ∷ []) es))
     found None e = filter_is_within bounds (λ y. not (serial_is_in y.serial (s ∷ []))) es h
     found (Some x) e = record {
       number = let n = h.number in omega (arith, length-without s es (held_is_found s es ∙ ap is_some e));
@@ -66,31 +66,31 @@ serials_of_taken weights (suc n) (e ∷ es) h =
     (ap (λ zs. e.serial ∷ zs) q.0, (h.0, q.1))
 
 serials_of_front : (weights : ℕ → ℕ) (most : ℕ) (es : List Stored) → AreWeightsOf weights es →
-    serials (front_of_weight weight_of most es) ≡ front_of_weight weights most (serials es)
+    serials (prefix_of_weight weight_of most es) ≡ prefix_of_weight weights most (serials es)
 serials_of_front weights most [] h = refl
 serials_of_front weights most (e ∷ es) h =
-    ap (λ n. serials (cond (leb n most) (e ∷ front_of_weight weight_of (most - n) es) [])) (sym h.0)
+    ap (λ n. serials (cond (leb n most) (e ∷ prefix_of_weight weight_of (most - n) es) [])) (sym h.0)
     ∙ step (leb (weights e.serial) most) (serials_of_front weights (most - weights e.serial) es h.1)
   where
-    step : (b : Bool) → serials (front_of_weight weight_of (most - weights e.serial) es) ≡ front_of_weight weights (most - weights e.serial) (serials es)
-        → serials (cond b (e ∷ front_of_weight weight_of (most - weights e.serial) es) [])
-        ≡ cond b (e.serial ∷ front_of_weight weights (most - weights e.serial) (serials es)) []
+    step : (b : Bool) → serials (prefix_of_weight weight_of (most - weights e.serial) es) ≡ prefix_of_weight weights (most - weights e.serial) (serials es)
+        → serials (cond b (e ∷ prefix_of_weight weight_of (most - weights e.serial) es) [])
+        ≡ cond b (e.serial ∷ prefix_of_weight weights (most - weights e.serial) (serials es)) []
     step true q = ap (λ zs. e.serial ∷ zs) q
     step false q = refl
 
 serials_of_front_if_any : (weights : ℕ → ℕ) (bytes : Option ℕ) (es : List Stored) → AreWeightsOf weights es →
-    serials (front_of_weight_if_any weight_of bytes es) ≡ front_of_weight_if_any weights bytes (serials es)
+    serials (prefix_of_weight_if_any weight_of bytes es) ≡ prefix_of_weight_if_any weights bytes (serials es)
 serials_of_front_if_any weights None es h = refl
 serials_of_front_if_any weights (Some most) es h = serials_of_front weights most es h
 
 pub serials_are_cut : (bounds : StoreBounds) (weights : ℕ → ℕ) (es : List Stored) → AreWeightsOf weights es →
-    serials (cut_to_bounds bounds es) ≡ front_within bounds weights (serials es)
+    serials (cut_to_bounds bounds es) ≡ longest_prefix_within bounds weights (serials es)
 serials_are_cut bounds weights es h =
     let q = serials_of_taken weights bounds.entries es h in
     serials_of_front_if_any weights bounds.bytes (take bounds.entries es) q.1
-    ∙ ap (front_of_weight_if_any weights bounds.bytes) q.0
+    ∙ ap (prefix_of_weight_if_any weights bounds.bytes) q.0
 
 -- and so those of entries within the bounds all stay
 pub serials_stay : (bounds : StoreBounds) (weights : ℕ → ℕ) (es : List Stored) → AreWeightsOf weights es → IsWithin bounds weight_of es →
-    front_within bounds weights (serials es) ≡ serials es
+    longest_prefix_within bounds weights (serials es) ≡ serials es
 serials_stay bounds weights es h k = sym (serials_are_cut bounds weights es h) ∙ ap serials (within_stays bounds weight_of es k)

@@ -6,7 +6,7 @@ use Rattle.std.specs.Map.{values_of, lookup, set_value}
 use Rattle.std.proofs.lemmas.Bool.{cases_Bool, eqb-true, or_left, or_parts}
 use Rattle.std.proofs.lemmas.List.Sums.{sum_by-cons}
 use Rattle.std.proofs.lemmas.Option.{same_Some}
-use Rattle.hx_fields.specs.declared.field_line.Field.{Field}
+use Rattle.hx_fields.specs.Line.{Field}
 use Rattle.hx_target.specs.declared.keys.Key.{Key}
 use Rattle.hx_target.specs.Keys.{same_key}
 use Rattle.hx_age.specs.declared.moments.Times.{Times}
@@ -15,7 +15,7 @@ use Rattle.hx_store.specs.Serials.{serial_is_in, Distinct, insert_ascending}
 use Rattle.hx_store.specs.Stored.{Stored}
 use Rattle.hx_store.specs.Shelf.{serials, holds_serial, find_entry, serials_of, entry_matches, matching_serials, expired_entry, with_expired}
 use Rattle.hx_store.specs.Keyed.{EntriesHaveTheirSerials, EntriesHaveDistinctSerials}
-use Rattle.hx_store.specs.Weights.{weight_of, total_weight, counted_weight, counted_total}
+use Rattle.hx_store.specs.Weights.{weight_of, total_weight, counted_weight, counted_total_weight}
 use Rattle.hx_store.proofs.EntryLists.{eqb_comm, not_only}
 use Rattle.hx_store.proofs.MatchLists.{filter-agree}
 
@@ -59,7 +59,7 @@ total-expired ended now [] = refl
 total-expired ended now (e ∷ es) =
     omega (arith, sum_by-cons weight_of e es, sum_by-cons weight_of (expired_entry ended now e) (with_expired ended now es), weight-expired ended now e, total-expired ended now es)
 
-pub counted-expired : (ended : List ℕ) (now : ℕ) (es : List Stored) → counted_total (with_expired ended now es) ≡ counted_total es
+pub counted-expired : (ended : List ℕ) (now : ℕ) (es : List Stored) → counted_total_weight (with_expired ended now es) ≡ counted_total_weight es
 counted-expired ended now [] = refl
 counted-expired ended now (e ∷ es) =
     omega (arith, sum_by-cons counted_weight e es, sum_by-cons counted_weight (expired_entry ended now e) (with_expired ended now es), weight-expired ended now e, counted-expired ended now es)

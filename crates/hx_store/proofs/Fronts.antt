@@ -6,38 +6,38 @@ use Rattle.std.proofs.lemmas.Bool.{cases_Bool, le-leb, leb-true}
 use Rattle.std.proofs.lemmas.List.{take-append-drop, append-nil, length-append, length-take, take_all, take-append-le}
 use Rattle.std.proofs.lemmas.List.Sums.{sum_by-cons, sum_by-append}
 use Rattle.std.proofs.lemmas.Option.{IfSome_then}
-use Rattle.hx_store.specs.Weights.{StoreBounds, IsWithin, IsLongestFrontWithin, front_of_weight, front_of_weight_if_any, front_within}
+use Rattle.hx_store.specs.Weights.{StoreBounds, IsWithin, IsLongestPrefixWithin, prefix_of_weight, prefix_of_weight_if_any, longest_prefix_within}
 
 -- one step of the front, where the first fits and where it doesn't
 front_takes : {A : Type 0} (w : A → ℕ) (most : ℕ) (x : A) (xs : List A) → w x ≤ most →
-    front_of_weight w most (x ∷ xs) ≡ x ∷ front_of_weight w (most - w x) xs
-front_takes w most x xs h = ap (λ b. cond b (x ∷ front_of_weight w (most - w x) xs) []) (le-leb (w x) most h)
+    prefix_of_weight w most (x ∷ xs) ≡ x ∷ prefix_of_weight w (most - w x) xs
+front_takes w most x xs h = ap (λ b. cond b (x ∷ prefix_of_weight w (most - w x) xs) []) (le-leb (w x) most h)
 
-pub is_front_of_weight : {A : Type 0} (w : A → ℕ) (most : ℕ) (xs : List A) → (rest : List A) × (front_of_weight w most xs ++ rest ≡ xs)
+pub is_front_of_weight : {A : Type 0} (w : A → ℕ) (most : ℕ) (xs : List A) → (rest : List A) × (prefix_of_weight w most xs ++ rest ≡ xs)
 is_front_of_weight w most [] = ([], refl)
 is_front_of_weight {A} w most (x ∷ xs) =
     let q = is_front_of_weight w (most - w x) xs in
-    elim (leb (w x) most) as (λ b. (rest : List A) × (cond b (x ∷ front_of_weight w (most - w x) xs) [] ++ rest ≡ x ∷ xs)) [
+    elim (leb (w x) most) as (λ b. (rest : List A) × (cond b (x ∷ prefix_of_weight w (most - w x) xs) [] ++ rest ≡ x ∷ xs)) [
       | true ↦ (q.0, ap (λ zs. x ∷ zs) q.1)
       | false ↦ (x ∷ xs, refl)
     ]
 
-front_weighs : {A : Type 0} (w : A → ℕ) (most : ℕ) (xs : List A) → sum_by w (front_of_weight w most xs) ≤ most
+front_weighs : {A : Type 0} (w : A → ℕ) (most : ℕ) (xs : List A) → sum_by w (prefix_of_weight w most xs) ≤ most
 front_weighs w most [] = omega arith
 front_weighs w most (x ∷ xs) = elim (cases_Bool (leb (w x) most)) [
   | inl t ↦ (
       let fits : w x ≤ most = leb-true (w x) most t in
       rw (front_takes w most x xs fits)
-      (omega (arith, sum_by-cons w x (front_of_weight w (most - w x) xs), front_weighs w (most - w x) xs))
+      (omega (arith, sum_by-cons w x (prefix_of_weight w (most - w x) xs), front_weighs w (most - w x) xs))
       )
   | inr f ↦ (
-      let e : front_of_weight w most (x ∷ xs) ≡ [] = ap (λ b. cond b (x ∷ front_of_weight w (most - w x) xs) []) f in
+      let e : prefix_of_weight w most (x ∷ xs) ≡ [] = ap (λ b. cond b (x ∷ prefix_of_weight w (most - w x) xs) []) f in
       rw e (omega arith)
       )
 ]
 
 longest_of_weight : {A : Type 0} (w : A → ℕ) (most : ℕ) (xs other rest : List A) → other ++ rest ≡ xs → sum_by w other ≤ most →
-    length other ≤ length (front_of_weight w most xs)
+    length other ≤ length (prefix_of_weight w most xs)
 longest_of_weight w most xs [] rest e h = omega arith
 longest_of_weight w most [] (y ∷ ys) rest e h = absurd (cc)
 longest_of_weight w most (x ∷ xs) (y ∷ ys) rest e h =
@@ -69,36 +69,36 @@ front_of_taken (suc n) (y ∷ ys) rest (x ∷ xs) e h =
     let q = front_of_taken n ys rest xs tail (omega arith) in
     (q.0, ap (λ zs. y ∷ zs) q.1 ∙ ap (λ z. z ∷ take n xs) same)
 
-pub is_front_if_any : {A : Type 0} (w : A → ℕ) (bytes : Option ℕ) (xs : List A) → (rest : List A) × (front_of_weight_if_any w bytes xs ++ rest ≡ xs)
+pub is_front_if_any : {A : Type 0} (w : A → ℕ) (bytes : Option ℕ) (xs : List A) → (rest : List A) × (prefix_of_weight_if_any w bytes xs ++ rest ≡ xs)
 is_front_if_any w None xs = ([], append-nil xs)
 is_front_if_any w (Some most) xs = is_front_of_weight w most xs
 
-front_weighs_if_any : {A : Type 0} (w : A → ℕ) (bytes : Option ℕ) (xs : List A) → IfSome bytes (λ most. sum_by w (front_of_weight_if_any w bytes xs) ≤ most)
+front_weighs_if_any : {A : Type 0} (w : A → ℕ) (bytes : Option ℕ) (xs : List A) → IfSome bytes (λ most. sum_by w (prefix_of_weight_if_any w bytes xs) ≤ most)
 front_weighs_if_any w None xs = tt
 front_weighs_if_any w (Some most) xs = front_weighs w most xs
 
 longest_if_any : {A : Type 0} (w : A → ℕ) (bytes : Option ℕ) (xs other rest : List A) → other ++ rest ≡ xs → IfSome bytes (λ most. sum_by w other ≤ most) →
-    length other ≤ length (front_of_weight_if_any w bytes xs)
+    length other ≤ length (prefix_of_weight_if_any w bytes xs)
 longest_if_any w None xs other rest e h = omega (arith, ap length e, length-append other rest)
 longest_if_any w (Some most) xs other rest e h = longest_of_weight w most xs other rest e h
 
-pub front_of_within : {A : Type 0} (bounds : StoreBounds) (w : A → ℕ) (xs : List A) → (rest : List A) × (front_within bounds w xs ++ rest ≡ xs)
+pub front_of_within : {A : Type 0} (bounds : StoreBounds) (w : A → ℕ) (xs : List A) → (rest : List A) × (longest_prefix_within bounds w xs ++ rest ≡ xs)
 front_of_within bounds w xs =
     let q = is_front_if_any w bounds.bytes (take bounds.entries xs) in (
       q.0 ++ drop bounds.entries xs,
-      sym (append_assoc (front_within bounds w xs) q.0 (drop bounds.entries xs))
+      sym (append_assoc (longest_prefix_within bounds w xs) q.0 (drop bounds.entries xs))
           ∙ ap (λ zs. zs ++ drop bounds.entries xs) q.1
           ∙ take-append-drop bounds.entries xs,
     )
 
 -- what is cut is the longest front within the bounds
-pub cut_is_longest : {A : Type 0} (bounds : StoreBounds) (w : A → ℕ) (xs : List A) → IsLongestFrontWithin bounds w xs (front_within bounds w xs)
+pub cut_is_longest : {A : Type 0} (bounds : StoreBounds) (w : A → ℕ) (xs : List A) → IsLongestPrefixWithin bounds w xs (longest_prefix_within bounds w xs)
 cut_is_longest bounds w xs =
     let q = is_front_if_any w bounds.bytes (take bounds.entries xs) in
     record {
       is_front = front_of_within bounds w xs;
       is_within = record {
-        number = omega (arith, ap length q.1, length-append (front_within bounds w xs) q.0, length-take bounds.entries xs);
+        number = omega (arith, ap length q.1, length-append (longest_prefix_within bounds w xs) q.0, length-take bounds.entries xs);
         weighs = front_weighs_if_any w bounds.bytes (take bounds.entries xs);
       };
       longest = λ other rest e h.
@@ -107,7 +107,7 @@ cut_is_longest bounds w xs =
     }
 
 -- and there is one
-pub one_longest : {A : Type 0} (bounds : StoreBounds) (w : A → ℕ) (xs a b : List A) → IsLongestFrontWithin bounds w xs a → IsLongestFrontWithin bounds w xs b → a ≡ b
+pub one_longest : {A : Type 0} (bounds : StoreBounds) (w : A → ℕ) (xs a b : List A) → IsLongestPrefixWithin bounds w xs a → IsLongestPrefixWithin bounds w xs b → a ≡ b
 one_longest bounds w xs a b g h =
     let k : length a ≡ length b = omega (arith, h.longest a g.is_front.0 g.is_front.1 g.is_within, g.longest b h.is_front.0 h.is_front.1 h.is_within) in
     front_is_taken a g.is_front.0 xs g.is_front.1
@@ -121,28 +121,28 @@ front_is_within bounds w front rest h = record {
 }
 
 -- a list within the bounds stays whole
-pub within_stays : {A : Type 0} (bounds : StoreBounds) (w : A → ℕ) (xs : List A) → IsWithin bounds w xs → front_within bounds w xs ≡ xs
-within_stays bounds w xs h = one_longest bounds w xs (front_within bounds w xs) xs (cut_is_longest bounds w xs) (record {
+pub within_stays : {A : Type 0} (bounds : StoreBounds) (w : A → ℕ) (xs : List A) → IsWithin bounds w xs → longest_prefix_within bounds w xs ≡ xs
+within_stays bounds w xs h = one_longest bounds w xs (longest_prefix_within bounds w xs) xs (cut_is_longest bounds w xs) (record {
   is_front = ([], append-nil xs);
   is_within = h;
   longest = λ other rest e k. omega (arith, ap length e, length-append other rest);
 })
 
 -- the first that is cut off has no room
-pub one_more : {A : Type 0} (bounds : StoreBounds) (w : A → ℕ) (xs rest : List A) (x : A) → front_within bounds w xs ++ x ∷ rest ≡ xs →
-    IsWithin bounds w (front_within bounds w xs ++ x ∷ []) → ⊥
+pub one_more : {A : Type 0} (bounds : StoreBounds) (w : A → ℕ) (xs rest : List A) (x : A) → longest_prefix_within bounds w xs ++ x ∷ rest ≡ xs →
+    IsWithin bounds w (longest_prefix_within bounds w xs ++ x ∷ []) → ⊥
 one_more bounds w xs rest x e h =
-    let front = front_within bounds w xs in
+    let front = longest_prefix_within bounds w xs in
     let longer : length (front ++ x ∷ []) ≤ length front =
     (cut_is_longest bounds w xs).longest (front ++ x ∷ []) rest (append_assoc front (x ∷ []) rest ∙ e) h in
     absurd (omega (arith, length-append front (x ∷ [])))
 
 -- what fits alone is never cut from the front
 pub first_stays : {A : Type 0} (bounds : StoreBounds) (w : A → ℕ) (x : A) (xs : List A) → IsWithin bounds w (x ∷ []) →
-    (rest : List A) × (front_within bounds w (x ∷ xs) ≡ x ∷ rest)
+    (rest : List A) × (longest_prefix_within bounds w (x ∷ xs) ≡ x ∷ rest)
 first_stays {A} bounds w x xs h =
     let q = front_of_within bounds w (x ∷ xs) in
-    begins (front_within bounds w (x ∷ xs)) q.0 q.1 ((cut_is_longest bounds w (x ∷ xs)).longest (x ∷ []) xs refl h)
+    begins (longest_prefix_within bounds w (x ∷ xs)) q.0 q.1 ((cut_is_longest bounds w (x ∷ xs)).longest (x ∷ []) xs refl h)
   where
     begins : (front rest : List A) → front ++ rest ≡ x ∷ xs → 1 ≤ length front → (behind : List A) × (front ≡ x ∷ behind)
     begins [] rest e l = absurd (omega arith)

@@ -13,7 +13,7 @@ use Rattle.hx_target.specs.KeyOrder.{same_key_equiv}
 use Rattle.hx_store.specs.declared.key_index.KeyIndex.{KeyIndex}
 use Rattle.hx_store.specs.Serials.{serial_is_in, Distinct, insert_ascending}
 use Rattle.hx_store.specs.Stored.{Stored}
-use Rattle.hx_store.specs.Shelf.{serials, holds_serial, find_entry, without_serials, serials_of, with_promoted, with_in_front, without_key}
+use Rattle.hx_store.specs.Shelf.{serials, holds_serial, find_entry, without_serials, serials_of, with_promoted, with_first_if_any, without_key}
 use Rattle.hx_store.specs.Found.{NoSerialIsBelow, IsAscending}
 use Rattle.hx_vary.specs.declared.marks.Mark.{Mark}
 use Rattle.hx_vary.specs.Marks.{mark_of_values}
@@ -321,7 +321,7 @@ kept-anew key s m es e x old new h is same a k =
     kept-front s es e x new h is same (k.0, λ q. same_serials key s m old new a q ∙ k.1 q)
 
 kept_promoted_by : (s : ℕ) (es : List Stored) (index : KeyIndex) (o : Option Stored) → find_entry s es ≡ o → IsKept es index →
-    IsKept (with_in_front o (without_serials (s ∷ []) es)) index
+    IsKept (with_first_if_any o (without_serials (s ∷ []) es)) index
 kept_promoted_by s es index None h k = kept-none s es index h k
 kept_promoted_by s es index (Some e) h k = kept-front s es e e index h (find-serial s es e h) (same_key_equiv.refl e.key) k
 
@@ -403,7 +403,7 @@ marked-anew seed s es e x old new h is same a kept k q =
     ])
 
 marked_promoted_by : (seed : ℕ) (s : ℕ) (es : List Stored) (index : KeyIndex) (o : Option Stored) → find_entry s es ≡ o → MarksAreOfTheirEntries seed es index →
-    MarksAreOfTheirEntries seed (with_in_front o (without_serials (s ∷ []) es)) index
+    MarksAreOfTheirEntries seed (with_first_if_any o (without_serials (s ∷ []) es)) index
 marked_promoted_by seed s es index None h k = marked-none seed s es index k
 marked_promoted_by seed s es index (Some e) h k = marked-part seed es (e ∷ without_serials (s ∷ []) es) index (part-front s es e h) k
 
@@ -527,7 +527,7 @@ none_of_key q (e ∷ es) h = elim (cases_Bool (same_key e.key q)) [
 pub key-end : (q : Key) (es : List Stored) → slice_get (serials_of q es) 0 ≡ None → without_key q es ≡ es
 key-end q es h = none_of_key q es (nothing (serials_of q es) h)
 
-length_front : (s : ℕ) (es : List Stored) (o : Option Stored) → find_entry s es ≡ o → length (with_in_front o (without_serials (s ∷ []) es)) ≤ length es
+length_front : (s : ℕ) (es : List Stored) (o : Option Stored) → find_entry s es ≡ o → length (with_first_if_any o (without_serials (s ∷ []) es)) ≤ length es
 length_front s es None h = length-filter_le (λ e. not (serial_is_in e.serial (s ∷ []))) es
 length_front s es (Some e) h =
     let l = length-without s es (sym (is_some-find s es) ∙ ap is_some h) in

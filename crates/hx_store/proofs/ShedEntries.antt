@@ -6,7 +6,7 @@ use Rattle.std.proofs.lemmas.List.{take-append-drop, length-append, length-take,
 use Rattle.std.proofs.lemmas.List.Sums.{sum_by-append}
 use Rattle.std.proofs.lemmas.Option.{same_Some}
 use Rattle.hx_store.specs.Stored.{Stored}
-use Rattle.hx_store.specs.Weights.{StoreBounds, IsLongestFrontWithin, front_of_weight, front_of_weight_if_any, weight_of, total_weight, cut_to_bounds, shed_entry, after_shedding}
+use Rattle.hx_store.specs.Weights.{StoreBounds, IsLongestPrefixWithin, prefix_of_weight, prefix_of_weight_if_any, weight_of, total_weight, cut_to_bounds, shed_entry, after_shedding}
 use Rattle.hx_store.proofs.CountedWeights.{length-after_shedding}
 use Rattle.hx_store.proofs.Fronts.{front_of_within, front_of_taken, cut_is_longest, one_longest, within_stays}
 
@@ -33,7 +33,7 @@ without_last number most es over =
     let bounds : StoreBounds = record { entries = number; bytes = Some most } in
     let front = take (length es - 1) es in
     let q = front_of_within bounds weight_of front in
-    let k : IsLongestFrontWithin bounds weight_of es (cut_to_bounds bounds front) = record {
+    let k : IsLongestPrefixWithin bounds weight_of es (cut_to_bounds bounds front) = record {
       is_front = (
         q.0 ++ drop (length es - 1) es,
         sym (append_assoc (cut_to_bounds bounds front) q.0 (drop (length es - 1) es))
@@ -103,20 +103,20 @@ shed_until_within number most es l h =
 
 pub numbers_first : (bounds : StoreBounds) (es : List Stored) → cut_to_bounds bounds (take bounds.entries es) ≡ cut_to_bounds bounds es
 numbers_first bounds es =
-    ap (front_of_weight_if_any weight_of bounds.bytes) (take_all bounds.entries (take bounds.entries es) (omega (arith, length-take bounds.entries es)))
+    ap (prefix_of_weight_if_any weight_of bounds.bytes) (take_all bounds.entries (take bounds.entries es) (omega (arith, length-take bounds.entries es)))
 
 -- the same of a bound of bytes alone
 by_number : (most : ℕ) (number : ℕ) (es : List Stored) → length es ≤ number →
-    cut_to_bounds (record { entries = number; bytes = Some most }) es ≡ front_of_weight weight_of most es
-by_number most number es l = ap (front_of_weight weight_of most) (take_all number es l)
+    cut_to_bounds (record { entries = number; bytes = Some most }) es ≡ prefix_of_weight weight_of most es
+by_number most number es l = ap (prefix_of_weight weight_of most) (take_all number es l)
 
-pub shedding_keeps_the_front : (most : ℕ) (es : List Stored) → front_of_weight weight_of most (after_shedding most es) ≡ front_of_weight weight_of most es
+pub shedding_keeps_the_front : (most : ℕ) (es : List Stored) → prefix_of_weight weight_of most (after_shedding most es) ≡ prefix_of_weight weight_of most es
 shedding_keeps_the_front most es =
     sym (by_number most (length es) (after_shedding most es) (length-after_shedding most es))
     ∙ shedding_keeps_the_cut (length es) most es
     ∙ by_number most (length es) es (omega arith)
 
-pub nothing_shed_is_the_front : (most : ℕ) (es : List Stored) → shed_entry most es ≡ None → front_of_weight weight_of most es ≡ es
+pub nothing_shed_is_the_front : (most : ℕ) (es : List Stored) → shed_entry most es ≡ None → prefix_of_weight weight_of most es ≡ es
 nothing_shed_is_the_front most es h =
     sym (by_number most (length es) es (omega arith)) ∙ shed_until_within (length es) most es (omega arith) h
 

@@ -7,7 +7,7 @@ use Rattle.std.proofs.lemmas.Bool.{cases_Bool, and_parts, or_cases, and_from, or
 use Rattle.std.proofs.lemmas.List.{take-append-drop}
 use Rattle.hx_store.specs.Serials.{serial_is_in, Distinct}
 use Rattle.hx_store.specs.Recency.{stores_or_uses, recent_after_change, recent_of, count_before, NoChangeTouches, Held, is_held, is_held_by_count, held_of, bounded_of}
-use Rattle.hx_store.specs.Weights.{StoreBounds, IsWithin, front_of_weight, front_of_weight_if_any, front_within}
+use Rattle.hx_store.specs.Weights.{StoreBounds, IsWithin, prefix_of_weight, prefix_of_weight_if_any, longest_prefix_within}
 use Rattle.hx_store.specs.WeightedRecency.{WeighedChange, changes_of, weight_before, StandsWithin, WeighedHeld, fits_into, stands_within, stood_within, is_weighed_held, weighed_held_of, weighed_bounded_of}
 use Rattle.hx_store.proofs.Recency.{and_false, is_in-take, is_in-after, after-append, place-append, held_step, Distinct-recent, filter_front, in_before, Decides-held, law}
 use Rattle.hx_store.proofs.Fronts.{cut_is_longest, front_of_within}
@@ -32,10 +32,10 @@ weight_behind w s x xs f =
     omega arith
 
 is_in-front : (w : ℕ → ℕ) (s most : ℕ) (xs : List ℕ) →
-    serial_is_in s (front_of_weight w most xs) ≡ (serial_is_in s xs && leb (weight_before w s xs + w s) most)
+    serial_is_in s (prefix_of_weight w most xs) ≡ (serial_is_in s xs && leb (weight_before w s xs + w s) most)
 is_in-front w s most [] = refl
 is_in-front w s most (x ∷ xs) =
-    let rest = front_of_weight w (most - w x) xs in
+    let rest = prefix_of_weight w (most - w x) xs in
     let q = is_in-front w s (most - w x) xs in
     elim (cases_Bool (eqb x s)) [
       | inl t ↦ (
@@ -65,7 +65,7 @@ is_in-front w s most (x ∷ xs) =
       ]
     ]
   where
-    here : (b : Bool) → eqb x s ≡ true → serial_is_in s (cond b (x ∷ front_of_weight w (most - w x) xs) []) ≡ b
+    here : (b : Bool) → eqb x s ≡ true → serial_is_in s (cond b (x ∷ prefix_of_weight w (most - w x) xs) []) ≡ b
     here true t = or_left _ _ t
     here false t = refl
 
@@ -85,7 +85,7 @@ front_step t true false a b e h = ap (λ x. x && a) e
 front_step t false l a b e h = ap (λ x. x && a) e
 
 fits_if_any : (w : ℕ → ℕ) (s : ℕ) (bytes : Option ℕ) (xs : List ℕ) →
-    serial_is_in s (front_of_weight_if_any w bytes xs) ≡ (serial_is_in s xs && fits_into bytes (weight_before w s xs + w s))
+    serial_is_in s (prefix_of_weight_if_any w bytes xs) ≡ (serial_is_in s xs && fits_into bytes (weight_before w s xs + w s))
 fits_if_any w s None xs = sym (and_true (serial_is_in s xs))
   where
     and_true : (m : Bool) → (m && true) ≡ m
@@ -95,7 +95,7 @@ fits_if_any w s (Some most) xs = is_in-front w s most xs
 
 -- what stands in the front is what stands within the bounds
 pub is_in-within : (bounds : StoreBounds) (w : ℕ → ℕ) (s : ℕ) (xs : List ℕ) →
-    serial_is_in s (front_within bounds w xs) ≡ (serial_is_in s xs && stands_within bounds w xs s)
+    serial_is_in s (longest_prefix_within bounds w xs) ≡ (serial_is_in s xs && stands_within bounds w xs s)
 is_in-within bounds w s xs =
     let few = take bounds.entries xs in
     fits_if_any w s bounds.bytes few
@@ -120,7 +120,7 @@ weighed_front bounds (i ∷ past) =
     let xs = recent_after_change i.change (weighed_bounded_of bounds past) in
     let f = front_of_within bounds i.weights xs in (
       f.0 ++ a.0,
-      sym (append_assoc (front_within bounds i.weights xs) f.0 a.0)
+      sym (append_assoc (longest_prefix_within bounds i.weights xs) f.0 a.0)
           ∙ ap (λ zs. zs ++ a.0) f.1
           ∙ a.1
           ∙ ap (recent_after_change i.change) h.1,
@@ -222,9 +222,9 @@ is_in-weighed_held bounds past s =
     (λ h. d.0 (sym e ∙ h), λ h. e ∙ d.1 h)
 
 pub weighed_held_more : (bounds : StoreBounds) (i : WeighedChange) (past : List WeighedChange) →
-    weighed_held_of bounds (i ∷ past) ≡ front_within bounds i.weights (recent_after_change i.change (weighed_held_of bounds past))
+    weighed_held_of bounds (i ∷ past) ≡ longest_prefix_within bounds i.weights (recent_after_change i.change (weighed_held_of bounds past))
 weighed_held_more bounds i past =
-    sym (weighed_law bounds (i ∷ past)) ∙ ap (λ xs. front_within bounds i.weights (recent_after_change i.change xs)) (weighed_law bounds past)
+    sym (weighed_law bounds (i ∷ past)) ∙ ap (λ xs. longest_prefix_within bounds i.weights (recent_after_change i.change xs)) (weighed_law bounds past)
 
 -- after each step what is held is within its bounds
 pub weighed_held_within : (bounds : StoreBounds) (i : WeighedChange) (past : List WeighedChange) → IsWithin bounds i.weights (weighed_held_of bounds (i ∷ past))

@@ -7,7 +7,7 @@
 -- with_expired: some are expired
 use Rattle.std.specs.Prelude.{ℕ, Bool, false, not, ◌==◌, Option, None, Some, List, [], ◌∷◌, if◌then◌else◌, map}
 use Rattle.std.specs.List.{filter}
-use Rattle.hx_fields.specs.declared.field_line.Field.{Field}
+use Rattle.hx_fields.specs.Line.{Field}
 use Rattle.hx_target.specs.declared.keys.Key.{Key}
 use Rattle.hx_target.specs.Keys.{same_key}
 use Rattle.hx_age.specs.Age.{expired_times}
@@ -56,13 +56,13 @@ entry_matches request (Some e) = vary_matches e.nominated request
 abbrev pub matching_serials : Key → List Field → List Stored → List ℕ
 matching_serials key request es = filter (λ s. entry_matches request (find_entry s es)) (serials_of key es)
 
-abbrev pub with_in_front : Option Stored → List Stored → List Stored
-with_in_front None es = es
-with_in_front (Some e) es = e ∷ es
+abbrev pub with_first_if_any : Option Stored → List Stored → List Stored
+with_first_if_any None es = es
+with_first_if_any (Some e) es = e ∷ es
 
 -- the held entry of this serial comes first
 abbrev pub with_promoted : ℕ → List Stored → List Stored
-with_promoted s es = with_in_front (find_entry s es) (without_serials (s ∷ []) es)
+with_promoted s es = with_first_if_any (find_entry s es) (without_serials (s ∷ []) es)
 
 -- the entry once a purge ended its lifetime at a moment, if it has one of these serials
 abbrev pub expired_entry : List ℕ → ℕ → Stored → Stored

@@ -1,6 +1,6 @@
 -- A stored response, without what is computed from its fields (RFC 9111, section 2).
 use Rattle.std.specs.Prelude.{ℕ, List}
-use Rattle.hx_fields.specs.declared.field_line.Field.{Field}
+use Rattle.hx_fields.specs.Line.{Field}
 use Rattle.hx_target.specs.declared.keys.Key.{Key}
 use Rattle.hx_age.specs.declared.moments.Times.{Times}
 use Rattle.hx_vary.specs.declared.nominated_values.NominatedValue.{NominatedValue}

@@ -10,7 +10,7 @@ use Rattle.std.specs.List.{filter}
 use Rattle.hx_store.specs.Serials.{serial_is_in}
 use Rattle.hx_store.specs.Recency.{StoreChange, stores_or_uses, recent_after_change, recent_of, count_before}
 use Rattle.hx_store.specs.Recency.{NoChangeTouches}
-use Rattle.hx_store.specs.Weights.{StoreBounds, front_within}
+use Rattle.hx_store.specs.Weights.{StoreBounds, longest_prefix_within}
 
 -- What one step did, and what the entry of each serial weighs once it is done. An entry that was stored or freshened
 -- weighs from then on what its new form does, and so a use that freshens nothing leaves its weight as it was.
@@ -65,4 +65,4 @@ weighed_held_of bounds past = filter (is_weighed_held bounds past) (recent_of (c
 abbrev pub weighed_bounded_of : StoreBounds → List WeighedChange → List ℕ
 weighed_bounded_of bounds [] = []
 weighed_bounded_of bounds (i ∷ past) =
-    front_within bounds i.weights (recent_after_change i.change (weighed_bounded_of bounds past))
+    longest_prefix_within bounds i.weights (recent_after_change i.change (weighed_bounded_of bounds past))

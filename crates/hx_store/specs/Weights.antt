@@ -2,13 +2,13 @@
 --
 -- weight_of: the bytes that one takes                  total_weight: those that several take together
 -- StoreBounds: the most entries, and the most bytes where they are bounded        IsWithin: a list keeps to both
--- IsLongestFrontWithin: the longest front of a list that does        front_within, cut_to_bounds: it, computed
+-- IsLongestPrefixWithin: the longest prefix of a list that does      longest_prefix_within, cut_to_bounds: computed
 -- AreWeightsOf: what each serial weighs is what its entry does
 -- shed_entry, after_shedding: the last one goes where a list weighs too much        counted_weight: what a sum counts
 use Rattle.std.specs.Prelude.{◌≡◌, ℕ, ◌+◌, ◌-◌, ◌^◌, ◌≤◌, min, nat_le, nat_lt, Option, None, Some, List, [], ◌∷◌, ◌++◌}
 use Rattle.std.specs.Prelude.{length, take, slice_get, if◌then◌else◌, IfSome}
 use Rattle.std.specs.List.{sum_by}
-use Rattle.hx_fields.specs.declared.field_line.Field.{Field}
+use Rattle.hx_fields.specs.Line.{Field}
 use Rattle.hx_target.specs.declared.keys.Key.{Key}
 use Rattle.hx_vary.specs.declared.nominated_values.NominatedValue.{NominatedValue}
 use Rattle.hx_store.specs.Stored.{Stored}
@@ -61,29 +61,29 @@ pub record IsWithin {A : Type 0} (bounds : StoreBounds) (weight : A → ℕ) (xs
   pub weighs : IfSome bounds.bytes (λ most. sum_by weight xs ≤ most)
 
 -- it is a front of the list, it is within the bounds, and no other front that is within them is longer
-pub record IsLongestFrontWithin {A : Type 0} (bounds : StoreBounds) (weight : A → ℕ) (xs front : List A) : Type 0 where
+pub record IsLongestPrefixWithin {A : Type 0} (bounds : StoreBounds) (weight : A → ℕ) (xs front : List A) : Type 0 where
   pub is_front : (rest : List A) × (front ++ rest ≡ xs)
   pub is_within : IsWithin bounds weight front
   pub longest : (other rest : List A) → other ++ rest ≡ xs → IsWithin bounds weight other → length other ≤ length front
 
 -- the first of a list, as long as they weigh no more than so much together
-abbrev pub front_of_weight : {A : Type 0} → (A → ℕ) → ℕ → List A → List A
-front_of_weight weight most [] = []
-front_of_weight weight most (x ∷ xs) =
-    if nat_le (weight x) most then x ∷ front_of_weight weight (most - weight x) xs else []
+abbrev pub prefix_of_weight : {A : Type 0} → (A → ℕ) → ℕ → List A → List A
+prefix_of_weight weight most [] = []
+prefix_of_weight weight most (x ∷ xs) =
+    if nat_le (weight x) most then x ∷ prefix_of_weight weight (most - weight x) xs else []
 
-abbrev pub front_of_weight_if_any : {A : Type 0} → (A → ℕ) → Option ℕ → List A → List A
-front_of_weight_if_any weight None xs = xs
-front_of_weight_if_any weight (Some most) xs = front_of_weight weight most xs
+abbrev pub prefix_of_weight_if_any : {A : Type 0} → (A → ℕ) → Option ℕ → List A → List A
+prefix_of_weight_if_any weight None xs = xs
+prefix_of_weight_if_any weight (Some most) xs = prefix_of_weight weight most xs
 
 -- the longest front of a list within the bounds
-abbrev pub front_within : {A : Type 0} → StoreBounds → (A → ℕ) → List A → List A
-front_within bounds weight xs = front_of_weight_if_any weight bounds.bytes (take bounds.entries xs)
+abbrev pub longest_prefix_within : {A : Type 0} → StoreBounds → (A → ℕ) → List A → List A
+longest_prefix_within bounds weight xs = prefix_of_weight_if_any weight bounds.bytes (take bounds.entries xs)
 
 -- The entries that stay: the least recently used, which stand last, go until both bounds hold.
 -- own: whatever each of them weighs ("The last go until both bounds hold")
 abbrev pub cut_to_bounds : StoreBounds → List Stored → List Stored
-cut_to_bounds bounds es = front_within bounds weight_of es
+cut_to_bounds bounds es = longest_prefix_within bounds weight_of es
 
 -- by these weights of serials each entry weighs what it does
 abbrev pub AreWeightsOf : (ℕ → ℕ) → List Stored → Type 0
@@ -101,5 +101,5 @@ after_shedding most es = if nat_lt most (total_weight es) then take (length es -
 abbrev pub counted_weight : Stored → ℕ
 counted_weight e = min (weight_of e) (2 ^ 64 - 1)
 
-abbrev pub counted_total : List Stored → ℕ
-counted_total es = sum_by counted_weight es
+abbrev pub counted_total_weight : List Stored → ℕ
+counted_total_weight es = sum_by counted_weight es

@@ -49,7 +49,7 @@ impl Drop for IndexedEntries {
 impl Model for IndexedEntries {
     ghost use Rattle.std.specs.Prelude.{◌≡◌, List};
     ghost use Rattle.hx_store.specs.Stored.{Stored};
-    ghost use Rattle.hx_store.specs.Weights.{counted_total};
+    ghost use Rattle.hx_store.specs.Weights.{counted_total_weight};
     ghost use Rattle.hx_store.specs.Index.{IsKeyIndexOf, MarksAreOfTheirEntries, HasNoUnusedKey};
     ghost use Rattle.hx_store.specs.Serials.{Distinct};
     ghost use Rattle.hx_store.specs.Shelf.{serials};
@@ -59,7 +59,7 @@ impl Model for IndexedEntries {
     ghost view = { λ s. s.entries };
 
     ghost invariant = { λ s. (Distinct (serials s.entries) × IsKeyIndexOf s.entries s.index) × HasNoUnusedKey s.index
-        × MarksAreOfTheirEntries s.seed s.entries s.index × (s.weight ≡ counted_total s.entries) };
+        × MarksAreOfTheirEntries s.seed s.entries s.index × (s.weight ≡ counted_total_weight s.entries) };
 }
 
 impl IndexedEntries {
@@ -112,7 +112,7 @@ impl IndexedEntries {
         self.index.find(alloc, key)
     }
 
-    /// The least of them. No memory is taken.
+    /// The least serial of an entry with this key. Nothing is allocated.
     fn first_of(&self, key: &Key) -> Option<u64>
         ensures first { result ≡ slice_get (serials_of key.now self.now) 0 }
         ensures distinct { Distinct (serials self.now) }
@@ -120,7 +120,7 @@ impl IndexedEntries {
         self.index.first(key)
     }
 
-    /// Whether an entry with this key is here. No memory is taken.
+    /// Whether an entry with this key is here. Nothing is allocated.
     pub(crate) fn has_key(&self, key: &Key) -> bool
         ensures { result ≡ not (length (serials_of key.now self.now) == 0) }
     {
@@ -188,7 +188,7 @@ impl IndexedEntries {
         }
     }
 
-    /// Puts a new form of a held entry in its place, first, and hands the old one back. No memory is taken.
+    /// Puts a new form of a held entry in its place, first, and hands the old one back. Nothing is allocated.
     pub(crate) fn replace(&mut self, entry: Entry) -> Entry
         requires held { holds_serial entry.serial self.old ≡ true }
         requires same_key { ForSome (find_entry entry.serial self.old) (λ old. same_key old.key entry.key ≡ true) }
@@ -204,7 +204,7 @@ impl IndexedEntries {
         old
     }
 
-    /// Brings the entry of this serial to the front. No memory is taken.
+    /// Brings the entry of this serial to the front. Nothing is allocated.
     pub(crate) fn promote(&mut self, serial: u64) -> bool
         ensures value { result ≡ holds_serial serial self.old }
         ensures entries { self.new ≡ with_promoted serial self.old }
@@ -212,23 +212,23 @@ impl IndexedEntries {
         self.entries.promote(serial)
     }
 
-    /// Expires the entry of this serial at a moment, if it is here. It stays where it is. No memory is taken.
-    fn expire_one(&mut self, serial: u64, now: u64)
+    /// Expires the entry of this serial at a moment, if it is here. It stays where it is. Nothing is allocated.
+    fn expire_entry(&mut self, serial: u64, now: u64)
         ensures { self.new ≡ with_expired (serial ∷ []) now self.old }
     {
         self.entries.expire(serial, now);
     }
 
-    /// Expires the entries with these serials at a moment, each at the cost of a look-up. No memory is taken.
+    /// Expires the entries with these serials at a moment, each at the cost of a look-up. Nothing is allocated.
     pub(crate) fn expire(&mut self, serials: &[u64], now: u64)
         ensures { self.new ≡ with_expired serials.now now self.old }
     {
         for serial in serials {
-            self.expire_one(*serial, now);
+            self.expire_entry(*serial, now);
         }
     }
 
-    /// Takes the entry of this serial out. No memory is taken.
+    /// Takes the entry of this serial out. Nothing is allocated.
     pub(crate) fn remove(&mut self, serial: u64) -> Option<Entry>
         ensures value { result ≡ find_entry serial self.old }
         ensures entries { self.new ≡ without_serials (serial ∷ []) self.old }
@@ -243,7 +243,7 @@ impl IndexedEntries {
         }
     }
 
-    /// Takes the last one out. No memory is taken.
+    /// Takes the last entry out. Nothing is allocated.
     pub(crate) fn pop_last(&mut self) -> Option<Entry>
         ensures value { result ≡ slice_get self.old (length self.old - 1) }
         ensures entries { self.new ≡ take (length self.old - 1) self.old }
@@ -258,8 +258,8 @@ impl IndexedEntries {
         }
     }
 
-    /// Takes the last one out where one too many stand.
-    pub(crate) fn cut(&mut self, capacity: usize) -> Option<Entry>
+    /// Evicts the last entry where more than `capacity` entries stand.
+    pub(crate) fn evict_last_beyond(&mut self, capacity: usize) -> Option<Entry>
         requires { length self.old ≤ capacity + 1 }
         ensures entries { self.new ≡ take capacity self.old }
         ensures gone { result ≡ slice_get self.old capacity }
@@ -271,7 +271,7 @@ impl IndexedEntries {
         }
     }
 
-    /// Takes the last one out where they weigh more than `most` bytes together.
+    /// Evicts the last entry where the entries weigh more than `most` bytes together.
     pub(crate) fn shed(&mut self, most: u64) -> Option<Entry>
         requires { most < 2 ^ 64 - 1 }
         ensures value { result ≡ shed_entry most self.old }
@@ -295,7 +295,7 @@ impl IndexedEntries {
         }
     }
 
-    /// Takes the entries of this key out, at the cost of taking each of them out. No memory is taken.
+    /// Takes the entries of this key out, at the cost of taking each of them out. Nothing is allocated.
     pub(crate) fn remove_key(&mut self, key: &Key)
         ensures { self.new ≡ without_key key.now self.old }
     {

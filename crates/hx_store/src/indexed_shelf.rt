@@ -67,7 +67,7 @@ impl Shelf for IndexedShelf {
 
     ghost limit = { λ s. s.limit };
 
-    // Its index takes memory with each new entry.
+    // Its index allocates with each new entry.
     ghost room = { λ s. s.room };
 
     fn capacity(&self) -> usize {
@@ -116,7 +116,7 @@ impl Shelf for IndexedShelf {
         // The new entry goes in first: where memory is refused, the replaced ones have to stay.
         self.held.store(entry)?;
         self.held.remove_others(serial, replaced);
-        Ok(self.held.cut(self.capacity))
+        Ok(self.held.evict_last_beyond(self.capacity))
     }
 
     fn freshen(&mut self, entry: Entry) -> Entry {

@@ -96,7 +96,7 @@ impl KeyIndex {
         }
         let key = key.copy(alloc)?;
         self.serials
-            .insert(key, KeyMarks::one(alloc, serial, mark))?;
+            .insert(key, KeyMarks::with_one_mark(alloc, serial, mark))?;
         Ok(())
     }
 
@@ -121,7 +121,7 @@ impl KeyIndex {
         }
     }
 
-    /// Puts another mark beside a serial that stands at a key. No memory is taken.
+    /// Puts another mark beside a serial that stands at a key. Nothing is allocated.
     pub(crate) fn mark(&mut self, key: &Key, serial: u64, mark: Mark)
         ensures marked { SerialIsMarkedAnew self.old key.now serial mark self.new }
         ensures trim { HasNoUnusedKey self.old → HasNoUnusedKey self.new }
@@ -131,7 +131,7 @@ impl KeyIndex {
         }
     }
 
-    /// Takes a serial out at a key. No memory is taken.
+    /// Takes a serial out at a key. Nothing is allocated.
     pub(crate) fn remove(&mut self, key: &Key, serial: u64)
         ensures taken { SerialIsTakenOut self.old key.now serial self.new }
         ensures trim { HasNoUnusedKey self.old → HasNoUnusedKey self.new }

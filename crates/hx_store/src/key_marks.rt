@@ -45,8 +45,8 @@ impl Model for KeyMarks {
 }
 
 impl KeyMarks {
-    /// One serial with its mark. No memory is taken.
-    pub(crate) fn one(alloc: Global, serial: u64, mark: Mark) -> KeyMarks
+    /// The list of one serial with its mark. Nothing is allocated.
+    pub(crate) fn with_one_mark(alloc: Global, serial: u64, mark: Mark) -> KeyMarks
         ensures { result ≡ (serial, mark) ∷ [] }
     {
         KeyMarks {
@@ -121,7 +121,7 @@ impl KeyMarks {
         insert_mark(&mut self.more, serial, mark)
     }
 
-    /// Puts another mark beside a serial, if it stands here. No memory is taken.
+    /// Puts another mark beside a serial, if it stands here. Nothing is allocated.
     pub(crate) fn set_mark(&mut self, serial: u64, mark: Mark)
         ensures { self.new ≡ set_value (is_at (nat_cmp serial)) self.old mark }
     {
@@ -134,7 +134,7 @@ impl KeyMarks {
         }
     }
 
-    /// Takes a serial out, if it stands here. No memory is taken.
+    /// Takes a serial out, if it stands here. Nothing is allocated.
     pub(crate) fn remove(&mut self, serial: u64)
         ensures { self.new ≡ remove_entry (is_at (nat_cmp serial)) self.old }
     {

@@ -2,7 +2,7 @@
 
 ghost use Rattle.std.specs.Prelude.{◌≡◌, ◌<◌, ◌∷◌, ◌++◌, [], ℕ, List, true, false, codes, length, map, take, slice_get};
 ghost use Rattle.std.specs.Prelude.{is_some, option_map, IfSome, Some, None, Decides};
-ghost use Rattle.hx_fields.specs.declared.field_line.Field.{Field};
+ghost use Rattle.hx_fields.specs.Line.{Field};
 ghost use Rattle.hx_target.specs.declared.keys.Key.{Key};
 ghost use Rattle.hx_age.specs.Age.{expired_times};
 ghost use Rattle.hx_store.specs.Serials.{serial_is_in};
@@ -22,7 +22,7 @@ pub use crate::weight_laws::{
     an_entry_weighs_what_it_keeps, entries_are_cut_to_their_bounds, entries_are_shed,
     entries_are_weighed, only_storing_and_freshening_break_a_bound,
     serials_are_cut_with_their_entries, shedding_leaves_what_stays_within_the_bounds,
-    the_list_within_its_bounds_is_what_is_held, the_longest_front_within_its_bounds_stays,
+    the_list_within_its_bounds_is_what_is_held, the_longest_prefix_within_its_bounds_stays,
     what_is_held_within_its_bounds, without_a_bound_of_bytes_numbers_decide,
 };
 

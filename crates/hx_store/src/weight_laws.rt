@@ -3,7 +3,7 @@
 ghost use Rattle.std.specs.Prelude.{◌≡◌, ◌+◌, ◌<◌, ◌≤◌, ◌↔◌, ◌∷◌, ◌++◌, [], ℕ, Bool, List, None, true, length, take};
 ghost use Rattle.std.specs.Prelude.{◌-◌, ◌^◌, min, Decides, Some};
 ghost use Rattle.std.specs.List.{filter};
-ghost use Rattle.hx_fields.specs.declared.field_line.Field.{Field as Line};
+ghost use Rattle.hx_fields.specs.Line.{Field as Line};
 ghost use Rattle.hx_target.specs.declared.keys.Key.{Key as StoreKey};
 ghost use Rattle.hx_vary.specs.declared.nominated_values.NominatedValue.{NominatedValue as Kept};
 ghost use Rattle.hx_store.specs.Cases.{first, first_with_content, first_with_a_line, first_in_english};
@@ -14,9 +14,9 @@ ghost use Rattle.hx_store.specs.Recency.{Held, IsStoredAndNotRemoved, IsTouchedL
 ghost use Rattle.hx_store.specs.Recency.{held_of, recent_after_change, recent_of};
 ghost use Rattle.hx_store.specs.Serials.{serial_is_in};
 ghost use Rattle.hx_store.specs.Stored.{Stored};
-ghost use Rattle.hx_store.specs.Weights.{AreWeightsOf, cut_to_bounds, weight_of, IsLongestFrontWithin, IsWithin};
-ghost use Rattle.hx_store.specs.Weights.{after_shedding, counted_total, length_if_any, shed_entry, total_weight};
-ghost use Rattle.hx_store.specs.Weights.{StoreBounds as Bounds, front_within};
+ghost use Rattle.hx_store.specs.Weights.{AreWeightsOf, cut_to_bounds, weight_of, IsLongestPrefixWithin, IsWithin};
+ghost use Rattle.hx_store.specs.Weights.{after_shedding, counted_total_weight, length_if_any, shed_entry, total_weight};
+ghost use Rattle.hx_store.specs.Weights.{StoreBounds as Bounds, longest_prefix_within};
 ghost use Rattle.hx_store.specs.WeightedRecency.{WeighedChange as Change, WeighedHeld, changes_of, weighed_bounded_of};
 ghost use Rattle.hx_store.specs.WeightedRecency.{weighed_held_of};
 
@@ -68,11 +68,11 @@ pub fn entries_are_cut_to_their_bounds()
 /// What stays of a list is the longest front of it within the bounds, of which there is one; what goes is its tail,
 /// and with the first that goes a bound would be broken. An entry that alone is within them stays where it comes
 /// first, and a list within its bounds stays whole. Without a bound of bytes so many stay as there is room for.
-pub fn the_longest_front_within_its_bounds_stays()
+pub fn the_longest_prefix_within_its_bounds_stays()
     ensures longest { (bounds : Bounds) (entries : List Stored)
-        → IsLongestFrontWithin bounds weight_of entries (cut_to_bounds bounds entries) }
-    ensures one { (bounds : Bounds) (entries a b : List Stored) → IsLongestFrontWithin bounds weight_of entries a
-        → IsLongestFrontWithin bounds weight_of entries b → a ≡ b }
+        → IsLongestPrefixWithin bounds weight_of entries (cut_to_bounds bounds entries) }
+    ensures one { (bounds : Bounds) (entries a b : List Stored) → IsLongestPrefixWithin bounds weight_of entries a
+        → IsLongestPrefixWithin bounds weight_of entries b → a ≡ b }
     ensures tail { (bounds : Bounds) (entries : List Stored)
         → (gone : List Stored) × (cut_to_bounds bounds entries ++ gone ≡ entries) }
     ensures one_more { (bounds : Bounds) (entries gone : List Stored) (e : Stored)
@@ -112,9 +112,9 @@ pub fn shedding_leaves_what_stays_within_the_bounds()
         → cut_to_bounds (record { entries = number; bytes = Some most }) entries ≡ entries }
     ensures numbers_first { (bounds : Bounds) (entries : List Stored)
         → cut_to_bounds bounds (take bounds.entries entries) ≡ cut_to_bounds bounds entries }
-    ensures counted { (entries : List Stored) → min (counted_total entries) (2 ^ 64 - 1)
+    ensures counted { (entries : List Stored) → min (counted_total_weight entries) (2 ^ 64 - 1)
         ≡ min (total_weight entries) (2 ^ 64 - 1) }
-    ensures fits { (entries : List Stored) → length entries < 2 ^ 64 → counted_total entries < 2 ^ 128 }
+    ensures fits { (entries : List Stored) → length entries < 2 ^ 64 → counted_total_weight entries < 2 ^ 128 }
 {}
 
 /// Three entries of 1,206 bytes each, the third first: 3,618 bytes.
@@ -124,16 +124,16 @@ pub fn entries_are_shed()
     ensures heavy { shed_entry 3617 (third ∷ second ∷ first ∷ []) ≡ Some first }
     ensures less { after_shedding 3617 (third ∷ second ∷ first ∷ []) ≡ third ∷ second ∷ [] }
     ensures none { shed_entry 0 [] ≡ None }
-    ensures counted { counted_total (third ∷ second ∷ first ∷ []) ≡ 3618 }
+    ensures counted { counted_total_weight (third ∷ second ∷ first ∷ []) ≡ 3618 }
 {}
 
 /// By weights that are those of the entries, their serials are cut where the entries are; so they stay where the
 /// entries are within the bounds.
 pub fn serials_are_cut_with_their_entries()
     ensures cut { (bounds : Bounds) (weights : ℕ → ℕ) (entries : List Stored) → AreWeightsOf weights entries
-        → serials (cut_to_bounds bounds entries) ≡ front_within bounds weights (serials entries) }
+        → serials (cut_to_bounds bounds entries) ≡ longest_prefix_within bounds weights (serials entries) }
     ensures whole { (bounds : Bounds) (weights : ℕ → ℕ) (entries : List Stored) → AreWeightsOf weights entries
-        → IsWithin bounds weight_of entries → front_within bounds weights (serials entries) ≡ serials entries }
+        → IsWithin bounds weight_of entries → longest_prefix_within bounds weights (serials entries) ≡ serials entries }
 {}
 
 /// A list that is cut to its bounds has exactly what is held by the counts over its history, in the order of the latest
@@ -154,7 +154,7 @@ pub fn the_list_within_its_bounds_is_what_is_held()
         → (rest : List ℕ) × (weighed_held_of bounds past ++ rest ≡ recent_of (changes_of past)) }
     ensures more { (bounds : Bounds) (item : Change) (past : List Change)
         → weighed_held_of bounds (item ∷ past)
-        ≡ front_within bounds item.weights (recent_after_change item.change (weighed_held_of bounds past)) }
+        ≡ longest_prefix_within bounds item.weights (recent_after_change item.change (weighed_held_of bounds past)) }
     ensures within { (bounds : Bounds) (item : Change) (past : List Change)
         → IsWithin bounds item.weights (weighed_held_of bounds (item ∷ past)) }
 {}

@@ -55,8 +55,8 @@ pub fn weight_of_parts(
 fn weight_of_line(line: &Field) -> u64
     ensures { result ≡ min (weight_of_line line.now) (2 ^ 64 - 1) }
 {
-    (line.name.len() as u64)
-        .saturating_add(line.value.len() as u64)
+    (line.name().len() as u64)
+        .saturating_add(line.value().len() as u64)
         .saturating_add(BYTES_OF_A_LINE)
 }
 

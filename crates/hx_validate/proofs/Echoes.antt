@@ -1,7 +1,7 @@
 -- A 304 that gives the entity tag back.
 use Rattle.std.proofs.Common.{◌≡◌, ℕ, Bool, true, false, List, cond, map, refl, sym, ◌∙◌, ap, codes, None, Some}
 use Rattle.std.specs.Prelude.{Option, is_some}
-use Rattle.hx_fields.specs.declared.field_line.Field.{Field}
+use Rattle.hx_fields.specs.Line.{Field}
 use Rattle.hx_fields.specs.FieldLines.{has_field, is_named, only_one, only_value}
 use Rattle.hx_hop.specs.declared.conditions.Conditions.{Conditions}
 use Rattle.hx_vary.specs.Vary.{is_same_value}

@@ -4,7 +4,7 @@ use Rattle.std.specs.Prelude.{filter, bytes_eq}
 use Rattle.std.specs.List.{list_any}
 use Rattle.std.specs.Str.{str_to_ascii_lowercase}
 use Rattle.std.proofs.lemmas.List.Elements.{filter-append}
-use Rattle.hx_fields.specs.declared.field_line.Field.{Field}
+use Rattle.hx_fields.specs.Line.{Field}
 use Rattle.hx_fields.specs.FieldLines.{has_field, is_named, values_of}
 use Rattle.hx_validate.specs.Answering.{freshened_fields, is_line_of_304, is_replaced_by_304}
 use Rattle.hx_validate.specs.TagsAndFreshening.{LinesOfItsNamesAreReplaced, LinesOfOtherNamesStay, LengthAndAgeStay, is_name_kept_from_304}

@@ -4,7 +4,7 @@
 -- freshened_of: the stored response with the lines of the 304
 use Rattle.std.specs.Prelude.{ℕ, if◌then◌else◌, Bool, true, false, not, ◌&&◌, ◌||◌, List, [], ◌++◌, filter, bytes_eq}
 use Rattle.std.specs.Prelude.{codes, Option, Some, None}
-use Rattle.hx_fields.specs.declared.field_line.Field.{Field}
+use Rattle.hx_fields.specs.Line.{Field}
 use Rattle.hx_fields.specs.FieldLines.{has_field, is_named, only_value}
 use Rattle.hx_age.specs.declared.moments.Times.{Times}
 use Rattle.hx_vary.specs.Vary.{is_same_value, nominated_with}

@@ -1,6 +1,6 @@
 -- The messages and stored responses that the laws of worked cases speak of.
 use Rattle.std.specs.Prelude.{ℕ, zero, suc, Bool, false, List, [], ◌∷◌, codes, None, Some}
-use Rattle.hx_fields.specs.declared.field_line.Field.{Field}
+use Rattle.hx_fields.specs.Line.{Field}
 use Rattle.hx_fields.specs.Examples.{line}
 use Rattle.hx_hop.specs.declared.response_view.Answered.{Answered}
 use Rattle.hx_hop.specs.declared.request_view.Asked.{Asked}

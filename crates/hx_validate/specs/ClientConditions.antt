@@ -5,7 +5,7 @@
 -- Below them are the statements that the laws of `src/laws.rt` prove.
 use Rattle.std.specs.Prelude.{◌≡◌, ◌⊎◌, ℕ, ◌≤◌, true, false, List, codes, Option, Some, is_some}
 use Rattle.std.specs.List.{Any}
-use Rattle.hx_fields.specs.declared.field_line.Field.{Field}
+use Rattle.hx_fields.specs.Line.{Field}
 use Rattle.hx_fields.specs.FieldLines.{combined_of, has_field, members_of, values_of}
 use Rattle.hx_age.specs.Dates.{single_date}
 use Rattle.hx_store.specs.Stored.{Stored}

@@ -3,7 +3,7 @@ use Rattle.std.specs.Prelude.{◌≡◌, ℕ, List}
 use Rattle.std.specs.BTreeSet.{BTreeSet, contains}
 use Rattle.hx_fields.specs.Folded.{folded, folded_cmp}
 use Rattle.hx_fields.specs.FieldLines.{has_field}
-use Rattle.hx_fields.specs.declared.field_line.Field.{Field}
+use Rattle.hx_fields.specs.Line.{Field}
 
 -- each name that a line has, and no other
 abbrev pub HasEachName : List Field → BTreeSet (List ℕ) → Type 0

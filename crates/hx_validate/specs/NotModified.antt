@@ -6,7 +6,7 @@
 use Rattle.std.specs.Prelude.{ℕ, nat_le, ◌==◌, if◌then◌else◌, Bool, false, not, ◌&&◌, ◌||◌, List, filter, bytes_eq}
 use Rattle.std.specs.Prelude.{codes, option_and_then, unwrap_or, Option, Some, None}
 use Rattle.std.specs.List.{list_any}
-use Rattle.hx_fields.specs.declared.field_line.Field.{Field}
+use Rattle.hx_fields.specs.Line.{Field}
 use Rattle.hx_fields.specs.FieldLines.{combined_of, has_field, is_named, members_of, values_of}
 use Rattle.hx_age.specs.Dates.{single_date}
 use Rattle.hx_store.specs.Stored.{Stored}

@@ -1,6 +1,6 @@
 -- What the worked cases of ranges speak of.
 use Rattle.std.specs.Prelude.{ℕ, List, [], ◌∷◌, codes}
-use Rattle.hx_fields.specs.declared.field_line.Field.{Field}
+use Rattle.hx_fields.specs.Line.{Field}
 use Rattle.hx_fields.specs.Examples.{line}
 use Rattle.hx_store.specs.Stored.{Stored}
 use Rattle.hx_validate.specs.Cases.{asked_with, many_lines, stored_with}

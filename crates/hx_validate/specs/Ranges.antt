@@ -15,7 +15,7 @@ use Rattle.std.specs.Prelude.{codes, decimal, option_map, option_and_then, Optio
 use Rattle.std.specs.List.{list_all}
 use Rattle.std.specs.Char.{is_ascii_digit}
 use Rattle.std.specs.Str.Parse.{digits_value}
-use Rattle.hx_fields.specs.declared.field_line.Field.{Field}
+use Rattle.hx_fields.specs.Line.{Field}
 use Rattle.hx_fields.specs.Examples.{line}
 use Rattle.hx_fields.specs.FieldLines.{has_field, is_named, only_value, values_of, without_named}
 use Rattle.hx_fields.specs.Names.{cut_at, is_nonempty, is_same_name}

@@ -4,7 +4,7 @@
 --
 -- head_leaves_room: it does     LeavesRoomForAll, LeavesRoomForNoMore: and what that means
 use Rattle.std.specs.Prelude.{◌≡◌, ℕ, ◌+◌, ◌≤◌, nat_le, ◌&&◌, Bool, true, List, ◌∷◌, ◌++◌, length, codes}
-use Rattle.hx_fields.specs.declared.field_line.Field.{Field}
+use Rattle.hx_fields.specs.Line.{Field}
 use Rattle.hx_fields.specs.Examples.{line}
 use Rattle.hx_framing.specs.HeadEnd.{most_field_lines, most_head_bytes}
 use Rattle.hx_framing.specs.Text.{field_lines_text}

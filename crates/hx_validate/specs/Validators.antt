@@ -4,7 +4,7 @@
 -- has_validator: one stands                    conditions_of: both
 use Rattle.std.specs.Prelude.{ℕ, if◌then◌else◌, Bool, ◌||◌, List, codes, Option, Some, None, is_some}
 use Rattle.httpdate.specs.Date.{parse_secs}
-use Rattle.hx_fields.specs.declared.field_line.Field.{Field}
+use Rattle.hx_fields.specs.Line.{Field}
 use Rattle.hx_fields.specs.FieldLines.{only_value}
 use Rattle.hx_hop.specs.declared.conditions.Conditions.{Conditions}
 use Rattle.hx_validate.specs.EntityTags.{entity_tag_of}

@@ -63,9 +63,7 @@ fn if_none_match_lists(request: &Fields, held: EntityTag) -> bool
     ensures { result ≡ if_none_match_lists request.now (Some (tagged held.entry.weak held.entry.opaque.now)) }
 {
     for line in request.as_slice() {
-        if is_same_name(line.name.as_slice(), b"If-None-Match")
-            && value_lists_tag(line.value.as_slice(), held)
-        {
+        if is_same_name(line.name(), b"If-None-Match") && value_lists_tag(line.value(), held) {
             return true;
         }
     }
@@ -167,7 +165,7 @@ pub fn client_has_answer(asked: &Asked, status: u16, fields: &Fields) -> bool
 fn is_carried_by_304(line: &Field, tagged: bool) -> bool
     ensures { result ≡ is_carried_by_304 tagged line.now }
 {
-    let name = line.name.as_slice();
+    let name = line.name();
     is_same_name(name, b"Cache-Control")
         || is_same_name(name, b"Content-Location")
         || is_same_name(name, b"Date")
@@ -185,7 +183,7 @@ pub fn not_modified(alloc: Global, entry: &Entry) -> Result<Fields, AllocError>
     let mut carried = Fields::new(alloc);
     for line in entry.fields.as_slice() {
         if is_carried_by_304(line, tagged) {
-            carried.push(line.name.as_slice(), line.value.as_slice())?;
+            carried.push(line.name(), line.value())?;
         }
     }
     Ok(carried)
@@ -195,7 +193,7 @@ pub fn not_modified(alloc: Global, entry: &Entry) -> Result<Fields, AllocError>
 fn is_carried_to_asker(line: &Field, tagged: bool) -> bool
     ensures { result ≡ is_carried_to_asker tagged line.now }
 {
-    let name = line.name.as_slice();
+    let name = line.name();
     is_carried_by_304(line, tagged)
         || is_same_name(name, b"Age")
         || is_same_name(name, b"Set-Cookie")
@@ -209,7 +207,7 @@ pub fn answer_not_modified(alloc: Global, fields: &Fields) -> Result<Fields, All
     let mut carried = Fields::new(alloc);
     for line in fields.as_slice() {
         if is_carried_to_asker(line, tagged) {
-            carried.push(line.name.as_slice(), line.value.as_slice())?;
+            carried.push(line.name(), line.value())?;
         }
     }
     Ok(carried)

@@ -23,14 +23,13 @@ const FEW_LINES: usize = 16;
 fn is_line_of_304(line: &Field) -> bool
     ensures { result ≡ is_line_of_304 line.now }
 {
-    !is_same_name(line.name.as_slice(), b"Content-Length")
-        && !is_same_name(line.name.as_slice(), b"Age")
+    !is_same_name(line.name(), b"Content-Length") && !is_same_name(line.name(), b"Age")
 }
 
 fn is_replaced_by_304(fields: &Fields, line: &Field) -> bool
     ensures { result ≡ is_replaced_by_304 fields.now line.now }
 {
-    is_line_of_304(line) && fields.has(line.name.as_slice())
+    is_line_of_304(line) && fields.has(line.name())
 }
 
 /// Puts the stored lines that stay at the end.
@@ -44,13 +43,13 @@ fn push_stored(
         (λ line. not (is_replaced_by_304 answered.now line)) stored.now) }
 {
     if answered.len() > FEW_LINES {
-        return push_stored_beside_many(alloc, fields, stored, answered);
+        return push_unreplaced_by_many_lines(alloc, fields, stored, answered);
     }
-    push_stored_beside_few(fields, stored, answered)
+    push_unreplaced_by_few_lines(fields, stored, answered)
 }
 
 /// The same where a 304 has few lines: each stored one is compared with each of them.
-fn push_stored_beside_few(
+fn push_unreplaced_by_few_lines(
     fields: &mut Fields,
     stored: &[Field],
     answered: &Fields,
@@ -60,14 +59,14 @@ fn push_stored_beside_few(
 {
     for line in stored {
         if !is_replaced_by_304(answered, line) {
-            fields.push(line.name.as_slice(), line.value.as_slice())?;
+            fields.push(line.name(), line.value())?;
         }
     }
     Ok(())
 }
 
 /// The same where it has many: their names are looked up.
-fn push_stored_beside_many(
+fn push_unreplaced_by_many_lines(
     alloc: Global,
     fields: &mut Fields,
     stored: &[Field],
@@ -79,9 +78,9 @@ fn push_stored_beside_many(
     let names = line_names(alloc, answered.as_slice())?;
     let mut name = FoldedName::new(alloc);
     for line in stored {
-        name.set(line.name.as_slice())?;
+        name.set(line.name())?;
         if !(is_line_of_304(line) && names.contains(&name)) {
-            fields.push(line.name.as_slice(), line.value.as_slice())?;
+            fields.push(line.name(), line.value())?;
         }
     }
     Ok(())
@@ -93,7 +92,7 @@ fn line_names(alloc: Global, lines: &[Field]) -> Result<BTreeSet<FoldedName>, Al
 {
     let mut names = BTreeSet::new(alloc);
     for line in lines {
-        names.insert(FoldedName::of(alloc, line.name.as_slice())?)?;
+        names.insert(FoldedName::of(alloc, line.name())?)?;
     }
     Ok(names)
 }
@@ -104,7 +103,7 @@ fn push_brought(fields: &mut Fields, lines: &[Field]) -> Result<(), AllocError>
 {
     for line in lines {
         if is_line_of_304(line) {
-            fields.push(line.name.as_slice(), line.value.as_slice())?;
+            fields.push(line.name(), line.value())?;
         }
     }
     Ok(())

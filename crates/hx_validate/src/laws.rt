@@ -226,7 +226,7 @@ pub fn answers_are_judged_by_conditions()
 {}
 
 /// What isn't a line of it stays, but for the moments; what is kept of the request goes by the new lines.
-pub fn the_rest_of_it_stays()
+pub fn what_a_304_does_not_name_stays()
     ensures rest { TheRestStays }
     ensures nominated { NominatedByTheNewLines }
     ensures star { StarNominatesNothing }
@@ -246,7 +246,7 @@ pub fn bytes_of_tags()
 {}
 
 /// The lines that a 304 carries (RFC 9110, section 15.4.5), and others that it doesn't.
-pub fn lines_of_a_304()
+pub fn a_304_carries_these_lines()
     ensures cache_control { fields_of_304 (line (codes "cache-control") (codes "a") ∷ []) ≡ line (codes "cache-control") (codes "a") ∷ [] }
     ensures content_location { fields_of_304 (line (codes "Content-Location") (codes "a") ∷ []) ≡ line (codes "Content-Location") (codes "a") ∷ [] }
     ensures date { fields_of_304 (line (codes "Date") (codes "a") ∷ []) ≡ line (codes "Date") (codes "a") ∷ [] }
@@ -258,7 +258,7 @@ pub fn lines_of_a_304()
 {}
 
 /// The lines that a 304 in place of an answer carries beside them: its Age and its cookies.
-pub fn lines_of_a_304_to_an_answer()
+pub fn a_304_to_an_answer_carries_age_and_cookies()
     ensures age { fields_of_304_to_answer (line (codes "Age") (codes "1") ∷ []) ≡ line (codes "Age") (codes "1") ∷ [] }
     ensures cookies { fields_of_304_to_answer (line (codes "Set-Cookie") (codes "a") ∷ line (codes "set-cookie") (codes "b") ∷ [])
         ≡ line (codes "Set-Cookie") (codes "a") ∷ line (codes "set-cookie") (codes "b") ∷ [] }

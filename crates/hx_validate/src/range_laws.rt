@@ -121,7 +121,7 @@ pub fn only_a_200_to_a_get_has_parts()
 {}
 
 /// The lines of a part and of a 416 (RFC 9110, sections 14.4, 15.3.7 and 15.5.17).
-pub fn lines_of_parts()
+pub fn worked_lines_of_206_and_416()
     ensures part { fields_of_part (etag_line (codes "\"e\"") ∷ line (codes "Expires") (codes "0") ∷ []) 42 1233 1234
         ≡ etag_line (codes "\"e\"") ∷ line (codes "Expires") (codes "0")
         ∷ line (codes "Content-Range") (codes "bytes 42-1233/1234") ∷ [] }

@@ -294,7 +294,7 @@ pub fn part_fields(
 fn is_carried_by_416(line: &Field) -> bool
     ensures { result ≡ is_carried_by_416 line.now }
 {
-    let name = line.name.as_slice();
+    let name = line.name();
     is_same_name(name, b"Date") || is_same_name(name, b"ETag") || is_same_name(name, b"Vary")
 }
 
@@ -307,7 +307,7 @@ pub fn unsatisfied_fields(alloc: Global, entry: &Entry) -> Result<Fields, AllocE
     let mut carried = Fields::new(alloc);
     for line in entry.fields.as_slice() {
         if is_carried_by_416(line) {
-            carried.push(line.name.as_slice(), line.value.as_slice())?;
+            carried.push(line.name(), line.value())?;
         }
     }
     carried.push(b"Content-Range", text.as_slice())?;
@@ -317,7 +317,7 @@ pub fn unsatisfied_fields(alloc: Global, entry: &Entry) -> Result<Fields, AllocE
 fn is_carried_by_416_to_asker(line: &Field) -> bool
     ensures { result ≡ is_carried_by_416_to_asker line.now }
 {
-    let name = line.name.as_slice();
+    let name = line.name();
     is_carried_by_416(line) || is_same_name(name, b"Age") || is_same_name(name, b"Set-Cookie")
 }
 
@@ -333,7 +333,7 @@ pub fn answer_unsatisfied_fields(
     let mut carried = Fields::new(alloc);
     for line in fields.as_slice() {
         if is_carried_by_416_to_asker(line) {
-            carried.push(line.name.as_slice(), line.value.as_slice())?;
+            carried.push(line.name(), line.value())?;
         }
     }
     carried.push(b"Content-Range", text.as_slice())?;

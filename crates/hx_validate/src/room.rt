@@ -1,6 +1,6 @@
 //! Whether a stored response leaves room in its head for the lines that are added where it is sent.
 //!
-//! The definition is in `specs/Room.antt`. No function here takes memory.
+//! The definition is in `specs/Room.antt`. No function here allocates.
 ghost use Rattle.std.specs.Prelude.{◌≡◌, ◌-◌, nat_le, length, cond, Some, None};
 ghost use Rattle.hx_framing.specs.Text.{field_line_text};
 ghost use Rattle.hx_validate.specs.Room.{head_leaves_room};
@@ -17,14 +17,14 @@ const MOST_BYTES: usize = 32_512;
 const BYTES_BESIDE: usize = 4;
 
 /// What a line leaves of so many bytes.
-fn room_behind_line(room: usize, line: &Field) -> Option<usize>
+fn room_left_after_line(room: usize, line: &Field) -> Option<usize>
     ensures { result
         ≡ cond (nat_le (length (field_line_text line.now)) room)
         (Some (room - length (field_line_text line.now))) None }
 {
     room.checked_sub(BYTES_BESIDE)?
-        .checked_sub(line.name.len())?
-        .checked_sub(line.value.len())
+        .checked_sub(line.name().len())?
+        .checked_sub(line.value().len())
 }
 
 /// Whether lines are so few and short that what is added to them, where they are sent, stays within
@@ -38,7 +38,7 @@ pub fn head_leaves_room(fields: &Fields) -> bool
     }
     let mut room = MOST_BYTES;
     for line in lines {
-        match room_behind_line(room, line) {
+        match room_left_after_line(room, line) {
             Some(left) => room = left,
             None => return false,
         }

@@ -10,7 +10,7 @@ use Rattle.std.specs.List.{fold}
 use Rattle.std.specs.Hash.{u64}
 use Rattle.std.specs.Hash.DefaultHasher.{initial, write, finish}
 use Rattle.hx_fields.specs.FieldLines.{combined_of}
-use Rattle.hx_fields.specs.declared.field_line.Field.{Field}
+use Rattle.hx_fields.specs.Line.{Field}
 use Rattle.hx_vary.specs.declared.marks.Mark.{Mark}
 use Rattle.hx_vary.specs.declared.nominated_values.NominatedValue.{NominatedValue}
 use Rattle.hx_vary.specs.Vary.{vary_matches}

@@ -12,7 +12,7 @@ use Rattle.std.specs.List.{list_all, list_any}
 use Rattle.hx_fields.specs.FieldLines.{combined_of, members_of}
 use Rattle.hx_fields.specs.Names.{is_same_name, members_of_value}
 use Rattle.hx_fields.specs.Tokens.{is_token}
-use Rattle.hx_fields.specs.declared.field_line.Field.{Field}
+use Rattle.hx_fields.specs.Line.{Field}
 use Rattle.hx_vary.specs.declared.limits.TheConstants.{MOST_NAMES}
 use Rattle.hx_vary.specs.declared.nominated_values.NominatedValue.{NominatedValue}
 use Rattle.hx_vary.specs.declared.nominations.Nomination.{Nomination}
@@ -96,8 +96,8 @@ both_have_same names earlier later =
     list_all (λ name. is_same_value (combined_of earlier name) (combined_of later name)) names
 
 -- what is kept of a request decides just as the whole request would
-abbrev pub KeptValuesAreEnough : Type 0
-KeptValuesAreEnough = (response earlier later : List Field) →
+abbrev pub KeptValuesDecideAsTheRequestDoes : Type 0
+KeptValuesDecideAsTheRequestDoes = (response earlier later : List Field) →
     vary_matches (kept_values response earlier) later ≡ both_select_alike response earlier later
 
 -- the request that was answered matches what is kept of it

@@ -1,7 +1,7 @@
 //! What the definitions say of the standard's cases and of worked ones.
 
 ghost use Rattle.std.specs.Prelude.{◌≡◌, true, false, [], ◌∷◌, ◌++◌, codes, Some, None};
-ghost use Rattle.hx_vary.specs.Vary.{EachNominatedNameIsKept, NothingIsKeptForAStar, KeptValuesAreEnough};
+ghost use Rattle.hx_vary.specs.Vary.{EachNominatedNameIsKept, NothingIsKeptForAStar, KeptValuesDecideAsTheRequestDoes};
 ghost use Rattle.hx_vary.specs.Vary.{RequestMatchesItself, AMemberOfVaryNominates, each_once, nominates_a_field};
 ghost use Rattle.hx_vary.specs.Vary.{is_star, kept_values, nominated_of, vary_matches, kept_values_with};
 ghost use Rattle.hx_vary.specs.Vary.{nominated_with};
@@ -13,8 +13,8 @@ ghost use Rattle.hx_vary.specs.Cases.{values_kept_for, accept_language, vary_fie
 use crate::nominations::Nomination;
 
 /// What is kept of a request decides just as the whole request would.
-pub fn kept_is_enough()
-    ensures { KeptValuesAreEnough }
+pub fn kept_values_decide_as_the_request_does()
+    ensures { KeptValuesDecideAsTheRequestDoes }
 {}
 
 /// The request that was answered has each value that is kept of it.
@@ -33,7 +33,7 @@ pub fn no_value_is_unmarked()
 {}
 
 /// Nothing is kept for a response with a star, and else each nominated name with its value (RFC 9111, section 4.1).
-pub fn a_star_is_kept_as_one()
+pub fn nominated_values_are_kept_but_of_a_star()
     ensures star { NothingIsKeptForAStar }
     ensures names { EachNominatedNameIsKept }
 {}

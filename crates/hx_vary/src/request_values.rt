@@ -44,22 +44,22 @@ fn combined_values(
     let mut values = BTreeMap::new(alloc);
     let mut name = FoldedName::new(alloc);
     for line in lines {
-        name.set(line.name.as_slice())?;
-        let value = value_with_line(alloc, values.remove(&name), &line.value)?;
-        values.insert(FoldedName::of(alloc, line.name.as_slice())?, value)?;
+        name.set(line.name())?;
+        let value = value_with_line(alloc, values.remove(&name), line)?;
+        values.insert(FoldedName::of(alloc, line.name())?, value)?;
     }
     Ok(values)
 }
 
 /// The combined value of a name, if it had one, with that of a further line (RFC 9110, section 5.3).
-fn value_with_line(alloc: Global, before: Option<Bytes>, value: &Bytes) -> Result<Bytes, AllocError>
-    ensures { IfOk result (λ all. all ≡ value_with_line before value.now) }
+fn value_with_line(alloc: Global, before: Option<Bytes>, line: &Field) -> Result<Bytes, AllocError>
+    ensures { IfOk result (λ all. all ≡ value_with_line before line.now.value) }
 {
     match before {
         Some(before) => before
             .followed_by(alloc, b", ")?
-            .followed_by(alloc, value.as_slice()),
-        None => value.copy(alloc),
+            .followed_by(alloc, line.value()),
+        None => line.value_part(alloc, line.value().len()),
     }
 }
 

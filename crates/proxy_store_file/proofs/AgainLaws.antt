@@ -6,7 +6,7 @@ use Rattle.std.proofs.Math.Dec.{eqb-suc-zero}
 use Rattle.std.proofs.lemmas.Bool.{le-leb, lt-leb}
 use Rattle.std.proofs.lemmas.List.{append-nil, length-append}
 use Rattle.std.proofs.Math.Seq.{take-append_seam}
-use Rattle.hx_fields.specs.declared.field_line.Field.{Field}
+use Rattle.hx_fields.specs.Line.{Field}
 use Rattle.hx_target.specs.declared.keys.Key.{Key}
 use Rattle.hx_age.specs.declared.moments.Times.{Times}
 use Rattle.hx_vary.specs.declared.nominated_values.NominatedValue.{NominatedValue}
@@ -17,15 +17,15 @@ use Rattle.hx_store.specs.Weights.{StoreBounds, total_weight}
 use Rattle.proxy_store_file.specs.declared.heads.Head.{Head}
 use Rattle.proxy_store_file.specs.declared.store_faults.EntryPart.{EntryPart}
 use Rattle.proxy_store_file.specs.declared.store_faults.StoreFault.{StoreFault}
-use Rattle.proxy_store_file.specs.Texts.{number_spelling, text_spelling, number_of, is_number, number_in_front, text_in_front, cut, after}
-use Rattle.proxy_store_file.specs.Heads.{times_spelling, key_spelling, value_spelling, kept_spelling, nominated_spelling, line_spelling, lines_spelling, numbers_spelling, head_spelling, below, number_below_in_front, times_with_response, times_with_request, times_with_age, times_with_date, times_in_front, times_with_purge, times_at_end, purge_spelling, key_with_path, key_with_host, key_with_port, key_in_front, some_value, value_behind, value_in_front, kept_with_value, kept_with_name, kept_in_front, values_behind, nominated_in_front, line_with_value, line_with_name, line_in_front, lines_behind, lines_in_front, whole, no_head, head_with_lines, head_with_nominated, head_with_key, head_with_times, head_with_length, head_with_status, head_with_serial, head_in, head_of}
+use Rattle.proxy_store_file.specs.Texts.{number_spelling, text_spelling, number_of, is_number, leading_number, leading_text, cut, after}
+use Rattle.proxy_store_file.specs.Heads.{times_spelling, key_spelling, value_spelling, kept_spelling, nominated_spelling, line_spelling, lines_spelling, numbers_spelling, head_spelling, below, leading_number_below, times_with_response, times_with_request, times_with_age, times_with_date, leading_times, times_with_purge, times_at_end, purge_spelling, key_with_path, key_with_host, key_with_port, leading_key, some_value, value_behind, leading_value, kept_with_value, kept_with_name, leading_kept, values_behind, leading_nominated, line_with_value, line_with_name, leading_line, lines_behind, leading_lines, whole, no_head, head_with_lines, head_with_nominated, head_with_key, head_with_times, head_with_length, head_with_status, head_with_serial, head_in, head_of}
 use Rattle.proxy_store_file.specs.Parts.{most_head_bytes, part_at_fault}
 use Rattle.proxy_store_file.specs.Fits.{TextFits, ValueFits, MomentFits, KeptFits, LineFits, EntryFits, EntryCanStand, EntriesCanStand, StoreCanBeTold}
-use Rattle.proxy_store_file.specs.Stores.{StoreContents, entry_spelling, entries_spelling, first_line, opening_spelling, body_spelling, digest_spelling, store_spelling, EntryRead, Found, entry_in_front, entry_fault, fault_of_part, standing_fault, is_too_heavy, StoreReading, or_short, digest_read, end_read, entry_taken, entry_read, entries_read, counted_read, line_read, read_store}
+use Rattle.proxy_store_file.specs.Stores.{StoreContents, entry_spelling, entries_spelling, first_line, opening_spelling, body_spelling, digest_spelling, store_spelling, EntryRead, Found, leading_entry, entry_fault, fault_of_part, standing_fault, is_too_heavy, StoreReading, or_short, digest_read, end_read, entry_taken, entry_read, entries_read, counted_read, line_read, read_store}
 use Rattle.proxy_store_file.proofs.TextLaws.{same_bytes, cut_again, length-number_spelling, number_of_spelled, is_number_spelled, number_again, text_again}
 use Rattle.proxy_store_file.proofs.EntryLaws.{entry_found}
 
-below_again : (bound n : ℕ) (more : List ℕ) → n < bound → n < 2 ^ 64 → number_below_in_front bound (number_spelling n ++ more) ≡ Some (n, more)
+below_again : (bound n : ℕ) (more : List ℕ) → n < bound → n < 2 ^ 64 → leading_number_below bound (number_spelling n ++ more) ≡ Some (n, more)
 below_again bound n more less fits =
     let t : nat_lt n bound ≡ true = le-leb (suc n) bound less in
     ap (λ (o : Option (ℕ × List ℕ)). after o (below bound)) (number_again n more fits) ∙ rw t refl
@@ -34,12 +34,12 @@ times_regroup : (a b c d more : List ℕ) → (((a ++ b) ++ c) ++ d) ++ more ≡
 times_regroup a b c d more = simp append_assoc
 
 times_again : (t : Times) (more : List ℕ) → t.date < 2 ^ 64 → t.age_value < 2 ^ 32 → t.request_time < 2 ^ 64 → t.response_time < 2 ^ 64
-    → times_in_front (times_spelling t ++ more) ≡ Some (record t { expired = None }, more)
+    → leading_times (times_spelling t ++ more) ≡ Some (record t { expired = None }, more)
 times_again t more f1 f2 f3 f4 =
     let d = number_spelling t.date in let a = number_spelling t.age_value in
     let r = number_spelling t.request_time in let s = number_spelling t.response_time in
     let wide : t.age_value < 2 ^ 64 = omega (arith, f2) in
-    ap times_in_front (times_regroup d a r s more)
+    ap leading_times (times_regroup d a r s more)
     ∙ (ap (λ (o : Option (ℕ × List ℕ)). after o times_with_date) (number_again t.date (a ++ (r ++ (s ++ more))) f1)
     ∙ (ap (λ (o : Option (ℕ × List ℕ)). after o (times_with_age t.date)) (below_again (2 ^ 32) t.age_value (r ++ (s ++ more)) f2 wide)
     ∙ (ap (λ (o : Option (ℕ × List ℕ)). after o (times_with_request t.date t.age_value)) (number_again t.request_time (s ++ more) f3)
@@ -48,18 +48,18 @@ times_again t more f1 f2 f3 f4 =
 three_regroup : (a b c more : List ℕ) → ((a ++ b) ++ c) ++ more ≡ a ++ (b ++ (c ++ more))
 three_regroup a b c more = simp append_assoc
 
-key_again : (k : Key) (more : List ℕ) → k.port < 2 ^ 16 → TextFits k.host → TextFits k.path_query → key_in_front (key_spelling k ++ more) ≡ Some (k, more)
+key_again : (k : Key) (more : List ℕ) → k.port < 2 ^ 16 → TextFits k.host → TextFits k.path_query → leading_key (key_spelling k ++ more) ≡ Some (k, more)
 key_again k more f1 f2 f3 =
     let p = number_spelling k.port in let h = text_spelling k.host in let q = text_spelling k.path_query in
     let wide : k.port < 2 ^ 64 = omega (arith, f1) in
-    ap key_in_front (three_regroup p h q more)
+    ap leading_key (three_regroup p h q more)
     ∙ (ap (λ (o : Option (ℕ × List ℕ)). after o key_with_port) (below_again (2 ^ 16) k.port (h ++ (q ++ more)) f1 wide)
     ∙ (ap (λ (o : Option (List ℕ × List ℕ)). after o (key_with_host k.port)) (text_again k.host (q ++ more) f2)
     ∙ ap (λ (o : Option (List ℕ × List ℕ)). after o (key_with_path k.port k.host)) (text_again k.path_query more f3)))
 
-line_again : (l : Field) (more : List ℕ) → LineFits l → line_in_front (line_spelling l ++ more) ≡ Some (l, more)
+line_again : (l : Field) (more : List ℕ) → LineFits l → leading_line (line_spelling l ++ more) ≡ Some (l, more)
 line_again l more fits =
-    ap line_in_front (append_assoc (text_spelling l.name) (text_spelling l.value) more)
+    ap leading_line (append_assoc (text_spelling l.name) (text_spelling l.value) more)
     ∙ (ap (λ (o : Option (List ℕ × List ℕ)). after o line_with_name) (text_again l.name (text_spelling l.value ++ more) fits.0)
     ∙ ap (λ (o : Option (List ℕ × List ℕ)). after o (line_with_value l.name)) (text_again l.value more fits.1))
 
@@ -69,16 +69,16 @@ value_behind_again n value more e =
     let one : length value ≡ n - 1 = omega (arith, e) in
     rw some (ap (λ (o : Option (List ℕ × List ℕ)). after o some_value) (cut_again value more (n - 1) one))
 
-value_again : (v : Option (List ℕ)) (more : List ℕ) → ValueFits v → value_in_front (value_spelling v ++ more) ≡ Some (v, more)
+value_again : (v : Option (List ℕ)) (more : List ℕ) → ValueFits v → leading_value (value_spelling v ++ more) ≡ Some (v, more)
 value_again None more fits = ap (λ (o : Option (ℕ × List ℕ)). after o value_behind) (number_again 0 more (omega arith))
 value_again (Some v) more fits =
-    ap value_in_front (append_assoc (number_spelling (length v + 1)) v more)
+    ap leading_value (append_assoc (number_spelling (length v + 1)) v more)
     ∙ (ap (λ (o : Option (ℕ × List ℕ)). after o value_behind) (number_again (length v + 1) (v ++ more) fits)
     ∙ value_behind_again (length v + 1) v more refl)
 
-kept_again : (k : NominatedValue) (more : List ℕ) → KeptFits k → kept_in_front (kept_spelling k ++ more) ≡ Some (k, more)
+kept_again : (k : NominatedValue) (more : List ℕ) → KeptFits k → leading_kept (kept_spelling k ++ more) ≡ Some (k, more)
 kept_again k more fits =
-    ap kept_in_front (append_assoc (text_spelling k.name) (value_spelling k.value) more)
+    ap leading_kept (append_assoc (text_spelling k.name) (value_spelling k.value) more)
     ∙ (ap (λ (o : Option (List ℕ × List ℕ)). after o kept_with_name) (text_again k.name (value_spelling k.value ++ more) fits.0)
     ∙ ap (λ (o : Option (Option (List ℕ) × List ℕ)). after o (kept_with_value k.name)) (value_again k.value more fits.1))
 
@@ -100,15 +100,15 @@ values_behind_again read (k ∷ ks) more fits =
     ∙ (values_behind_again (read ++ k ∷ []) ks more fits.1
     ∙ ap (λ (xs : List NominatedValue). Some (xs, more)) (append_assoc read (k ∷ []) ks)))
 
-lines_again : (ls : List Field) (more : List ℕ) → length ls < 2 ^ 64 → AllByRecursion LineFits ls → lines_in_front (lines_spelling ls ++ more) ≡ Some (ls, more)
+lines_again : (ls : List Field) (more : List ℕ) → length ls < 2 ^ 64 → AllByRecursion LineFits ls → leading_lines (lines_spelling ls ++ more) ≡ Some (ls, more)
 lines_again ls more few fits =
-    ap lines_in_front (append_assoc (number_spelling (length ls)) (flat_map line_spelling ls) more)
+    ap leading_lines (append_assoc (number_spelling (length ls)) (flat_map line_spelling ls) more)
     ∙ (ap (λ (o : Option (ℕ × List ℕ)). after o (lines_behind [])) (number_again (length ls) (flat_map line_spelling ls ++ more) few)
     ∙ lines_behind_again [] ls more fits)
 
-nominated_again : (ks : List NominatedValue) (more : List ℕ) → length ks < 2 ^ 64 → AllByRecursion KeptFits ks → nominated_in_front (nominated_spelling ks ++ more) ≡ Some (ks, more)
+nominated_again : (ks : List NominatedValue) (more : List ℕ) → length ks < 2 ^ 64 → AllByRecursion KeptFits ks → leading_nominated (nominated_spelling ks ++ more) ≡ Some (ks, more)
 nominated_again ks more few fits =
-    ap nominated_in_front (append_assoc (number_spelling (length ks)) (flat_map kept_spelling ks) more)
+    ap leading_nominated (append_assoc (number_spelling (length ks)) (flat_map kept_spelling ks) more)
     ∙ (ap (λ (o : Option (ℕ × List ℕ)). after o (values_behind [])) (number_again (length ks) (flat_map kept_spelling ks ++ more) few)
     ∙ values_behind_again [] ks more fits)
 
@@ -117,7 +117,7 @@ purge_again None t fits = refl
 purge_again (Some moment) t fits =
     let some : (length (number_spelling moment) == 0) ≡ false = ap (λ n. n == 0) (length-number_spelling moment) in
     rw some (
-    ap (λ (bytes : List ℕ). after (number_in_front bytes) (times_with_purge (record t { expired = None }))) (sym (append-nil (number_spelling moment)))
+    ap (λ (bytes : List ℕ). after (leading_number bytes) (times_with_purge (record t { expired = None }))) (sym (append-nil (number_spelling moment)))
     ∙ ap (λ (o : Option (ℕ × List ℕ)). after o (times_with_purge (record t { expired = None }))) (number_again moment [] fits)
     )
 
@@ -137,7 +137,7 @@ head_again e fits =
     let h5 : Head = record h4 { key = e.key } in
     let h6 : Head = record h5 { nominated = e.nominated } in
     let wide : e.status < 2 ^ 64 = omega (arith, fits.status) in
-    ap (λ bytes. after (number_in_front bytes) head_with_serial) (head_regroup a b c t k n l p)
+    ap (λ bytes. after (leading_number bytes) head_with_serial) (head_regroup a b c t k n l p)
     ∙ (ap (λ (o : Option (ℕ × List ℕ)). after o head_with_serial) (number_again e.serial (b ++ (c ++ (t ++ (k ++ (n ++ (l ++ p)))))) fits.serial)
     ∙ (ap (λ (o : Option (ℕ × List ℕ)). after o (head_with_status h1)) (below_again (2 ^ 16) e.status (c ++ (t ++ (k ++ (n ++ (l ++ p))))) fits.status wide)
     ∙ (ap (λ (o : Option (ℕ × List ℕ)). after o (head_with_length h2)) (number_again (length e.content) (t ++ (k ++ (n ++ (l ++ p)))) fits.content)
@@ -147,7 +147,7 @@ head_again e fits =
     ∙ (ap (λ (o : Option (List Field × List ℕ)). after o (head_with_lines h6)) (lines_again e.fields p fits.lines fits.fields)
     ∙ ap (λ (o : Option Times). option_map (λ times. record h6 { times = times; fields = e.fields }) o) (purge_again e.times.expired e.times fits.purge))))))))
 
-entry_again : (e : Stored) (more : List ℕ) → EntryFits e → length (head_spelling (head_of e)) ≤ most_head_bytes → entry_in_front (entry_spelling e ++ more) ≡ Found e more
+entry_again : (e : Stored) (more : List ℕ) → EntryFits e → length (head_spelling (head_of e)) ≤ most_head_bytes → leading_entry (entry_spelling e ++ more) ≡ Found e more
 entry_again e more fits short =
     let head = head_spelling (head_of e) in
     let wide : length head < 2 ^ 64 = omega (arith, short) in

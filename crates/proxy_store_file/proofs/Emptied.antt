@@ -3,17 +3,17 @@ use Rattle.std.proofs.Common.{◌≡◌, ℕ, ◌+◌, ◌-◌, ◌<◌, ◌≤�
 use Rattle.std.proofs.lemmas.Bool.{lt-leb}
 use Rattle.std.proofs.lemmas.List.Sums.{sum_by-cons}
 use Rattle.hx_store.specs.Stored.{Stored}
-use Rattle.hx_store.specs.Weights.{weight_of, front_of_weight, total_weight, shed_entry}
+use Rattle.hx_store.specs.Weights.{weight_of, prefix_of_weight, total_weight, shed_entry}
 use Rattle.hx_store.proofs.ShedEntries.{nothing_shed}
 
 weighs_something : (e : Stored) → 0 < weight_of e
 weighs_something e = omega arith
 
-pub front_of_nothing : (es : List Stored) → front_of_weight weight_of 0 es ≡ []
+pub front_of_nothing : (es : List Stored) → prefix_of_weight weight_of 0 es ≡ []
 front_of_nothing [] = refl
 front_of_nothing (e ∷ es) =
     let heavy : nat_le (weight_of e) 0 ≡ false = lt-leb (weight_of e) 0 (weighs_something e) in
-    ap (λ t. cond {A = List Stored} t (e ∷ front_of_weight weight_of (0 - weight_of e) es) []) heavy
+    ap (λ t. cond {A = List Stored} t (e ∷ prefix_of_weight weight_of (0 - weight_of e) es) []) heavy
 
 none_weigh_nothing : (es : List Stored) → total_weight es ≤ 0 → es ≡ []
 none_weigh_nothing [] h = refl

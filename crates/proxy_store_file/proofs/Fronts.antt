@@ -8,7 +8,7 @@ use Rattle.proxy_store_file.specs.declared.pieces.ReadStop.{ReadStop}
 use Rattle.proxy_store_file.specs.declared.pieces.ReadStop.TheVariants as stop
 use Rattle.proxy_store_file.specs.Texts.{cut}
 use Rattle.proxy_store_file.specs.Stores.{StoreReading, or_short}
-use Rattle.proxy_store_file.specs.Streams.{Gave, Stops, IsRead, ReadingStops, IsUnfinished, IsRefused, FrontIsRead, fault_of_stop}
+use Rattle.proxy_store_file.specs.Streams.{ReaderGaveBytes, ReaderStoppedShort, IsRead, ReadingStops, IsUnfinished, IsRefused, FrontIsRead, fault_of_stop}
 use Rattle.proxy_store_file.proofs.TextLaws.{cut_again}
 use Rattle.proxy_store_file.proofs.EntryLaws.{cut_short}
 use Rattle.proxy_store_file.proofs.Given.{gave_more}
@@ -80,7 +80,7 @@ refused_by_reading read a b f p q r = r
 
 -- the reader gave too few bytes, which are short
 pub stopped : (read : List ℕ → StoreReading) (few : List ℕ → Type 0) (a b : Bytes) (n : ℕ) (why : ReadStop)
-    → Stops few a b why → ((bytes : List ℕ) → few bytes → read bytes ≡ Err (fault.Short n)) → IsRefused read a b (fault_of_stop n why)
+    → ReaderStoppedShort few a b why → ((bytes : List ℕ) → few bytes → read bytes ≡ Err (fault.Short n)) → IsRefused read a b (fault_of_stop n why)
 stopped read few a b n stop.Ended s short = record {
   bytes = s.bytes;
   consumes = s.consumes;
@@ -97,7 +97,7 @@ stopped read few a b n stop.OutOfMemory s short = record { bytes = s.bytes; cons
 
 -- eight more bytes
 pub front_cut : (read : List ℕ → StoreReading) (K : List ℕ → List ℕ → List ℕ → StoreReading) (n : ℕ) (a b c : Bytes) (h0 h1 h2 : DefaultHasher) (eight : List ℕ)
-    → FrontIsRead read (λ text rest. or_short n (cut 8 rest) (K text)) a b h0 h1 → Gave b c h1 h2 eight → length eight ≡ 8
+    → FrontIsRead read (λ text rest. or_short n (cut 8 rest) (K text)) a b h0 h1 → ReaderGaveBytes b c h1 h2 eight → length eight ≡ 8
     → FrontIsRead read (λ text rest. K text eight rest) a c h0 h2
 front_cut read K n a b c h0 h1 h2 eight f given long =
     front_behind read (λ text rest. or_short n (cut 8 rest) (K text)) (λ text rest. K text eight rest) a b c h0 h1 h2 f (record {
@@ -107,7 +107,7 @@ front_cut read K n a b c h0 h1 h2 eight f given long =
     })
 
 pub front_stops : (read : List ℕ → StoreReading) (K : List ℕ → List ℕ → List ℕ → StoreReading) (n : ℕ) (a b c : Bytes) (h0 h1 : DefaultHasher) (why : ReadStop)
-    → FrontIsRead read (λ text rest. or_short n (cut 8 rest) (K text)) a b h0 h1 → Stops (λ bytes. length bytes < 8) b c why
+    → FrontIsRead read (λ text rest. or_short n (cut 8 rest) (K text)) a b h0 h1 → ReaderStoppedShort (λ bytes. length bytes < 8) b c why
     → IsRefused read a c (fault_of_stop n why)
 front_stops read K n a b c h0 h1 why f s =
     refused_behind read (λ text rest. or_short n (cut 8 rest) (K text)) a b c h0 h1 (fault_of_stop n why) f

@@ -6,7 +6,7 @@ use Rattle.std.specs.declared.hash.DefaultHasher.{DefaultHasher}
 use Rattle.std.proofs.KnownBytes.{Consumes-nil, Consumes-trans, Consumes-kept}
 use Rattle.std.proofs.lemmas.List.{length-append, length-take-le}
 use Rattle.std.proofs.lemmas.List.Sums.{fold-append}
-use Rattle.proxy_store_file.specs.Streams.{Gave, Stops}
+use Rattle.proxy_store_file.specs.Streams.{ReaderGaveBytes, ReaderStoppedShort}
 use Rattle.proxy_store_file.specs.declared.pieces.ReadStop.{ReadStop}
 use Rattle.proxy_store_file.specs.declared.pieces.ReadStop.TheVariants as stop
 
@@ -18,25 +18,25 @@ pub write-append : (h : DefaultHasher) (xs ys : List ℕ) → write h (xs ++ ys)
 unfolding write
 write-append h xs ys = fold-append write_byte h xs ys
 
-pub gave_nothing : (a : Option (List ℕ)) (h : DefaultHasher) (xs : List ℕ) → xs ≡ [] → Gave a a h h xs
-gave_nothing a h xs e = subst (Gave a a h h) (sym e) (record { consumes = Consumes-nil a; hashed = sym (write-nil h) })
+pub gave_nothing : (a : Option (List ℕ)) (h : DefaultHasher) (xs : List ℕ) → xs ≡ [] → ReaderGaveBytes a a h h xs
+gave_nothing a h xs e = subst (ReaderGaveBytes a a h h) (sym e) (record { consumes = Consumes-nil a; hashed = sym (write-nil h) })
 
 pub gave_more : (a b c : Option (List ℕ)) (h0 h1 h2 : DefaultHasher) (xs ys zs : List ℕ)
-    → Gave a b h0 h1 xs → Consumes b c ys → h2 ≡ write h1 ys → zs ≡ xs ++ ys → Gave a c h0 h2 zs
-gave_more a b c h0 h1 h2 xs ys zs before now fed grown = subst (Gave a c h0 h2) (sym grown) (record {
+    → ReaderGaveBytes a b h0 h1 xs → Consumes b c ys → h2 ≡ write h1 ys → zs ≡ xs ++ ys → ReaderGaveBytes a c h0 h2 zs
+gave_more a b c h0 h1 h2 xs ys zs before now fed grown = subst (ReaderGaveBytes a c h0 h2) (sym grown) (record {
   consumes = Consumes-trans a b c xs ys before.consumes now;
   hashed = fed ∙ (ap (λ h. write h ys) before.hashed ∙ sym (write-append h0 xs ys));
 })
 
 pub gave_kept : (a b c : Option (List ℕ)) (h0 h1 h2 : DefaultHasher) (xs zs : List ℕ)
-    → Gave a b h0 h1 xs → Keeps b c → h2 ≡ h1 → zs ≡ xs → Gave a c h0 h2 zs
-gave_kept a b c h0 h1 h2 xs zs before now fed grown = subst (Gave a c h0 h2) (sym grown) (record {
+    → ReaderGaveBytes a b h0 h1 xs → Keeps b c → h2 ≡ h1 → zs ≡ xs → ReaderGaveBytes a c h0 h2 zs
+gave_kept a b c h0 h1 h2 xs zs before now fed grown = subst (ReaderGaveBytes a c h0 h2) (sym grown) (record {
   consumes = Consumes-kept a b c xs before.consumes now;
   hashed = fed ∙ before.hashed;
 })
 
 pub gave_taken : (a b c : Option (List ℕ)) (h0 h1 h2 : DefaultHasher) (xs zs buf : List ℕ) (k j : ℕ)
-    → h2 ≡ write h1 (take j buf) → zs ≡ xs ++ take j buf → j ≡ k → Gave a b h0 h1 xs → Consumes b c (take k buf) → Gave a c h0 h2 zs
+    → h2 ≡ write h1 (take j buf) → zs ≡ xs ++ take j buf → j ≡ k → ReaderGaveBytes a b h0 h1 xs → Consumes b c (take k buf) → ReaderGaveBytes a c h0 h2 zs
 gave_taken a b c h0 h1 h2 xs zs buf k j fed grown e before now =
     gave_more a b c h0 h1 h2 xs (take j buf) zs before (subst (λ i. Consumes b c (take i buf)) (sym e) now) fed grown
 
@@ -47,7 +47,7 @@ taken_more xs zs buf k j left less n grown e within room rest whole =
     let taken : length (take j buf) ≡ j = length-take-le j buf (omega arith) in
     omega (arith, long, taken)
 
-pub stops_for_memory : (few : List ℕ → Type 0) (a b : Option (List ℕ)) (bytes : List ℕ) → Consumes a b bytes → Stops few a b stop.OutOfMemory
+pub stops_for_memory : (few : List ℕ → Type 0) (a b : Option (List ℕ)) (bytes : List ℕ) → Consumes a b bytes → ReaderStoppedShort few a b stop.OutOfMemory
 stops_for_memory few a b bytes given = record {
   bytes = bytes;
   consumes = given;

@@ -4,13 +4,13 @@ use Rattle.std.specs.List.{flat_map}
 use Rattle.std.specs.Prelude.{option_map}
 use Rattle.std.proofs.lemmas.List.{append-nil, length-append}
 use Rattle.std.proofs.lemmas.Bool.{eqb-true, ltb-true}
-use Rattle.hx_fields.specs.declared.field_line.Field.{Field}
+use Rattle.hx_fields.specs.Line.{Field}
 use Rattle.hx_target.specs.declared.keys.Key.{Key}
 use Rattle.hx_age.specs.declared.moments.Times.{Times}
 use Rattle.hx_vary.specs.declared.nominated_values.NominatedValue.{NominatedValue}
 use Rattle.proxy_store_file.specs.declared.heads.Head.{Head}
-use Rattle.proxy_store_file.specs.Texts.{number_spelling, text_spelling, number_in_front, text_in_front, cut, after}
-use Rattle.proxy_store_file.specs.Heads.{times_spelling, key_spelling, value_spelling, kept_spelling, nominated_spelling, line_spelling, lines_spelling, numbers_spelling, head_spelling, below, number_below_in_front, times_with_response, times_with_request, times_with_age, times_with_date, times_in_front, times_with_purge, times_at_end, purge_spelling, key_with_path, key_with_host, key_with_port, key_in_front, some_value, value_behind, value_in_front, kept_with_value, kept_with_name, kept_in_front, values_behind, nominated_in_front, line_with_value, line_with_name, line_in_front, lines_behind, lines_in_front, whole, no_head, head_with_lines, head_with_nominated, head_with_key, head_with_times, head_with_length, head_with_status, head_with_serial, head_in}
+use Rattle.proxy_store_file.specs.Texts.{number_spelling, text_spelling, leading_number, leading_text, cut, after}
+use Rattle.proxy_store_file.specs.Heads.{times_spelling, key_spelling, value_spelling, kept_spelling, nominated_spelling, line_spelling, lines_spelling, numbers_spelling, head_spelling, below, leading_number_below, times_with_response, times_with_request, times_with_age, times_with_date, leading_times, times_with_purge, times_at_end, purge_spelling, key_with_path, key_with_host, key_with_port, leading_key, some_value, value_behind, leading_value, kept_with_value, kept_with_name, leading_kept, values_behind, leading_nominated, line_with_value, line_with_name, leading_line, lines_behind, leading_lines, whole, no_head, head_with_lines, head_with_nominated, head_with_key, head_with_times, head_with_length, head_with_status, head_with_serial, head_in}
 use Rattle.proxy_store_file.proofs.TextLaws.{same_pair, after_found, cut_found, number_found, text_found}
 
 -- one part more was found
@@ -21,18 +21,18 @@ below_found_by : (t : Bool) (n m : ℕ) (rest more : List ℕ) → cond {A = Opt
 below_found_by false n m rest more e = absurd (cc)
 below_found_by true n m rest more e = same_pair n m rest more e
 
-pub below_found : (bound : ℕ) (bytes more : List ℕ) (n : ℕ) → number_below_in_front bound bytes ≡ Some (n, more) → bytes ≡ number_spelling n ++ more
+pub below_found : (bound : ℕ) (bytes more : List ℕ) (n : ℕ) → leading_number_below bound bytes ≡ Some (n, more) → bytes ≡ number_spelling n ++ more
 below_found bound bytes more n e =
-    let p = after_found (number_in_front bytes) (below bound) (n, more) e in
+    let p = after_found (leading_number bytes) (below bound) (n, more) e in
     let q = below_found_by (nat_lt p.read bound) p.read n p.rest more p.behind in
     number_found bytes p.rest p.read p.found ∙ (ap (λ k. number_spelling k ++ p.rest) q.0 ∙ ap (λ r. number_spelling n ++ r) q.1)
 
-pub times_found : (bytes more : List ℕ) (times : Times) → times_in_front bytes ≡ Some (times, more) → bytes ≡ times_spelling times ++ more
+pub times_found : (bytes more : List ℕ) (times : Times) → leading_times bytes ≡ Some (times, more) → bytes ≡ times_spelling times ++ more
 times_found bytes more times e =
-    let p = after_found (number_in_front bytes) times_with_date (times, more) e in
-    let q = after_found (number_below_in_front (2 ^ 32) p.rest) (times_with_age p.read) (times, more) p.behind in
-    let r = after_found (number_in_front q.rest) (times_with_request p.read q.read) (times, more) q.behind in
-    let s = after_found (number_in_front r.rest) (times_with_response p.read q.read r.read) (times, more) r.behind in
+    let p = after_found (leading_number bytes) times_with_date (times, more) e in
+    let q = after_found (leading_number_below (2 ^ 32) p.rest) (times_with_age p.read) (times, more) p.behind in
+    let r = after_found (leading_number q.rest) (times_with_request p.read q.read) (times, more) q.behind in
+    let s = after_found (leading_number r.rest) (times_with_response p.read q.read r.read) (times, more) r.behind in
     let t : Times = record { date = p.read; age_value = q.read; request_time = r.read; response_time = s.read; expired = None } in
     let same = same_pair t times s.rest more s.behind in
     let d = more_front _ _ _ _ _ (number_found bytes p.rest p.read p.found) (below_found (2 ^ 32) p.rest q.rest q.read q.found) in
@@ -41,30 +41,30 @@ times_found bytes more times e =
     g ∙ (ap (λ x. times_spelling x ++ s.rest) same.0 ∙ ap (λ x. times_spelling times ++ x) same.1)
 
 -- such times have no purge yet
-times_without_purge : (bytes more : List ℕ) (times : Times) → times_in_front bytes ≡ Some (times, more) → times.expired ≡ None
+times_without_purge : (bytes more : List ℕ) (times : Times) → leading_times bytes ≡ Some (times, more) → times.expired ≡ None
 times_without_purge bytes more times e =
-    let p = after_found (number_in_front bytes) times_with_date (times, more) e in
-    let q = after_found (number_below_in_front (2 ^ 32) p.rest) (times_with_age p.read) (times, more) p.behind in
-    let r = after_found (number_in_front q.rest) (times_with_request p.read q.read) (times, more) q.behind in
-    let s = after_found (number_in_front r.rest) (times_with_response p.read q.read r.read) (times, more) r.behind in
+    let p = after_found (leading_number bytes) times_with_date (times, more) e in
+    let q = after_found (leading_number_below (2 ^ 32) p.rest) (times_with_age p.read) (times, more) p.behind in
+    let r = after_found (leading_number q.rest) (times_with_request p.read q.read) (times, more) q.behind in
+    let s = after_found (leading_number r.rest) (times_with_response p.read q.read r.read) (times, more) r.behind in
     let t : Times = record { date = p.read; age_value = q.read; request_time = r.read; response_time = s.read; expired = None } in
     sym (ap (λ (x : Times). x.expired) (same_pair t times s.rest more s.behind).0)
 
-pub key_found : (bytes more : List ℕ) (key : Key) → key_in_front bytes ≡ Some (key, more) → bytes ≡ key_spelling key ++ more
+pub key_found : (bytes more : List ℕ) (key : Key) → leading_key bytes ≡ Some (key, more) → bytes ≡ key_spelling key ++ more
 key_found bytes more key e =
-    let p = after_found (number_below_in_front (2 ^ 16) bytes) key_with_port (key, more) e in
-    let q = after_found (text_in_front p.rest) (key_with_host p.read) (key, more) p.behind in
-    let r = after_found (text_in_front q.rest) (key_with_path p.read q.read) (key, more) q.behind in
+    let p = after_found (leading_number_below (2 ^ 16) bytes) key_with_port (key, more) e in
+    let q = after_found (leading_text p.rest) (key_with_host p.read) (key, more) p.behind in
+    let r = after_found (leading_text q.rest) (key_with_path p.read q.read) (key, more) q.behind in
     let k : Key = record { host = q.read; port = p.read; path_query = r.read } in
     let same = same_pair k key r.rest more r.behind in
     let d = more_front _ _ _ _ _ (below_found (2 ^ 16) bytes p.rest p.read p.found) (text_found p.rest q.rest q.read q.found) in
     let f = more_front _ _ _ _ _ d (text_found q.rest r.rest r.read r.found) in
     f ∙ (ap (λ x. key_spelling x ++ r.rest) same.0 ∙ ap (λ x. key_spelling key ++ x) same.1)
 
-pub line_found : (bytes more : List ℕ) (line : Field) → line_in_front bytes ≡ Some (line, more) → bytes ≡ line_spelling line ++ more
+pub line_found : (bytes more : List ℕ) (line : Field) → leading_line bytes ≡ Some (line, more) → bytes ≡ line_spelling line ++ more
 line_found bytes more line e =
-    let p = after_found (text_in_front bytes) line_with_name (line, more) e in
-    let q = after_found (text_in_front p.rest) (line_with_value p.read) (line, more) p.behind in
+    let p = after_found (leading_text bytes) line_with_name (line, more) e in
+    let q = after_found (leading_text p.rest) (line_with_value p.read) (line, more) p.behind in
     let l : Field = record { name = p.read; value = q.read } in
     let same = same_pair l line q.rest more q.behind in
     let d = more_front _ _ _ _ _ (text_found bytes p.rest p.read p.found) (text_found p.rest q.rest q.read q.found) in
@@ -93,16 +93,16 @@ value_found_by false n rest more value is_zero above e =
     ∙ (sym (append_assoc (number_spelling (length q.read + 1)) q.read q.rest)
     ∙ (ap (λ x. value_spelling x ++ q.rest) same.0 ∙ ap (λ r. value_spelling value ++ r) same.1)))
 
-pub value_found : (bytes more : List ℕ) (value : Option (List ℕ)) → value_in_front bytes ≡ Some (value, more) → bytes ≡ value_spelling value ++ more
+pub value_found : (bytes more : List ℕ) (value : Option (List ℕ)) → leading_value bytes ≡ Some (value, more) → bytes ≡ value_spelling value ++ more
 value_found bytes more value e =
-    let p = after_found (number_in_front bytes) value_behind (value, more) e in
+    let p = after_found (leading_number bytes) value_behind (value, more) e in
     number_found bytes p.rest p.read p.found
     ∙ value_found_by (p.read == 0) p.read p.rest more value (eqb-true p.read 0) (positive p.read) p.behind
 
-pub kept_found : (bytes more : List ℕ) (kept : NominatedValue) → kept_in_front bytes ≡ Some (kept, more) → bytes ≡ kept_spelling kept ++ more
+pub kept_found : (bytes more : List ℕ) (kept : NominatedValue) → leading_kept bytes ≡ Some (kept, more) → bytes ≡ kept_spelling kept ++ more
 kept_found bytes more kept e =
-    let p = after_found (text_in_front bytes) kept_with_name (kept, more) e in
-    let q = after_found (value_in_front p.rest) (kept_with_value p.read) (kept, more) p.behind in
+    let p = after_found (leading_text bytes) kept_with_name (kept, more) e in
+    let q = after_found (leading_value p.rest) (kept_with_value p.read) (kept, more) p.behind in
     let k : NominatedValue = record { name = p.read; value = q.read } in
     let same = same_pair k kept q.rest more q.behind in
     let d = more_front _ _ _ _ _ (text_found bytes p.rest p.read p.found) (value_found p.rest q.rest q.read q.found) in
@@ -135,7 +135,7 @@ lines_behind_found : (n : ℕ) (read all : List Field) (bytes more : List ℕ) �
     → ListFound line_spelling n read all bytes more
 lines_behind_found zero read all bytes more e = none_more line_spelling read all bytes more e
 lines_behind_found (suc n) read all bytes more e =
-    let p = after_found (line_in_front bytes) (λ line rest. lines_behind (read ++ line ∷ []) n rest) (all, more) e in
+    let p = after_found (leading_line bytes) (λ line rest. lines_behind (read ++ line ∷ []) n rest) (all, more) e in
     one_more line_spelling n read all p.read bytes p.rest more (line_found bytes p.rest p.read p.found)
     (lines_behind_found n (read ++ p.read ∷ []) all p.rest more p.behind)
 
@@ -143,7 +143,7 @@ values_behind_found : (n : ℕ) (read all : List NominatedValue) (bytes more : L
     → ListFound kept_spelling n read all bytes more
 values_behind_found zero read all bytes more e = none_more kept_spelling read all bytes more e
 values_behind_found (suc n) read all bytes more e =
-    let p = after_found (kept_in_front bytes) (λ kept rest. values_behind (read ++ kept ∷ []) n rest) (all, more) e in
+    let p = after_found (leading_kept bytes) (λ kept rest. values_behind (read ++ kept ∷ []) n rest) (all, more) e in
     one_more kept_spelling n read all p.read bytes p.rest more (kept_found bytes p.rest p.read p.found)
     (values_behind_found n (read ++ p.read ∷ []) all p.rest more p.behind)
 
@@ -158,14 +158,14 @@ list_spelled spelled n all bytes rest more front found =
     ∙ (ap (λ k. (number_spelling k ++ flat_map spelled found.added) ++ more) long
     ∙ ap (λ xs. (number_spelling (length all) ++ flat_map spelled xs) ++ more) added)))
 
-pub lines_found : (bytes more : List ℕ) (all : List Field) → lines_in_front bytes ≡ Some (all, more) → bytes ≡ lines_spelling all ++ more
+pub lines_found : (bytes more : List ℕ) (all : List Field) → leading_lines bytes ≡ Some (all, more) → bytes ≡ lines_spelling all ++ more
 lines_found bytes more all e =
-    let p = after_found (number_in_front bytes) (lines_behind []) (all, more) e in
+    let p = after_found (leading_number bytes) (lines_behind []) (all, more) e in
     list_spelled line_spelling p.read all bytes p.rest more (number_found bytes p.rest p.read p.found) (lines_behind_found p.read [] all p.rest more p.behind)
 
-pub nominated_found : (bytes more : List ℕ) (all : List NominatedValue) → nominated_in_front bytes ≡ Some (all, more) → bytes ≡ nominated_spelling all ++ more
+pub nominated_found : (bytes more : List ℕ) (all : List NominatedValue) → leading_nominated bytes ≡ Some (all, more) → bytes ≡ nominated_spelling all ++ more
 nominated_found bytes more all e =
-    let p = after_found (number_in_front bytes) (values_behind []) (all, more) e in
+    let p = after_found (leading_number bytes) (values_behind []) (all, more) e in
     list_spelled kept_spelling p.read all bytes p.rest more (number_found bytes p.rest p.read p.found) (values_behind_found p.read [] all p.rest more p.behind)
 
 pub empty : (xs : List ℕ) → (length xs == 0) ≡ true → xs ≡ []
@@ -178,13 +178,13 @@ whole_found_by false read times e = absurd (cc)
 
 -- behind the lines stands the purge of the times that are read there, and nothing else
 end_found_by : (t : Bool) (rest : List ℕ) (before times : Times) → (t ≡ true → rest ≡ []) → before.expired ≡ None
-    → cond {A = Option Times} t (Some before) (after (number_in_front rest) (times_with_purge before)) ≡ Some times
+    → cond {A = Option Times} t (Some before) (after (leading_number rest) (times_with_purge before)) ≡ Some times
     → (rest ≡ purge_spelling times.expired) × (times_spelling before ≡ times_spelling times)
 end_found_by true rest before times nothing none e =
     let same : before ≡ times = cc in
     (nothing refl ∙ ap purge_spelling (sym none ∙ ap (λ (x : Times). x.expired) same), ap times_spelling same)
 end_found_by false rest before times nothing none e =
-    let p = after_found (number_in_front rest) (times_with_purge before) times e in
+    let p = after_found (leading_number rest) (times_with_purge before) times e in
     let marked : Times = record before { expired = Some p.read } in
     let w = whole_found_by (length p.rest == 0) marked times p.behind in (
       number_found rest p.rest p.read p.found
@@ -200,19 +200,19 @@ mapped_found (Some times) make head e = (times, refl, cc)
 pub head_found : (bytes : List ℕ) (head : Head) → head_in bytes ≡ Some head → bytes ≡ head_spelling head
 unfolding head_in
 head_found bytes head e =
-    let p1 = after_found (number_in_front bytes) head_with_serial head e in
+    let p1 = after_found (leading_number bytes) head_with_serial head e in
     let h1 : Head = record no_head { serial = p1.read } in
-    let p2 = after_found (number_below_in_front (2 ^ 16) p1.rest) (head_with_status h1) head p1.behind in
+    let p2 = after_found (leading_number_below (2 ^ 16) p1.rest) (head_with_status h1) head p1.behind in
     let h2 : Head = record h1 { status = p2.read } in
-    let p3 = after_found (number_in_front p2.rest) (head_with_length h2) head p2.behind in
+    let p3 = after_found (leading_number p2.rest) (head_with_length h2) head p2.behind in
     let h3 : Head = record h2 { content_length = p3.read } in
-    let p4 = after_found (times_in_front p3.rest) (head_with_times h3) head p3.behind in
+    let p4 = after_found (leading_times p3.rest) (head_with_times h3) head p3.behind in
     let h4 : Head = record h3 { times = p4.read } in
-    let p5 = after_found (key_in_front p4.rest) (head_with_key h4) head p4.behind in
+    let p5 = after_found (leading_key p4.rest) (head_with_key h4) head p4.behind in
     let h5 : Head = record h4 { key = p5.read } in
-    let p6 = after_found (nominated_in_front p5.rest) (head_with_nominated h5) head p5.behind in
+    let p6 = after_found (leading_nominated p5.rest) (head_with_nominated h5) head p5.behind in
     let h6 : Head = record h5 { nominated = p6.read } in
-    let p7 = after_found (lines_in_front p6.rest) (head_with_lines h6) head p6.behind in
+    let p7 = after_found (leading_lines p6.rest) (head_with_lines h6) head p6.behind in
     let m = mapped_found (times_at_end p4.read p7.rest) (λ times. record h6 { times = times; fields = p7.read }) head p7.behind in
     let w = end_found_by (length p7.rest == 0) p7.rest p4.read m.0 (empty p7.rest) (times_without_purge p3.rest p4.rest p4.read p4.found) m.1 in
     let with_times : List ℕ → List ℕ = λ times.

@@ -1,15 +1,15 @@
 -- One more of a list is read.
 use Rattle.std.proofs.Common.{◌≡◌, ℕ, suc, ◌+◌, ◌-◌, ◌<◌, List, [], ◌∷◌, ◌++◌, ap, sym, ◌∙◌, Option, None, Some, arith}
-use Rattle.hx_fields.specs.declared.field_line.Field.{Field}
+use Rattle.hx_fields.specs.Line.{Field}
 use Rattle.hx_vary.specs.declared.nominated_values.NominatedValue.{NominatedValue}
 use Rattle.proxy_store_file.specs.declared.head_reading.HeadStop.{HeadStop}
 use Rattle.proxy_store_file.specs.declared.head_reading.HeadStop.TheVariants.{Shapeless, OutOfMemory}
 use Rattle.proxy_store_file.specs.HeadStops.{IsStopOf}
 use Rattle.proxy_store_file.specs.Texts.{after}
-use Rattle.proxy_store_file.specs.Heads.{line_in_front, lines_behind, kept_in_front, values_behind}
+use Rattle.proxy_store_file.specs.Heads.{leading_line, lines_behind, leading_kept, values_behind}
 
 pub lines_more : (read : List Field) (n i : ℕ) (bytes rest : List ℕ) (line : Field) (whole : Option (List Field × List ℕ)) (more : List Field)
-    → i < n → whole ≡ lines_behind read (n - i) bytes → line_in_front bytes ≡ Some (line, rest) → more ≡ read ++ line ∷ []
+    → i < n → whole ≡ lines_behind read (n - i) bytes → leading_line bytes ≡ Some (line, rest) → more ≡ read ++ line ∷ []
     → whole ≡ lines_behind more (n - (i + 1)) rest
 lines_more read n i bytes rest line whole more less held found grown =
     let e : n - i ≡ suc (n - (i + 1)) = omega arith in
@@ -18,7 +18,7 @@ lines_more read n i bytes rest line whole more less held found grown =
     ∙ ap (λ r. lines_behind r (n - (i + 1)) rest) (sym grown)))
 
 pub values_more : (read : List NominatedValue) (n i : ℕ) (bytes rest : List ℕ) (kept : NominatedValue) (whole : Option (List NominatedValue × List ℕ)) (more : List NominatedValue)
-    → i < n → whole ≡ values_behind read (n - i) bytes → kept_in_front bytes ≡ Some (kept, rest) → more ≡ read ++ kept ∷ []
+    → i < n → whole ≡ values_behind read (n - i) bytes → leading_kept bytes ≡ Some (kept, rest) → more ≡ read ++ kept ∷ []
     → whole ≡ values_behind more (n - (i + 1)) rest
 values_more read n i bytes rest kept whole more less held found grown =
     let e : n - i ≡ suc (n - (i + 1)) = omega arith in
@@ -27,7 +27,7 @@ values_more read n i bytes rest kept whole more less held found grown =
     ∙ ap (λ r. values_behind r (n - (i + 1)) rest) (sym grown)))
 
 pub values_stop : (read : List NominatedValue) (n i : ℕ) (bytes : List ℕ) (whole : Option (List NominatedValue × List ℕ)) (stop : HeadStop)
-    → i < n → whole ≡ values_behind read (n - i) bytes → IsStopOf stop (kept_in_front bytes) → IsStopOf stop whole
+    → i < n → whole ≡ values_behind read (n - i) bytes → IsStopOf stop (leading_kept bytes) → IsStopOf stop whole
 values_stop read n i bytes whole OutOfMemory less held why = tt
 values_stop read n i bytes whole Shapeless less held why =
     let e : n - i ≡ suc (n - (i + 1)) = omega arith in

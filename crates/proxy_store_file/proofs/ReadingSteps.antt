@@ -19,8 +19,8 @@ use Rattle.proxy_store_file.specs.declared.pieces.ReadStop.{ReadStop}
 use Rattle.proxy_store_file.specs.declared.pieces.ReadStop.TheVariants as stop
 use Rattle.proxy_store_file.specs.Parts.{part_at_fault}
 use Rattle.proxy_store_file.specs.Texts.{cut, number_of, is_number, number_spelling}
-use Rattle.proxy_store_file.specs.Stores.{StoreContents, StoreReading, EntryRead, is_too_heavy, entry_in_front, entry_fault, entry_taken, entry_read, fault_of_part, standing_fault, entries_read, counted_read, line_read, or_short, first_line, first_words, digest_spelling, digest_read, end_read, read_store}
-use Rattle.proxy_store_file.specs.Streams.{Gave, NumberGiven, Stops, EntryIsRead, IsCut, reading_of_entry, IsRead, IsRefused, IsUnfinished, FrontIsRead, EntryIsTaken, EntryIsRefused, EndIsRead, EndIsRefused, bounds_of, contents_of, fault_of_stop, line_fault}
+use Rattle.proxy_store_file.specs.Stores.{StoreContents, StoreReading, EntryRead, is_too_heavy, leading_entry, entry_fault, entry_taken, entry_read, fault_of_part, standing_fault, entries_read, counted_read, line_read, or_short, first_line, first_words, digest_spelling, digest_read, end_read, read_store}
+use Rattle.proxy_store_file.specs.Streams.{ReaderGaveBytes, NumberGiven, ReaderStoppedShort, EntryIsRead, IsCut, reading_of_entry, IsRead, IsRefused, IsUnfinished, FrontIsRead, EntryIsTaken, EntryIsRefused, EndIsRead, EndIsRefused, bounds_of, contents_of, fault_of_stop, line_fault}
 use Rattle.proxy_store_file.proofs.TextLaws.{cut_again, same_bytes, number_is_spelled, number_of_spelled}
 use Rattle.proxy_store_file.proofs.EntryLaws.{cut_short}
 use Rattle.proxy_store_file.proofs.HeadLaws.{empty}
@@ -36,7 +36,7 @@ store_line : (bounds : StoreBounds) (line more : List ℕ) → length line ≡ 1
 unfolding read_store
 store_line bounds line more long = ap (λ (o : Option (List ℕ × List ℕ)). or_short 0 o (line_read bounds (line ++ more))) (cut_again line more 17 long)
 
-pub line_is_read : (bounds : StoreBounds) (a b : Bytes) (h0 h1 : DefaultHasher) (line : List ℕ) → Gave a b h0 h1 line → length line ≡ 17
+pub line_is_read : (bounds : StoreBounds) (a b : Bytes) (h0 h1 : DefaultHasher) (line : List ℕ) → ReaderGaveBytes a b h0 h1 line → length line ≡ 17
     → FrontIsRead (read_store bounds) (λ text rest. line_read bounds text line rest) a b h0 h1
 line_is_read bounds a b h0 h1 line given long = record { bytes = line; gave = given; reads = λ more. store_line bounds line more long }
 
@@ -48,7 +48,7 @@ line_good_by true u e = refl
 line_good_by false true e = absurd (cc)
 line_good_by false false e = absurd (cc)
 
-pub line_is_good : (bounds : StoreBounds) (a b : Bytes) (h0 h1 : DefaultHasher) (line : List ℕ) → Gave a b h0 h1 line → length line ≡ 17 → line_fault line ≡ None
+pub line_is_good : (bounds : StoreBounds) (a b : Bytes) (h0 h1 : DefaultHasher) (line : List ℕ) → ReaderGaveBytes a b h0 h1 line → length line ≡ 17 → line_fault line ≡ None
     → FrontIsRead (read_store bounds) (λ text rest. or_short 0 (cut 8 rest) (next_read bounds text)) a b h0 h1
 line_is_good bounds a b h0 h1 line given long none =
     let good : bytes_eq line first_line ≡ true = line_good_by (bytes_eq line first_line) (bytes_eq (take 15 line) first_words) none in
@@ -69,7 +69,7 @@ line_not_by true u f x e p q = λ is. absurd (cc)
 line_not_by false true f x e p q = λ is. p (cc)
 line_not_by false false f x e p q = λ is. q (cc)
 
-pub line_is_refused : (bounds : StoreBounds) (a b : Bytes) (h0 h1 : DefaultHasher) (line : List ℕ) (f : StoreFault) → Gave a b h0 h1 line → length line ≡ 17 → line_fault line ≡ Some f
+pub line_is_refused : (bounds : StoreBounds) (a b : Bytes) (h0 h1 : DefaultHasher) (line : List ℕ) (f : StoreFault) → ReaderGaveBytes a b h0 h1 line → length line ≡ 17 → line_fault line ≡ Some f
     → IsRefused (read_store bounds) a b f
 line_is_refused bounds a b h0 h1 line f given long is =
     let t = bytes_eq line first_line in
@@ -79,10 +79,10 @@ line_is_refused bounds a b h0 h1 line f given long is =
     (λ text rest. line_bad_by t u (or_short 0 (cut 8 rest) (next_read bounds text)) f is))
 
 -- the number behind the first line, and the one behind that
-pub next_is_read : (bounds : StoreBounds) (a b c : Bytes) (h0 h1 h2 : DefaultHasher) (line : List ℕ) (next : ℕ) → Gave a b h0 h1 line → length line ≡ 17 → line_fault line ≡ None
+pub next_is_read : (bounds : StoreBounds) (a b c : Bytes) (h0 h1 h2 : DefaultHasher) (line : List ℕ) (next : ℕ) → ReaderGaveBytes a b h0 h1 line → length line ≡ 17 → line_fault line ≡ None
     → (g : NumberGiven b c h1 h2 next) → FrontIsRead (read_store bounds) (λ text rest. or_short 0 (cut 8 rest) (counted_read bounds text g.bytes)) a c h0 h2
 next_is_read bounds a b c h0 h1 h2 line next given long none g =
-    front_cut (read_store bounds) (next_read bounds) 0 a b c h0 h1 h2 g.bytes (line_is_good bounds a b h0 h1 line given long none) g.gave g.eight
+    front_cut (read_store bounds) (next_read bounds) 0 a b c h0 h1 h2 g.bytes (line_is_good bounds a b h0 h1 line given long none) g.gave g.are_eight
 
 counted_good : (bounds : StoreBounds) (text A B rest : List ℕ) (next number : ℕ) → is_number A ≡ true → is_number B ≡ true → next ≡ number_of A → number ≡ number_of B
     → number ≤ bounds.entries → counted_read bounds text A B rest ≡ entries_read text bounds.bytes next number [] rest
@@ -104,36 +104,36 @@ counted_bad bounds text A B rest number p q n many =
 abbrev pub after_opening : StoreBounds → ℕ → ℕ → List ℕ → List ℕ → StoreReading
 after_opening bounds next number text rest = entries_read text bounds.bytes next number [] rest
 
-numbers_are_read : (bounds : StoreBounds) (a b c d : Bytes) (h0 h1 h2 h3 : DefaultHasher) (line : List ℕ) (next number : ℕ) → Gave a b h0 h1 line → length line ≡ 17 → line_fault line ≡ None
+numbers_are_read : (bounds : StoreBounds) (a b c d : Bytes) (h0 h1 h2 h3 : DefaultHasher) (line : List ℕ) (next number : ℕ) → ReaderGaveBytes a b h0 h1 line → length line ≡ 17 → line_fault line ≡ None
     → (g : NumberGiven b c h1 h2 next) → (k : NumberGiven c d h2 h3 number) → FrontIsRead (read_store bounds) (λ text rest. counted_read bounds text g.bytes k.bytes rest) a d h0 h3
 numbers_are_read bounds a b c d h0 h1 h2 h3 line next number given long none g k =
     front_cut (read_store bounds) (λ text eight rest. counted_read bounds text g.bytes eight rest) 0 a c d h0 h2 h3 k.bytes
-    (next_is_read bounds a b c h0 h1 h2 line next given long none g) k.gave k.eight
+    (next_is_read bounds a b c h0 h1 h2 line next given long none g) k.gave k.are_eight
 
-pub opening_is_read : (bounds : StoreBounds) (a b c d : Bytes) (h0 h1 h2 h3 : DefaultHasher) (line : List ℕ) (next number : ℕ) → Gave a b h0 h1 line → length line ≡ 17 → line_fault line ≡ None
+pub opening_is_read : (bounds : StoreBounds) (a b c d : Bytes) (h0 h1 h2 h3 : DefaultHasher) (line : List ℕ) (next number : ℕ) → ReaderGaveBytes a b h0 h1 line → length line ≡ 17 → line_fault line ≡ None
     → NumberGiven b c h1 h2 next → NumberGiven c d h2 h3 number → number ≤ bounds.entries → FrontIsRead (read_store bounds) (after_opening bounds next number) a d h0 h3
 opening_is_read bounds a b c d h0 h1 h2 h3 line next number given long none g k few =
     front_same (read_store bounds) (λ text rest. counted_read bounds text g.bytes k.bytes rest) (after_opening bounds next number) a d h0 h3
     (numbers_are_read bounds a b c d h0 h1 h2 h3 line next number given long none g k)
     (λ text rest. counted_good bounds text g.bytes k.bytes rest next number g.is_number k.is_number g.number k.number few)
 
-pub too_many_entries : (bounds : StoreBounds) (a b c d : Bytes) (h0 h1 h2 h3 : DefaultHasher) (line : List ℕ) (next number : ℕ) → Gave a b h0 h1 line → length line ≡ 17 → line_fault line ≡ None
+pub too_many_entries : (bounds : StoreBounds) (a b c d : Bytes) (h0 h1 h2 h3 : DefaultHasher) (line : List ℕ) (next number : ℕ) → ReaderGaveBytes a b h0 h1 line → length line ≡ 17 → line_fault line ≡ None
     → NumberGiven b c h1 h2 next → NumberGiven c d h2 h3 number → bounds.entries < number → IsRefused (read_store bounds) a d fault.Entries
 too_many_entries bounds a b c d h0 h1 h2 h3 line next number given long none g k many =
     front_decides (read_store bounds) (λ text rest. counted_read bounds text g.bytes k.bytes rest) a d h0 h3 (Err fault.Entries)
     (numbers_are_read bounds a b c d h0 h1 h2 h3 line next number given long none g k)
     (λ text rest. counted_bad bounds text g.bytes k.bytes rest number g.is_number k.is_number k.number many)
 
-pub stops_in_line : (bounds : StoreBounds) (a b : Bytes) (why : ReadStop) → Stops (λ bytes. length bytes < 17) a b why → IsRefused (read_store bounds) a b (fault_of_stop 0 why)
+pub stops_in_line : (bounds : StoreBounds) (a b : Bytes) (why : ReadStop) → ReaderStoppedShort (λ bytes. length bytes < 17) a b why → IsRefused (read_store bounds) a b (fault_of_stop 0 why)
 stops_in_line bounds a b why s = stopped (read_store bounds) (λ bytes. length bytes < 17) a b 0 why s (store_short bounds)
 
-pub stops_in_next : (bounds : StoreBounds) (a b c : Bytes) (h0 h1 : DefaultHasher) (line : List ℕ) (why : ReadStop) → Gave a b h0 h1 line → length line ≡ 17 → line_fault line ≡ None
-    → Stops (λ bytes. length bytes < 8) b c why → IsRefused (read_store bounds) a c (fault_of_stop 0 why)
+pub stops_in_next : (bounds : StoreBounds) (a b c : Bytes) (h0 h1 : DefaultHasher) (line : List ℕ) (why : ReadStop) → ReaderGaveBytes a b h0 h1 line → length line ≡ 17 → line_fault line ≡ None
+    → ReaderStoppedShort (λ bytes. length bytes < 8) b c why → IsRefused (read_store bounds) a c (fault_of_stop 0 why)
 stops_in_next bounds a b c h0 h1 line why given long none s =
     front_stops (read_store bounds) (next_read bounds) 0 a b c h0 h1 why (line_is_good bounds a b h0 h1 line given long none) s
 
-pub stops_in_count : (bounds : StoreBounds) (a b c d : Bytes) (h0 h1 h2 : DefaultHasher) (line : List ℕ) (next : ℕ) (why : ReadStop) → Gave a b h0 h1 line → length line ≡ 17 → line_fault line ≡ None
-    → NumberGiven b c h1 h2 next → Stops (λ bytes. length bytes < 8) c d why → IsRefused (read_store bounds) a d (fault_of_stop 0 why)
+pub stops_in_count : (bounds : StoreBounds) (a b c d : Bytes) (h0 h1 h2 : DefaultHasher) (line : List ℕ) (next : ℕ) (why : ReadStop) → ReaderGaveBytes a b h0 h1 line → length line ≡ 17 → line_fault line ≡ None
+    → NumberGiven b c h1 h2 next → ReaderStoppedShort (λ bytes. length bytes < 8) c d why → IsRefused (read_store bounds) a d (fault_of_stop 0 why)
 stops_in_count bounds a b c d h0 h1 h2 line next why given long none g s =
     front_stops (read_store bounds) (λ text eight rest. counted_read bounds text g.bytes eight rest) 0 a c d h0 h2 why (next_is_read bounds a b c h0 h1 h2 line next given long none g) s
 
@@ -192,7 +192,7 @@ entry_has_no_shape most next held a b h0 h1 r = λ front left. record {
   reads = λ more none. ap (entry_read most next held (more_entries most next left held (front ++ (r.bytes ++ more)))) (r.reads more);
 }
 
-pub entry_stops : (most : Option ℕ) (next : ℕ) (held : List Stored) (a b : Bytes) (why : ReadStop) → Stops IsCut a b why → EntryIsRefused most next held a b (fault_of_stop (length held) why)
+pub entry_stops : (most : Option ℕ) (next : ℕ) (held : List Stored) (a b : Bytes) (why : ReadStop) → ReaderStoppedShort IsCut a b why → EntryIsRefused most next held a b (fault_of_stop (length held) why)
 entry_stops most next held a b why s = λ front left.
     stopped (λ rest. entries_read (front ++ rest) most next (suc left) held rest) IsCut a b (length held) why s
     (λ bytes cut. ap (entry_read most next held (more_entries most next left held (front ++ bytes))) cut)
@@ -242,7 +242,7 @@ digest_isnt_so front digest w d is of fits other = elim (cases_Bool (bytes_eq di
   | inr f ↦ f
 ]
 
-pub end_stops : (held : List Stored) (a b : Bytes) (h0 : DefaultHasher) (n : ℕ) (why : ReadStop) → length held ≡ n → Stops (λ bytes. length bytes < 8) a b why
+pub end_stops : (held : List Stored) (a b : Bytes) (h0 : DefaultHasher) (n : ℕ) (why : ReadStop) → length held ≡ n → ReaderStoppedShort (λ bytes. length bytes < 8) a b why
     → EndIsRefused held a b h0 (fault_of_stop n why)
 end_stops held a b h0 n why long s = λ front next is.
     stopped (λ rest. end_read (front ++ rest) (contents_of held next) rest) (λ bytes. length bytes < 8) a b n why s
@@ -260,7 +260,7 @@ digest_is_read held a b h0 h1 w d g of same front next is =
     record {
       bytes = g.bytes;
       gave = g.gave;
-      reads = λ more. digest_behind front g.bytes more (contents_of held next) g.eight
+      reads = λ more. digest_behind front g.bytes more (contents_of held next) g.are_eight
           ∙ ap (λ t. cond {A = StoreReading} t (nothing_more (contents_of held next) more more) (Err fault.Digest)) good;
     }
 
@@ -273,7 +273,7 @@ digest_is_refused held a b h0 h1 w d g of fits other = λ front next is.
       consumes = g.gave.consumes;
       ended = false;
       whole = λ e. absurd (cc);
-      reads = λ more none. digest_behind front g.bytes more (contents_of held next) g.eight
+      reads = λ more none. digest_behind front g.bytes more (contents_of held next) g.are_eight
           ∙ ap (λ t. cond {A = StoreReading} t (nothing_more (contents_of held next) more more) (Err fault.Digest)) bad;
     }
 
@@ -282,7 +282,7 @@ one_is_not_none [] more e = absurd (omega (arith, e))
 one_is_not_none (x ∷ xs) more e = ne_eqb (length (x ∷ (xs ++ more))) 0 (λ none. absurd (omega arith))
 
 pub more_follows : (held : List Stored) (a b c : Bytes) (h0 h1 h2 : DefaultHasher) (w d : ℕ) (one : List ℕ) → NumberGiven a b h0 h1 w → d ≡ finish h0 → w ≡ d
-    → Gave b c h1 h2 one → length one ≡ 1 → EndIsRefused held a c h0 fault.Long
+    → ReaderGaveBytes b c h1 h2 one → length one ≡ 1 → EndIsRefused held a c h0 fault.Long
 more_follows held a b c h0 h1 h2 w d one g of same given long = λ front next is.
     refused_behind (reads_end held front next) (nothing_more (contents_of held next)) a b c h0 h1 fault.Long (digest_is_read held a b h0 h1 w d g of same front next is)
     (record {
@@ -301,7 +301,7 @@ end_by : (held : List Stored) (next : ℕ) (bytes : List ℕ) → length bytes <
 end_by held next bytes few = ap (λ (xs : List ℕ). nothing_more (contents_of held next) xs xs) (none_left bytes few)
 
 pub end_is_read : (held : List Stored) (a b c : Bytes) (h0 h1 : DefaultHasher) (w d : ℕ) → NumberGiven a b h0 h1 w → d ≡ finish h0 → w ≡ d
-    → Stops (λ bytes. length bytes < 1) b c stop.Ended → EndIsRead held a c h0
+    → ReaderStoppedShort (λ bytes. length bytes < 1) b c stop.Ended → EndIsRead held a c h0
 end_is_read held a b c h0 h1 w d g of same s = λ front next is.
     let few : length s.bytes < 1 = s.few (λ e. absurd (cc)) in
     read_behind (reads_end held front next) (nothing_more (contents_of held next)) a b c h0 h1 (Ok (contents_of held next)) (digest_is_read held a b h0 h1 w d g of same front next is)
@@ -315,14 +315,14 @@ end_is_read held a b c h0 h1 w d g of same s = λ front next is.
     })
 
 pub end_isnt_seen : (held : List Stored) (a b c : Bytes) (h0 h1 : DefaultHasher) (w d : ℕ) → NumberGiven a b h0 h1 w → d ≡ finish h0 → w ≡ d
-    → Stops (λ bytes. length bytes < 1) b c stop.Failed → EndIsRefused held a c h0 fault.Read
+    → ReaderStoppedShort (λ bytes. length bytes < 1) b c stop.Failed → EndIsRefused held a c h0 fault.Read
 end_isnt_seen held a b c h0 h1 w d g of same s = λ front next is.
     let few : length s.bytes < 1 = s.few (λ e. absurd (cc)) in
     refused_behind (reads_end held front next) (nothing_more (contents_of held next)) a b c h0 h1 fault.Read (digest_is_read held a b h0 h1 w d g of same front next is)
     (record { bytes = s.bytes; consumes = s.consumes; reads = subst IsUnfinished (sym (end_by held next s.bytes few)) tt })
 
 pub memory_at_the_end : (held : List Stored) (a b c : Bytes) (h0 h1 : DefaultHasher) (w d : ℕ) → NumberGiven a b h0 h1 w → d ≡ finish h0 → w ≡ d
-    → Stops (λ bytes. length bytes < 1) b c stop.OutOfMemory → EndIsRefused held a c h0 fault.OutOfMemory
+    → ReaderStoppedShort (λ bytes. length bytes < 1) b c stop.OutOfMemory → EndIsRefused held a c h0 fault.OutOfMemory
 memory_at_the_end held a b c h0 h1 w d g of same s = λ front next is.
     refused_behind (reads_end held front next) (nothing_more (contents_of held next)) a b c h0 h1 fault.OutOfMemory (digest_is_read held a b h0 h1 w d g of same front next is)
     (record { bytes = s.bytes; consumes = s.consumes; reads = tt })

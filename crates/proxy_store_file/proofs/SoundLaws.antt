@@ -14,7 +14,7 @@ use Rattle.proxy_store_file.specs.declared.store_faults.StoreFault.TheVariants a
 use Rattle.proxy_store_file.specs.Texts.{number_of, is_number, cut}
 use Rattle.proxy_store_file.specs.Parts.{part_at_fault}
 use Rattle.proxy_store_file.specs.Fits.{EntryStands, EntriesStand, StoreStands}
-use Rattle.proxy_store_file.specs.Stores.{StoreContents, first_words, first_line, digest_spelling, EntryRead, Cut, Shapeless, Found, entry_in_front, entry_fault, fault_of_part, standing_fault, is_too_heavy, StoreReading, or_short, digest_read, end_read, entry_taken, entry_read, entries_read, counted_read, line_read, read_store}
+use Rattle.proxy_store_file.specs.Stores.{StoreContents, first_words, first_line, digest_spelling, EntryRead, Cut, Shapeless, Found, leading_entry, entry_fault, fault_of_part, standing_fault, is_too_heavy, StoreReading, or_short, digest_read, end_read, entry_taken, entry_read, entries_read, counted_read, line_read, read_store}
 
 -- no fault was found
 fault_by : (o : Option EntryPart) (a b c : Bool) (n : ℕ) (f g : StoreFault)
@@ -74,7 +74,7 @@ entries_sound zero many text most next held rest store n stand e =
       next_serial = ap (λ (s : StoreContents). s.next_serial) (sym same);
     }
 entries_sound (suc left) many text most next held rest store n stand e =
-    step_sound (entry_in_front rest) text most next left many held store
+    step_sound (leading_entry rest) text most next left many held store
     (λ x more stands later. entries_sound left many text most next (x ∷ held) more store (omega (arith, n)) (stands, stand) later) e
 
 counted_by : (t u : Bool) (reading : StoreReading) (store : StoreContents)

@@ -12,7 +12,7 @@ use Rattle.proxy_store_file.specs.declared.store_faults.StoreFault.TheVariants a
 use Rattle.proxy_store_file.specs.Texts.{number_spelling, text_spelling, number_of, is_number, cut}
 use Rattle.proxy_store_file.specs.Heads.{head_spelling, head_in, head_of, stored_of}
 use Rattle.proxy_store_file.specs.Parts.{most_head_bytes}
-use Rattle.proxy_store_file.specs.Stores.{StoreContents, entry_spelling, entries_spelling, first_words, first_line, opening_spelling, body_spelling, digest_spelling, store_spelling, EntryRead, Cut, Shapeless, Found, entry_behind, entry_with_content, entry_with_head, entry_behind_length, entry_in_front, entry_fault, StoreReading, or_short, digest_read, end_read, entry_taken, entry_read, entries_read, counted_read, line_read, read_store}
+use Rattle.proxy_store_file.specs.Stores.{StoreContents, entry_spelling, entries_spelling, first_words, first_line, opening_spelling, body_spelling, digest_spelling, store_spelling, EntryRead, Cut, Shapeless, Found, entry_behind, entry_with_content, entry_with_head, entry_behind_length, leading_entry, entry_fault, StoreReading, or_short, digest_read, end_read, entry_taken, entry_read, entries_read, counted_read, line_read, read_store}
 use Rattle.proxy_store_file.proofs.TextLaws.{both, cut_found, number_is_spelled}
 use Rattle.proxy_store_file.proofs.HeadLaws.{more_front, head_found, empty}
 
@@ -56,8 +56,8 @@ content_found (Some h) number head bytes more e is spelled found =
     ∙ (ap (λ x. (x ++ q.read) ++ q.rest) front
     ∙ (ap (λ x. entry_spelling x ++ q.rest) entry ∙ ap (λ r. entry_spelling e ++ r) rest)))
 
-pub entry_is_spelled : (bytes more : List ℕ) (e : Stored) → entry_in_front bytes ≡ Found e more → bytes ≡ entry_spelling e ++ more
-unfolding entry_in_front
+pub entry_is_spelled : (bytes more : List ℕ) (e : Stored) → leading_entry bytes ≡ Found e more → bytes ≡ entry_spelling e ++ more
+unfolding leading_entry
 entry_is_spelled bytes more e found =
     let p = entry_behind_found (cut 8 bytes) entry_behind_length e more found in
     let c = cut_found 8 bytes p.read p.rest p.found in
@@ -142,7 +142,7 @@ one_more_entry text next left held e rest more store front found = record {
 }
 
 entry_step : (r : EntryRead) (text : List ℕ) (most : Option ℕ) (next left : ℕ) (held : List Stored) (rest : List ℕ) (store : StoreContents)
-    → entry_in_front rest ≡ r
+    → leading_entry rest ≡ r
     → ((e : Stored) (more : List ℕ) → entries_read text most next left (e ∷ held) more ≡ Ok store → RestIsSpelled text next left (e ∷ held) more store)
     → entry_read most next held (λ e more. entries_read text most next left (e ∷ held) more) r ≡ Ok store → RestIsSpelled text next (suc left) held rest store
 entry_step Cut text most next left held rest store is later e = absurd (cc)
@@ -155,7 +155,7 @@ entries_found : (left : ℕ) (text : List ℕ) (most : Option ℕ) (next : ℕ) 
     → entries_read text most next left held rest ≡ Ok store → RestIsSpelled text next left held rest store
 entries_found zero text most next held rest store e = end_found text next held rest store e
 entries_found (suc left) text most next held rest store e =
-    entry_step (entry_in_front rest) text most next left held rest store refl (λ x more. entries_found left text most next (x ∷ held) more store) e
+    entry_step (leading_entry rest) text most next left held rest store refl (λ x more. entries_found left text most next (x ∷ held) more store) e
 
 counted_found_by : (t u : Bool) (reading : StoreReading) (store : StoreContents)
     → cond {A = StoreReading} t (cond {A = StoreReading} u reading (Err fault.Entries)) (Err fault.NotAStore) ≡ Ok store → (t ≡ true) × (reading ≡ Ok store)

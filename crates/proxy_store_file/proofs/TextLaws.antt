@@ -7,7 +7,7 @@ use Rattle.std.proofs.lemmas.Nat.{be_bytes_8, from_be_bytes-to_be_bytes_8}
 use Rattle.std.proofs.lemmas.List.{length-append, length-take-le, take-append-drop}
 use Rattle.std.proofs.Math.Seq.{drop-append_seam, take-append_seam}
 use Rattle.std.proofs.lemmas.Bool.{eqb-true, leb-true, le-leb}
-use Rattle.proxy_store_file.specs.Texts.{number_spelling, number_of, is_number, text_spelling, cut, after, number_of_eight, number_in_front, text_in_front}
+use Rattle.proxy_store_file.specs.Texts.{number_spelling, number_of, is_number, text_spelling, cut, after, number_of_eight, leading_number, leading_text}
 
 pub same_bytes : (a b : List ℕ) → a ≡ b → bytes_eq a b ≡ true
 same_bytes a b e = (bytes_decides a b).1 e
@@ -83,7 +83,7 @@ number_is_spelled bytes e =
 eight_again : (eight more : List ℕ) (n : ℕ) → is_number eight ≡ true → number_of eight ≡ n → number_of_eight eight more ≡ Some (n, more)
 eight_again eight more n spelled number = rw (spelled, number) refl
 
-pub number_again : (n : ℕ) (more : List ℕ) → n < 2 ^ 64 → number_in_front (number_spelling n ++ more) ≡ Some (n, more)
+pub number_again : (n : ℕ) (more : List ℕ) → n < 2 ^ 64 → leading_number (number_spelling n ++ more) ≡ Some (n, more)
 number_again n more fits =
     ap (λ (o : Option (List ℕ × List ℕ)). after o number_of_eight) (cut_again (number_spelling n) more 8 (length-number_spelling n))
     ∙ eight_again (number_spelling n) more n (is_number_spelled n fits) (number_of_spelled n fits)
@@ -95,21 +95,21 @@ eight_found_by true eight rest more n spelled e =
     let p = same_pair (number_of eight) n rest more e in
     ap (λ x. x ++ rest) (spelled refl ∙ ap number_spelling p.0) ∙ ap (λ y. number_spelling n ++ y) p.1
 
-pub number_found : (bytes more : List ℕ) (n : ℕ) → number_in_front bytes ≡ Some (n, more) → bytes ≡ number_spelling n ++ more
+pub number_found : (bytes more : List ℕ) (n : ℕ) → leading_number bytes ≡ Some (n, more) → bytes ≡ number_spelling n ++ more
 number_found bytes more n e =
     let p = after_found (cut 8 bytes) number_of_eight (n, more) e in
     (cut_found 8 bytes p.read p.rest p.found).0
     ∙ eight_found_by (is_number p.read) p.read p.rest more n (λ spelled. (number_is_spelled p.read spelled).1) p.behind
 
-pub text_again : (text more : List ℕ) → length text < 2 ^ 64 → text_in_front (text_spelling text ++ more) ≡ Some (text, more)
+pub text_again : (text more : List ℕ) → length text < 2 ^ 64 → leading_text (text_spelling text ++ more) ≡ Some (text, more)
 text_again text more fits =
-    ap text_in_front (append_assoc (number_spelling (length text)) text more)
+    ap leading_text (append_assoc (number_spelling (length text)) text more)
     ∙ (ap (λ (o : Option (ℕ × List ℕ)). after o cut) (number_again (length text) (text ++ more) fits)
     ∙ cut_again text more (length text) refl)
 
-pub text_found : (bytes more text : List ℕ) → text_in_front bytes ≡ Some (text, more) → bytes ≡ text_spelling text ++ more
+pub text_found : (bytes more text : List ℕ) → leading_text bytes ≡ Some (text, more) → bytes ≡ text_spelling text ++ more
 text_found bytes more text e =
-    let p = after_found (number_in_front bytes) cut (text, more) e in
+    let p = after_found (leading_number bytes) cut (text, more) e in
     let c = cut_found p.read p.rest text more p.behind in
     number_found bytes p.rest p.read p.found
     ∙ (ap (λ r. number_spelling p.read ++ r) c.0

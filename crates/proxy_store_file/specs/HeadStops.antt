@@ -2,15 +2,15 @@
 use Rattle.std.specs.Prelude.{◌≡◌, ℕ, List, Option, None, Some}
 use Rattle.proxy_store_file.specs.declared.head_reading.HeadStop.{HeadStop}
 use Rattle.proxy_store_file.specs.declared.head_reading.HeadStop.TheVariants.{Shapeless, OutOfMemory}
-use Rattle.proxy_store_file.specs.declared.head_reading.ValueInFront.{ValueInFront}
-use Rattle.proxy_store_file.specs.declared.head_reading.ValueInFront.TheVariants.{Cut, Absent, Value}
+use Rattle.proxy_store_file.specs.declared.head_reading.LeadingValue.{LeadingValue}
+use Rattle.proxy_store_file.specs.declared.head_reading.LeadingValue.TheVariants.{Cut, Absent, Value}
 
 -- nothing is read; of bytes for which memory ran out nothing is said
 abbrev pub IsStopOf : {A : Type 0} → HeadStop → Option A → Type 0
 IsStopOf Shapeless read = read ≡ None
 IsStopOf OutOfMemory read = Unit {0}
 
-abbrev pub said_of_value : ValueInFront → Option (Option (List ℕ) × List ℕ)
+abbrev pub said_of_value : LeadingValue → Option (Option (List ℕ) × List ℕ)
 said_of_value Cut = None
 said_of_value (Absent rest) = Some (None, rest.now)
 said_of_value (Value value rest) = Some (Some value.now, rest.now)

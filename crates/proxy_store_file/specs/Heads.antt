@@ -5,13 +5,13 @@
 use Rattle.std.specs.Prelude.{ℕ, ◌+◌, ◌-◌, ◌^◌, ◌==◌, nat_lt, zero, suc, if◌then◌else◌, List, [], ◌∷◌, ◌++◌, length}
 use Rattle.std.specs.Prelude.{Option, None, Some, option_map}
 use Rattle.std.specs.List.{flat_map}
-use Rattle.hx_fields.specs.declared.field_line.Field.{Field}
+use Rattle.hx_fields.specs.Line.{Field}
 use Rattle.hx_target.specs.declared.keys.Key.{Key}
 use Rattle.hx_age.specs.declared.moments.Times.{Times}
 use Rattle.hx_vary.specs.declared.nominated_values.NominatedValue.{NominatedValue}
 use Rattle.hx_store.specs.Stored.{Stored}
 use Rattle.proxy_store_file.specs.declared.heads.Head.{Head}
-use Rattle.proxy_store_file.specs.Texts.{number_spelling, text_spelling, number_in_front, text_in_front, cut, after}
+use Rattle.proxy_store_file.specs.Texts.{number_spelling, text_spelling, leading_number, leading_text, cut, after}
 
 abbrev pub times_spelling : Times → List ℕ
 times_spelling times =
@@ -59,8 +59,8 @@ head_spelling head =
 abbrev pub below : ℕ → ℕ → List ℕ → Option (ℕ × List ℕ)
 below bound n rest = if nat_lt n bound then Some (n, rest) else None
 
-abbrev pub number_below_in_front : ℕ → List ℕ → Option (ℕ × List ℕ)
-number_below_in_front bound bytes = after (number_in_front bytes) (below bound)
+abbrev pub leading_number_below : ℕ → List ℕ → Option (ℕ × List ℕ)
+leading_number_below bound bytes = after (leading_number bytes) (below bound)
 
 -- the times behind those that were read
 abbrev pub times_with_response : ℕ → ℕ → ℕ → ℕ → List ℕ → Option (Times × List ℕ)
@@ -71,28 +71,28 @@ times_with_response date age request response rest =
     )
 
 abbrev pub times_with_request : ℕ → ℕ → ℕ → List ℕ → Option (Times × List ℕ)
-times_with_request date age request rest = after (number_in_front rest) (times_with_response date age request)
+times_with_request date age request rest = after (leading_number rest) (times_with_response date age request)
 
 abbrev pub times_with_age : ℕ → ℕ → List ℕ → Option (Times × List ℕ)
-times_with_age date age rest = after (number_in_front rest) (times_with_request date age)
+times_with_age date age rest = after (leading_number rest) (times_with_request date age)
 
 abbrev pub times_with_date : ℕ → List ℕ → Option (Times × List ℕ)
-times_with_date date rest = after (number_below_in_front (2 ^ 32) rest) (times_with_age date)
+times_with_date date rest = after (leading_number_below (2 ^ 32) rest) (times_with_age date)
 
-abbrev pub times_in_front : List ℕ → Option (Times × List ℕ)
-times_in_front bytes = after (number_in_front bytes) times_with_date
+abbrev pub leading_times : List ℕ → Option (Times × List ℕ)
+leading_times bytes = after (leading_number bytes) times_with_date
 
 abbrev pub key_with_path : ℕ → List ℕ → List ℕ → List ℕ → Option (Key × List ℕ)
 key_with_path port host path_query rest = Some (record { host = host; port = port; path_query = path_query }, rest)
 
 abbrev pub key_with_host : ℕ → List ℕ → List ℕ → Option (Key × List ℕ)
-key_with_host port host rest = after (text_in_front rest) (key_with_path port host)
+key_with_host port host rest = after (leading_text rest) (key_with_path port host)
 
 abbrev pub key_with_port : ℕ → List ℕ → Option (Key × List ℕ)
-key_with_port port rest = after (text_in_front rest) (key_with_host port)
+key_with_port port rest = after (leading_text rest) (key_with_host port)
 
-abbrev pub key_in_front : List ℕ → Option (Key × List ℕ)
-key_in_front bytes = after (number_below_in_front (2 ^ 16) bytes) key_with_port
+abbrev pub leading_key : List ℕ → Option (Key × List ℕ)
+leading_key bytes = after (leading_number_below (2 ^ 16) bytes) key_with_port
 
 abbrev pub some_value : List ℕ → List ℕ → Option (Option (List ℕ) × List ℕ)
 some_value value rest = Some (Some value, rest)
@@ -100,42 +100,42 @@ some_value value rest = Some (Some value, rest)
 abbrev pub value_behind : ℕ → List ℕ → Option (Option (List ℕ) × List ℕ)
 value_behind n rest = if n == 0 then Some (None, rest) else after (cut (n - 1) rest) some_value
 
-abbrev pub value_in_front : List ℕ → Option (Option (List ℕ) × List ℕ)
-value_in_front bytes = after (number_in_front bytes) value_behind
+abbrev pub leading_value : List ℕ → Option (Option (List ℕ) × List ℕ)
+leading_value bytes = after (leading_number bytes) value_behind
 
 abbrev pub kept_with_value : List ℕ → Option (List ℕ) → List ℕ → Option (NominatedValue × List ℕ)
 kept_with_value name value rest = Some (record { name = name; value = value }, rest)
 
 abbrev pub kept_with_name : List ℕ → List ℕ → Option (NominatedValue × List ℕ)
-kept_with_name name rest = after (value_in_front rest) (kept_with_value name)
+kept_with_name name rest = after (leading_value rest) (kept_with_value name)
 
-abbrev pub kept_in_front : List ℕ → Option (NominatedValue × List ℕ)
-kept_in_front bytes = after (text_in_front bytes) kept_with_name
+abbrev pub leading_kept : List ℕ → Option (NominatedValue × List ℕ)
+leading_kept bytes = after (leading_text bytes) kept_with_name
 
 -- so many more, behind those that were read
 abbrev pub values_behind : List NominatedValue → ℕ → List ℕ → Option (List NominatedValue × List ℕ)
 values_behind read zero bytes = Some (read, bytes)
-values_behind read (suc n) bytes = after (kept_in_front bytes) (λ kept rest. values_behind (read ++ kept ∷ []) n rest)
+values_behind read (suc n) bytes = after (leading_kept bytes) (λ kept rest. values_behind (read ++ kept ∷ []) n rest)
 
-abbrev pub nominated_in_front : List ℕ → Option (List NominatedValue × List ℕ)
-nominated_in_front bytes = after (number_in_front bytes) (values_behind [])
+abbrev pub leading_nominated : List ℕ → Option (List NominatedValue × List ℕ)
+leading_nominated bytes = after (leading_number bytes) (values_behind [])
 
 abbrev pub line_with_value : List ℕ → List ℕ → List ℕ → Option (Field × List ℕ)
 line_with_value name value rest = Some (record { name = name; value = value }, rest)
 
 abbrev pub line_with_name : List ℕ → List ℕ → Option (Field × List ℕ)
-line_with_name name rest = after (text_in_front rest) (line_with_value name)
+line_with_name name rest = after (leading_text rest) (line_with_value name)
 
-abbrev pub line_in_front : List ℕ → Option (Field × List ℕ)
-line_in_front bytes = after (text_in_front bytes) line_with_name
+abbrev pub leading_line : List ℕ → Option (Field × List ℕ)
+leading_line bytes = after (leading_text bytes) line_with_name
 
 -- so many more, behind those that were read
 abbrev pub lines_behind : List Field → ℕ → List ℕ → Option (List Field × List ℕ)
 lines_behind read zero bytes = Some (read, bytes)
-lines_behind read (suc n) bytes = after (line_in_front bytes) (λ line rest. lines_behind (read ++ line ∷ []) n rest)
+lines_behind read (suc n) bytes = after (leading_line bytes) (λ line rest. lines_behind (read ++ line ∷ []) n rest)
 
-abbrev pub lines_in_front : List ℕ → Option (List Field × List ℕ)
-lines_in_front bytes = after (number_in_front bytes) (lines_behind [])
+abbrev pub leading_lines : List ℕ → Option (List Field × List ℕ)
+leading_lines bytes = after (leading_number bytes) (lines_behind [])
 
 -- nothing follows it
 abbrev pub whole : {A : Type 0} → A → List ℕ → Option A
@@ -147,7 +147,7 @@ times_with_purge times moment rest = whole (record times { expired = Some moment
 
 abbrev pub times_at_end : Times → List ℕ → Option Times
 times_at_end times rest =
-    if length rest == 0 then Some times else after (number_in_front rest) (times_with_purge times)
+    if length rest == 0 then Some times else after (leading_number rest) (times_with_purge times)
 
 -- nothing of a head was read
 abbrev pub no_head : Head
@@ -168,27 +168,27 @@ head_with_lines head fields rest =
 
 abbrev pub head_with_nominated : Head → List NominatedValue → List ℕ → Option Head
 head_with_nominated head nominated rest =
-    after (lines_in_front rest) (head_with_lines (record head { nominated = nominated }))
+    after (leading_lines rest) (head_with_lines (record head { nominated = nominated }))
 
 abbrev pub head_with_key : Head → Key → List ℕ → Option Head
-head_with_key head key rest = after (nominated_in_front rest) (head_with_nominated (record head { key = key }))
+head_with_key head key rest = after (leading_nominated rest) (head_with_nominated (record head { key = key }))
 
 abbrev pub head_with_times : Head → Times → List ℕ → Option Head
-head_with_times head times rest = after (key_in_front rest) (head_with_key (record head { times = times }))
+head_with_times head times rest = after (leading_key rest) (head_with_key (record head { times = times }))
 
 abbrev pub head_with_length : Head → ℕ → List ℕ → Option Head
-head_with_length head n rest = after (times_in_front rest) (head_with_times (record head { content_length = n }))
+head_with_length head n rest = after (leading_times rest) (head_with_times (record head { content_length = n }))
 
 abbrev pub head_with_status : Head → ℕ → List ℕ → Option Head
 head_with_status head status rest =
-    after (number_in_front rest) (head_with_length (record head { status = status }))
+    after (leading_number rest) (head_with_length (record head { status = status }))
 
 abbrev pub head_with_serial : ℕ → List ℕ → Option Head
 head_with_serial serial rest =
-    after (number_below_in_front (2 ^ 16) rest) (head_with_status (record no_head { serial = serial }))
+    after (leading_number_below (2 ^ 16) rest) (head_with_status (record no_head { serial = serial }))
 
 unfoldable pub head_in : List ℕ → Option Head
-head_in bytes = after (number_in_front bytes) head_with_serial
+head_in bytes = after (leading_number bytes) head_with_serial
 
 -- an entry without its content, and with it
 abbrev pub head_of : Stored → Head

@@ -7,7 +7,7 @@ use Rattle.std.specs.List.{list_all, list_any}
 use Rattle.std.specs.Char.{is_ascii_uppercase}
 use Rattle.hx_fields.specs.Names.{trimmed}
 use Rattle.hx_fields.specs.Tokens.{is_token}
-use Rattle.hx_fields.specs.declared.field_line.Field.{Field}
+use Rattle.hx_fields.specs.Line.{Field}
 use Rattle.hx_target.specs.Hosts.{is_host}
 use Rattle.hx_target.specs.declared.keys.Key.{Key}
 use Rattle.hx_age.specs.declared.moments.Times.{Times}

@@ -1,7 +1,7 @@
 -- The file of a store: how a store is spelled, and what a text is read as.
 --
 -- StoreContents: what a file tells       store_spelling: the text that tells it
--- entry_in_front: the entry at the front of bytes      entry_fault: why it may not stand in the store
+-- leading_entry: the entry at the front of bytes      entry_fault: why it may not stand in the store
 -- read_store: what a text tells, or the fault at its earliest place
 use Rattle.std.specs.Prelude.{ℕ, ◌+◌, ◌-◌, ◌==◌, nat_le, nat_lt, zero, suc, Bool, false, not, ◌&&◌, ◌||◌, if◌then◌else◌}
 use Rattle.std.specs.Prelude.{List, [], ◌∷◌, ◌++◌, length, take, codes, bytes_eq, Option, None, Some, Result, Ok, Err}
@@ -78,8 +78,8 @@ entry_behind_length number rest =
     then entry_behind (cut (number_of number) rest) (λ head more. entry_with_head (head_in head) more)
     else Shapeless
 
-unfoldable pub entry_in_front : List ℕ → EntryRead
-entry_in_front bytes = entry_behind (cut 8 bytes) entry_behind_length
+unfoldable pub leading_entry : List ℕ → EntryRead
+leading_entry bytes = entry_behind (cut 8 bytes) entry_behind_length
 
 -- a store with this weight would weigh too much
 abbrev pub is_too_heavy : Option ℕ → ℕ → Bool
@@ -135,7 +135,7 @@ entries_read text most next_serial zero held rest =
     end_read text (record { entries = held; next_serial = next_serial }) rest
 entries_read text most next_serial (suc left) held rest =
     entry_read most next_serial held (λ e more. entries_read text most next_serial left (e ∷ held) more)
-    (entry_in_front rest)
+    (leading_entry rest)
 
 abbrev pub counted_read : StoreBounds → List ℕ → List ℕ → List ℕ → List ℕ → StoreReading
 counted_read bounds text next number rest =

@@ -1,6 +1,6 @@
 -- What a reader gave, and a writer took, of the file of a store.
 --
--- Gave: these bytes, of which the hasher was fed      Stops: it gave less than was asked for
+-- ReaderGaveBytes: these bytes, which the hasher was fed      ReaderStoppedShort: fewer than were asked for
 -- IsRead, IsRefused: what the bytes that it gave are read as         FrontIsRead: a front of them was
 -- EntryIsTaken, EndIsRead: the same of the next entry and of the end
 use Rattle.std.specs.Prelude.{◌≡◌, ◌≢◌, ℕ, suc, Bool, true, List, [], ◌++◌, length, take, bytes_eq}
@@ -17,23 +17,23 @@ use Rattle.proxy_store_file.specs.Texts.{number_of, is_number}
 use Rattle.hx_store.specs.Stored.{Stored}
 use Rattle.proxy_store_file.specs.Stores.{StoreContents, StoreReading, entries_read, end_read, EntryRead, Cut}
 use Rattle.proxy_store_file.specs.Stores.{Shapeless, first_line, first_words}
-use Rattle.proxy_store_file.specs.Stores.{Found, entry_in_front}
+use Rattle.proxy_store_file.specs.Stores.{Found, leading_entry}
 
 -- the reader gave these bytes, and the hasher was fed them
-pub record Gave (old new : Option (List ℕ)) (before after : DefaultHasher) (bytes : List ℕ) : Type 0 where
+pub record ReaderGaveBytes (old new : Option (List ℕ)) (before after : DefaultHasher) (bytes : List ℕ) : Type 0 where
   pub consumes : Consumes old new bytes
   pub hashed : after ≡ write before bytes
 
 -- they were eight bytes, which spell this number
 pub record NumberGiven (old new : Option (List ℕ)) (before after : DefaultHasher) (n : ℕ) : Type 0 where
   pub bytes : List ℕ
-  pub gave : Gave old new before after bytes
-  pub eight : length bytes ≡ 8
+  pub gave : ReaderGaveBytes old new before after bytes
+  pub are_eight : length bytes ≡ 8
   pub is_number : is_number bytes ≡ true
   pub number : n ≡ number_of bytes
 
 -- The reader gave bytes that are too few, and then came to its end or failed; or memory ran out.
-pub record Stops (AreTooFew : List ℕ → Type 0) (old new : Option (List ℕ)) (why : ReadStop) : Type 0 where
+pub record ReaderStoppedShort (AreTooFew : List ℕ → Type 0) (old new : Option (List ℕ)) (why : ReadStop) : Type 0 where
   pub bytes : List ℕ
   pub consumes : Consumes old new bytes
   pub few : why ≢ stop.OutOfMemory → AreTooFew bytes
@@ -43,12 +43,12 @@ pub record Stops (AreTooFew : List ℕ → Type 0) (old new : Option (List ℕ))
 pub record EntryIsRead (old new : Option (List ℕ)) (before after : DefaultHasher)
     (reading : List ℕ → EntryRead) : Type 0 where
   pub bytes : List ℕ
-  pub gave : Gave old new before after bytes
-  pub reads : (more : List ℕ) → entry_in_front (bytes ++ more) ≡ reading more
+  pub gave : ReaderGaveBytes old new before after bytes
+  pub reads : (more : List ℕ) → leading_entry (bytes ++ more) ≡ reading more
 
 -- less than an entry
 abbrev pub IsCut : List ℕ → Type 0
-IsCut bytes = entry_in_front bytes ≡ Cut
+IsCut bytes = leading_entry bytes ≡ Cut
 
 -- what was read of an entry, if its head has the shape of one
 abbrev pub reading_of_entry : Option Stored → List ℕ → EntryRead
@@ -87,7 +87,7 @@ IsRefused read old new f = IsRead read old new (Err f)
 pub record FrontIsRead (read : List ℕ → StoreReading) (read_behind : List ℕ → List ℕ → StoreReading)
     (old new : Option (List ℕ)) (before after : DefaultHasher) : Type 0 where
   pub bytes : List ℕ
-  pub gave : Gave old new before after bytes
+  pub gave : ReaderGaveBytes old new before after bytes
   pub reads : (more : List ℕ) → read (bytes ++ more) ≡ read_behind (bytes ++ more) more
 
 abbrev pub contents_of : List Stored → ℕ → StoreContents

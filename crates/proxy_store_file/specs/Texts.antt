@@ -2,7 +2,7 @@
 --
 -- number_spelling, text_spelling: how they are spelled       number_of, is_number: what eight bytes say
 -- cut: so many bytes, and the rest      after: what is read behind something that was read
--- number_in_front, text_in_front: what stands at the front of bytes, and the rest
+-- leading_number, leading_text: what stands at the front of bytes, and the rest
 use Rattle.std.specs.Prelude.{ℕ, ◌==◌, nat_le, Bool, ◌&&◌, if◌then◌else◌, List, ◌++◌, length, take, drop, bytes_eq}
 use Rattle.std.specs.Prelude.{Option, None, Some}
 use Rattle.std.specs.Int.{w64, to_be_bytes, from_be_bytes}
@@ -35,8 +35,8 @@ after (Some p) read = read p.0 p.1
 abbrev pub number_of_eight : List ℕ → List ℕ → Option (ℕ × List ℕ)
 number_of_eight eight rest = if is_number eight then Some (number_of eight, rest) else None
 
-abbrev pub number_in_front : List ℕ → Option (ℕ × List ℕ)
-number_in_front bytes = after (cut 8 bytes) number_of_eight
+abbrev pub leading_number : List ℕ → Option (ℕ × List ℕ)
+leading_number bytes = after (cut 8 bytes) number_of_eight
 
-abbrev pub text_in_front : List ℕ → Option (List ℕ × List ℕ)
-text_in_front bytes = after (number_in_front bytes) cut
+abbrev pub leading_text : List ℕ → Option (List ℕ × List ℕ)
+leading_text bytes = after (leading_number bytes) cut

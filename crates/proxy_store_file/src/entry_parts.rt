@@ -125,8 +125,8 @@ fn are_nominated(values: &[NominatedValue]) -> bool
 fn is_stored_line(line: &Field) -> bool
     ensures { result ≡ is_stored_line line.now }
 {
-    let value = line.value.as_slice();
-    is_stored_name(line.name.as_slice()) && are_value_bytes(value) && trim_blanks(value) == value
+    let value = line.value();
+    is_stored_name(line.name()) && are_value_bytes(value) && trim_blanks(value) == value
 }
 
 fn all_are_stored_lines(lines: &[Field]) -> bool

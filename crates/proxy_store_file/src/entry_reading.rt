@@ -1,6 +1,6 @@
 //! One entry, read from a reader (`specs/Stores.antt`).
 ghost use Rattle.std.specs.Prelude.{IfOk, IfErr};
-ghost use Rattle.proxy_store_file.specs.Streams.{EntryIsRead, IsCut, Stops, reading_of_entry};
+ghost use Rattle.proxy_store_file.specs.Streams.{EntryIsRead, IsCut, ReaderStoppedShort, reading_of_entry};
 
 use crate::head_reading::{HeadStop, head_in};
 use crate::limits::MOST_HEAD_BYTES;
@@ -18,7 +18,8 @@ pub(crate) fn read_entry<R: Read>(
 ) -> Result<Option<Entry>, ReadStop>
     ensures ok { IfOk result (λ read. EntryIsRead (R.remaining reader.old) (R.remaining reader.new)
         hasher.old hasher.new (reading_of_entry read)) }
-    ensures stop { IfErr result (λ why. Stops IsCut (R.remaining reader.old) (R.remaining reader.new) why) }
+    ensures stop { IfErr result (λ why. ReaderStoppedShort IsCut (R.remaining reader.old)
+        (R.remaining reader.new) why) }
 {
     let n = match read_number(alloc, reader, hasher) {
         Ok(n) => n,

@@ -1,13 +1,13 @@
 //! The head of an entry, read from its bytes (`specs/Heads.antt`).
 ghost use Rattle.std.specs.Prelude.{◌≡◌, ◌∷◌, [], IfOk, IfErr, MatchOption, None, Some};
-ghost use Rattle.proxy_store_file.specs.Heads.{times_in_front, key_in_front, value_in_front, kept_in_front};
-ghost use Rattle.proxy_store_file.specs.Heads.{nominated_in_front, line_in_front, lines_in_front, head_in};
+ghost use Rattle.proxy_store_file.specs.Heads.{leading_times, leading_key, leading_value, leading_kept};
+ghost use Rattle.proxy_store_file.specs.Heads.{leading_nominated, leading_line, leading_lines, head_in};
 ghost use Rattle.proxy_store_file.specs.Heads.{values_behind};
 ghost use Rattle.proxy_store_file.specs.Heads.{lines_behind, times_at_end};
 ghost use Rattle.proxy_store_file.specs.HeadStops.{IsStopOf, said_of_value};
 
 use crate::heads::Head;
-use crate::texts::{cut, number_below_in_front, number_in_front, text_in_front};
+use crate::texts::{cut, leading_number, leading_number_below, leading_text};
 use hx_age::Times;
 use hx_fields::{Bytes, Field, Fields};
 use hx_target::Key;
@@ -34,20 +34,20 @@ impl From<AllocError> for HeadStop {
     }
 }
 
-fn times_in_front(bytes: &[u8]) -> Option<(Times, &[u8])>
-    ensures { MatchOption result (times_in_front bytes.now ≡ None)
-        (λ r. times_in_front bytes.now ≡ Some (r.0, r.1.now)) }
+fn leading_times(bytes: &[u8]) -> Option<(Times, &[u8])>
+    ensures { MatchOption result (leading_times bytes.now ≡ None)
+        (λ r. leading_times bytes.now ≡ Some (r.0, r.1.now)) }
 {
-    let Some((date, rest)) = number_in_front(bytes) else {
+    let Some((date, rest)) = leading_number(bytes) else {
         return None;
     };
-    let Some((age_value, rest)) = number_below_in_front(4_294_967_296, rest) else {
+    let Some((age_value, rest)) = leading_number_below(4_294_967_296, rest) else {
         return None;
     };
-    let Some((request_time, rest)) = number_in_front(rest) else {
+    let Some((request_time, rest)) = leading_number(rest) else {
         return None;
     };
-    let Some((response_time, rest)) = number_in_front(rest) else {
+    let Some((response_time, rest)) = leading_number(rest) else {
         return None;
     };
     let times = Times {
@@ -60,17 +60,17 @@ fn times_in_front(bytes: &[u8]) -> Option<(Times, &[u8])>
     Some((times, rest))
 }
 
-fn key_in_front(alloc: Global, bytes: &[u8]) -> Result<(Key, &[u8]), HeadStop>
-    ensures ok { IfOk result (λ r. key_in_front bytes.now ≡ Some (r.0, r.1.now)) }
-    ensures stop { IfErr result (λ stop. IsStopOf stop (key_in_front bytes.now)) }
+fn leading_key(alloc: Global, bytes: &[u8]) -> Result<(Key, &[u8]), HeadStop>
+    ensures ok { IfOk result (λ r. leading_key bytes.now ≡ Some (r.0, r.1.now)) }
+    ensures stop { IfErr result (λ stop. IsStopOf stop (leading_key bytes.now)) }
 {
-    let Some((port, rest)) = number_below_in_front(65_536, bytes) else {
+    let Some((port, rest)) = leading_number_below(65_536, bytes) else {
         return Err(HeadStop::Shapeless);
     };
-    let Some((host, rest)) = text_in_front(rest) else {
+    let Some((host, rest)) = leading_text(rest) else {
         return Err(HeadStop::Shapeless);
     };
-    let Some((path_query, rest)) = text_in_front(rest) else {
+    let Some((path_query, rest)) = leading_text(rest) else {
         return Err(HeadStop::Shapeless);
     };
     let key = Key {
@@ -82,7 +82,7 @@ fn key_in_front(alloc: Global, bytes: &[u8]) -> Result<(Key, &[u8]), HeadStop>
 }
 
 /// What a nominated name has at the front.
-enum ValueInFront<'a> {
+enum LeadingValue<'a> {
     /// Less than a value.
     Cut,
     /// It had none.
@@ -91,33 +91,33 @@ enum ValueInFront<'a> {
     Value(&'a [u8], &'a [u8]),
 }
 
-fn value_in_front(bytes: &[u8]) -> ValueInFront<'_>
-    ensures { said_of_value result ≡ value_in_front bytes.now }
+fn leading_value(bytes: &[u8]) -> LeadingValue<'_>
+    ensures { said_of_value result ≡ leading_value bytes.now }
 {
-    match number_in_front(bytes) {
-        None => ValueInFront::Cut,
-        Some((0, rest)) => ValueInFront::Absent(rest),
+    match leading_number(bytes) {
+        None => LeadingValue::Cut,
+        Some((0, rest)) => LeadingValue::Absent(rest),
         Some((n, rest)) => match cut(n - 1, rest) {
-            None => ValueInFront::Cut,
-            Some((value, rest)) => ValueInFront::Value(value, rest),
+            None => LeadingValue::Cut,
+            Some((value, rest)) => LeadingValue::Value(value, rest),
         },
     }
 }
 
-fn kept_in_front(alloc: Global, bytes: &[u8]) -> Result<(NominatedValue, &[u8]), HeadStop>
-    ensures ok { IfOk result (λ r. kept_in_front bytes.now ≡ Some (r.0, r.1.now)) }
-    ensures stop { IfErr result (λ stop. IsStopOf stop (kept_in_front bytes.now)) }
+fn leading_kept(alloc: Global, bytes: &[u8]) -> Result<(NominatedValue, &[u8]), HeadStop>
+    ensures ok { IfOk result (λ r. leading_kept bytes.now ≡ Some (r.0, r.1.now)) }
+    ensures stop { IfErr result (λ stop. IsStopOf stop (leading_kept bytes.now)) }
 {
-    let Some((name, rest)) = text_in_front(bytes) else {
+    let Some((name, rest)) = leading_text(bytes) else {
         return Err(HeadStop::Shapeless);
     };
-    match value_in_front(rest) {
-        ValueInFront::Cut => Err(HeadStop::Shapeless),
-        ValueInFront::Absent(rest) => {
+    match leading_value(rest) {
+        LeadingValue::Cut => Err(HeadStop::Shapeless),
+        LeadingValue::Absent(rest) => {
             let name = Bytes::copy_of(alloc, name)?;
             Ok((NominatedValue { name, value: None }, rest))
         }
-        ValueInFront::Value(value, rest) => {
+        LeadingValue::Value(value, rest) => {
             let name = Bytes::copy_of(alloc, name)?;
             let value = Some(Bytes::copy_of(alloc, value)?);
             Ok((NominatedValue { name, value }, rest))
@@ -125,17 +125,17 @@ fn kept_in_front(alloc: Global, bytes: &[u8]) -> Result<(NominatedValue, &[u8]),
     }
 }
 
-fn nominated_in_front(alloc: Global, bytes: &[u8]) -> Result<(Nominated, &[u8]), HeadStop>
-    ensures ok { IfOk result (λ r. nominated_in_front bytes.now ≡ Some (r.0, r.1.now)) }
-    ensures stop { IfErr result (λ stop. IsStopOf stop (nominated_in_front bytes.now)) }
+fn leading_nominated(alloc: Global, bytes: &[u8]) -> Result<(Nominated, &[u8]), HeadStop>
+    ensures ok { IfOk result (λ r. leading_nominated bytes.now ≡ Some (r.0, r.1.now)) }
+    ensures stop { IfErr result (λ stop. IsStopOf stop (leading_nominated bytes.now)) }
 {
-    let Some((n, front)) = number_in_front(bytes) else {
+    let Some((n, front)) = leading_number(bytes) else {
         return Err(HeadStop::Shapeless);
     };
     let mut values = Vec::new(alloc);
     let mut rest = front;
     for _i in 0..n {
-        match kept_in_front(alloc, rest) {
+        match leading_kept(alloc, rest) {
             Ok((kept, more)) => {
                 match values.push(kept) {
                     Ok(()) => rest = more,
@@ -148,30 +148,30 @@ fn nominated_in_front(alloc: Global, bytes: &[u8]) -> Result<(Nominated, &[u8]),
     Ok((Nominated::from_vec(values), rest))
 }
 
-fn line_in_front(alloc: Global, bytes: &[u8]) -> Result<(Field, &[u8]), HeadStop>
-    ensures ok { IfOk result (λ r. line_in_front bytes.now ≡ Some (r.0, r.1.now)) }
-    ensures stop { IfErr result (λ stop. IsStopOf stop (line_in_front bytes.now)) }
+fn leading_line(alloc: Global, bytes: &[u8]) -> Result<(Field, &[u8]), HeadStop>
+    ensures ok { IfOk result (λ r. leading_line bytes.now ≡ Some (r.0, r.1.now)) }
+    ensures stop { IfErr result (λ stop. IsStopOf stop (leading_line bytes.now)) }
 {
-    let Some((name, rest)) = text_in_front(bytes) else {
+    let Some((name, rest)) = leading_text(bytes) else {
         return Err(HeadStop::Shapeless);
     };
-    let Some((value, rest)) = text_in_front(rest) else {
+    let Some((value, rest)) = leading_text(rest) else {
         return Err(HeadStop::Shapeless);
     };
     Ok((Field::copy_of(alloc, name, value)?, rest))
 }
 
-fn lines_in_front(alloc: Global, bytes: &[u8]) -> Result<(Fields, &[u8]), HeadStop>
-    ensures ok { IfOk result (λ r. lines_in_front bytes.now ≡ Some (r.0, r.1.now)) }
-    ensures stop { IfErr result (λ stop. IsStopOf stop (lines_in_front bytes.now)) }
+fn leading_lines(alloc: Global, bytes: &[u8]) -> Result<(Fields, &[u8]), HeadStop>
+    ensures ok { IfOk result (λ r. leading_lines bytes.now ≡ Some (r.0, r.1.now)) }
+    ensures stop { IfErr result (λ stop. IsStopOf stop (leading_lines bytes.now)) }
 {
-    let Some((n, front)) = number_in_front(bytes) else {
+    let Some((n, front)) = leading_number(bytes) else {
         return Err(HeadStop::Shapeless);
     };
     let mut lines = Fields::new(alloc);
     let mut rest = front;
     for _i in 0..n {
-        match line_in_front(alloc, rest) {
+        match leading_line(alloc, rest) {
             Ok((line, more)) => {
                 lines.push_line(line)?;
                 rest = more;
@@ -189,7 +189,7 @@ fn times_at_end(times: Times, rest: &[u8]) -> Option<Times>
     if rest.is_empty() {
         return Some(times);
     }
-    match number_in_front(rest) {
+    match leading_number(rest) {
         Some((moment, behind)) if behind.is_empty() => Some(Times {
             expired: Some(moment),
             ..times
@@ -204,27 +204,27 @@ pub(crate) fn head_in(alloc: Global, bytes: &[u8]) -> Result<Head, HeadStop>
     ensures ok { IfOk result (λ head. head_in bytes.now ≡ Some head) }
     ensures stop { IfErr result (λ stop. IsStopOf stop (head_in bytes.now)) }
 {
-    let Some((serial, rest)) = number_in_front(bytes) else {
+    let Some((serial, rest)) = leading_number(bytes) else {
         return Err(HeadStop::Shapeless);
     };
-    let Some((status, rest)) = number_below_in_front(65_536, rest) else {
+    let Some((status, rest)) = leading_number_below(65_536, rest) else {
         return Err(HeadStop::Shapeless);
     };
-    let Some((content_length, rest)) = number_in_front(rest) else {
+    let Some((content_length, rest)) = leading_number(rest) else {
         return Err(HeadStop::Shapeless);
     };
-    let Some((times, rest)) = times_in_front(rest) else {
+    let Some((times, rest)) = leading_times(rest) else {
         return Err(HeadStop::Shapeless);
     };
-    let (key, rest) = match key_in_front(alloc, rest) {
+    let (key, rest) = match leading_key(alloc, rest) {
         Ok(found) => found,
         Err(stop) => return Err(stop),
     };
-    let (nominated, rest) = match nominated_in_front(alloc, rest) {
+    let (nominated, rest) = match leading_nominated(alloc, rest) {
         Ok(found) => found,
         Err(stop) => return Err(stop),
     };
-    let (fields, rest) = match lines_in_front(alloc, rest) {
+    let (fields, rest) = match leading_lines(alloc, rest) {
         Ok(found) => found,
         Err(stop) => return Err(stop),
     };

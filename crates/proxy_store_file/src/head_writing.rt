@@ -70,8 +70,8 @@ fn push_nominated(out: &mut Vec<u8>, values: &[NominatedValue]) -> Result<(), Al
 fn push_line(out: &mut Vec<u8>, line: &Field) -> Result<(), AllocError>
     ensures { OnOk result (out.new.items ≡ out.old.items ++ line_spelling line.now) }
 {
-    push_text(out, line.name.as_slice())?;
-    push_text(out, line.value.as_slice())
+    push_text(out, line.name())?;
+    push_text(out, line.value())
 }
 
 fn push_all_lines(out: &mut Vec<u8>, lines: &[Field]) -> Result<(), AllocError>

@@ -1,12 +1,12 @@
 //! Laws of the definitions of `specs/`, as contracts of functions that do nothing.
 ghost use Rattle.std.specs.Prelude.{◌≡◌, ◌++◌, ◌∷◌, ◌<◌, ◌^◌, ℕ, List, [], length, codes, Ok, Err, None, Some};
-ghost use Rattle.hx_fields.specs.declared.field_line.Field.{Field};
+ghost use Rattle.hx_fields.specs.Line.{Field};
 ghost use Rattle.hx_target.specs.declared.keys.Key.{Key};
 ghost use Rattle.hx_age.specs.declared.moments.Times.{Times};
-ghost use Rattle.proxy_store_file.specs.Texts.{number_spelling, text_spelling, number_in_front, text_in_front};
-ghost use Rattle.proxy_store_file.specs.Heads.{times_spelling, times_in_front, key_spelling, key_in_front};
+ghost use Rattle.proxy_store_file.specs.Texts.{number_spelling, text_spelling, leading_number, leading_text};
+ghost use Rattle.proxy_store_file.specs.Heads.{times_spelling, leading_times, key_spelling, leading_key};
 ghost use Rattle.proxy_store_file.specs.Heads.{line_spelling, purge_spelling, value_spelling};
-ghost use Rattle.proxy_store_file.specs.Heads.{line_in_front, kept_spelling, kept_in_front, head_in, head_spelling};
+ghost use Rattle.proxy_store_file.specs.Heads.{leading_line, kept_spelling, leading_kept, head_in, head_spelling};
 ghost use Rattle.hx_store.specs.Weights.{StoreBounds};
 ghost use Rattle.proxy_store_file.specs.Fits.{StoreCanBeTold, StoreStands};
 ghost use Rattle.proxy_store_file.specs.Stores.{StoreContents, read_store, store_spelling, body_spelling};
@@ -19,24 +19,24 @@ ghost use Rattle.proxy_store_file.specs.declared.heads.Head.{Head};
 /// A number or a text that is spelled is read, and what is read is spelled so.
 pub fn texts_are_read_as_they_are_spelled()
     ensures number_again { (n : ℕ) (more : List ℕ) → n < 2 ^ 64
-        → number_in_front (number_spelling n ++ more) ≡ Some (n, more) }
-    ensures number_found { (bytes more : List ℕ) (n : ℕ) → number_in_front bytes ≡ Some (n, more)
+        → leading_number (number_spelling n ++ more) ≡ Some (n, more) }
+    ensures number_found { (bytes more : List ℕ) (n : ℕ) → leading_number bytes ≡ Some (n, more)
         → bytes ≡ number_spelling n ++ more }
     ensures text_again { (text more : List ℕ) → length text < 2 ^ 64
-        → text_in_front (text_spelling text ++ more) ≡ Some (text, more) }
-    ensures text_found { (bytes more text : List ℕ) → text_in_front bytes ≡ Some (text, more)
+        → leading_text (text_spelling text ++ more) ≡ Some (text, more) }
+    ensures text_found { (bytes more text : List ℕ) → leading_text bytes ≡ Some (text, more)
         → bytes ≡ text_spelling text ++ more }
 {}
 
 /// The parts of a head that are read are spelled so.
 pub fn parts_that_are_read_are_spelled_so()
-    ensures times { (bytes more : List ℕ) (times : Times) → times_in_front bytes ≡ Some (times, more)
+    ensures times { (bytes more : List ℕ) (times : Times) → leading_times bytes ≡ Some (times, more)
         → bytes ≡ times_spelling times ++ more }
-    ensures key { (bytes more : List ℕ) (key : Key) → key_in_front bytes ≡ Some (key, more)
+    ensures key { (bytes more : List ℕ) (key : Key) → leading_key bytes ≡ Some (key, more)
         → bytes ≡ key_spelling key ++ more }
-    ensures line { (bytes more : List ℕ) (line : Field) → line_in_front bytes ≡ Some (line, more)
+    ensures line { (bytes more : List ℕ) (line : Field) → leading_line bytes ≡ Some (line, more)
         → bytes ≡ line_spelling line ++ more }
-    ensures kept { (bytes more : List ℕ) (kept : NominatedValue) → kept_in_front bytes ≡ Some (kept, more)
+    ensures kept { (bytes more : List ℕ) (kept : NominatedValue) → leading_kept bytes ≡ Some (kept, more)
         → bytes ≡ kept_spelling kept ++ more }
     ensures head { (bytes : List ℕ) (head : Head) → head_in bytes ≡ Some head → bytes ≡ head_spelling head }
 {}

@@ -2,7 +2,7 @@
 //!
 //! Our own loop over `read`: after an error of `read_exact` nobody knows what was read.
 ghost use Rattle.std.specs.Prelude.{◌≡◌, ◌<◌, length, IfOk, IfErr};
-ghost use Rattle.proxy_store_file.specs.Streams.{Gave, NumberGiven, Stops};
+ghost use Rattle.proxy_store_file.specs.Streams.{ReaderGaveBytes, NumberGiven, ReaderStoppedShort};
 
 use crate::limits::PIECE;
 use crate::texts::number_of;
@@ -39,10 +39,10 @@ pub(crate) fn read_bytes<R: Read>(
     hasher: &mut DefaultHasher,
     n: u64,
 ) -> Result<Vec<u8>, ReadStop>
-    ensures ok { IfOk result (λ bytes. Gave (R.remaining reader.old) (R.remaining reader.new) hasher.old hasher.new
-        bytes.items) }
+    ensures ok { IfOk result (λ bytes. ReaderGaveBytes (R.remaining reader.old) (R.remaining reader.new)
+        hasher.old hasher.new bytes.items) }
     ensures all { IfOk result (λ bytes. length bytes.items ≡ n) }
-    ensures stop { IfErr result (λ why. Stops (λ bytes. length bytes < n) (R.remaining reader.old)
+    ensures stop { IfErr result (λ why. ReaderStoppedShort (λ bytes. length bytes < n) (R.remaining reader.old)
         (R.remaining reader.new) why) }
 {
     let mut bytes = Vec::with_capacity(alloc, n.min(PIECE as u64) as usize)?;
@@ -82,7 +82,7 @@ pub(crate) fn read_number<R: Read>(
 ) -> Result<u64, ReadStop>
     ensures ok { IfOk result (λ n. NumberGiven (R.remaining reader.old) (R.remaining reader.new)
         hasher.old hasher.new n) }
-    ensures stop { IfErr result (λ why. Stops (λ bytes. length bytes < 8) (R.remaining reader.old)
+    ensures stop { IfErr result (λ why. ReaderStoppedShort (λ bytes. length bytes < 8) (R.remaining reader.old)
         (R.remaining reader.new) why) }
 {
     match read_bytes(alloc, reader, hasher, 8) {

@@ -1,8 +1,8 @@
 //! Numbers and texts at the front of bytes, and behind others (`specs/Texts.antt`).
 ghost use Rattle.std.specs.Prelude.{◌≡◌, ◌<◌, ◌++◌, length, true, IfSome, OnOk, None, Some, MatchOption};
-ghost use Rattle.proxy_store_file.specs.Texts.{cut, number_spelling, text_spelling, number_in_front, text_in_front};
+ghost use Rattle.proxy_store_file.specs.Texts.{cut, number_spelling, text_spelling, leading_number, leading_text};
 ghost use Rattle.proxy_store_file.specs.Texts.{number_of, is_number};
-ghost use Rattle.proxy_store_file.specs.Heads.{number_below_in_front};
+ghost use Rattle.proxy_store_file.specs.Heads.{leading_number_below};
 
 use std::alloc::AllocError;
 
@@ -53,9 +53,9 @@ pub(crate) fn cut(n: u64, bytes: &[u8]) -> Option<(&[u8], &[u8])>
 }
 
 /// The number at the front, and the rest.
-pub(crate) fn number_in_front(bytes: &[u8]) -> Option<(u64, &[u8])>
-    ensures { MatchOption result (number_in_front bytes.now ≡ None)
-        (λ r. number_in_front bytes.now ≡ Some (r.0, r.1.now)) }
+pub(crate) fn leading_number(bytes: &[u8]) -> Option<(u64, &[u8])>
+    ensures { MatchOption result (leading_number bytes.now ≡ None)
+        (λ r. leading_number bytes.now ≡ Some (r.0, r.1.now)) }
 {
     if bytes.len() < 8 {
         return None;
@@ -64,23 +64,23 @@ pub(crate) fn number_in_front(bytes: &[u8]) -> Option<(u64, &[u8])>
 }
 
 /// The same, where the number is below a bound.
-pub(crate) fn number_below_in_front(bound: u64, bytes: &[u8]) -> Option<(u64, &[u8])>
-    ensures value { MatchOption result (number_below_in_front bound bytes.now ≡ None)
-        (λ r. number_below_in_front bound bytes.now ≡ Some (r.0, r.1.now)) }
+pub(crate) fn leading_number_below(bound: u64, bytes: &[u8]) -> Option<(u64, &[u8])>
+    ensures value { MatchOption result (leading_number_below bound bytes.now ≡ None)
+        (λ r. leading_number_below bound bytes.now ≡ Some (r.0, r.1.now)) }
     ensures below { IfSome result (λ r. r.0 < bound) }
 {
-    match number_in_front(bytes) {
+    match leading_number(bytes) {
         Some((n, rest)) if n < bound => Some((n, rest)),
         _ => None,
     }
 }
 
 /// The text at the front, and the rest.
-pub(crate) fn text_in_front(bytes: &[u8]) -> Option<(&[u8], &[u8])>
-    ensures { MatchOption result (text_in_front bytes.now ≡ None)
-        (λ r. text_in_front bytes.now ≡ Some (r.0.now, r.1.now)) }
+pub(crate) fn leading_text(bytes: &[u8]) -> Option<(&[u8], &[u8])>
+    ensures { MatchOption result (leading_text bytes.now ≡ None)
+        (λ r. leading_text bytes.now ≡ Some (r.0.now, r.1.now)) }
 {
-    match number_in_front(bytes) {
+    match leading_number(bytes) {
         Some((n, rest)) => cut(n, rest),
         None => None,
     }

@@ -1,11 +1,11 @@
 use Rattle.std.proofs.Common.{arith, ap, sym, ◌≡◌, ◌∙◌, None}
-use Rattle.hx_store.specs.Weights.{front_of_weight, shed_entry, weight_of}
+use Rattle.hx_store.specs.Weights.{prefix_of_weight, shed_entry, weight_of}
 use Rattle.hx_store.proofs.ShedEntries.{nothing_shed_is_the_front, nothing_shed_stays, shedding_keeps_the_front}
 use Rattle.hx_store.proofs.shedding.shed_to.Goals as goal
 
 pub loop-preserved-in-Some : goal.loop-preserved-in-Some
 loop-preserved-in-Some g c = record {
-  same = ap (front_of_weight weight_of c.args.most) c.shed.ensures.entries
+  same = ap (prefix_of_weight weight_of c.args.most) c.shed.ensures.entries
       ∙ shedding_keeps_the_front c.args.most (g.S.Shelf.entries c.loop.shelf)
       ∙ c.loop.invariant.same;
   limit = c.shed.ensures.limit ∙ c.loop.invariant.limit;

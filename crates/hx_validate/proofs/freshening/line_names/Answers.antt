@@ -6,7 +6,7 @@ use Rattle.std.specs.BTreeSet.{contains}
 use Rattle.std.proofs.lemmas.List.{take_all, take_more}
 use Rattle.std.proofs.lemmas.List.Folds.{list_any-append}
 use Rattle.hx_fields.specs.Folded.{folded, folded_cmp, folded_ties}
-use Rattle.hx_fields.specs.declared.field_line.Field.{Field}
+use Rattle.hx_fields.specs.Line.{Field}
 use Rattle.hx_validate.proofs.freshening.line_names.Goals as goal
 
 one_more : (s b : Bool) → cond b true s ≡ (s || (b || false))

@@ -3,7 +3,7 @@ use Rattle.std.specs.Prelude.{bytes_eq}
 use Rattle.std.specs.List.{list_any}
 use Rattle.std.specs.BTreeSet.{contains}
 use Rattle.hx_fields.specs.Folded.{folded, folded_cmp}
-use Rattle.hx_fields.specs.declared.field_line.Field.{Field}
+use Rattle.hx_fields.specs.Line.{Field}
 use Rattle.hx_validate.proofs.freshening.line_names.Given as goal
 
 abbrev pub invariant-loop-line : goal.invariant-loop-line

@@ -2,7 +2,7 @@ use Rattle.std.proofs.Common.{◌≡◌, ℕ, true, not, List, [], ◌∷◌, re
 use Rattle.std.specs.Prelude.{map, filter, length, ◌==◌}
 use Rattle.std.proofs.lemmas.Bool.Decides.{nat_tests}
 use Rattle.hx_fields.specs.Names.{is_same_name}
-use Rattle.hx_fields.specs.declared.field_line.Field.{Field}
+use Rattle.hx_fields.specs.Line.{Field}
 use Rattle.hx_vary.specs.Vary.{each_once, kept_value, nominates_a_field, vary_names}
 use Rattle.hx_vary.proofs.laws.a_member_of_vary_nominates.Goals as goal
 

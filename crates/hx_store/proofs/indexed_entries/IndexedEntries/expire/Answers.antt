@@ -8,7 +8,7 @@ pub loop-serial-preserved : goal.loop-serial-preserved
 loop-serial-preserved c =
     let xs = c.args.serials.now in
     let i = c.loop-serial.serial-index in
-    ap (with_expired (drop (i + 1) xs) c.args.now) c.expire_one.ensures
+    ap (with_expired (drop (i + 1) xs) c.args.now) c.expire_entry.ensures
     ∙ sym (one-more (get_or xs i 0) (drop (i + 1) xs) c.args.now c.loop-serial.self)
     ∙ ap (λ ys. with_expired ys c.args.now c.loop-serial.self) (sym (drop_more xs i 0 c.loop-serial-test.true))
     ∙ c.loop-serial.invariant

@@ -1,7 +1,7 @@
 use Rattle.std.proofs.Common.{arith, ap, ◌≡◌, ◌-◌, length, slice_get, Some, subst, sym, ◌∙◌}
 use Rattle.hx_store.specs.Index.{MarksAreOfTheirEntries, SerialIsTakenOut}
 use Rattle.hx_store.proofs.IndexedLists.{IsKept, kept-last, last-none, marked-last}
-use Rattle.hx_store.specs.Weights.{counted_total}
+use Rattle.hx_store.specs.Weights.{counted_total_weight}
 use Rattle.hx_store.proofs.CountedWeights.{counted_last}
 use Rattle.hx_store.proofs.indexed_entries.IndexedEntries.pop_last.Goals as goal
 
@@ -32,5 +32,5 @@ invariant_of-self-in-None c =
       subst (λ zs. IsKept zs c.self.inside.index) (sym same) c.self.invariant.0,
       c.self.invariant.1,
       subst (λ zs. MarksAreOfTheirEntries c.self.inside.seed zs c.self.inside.index) (sym same) c.self.invariant.2,
-      c.self.invariant.3 ∙ ap counted_total (sym same),
+      c.self.invariant.3 ∙ ap counted_total_weight (sym same),
     )

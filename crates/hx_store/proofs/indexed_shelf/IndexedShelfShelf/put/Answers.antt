@@ -5,8 +5,8 @@ use Rattle.hx_store.proofs.EntryLists.{length-filter_le}
 use Rattle.hx_store.proofs.IndexedLists.{put-stands}
 use Rattle.hx_store.proofs.indexed_shelf.IndexedShelfShelf.put.Goals as goal
 
-pub cut-requires : goal.cut-requires
-cut-requires c =
+pub evict_last_beyond-requires : goal.evict_last_beyond-requires
+evict_last_beyond-requires c =
     let es = c.self.inside.held in
     let stored : c.store.new.self ≡ c.args.entry ∷ es = search rules in
     let new : holds_serial c.args.entry.serial es ≡ false = ap (λ v. holds_serial c.args.entry.serial v.entries) c.self.view_is ∙ c.requires in
@@ -23,7 +23,7 @@ returns-clause-ok c =
     let new : holds_serial c.args.entry.serial es ≡ false = ap (λ v. holds_serial c.args.entry.serial v.entries) c.self.view_is ∙ c.requires in
     let stands = put-stands c.args.entry c.args.replaced.now es c.store.new.self c.remove_others.new.self c.entry.inside.serial
     (ap (λ e. e.serial) c.entry.view_is) stored c.remove_others.ensures new in
-    c.cut.ensures.entries ∙ ap (take c.self.inside.capacity) stands
+    c.evict_last_beyond.ensures.entries ∙ ap (take c.self.inside.capacity) stands
     ∙ ap (λ v. take v.limit (c.args.entry ∷ without_serials c.args.replaced.now v.entries)) c.self.view_is
 
 pub returns-clause-evicted : goal.returns-clause-evicted
@@ -33,5 +33,5 @@ returns-clause-evicted c =
     let new : holds_serial c.args.entry.serial es ≡ false = ap (λ v. holds_serial c.args.entry.serial v.entries) c.self.view_is ∙ c.requires in
     let stands = put-stands c.args.entry c.args.replaced.now es c.store.new.self c.remove_others.new.self c.entry.inside.serial
     (ap (λ e. e.serial) c.entry.view_is) stored c.remove_others.ensures new in
-    c.cut.ensures.gone ∙ ap (λ zs. slice_get zs c.self.inside.capacity) stands
+    c.evict_last_beyond.ensures.gone ∙ ap (λ zs. slice_get zs c.self.inside.capacity) stands
     ∙ ap (λ v. slice_get (c.args.entry ∷ without_serials c.args.replaced.now v.entries) v.limit) c.self.view_is

@@ -1,7 +1,7 @@
 use Rattle.std.proofs.Common.{refl}
 use Rattle.hx_store.specs.Weights.{weight_of}
 use Rattle.hx_store.proofs.Fronts.{cut_is_longest, one_longest, front_of_within, one_more, front_is_within, first_stays, within_stays}
-use Rattle.hx_store.proofs.weight_laws.the_longest_front_within_its_bounds_stays.Goals as goal
+use Rattle.hx_store.proofs.weight_laws.the_longest_prefix_within_its_bounds_stays.Goals as goal
 
 pub returns : goal.returns
 returns c = record {

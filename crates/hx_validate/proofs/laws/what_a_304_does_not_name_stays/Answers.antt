@@ -1,6 +1,6 @@
 use Rattle.std.proofs.Common.{refl}
 use Rattle.hx_validate.specs.Answering.{freshened_of}
-use Rattle.hx_validate.proofs.laws.the_rest_of_it_stays.Goals as goal
+use Rattle.hx_validate.proofs.laws.what_a_304_does_not_name_stays.Goals as goal
 
 pub returns : goal.returns
 unfolding freshened_of

@@ -1,7 +1,7 @@
 use Rattle.std.proofs.Common.{[], ◌∷◌, sym, ◌∙◌}
 use Rattle.hx_store.proofs.ExpiredEntries.{counted-expired}
 use Rattle.hx_store.proofs.ExpiredMarks.{kept-expired, marked-expired}
-use Rattle.hx_store.proofs.indexed_entries.IndexedEntries.expire_one.Goals as goal
+use Rattle.hx_store.proofs.indexed_entries.IndexedEntries.expire_entry.Goals as goal
 
 pub invariant_of-self : goal.invariant_of-self
 invariant_of-self c =

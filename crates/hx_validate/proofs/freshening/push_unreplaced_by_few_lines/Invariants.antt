@@ -1,7 +1,7 @@
 use Rattle.std.proofs.Common.{◌≡◌, ◌++◌, drop, not}
 use Rattle.std.specs.Prelude.{filter}
 use Rattle.hx_validate.specs.Answering.{is_replaced_by_304}
-use Rattle.hx_validate.proofs.freshening.push_stored_beside_many.Given as goal
+use Rattle.hx_validate.proofs.freshening.push_unreplaced_by_few_lines.Given as goal
 
 abbrev pub invariant-loop-line : goal.invariant-loop-line
 invariant-loop-line l =

@@ -2,10 +2,10 @@ use Rattle.std.proofs.Common.{◌≡◌, ℕ, List, [], ◌∷◌, ap, refl, ◌
 use Rattle.std.specs.Prelude.{map, ◌&&◌}
 use Rattle.std.specs.List.{list_all}
 use Rattle.hx_fields.specs.FieldLines.{combined_of}
-use Rattle.hx_fields.specs.declared.field_line.Field.{Field}
+use Rattle.hx_fields.specs.Line.{Field}
 use Rattle.hx_vary.specs.Vary.{each_once, is_same_value, kept_value, vary_matches, vary_names}
 use Rattle.hx_vary.proofs.OnceLemmas.{once_all, one_value}
-use Rattle.hx_vary.proofs.laws.kept_is_enough.Goals as goal
+use Rattle.hx_vary.proofs.laws.kept_values_decide_as_the_request_does.Goals as goal
 
 over_names : (earlier later : List Field) (names : List (List ℕ)) →
     vary_matches (map (kept_value earlier) names) later

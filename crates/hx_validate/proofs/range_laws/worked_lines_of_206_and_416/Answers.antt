@@ -1,6 +1,6 @@
 use Rattle.std.proofs.Common.{refl}
 use Rattle.std.specs.Fmt.{digits}
-use Rattle.hx_validate.proofs.range_laws.lines_of_parts.Goals as goal
+use Rattle.hx_validate.proofs.range_laws.worked_lines_of_206_and_416.Goals as goal
 
 pub returns-clause-part : goal.returns-clause-part
 unfolding digits
