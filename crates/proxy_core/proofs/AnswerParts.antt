@@ -1,7 +1,7 @@
 -- What of an answer of the origin is sent to a request whose range stayed with the proxy, by the lines that were made.
 use Rattle.std.proofs.Common.{◌≡◌, ℕ, ◌+◌, Bool, true, cond, List, [], length, sym, ◌∙◌, ap}
 use Rattle.std.specs.Prelude.{slice_range, Option, Some}
-use Rattle.hx_fields.specs.declared.field_line.Field.{Field}
+use Rattle.hx_fields.specs.Line.{Field}
 use Rattle.hx_framing.specs.Text.{response_text}
 use Rattle.hx_framing.specs.declared.messages.Response.{Response}
 use Rattle.hx_hop.specs.Answering.{answered_of}

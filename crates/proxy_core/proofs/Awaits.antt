@@ -3,7 +3,7 @@ use Rattle.std.proofs.Common.{◌≡◌, ℕ, ◌<◌, Bool, true, false, cond, 
 use Rattle.std.specs.Prelude.{nat_lt, if◌then◌else◌, codes}
 use Rattle.std.proofs.lemmas.Bool.{false≢true}
 use Rattle.std.proofs.lemmas.Option.{same_Some}
-use Rattle.hx_fields.specs.declared.field_line.Field.{Field}
+use Rattle.hx_fields.specs.Line.{Field}
 use Rattle.hx_fields.specs.FieldLines.{has_field as has_line}
 use Rattle.hx_fields.proofs.JoinedTests.{below, is_below, first_absent, last_absent, not_first, second_false, not_true}
 use Rattle.hx_policy.specs.declared.words.Policy.{Policy}
@@ -258,7 +258,7 @@ module _ (policy : Policy) (es : List Stored) (asked : Asked) (now : ℕ) where
       let chosen = l.2.1 in
       let over = l.2.2 in
       let seconds = is_below 0 (lifetime_under policy e.status e.fields).seconds over.had_lifetime in
-      let expired = five_are_left e chosen over.is_over over.not_asked_each_time (by_word l.0 takes) (held_is_stated policy e seconds) rule l.1 least.it_applies in
+      let expired = five_are_left e chosen over.is_over over.not_asked_each_time (by_word l.0 takes) (held_is_stated policy e seconds) rule l.1 least.rule_applies in
       ap (λ b. cond b (Some Missing) (cond (policy.waits_for_stale && has_expired rule) (awaited_of_chosen policy (chosen_of es asked)) None)) (named_is_no_miss rule l.1)
       ∙ (ap (λ b. cond (b && has_expired rule) (awaited_of_chosen policy (chosen_of es asked)) None) l.0
       ∙ (ap (λ b. cond b (awaited_of_chosen policy (chosen_of es asked)) None) expired
@@ -294,7 +294,7 @@ module _ (policy : Policy) (es : List Stored) (asked : Asked) (now : ℕ) where
       over : nat_lt 0 (lifetime_under policy e.status e.fields).seconds ≡ true → ResponseIsOver policy now e
       over k = record {
         had_lifetime = below 0 (lifetime_under policy e.status e.fields).seconds k;
-        is_over = is_stale_by e chosen rule expired least.it_applies;
+        is_over = is_stale_by e chosen rule expired least.rule_applies;
         not_asked_each_time = condition_of e chosen rules.ResponseNoCache false (least.none_before rules.ResponseNoCache (after_no_cache rule expired));
       }
 

@@ -9,7 +9,7 @@ use Rattle.hx_store.specs.Stored.{Stored}
 use Rattle.hx_store.specs.Serials.{serial_is_in, Distinct}
 use Rattle.hx_store.specs.Shelf.{serials, find_entry}
 use Rattle.hx_store.specs.Recency.{recent_after_change}
-use Rattle.hx_store.specs.Weights.{StoreBounds, IsWithin, weight_of, front_within}
+use Rattle.hx_store.specs.Weights.{StoreBounds, IsWithin, weight_of, longest_prefix_within}
 use Rattle.hx_store.specs.WeightedRecency.{weighed_held_of, changes_of}
 use Rattle.hx_store.proofs.Recency.{filter_all}
 use Rattle.hx_store.proofs.EntryWeights.{serials_stay}
@@ -49,8 +49,8 @@ held_at_start bounds [] h k = refl
 held_at_start bounds (e ∷ entries) h k =
     let weights : ℕ → ℕ = λ s. weight_if_any (find_entry s (e ∷ entries)) in
     weighed_held_more bounds (record { change = change_that_stores e; weights = weights }) (changes_at_start entries)
-    ∙ ap (λ xs. front_within bounds weights (recent_after_change (change_that_stores e) xs)) (held_at_start bounds entries h.1 (within_behind bounds e entries k))
-    ∙ ap (front_within bounds weights) (comes_first e (serials entries) h.0)
+    ∙ ap (λ xs. longest_prefix_within bounds weights (recent_after_change (change_that_stores e) xs)) (held_at_start bounds entries h.1 (within_behind bounds e entries k))
+    ∙ ap (longest_prefix_within bounds weights) (comes_first e (serials entries) h.0)
     ∙ serials_stay bounds weights (e ∷ entries) (EachIs-weights (λ s. find_entry s (e ∷ entries)) (e ∷ entries) (found_at_start (e ∷ entries) h)) k
 
 -- what was done to the store is what was held at first

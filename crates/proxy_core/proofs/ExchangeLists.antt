@@ -11,7 +11,7 @@ use Rattle.proxy_core.specs.declared.open.stage.Stage.TheVariants.{Released}
 use Rattle.hx_allow.specs.TableLines.{Table}
 use Rattle.proxy_core.specs.declared.open.leading_on.NextLeader.{NextLeader}
 use Rattle.proxy_core.specs.Leading.{waits_for, is_waiting}
-use Rattle.proxy_core.specs.LeadingOn.{next_leader, stage_behind, led_on_exchange, exchanges_without, exchanges_after_abandon}
+use Rattle.proxy_core.specs.LeadingOn.{next_leader, stage_after_leader, led_on_exchange, exchanges_without, exchanges_after_abandon}
 use Rattle.proxy_core.specs.Scopes.{Scope, is_in_scope}
 use Rattle.proxy_core.specs.State.{exchanges_after_close, released_exchange, overtaken_exchange, exchanges_after_end, exchanges_after_purge, exchange_gone_forward, exchange_forwarded_again, exchange_sent_forward, exchange_past_its_wait, overdue_exchange}
 
@@ -44,7 +44,7 @@ release-id i x = elim (waits_for i x.stage) as (λ b. (cond b (record x { stage 
 ]
 
 pub led_on-id : (table : Table) (next : Option NextLeader) (i : ℕ) (x : Exchange) → (led_on_exchange table next i x).id ≡ x.id
-led_on-id table next i x = elim (waits_for i x.stage) as (λ b. (cond b (record x { stage = stage_behind table next x }) x).id ≡ x.id) [
+led_on-id table next i x = elim (waits_for i x.stage) as (λ b. (cond b (record x { stage = stage_after_leader table next x }) x).id ≡ x.id) [
   | true ↦ refl
   | false ↦ refl
 ]

@@ -4,7 +4,7 @@ use Rattle.std.specs.Prelude.{not, ◌&&◌, ◌||◌, ◌==◌, bytes_eq, codes
 use Rattle.std.specs.List.{list_any}
 use Rattle.std.proofs.lemmas.List.Folds.{list_any-append}
 use Rattle.hx_fields.specs.FieldLines.{has_field, is_named}
-use Rattle.hx_fields.specs.declared.field_line.Field.{Field}
+use Rattle.hx_fields.specs.Line.{Field}
 use Rattle.hx_fields.proofs.JoinedTests.{first_absent, last_absent, not_equal}
 use Rattle.hx_framing.specs.Text.{request_text, response_text}
 use Rattle.hx_framing.specs.declared.messages.Response.{Response}

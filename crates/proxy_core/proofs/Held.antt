@@ -3,7 +3,7 @@ use Rattle.std.proofs.Common.{◌≡◌, ℕ, ◌+◌, true, false, cond, ◌||�
 use Rattle.std.proofs.lemmas.Bool.{false≢true, eqb-true, ne_eqb, or_parts, false_from_ne_true}
 use Rattle.std.proofs.lemmas.Option.{same_Some}
 use Rattle.hx_store.specs.Stored.{Stored}
-use Rattle.hx_store.specs.Shelf.{holds_serial, find_entry, without_serials, with_promoted, with_in_front}
+use Rattle.hx_store.specs.Shelf.{holds_serial, find_entry, without_serials, with_promoted, with_first_if_any}
 use Rattle.hx_store.specs.Weights.{StoreBounds, cut_to_bounds, weight_of}
 use Rattle.hx_store.proofs.EntryLists.{filter_keeps, find_holds}
 use Rattle.hx_store.proofs.Fronts.{front_of_within}
@@ -13,7 +13,7 @@ use Rattle.proxy_core.specs.State.{NoSerialIsHeldFrom, entries_without_serials, 
 use Rattle.proxy_core.specs.Pending.{serial_stored_by_change, entries_after_change, StoresUnderNextSerial, StoresNewSerial, FreshensHeldResponse}
 
 front_none : (s : ℕ) (o : Option Stored) (es rest : List Stored) → ((x : Stored) → o ≡ Some x → holds_serial x.serial es ≡ true) →
-    holds_serial s es ≡ false → holds_serial s rest ≡ false → holds_serial s (with_in_front o rest) ≡ false
+    holds_serial s es ≡ false → holds_serial s rest ≡ false → holds_serial s (with_first_if_any o rest) ≡ false
 front_none s None es rest f h r = r
 front_none s (Some x) es rest f h r =
     let other : eqb x.serial s ≡ false = false_from_ne_true _ (λ e. false≢true (sym h ∙ ap (λ z. holds_serial z es) (sym (eqb-true x.serial s e)) ∙ f x refl)) in

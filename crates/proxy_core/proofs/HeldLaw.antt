@@ -8,9 +8,9 @@ use Rattle.std.proofs.lemmas.Bool.Decides.{nat_tests}
 use Rattle.hx_allow.specs.TableLines.{Table}
 use Rattle.hx_store.specs.Stored.{Stored}
 use Rattle.hx_store.specs.Serials.{serial_is_in}
-use Rattle.hx_store.specs.Shelf.{serials, holds_serial, find_entry, without_serials, with_in_front}
+use Rattle.hx_store.specs.Shelf.{serials, holds_serial, find_entry, without_serials, with_first_if_any}
 use Rattle.hx_store.specs.Recency.{is_that_serial, moved_to_front, recent_after_change}
-use Rattle.hx_store.specs.Weights.{StoreBounds, IsWithin, weight_of, front_within, cut_to_bounds}
+use Rattle.hx_store.specs.Weights.{StoreBounds, IsWithin, weight_of, longest_prefix_within, cut_to_bounds}
 use Rattle.hx_store.proofs.Recency.{filter_all}
 use Rattle.hx_store.proofs.EntryLists.{find-serial, find_holds, without_gone, filter_keeps}
 use Rattle.hx_store.proofs.EntryWeights.{filter_is_within, serials_are_cut}
@@ -90,8 +90,8 @@ kept_uses es x event next s e rm look f h n =
     let rest = without_serials (s ∷ []) es in
     let us : u.serial ≡ s = used_serial x event e ∙ find-serial s es e f in
     let m : holds_serial s es ≡ true = ap (λ z. holds_serial z es) (sym (find-serial s es e f)) ∙ find_holds s es e f in
-    let now : entries_without_serials rm (with_in_front (option_map (stored_response_as_used x event) (find_entry s es)) rest) ≡ entries_without_serials rm (u ∷ rest) =
-    ap (λ o. entries_without_serials rm (with_in_front (option_map (stored_response_as_used x event) o) rest)) f
+    let now : entries_without_serials rm (with_first_if_any (option_map (stored_response_as_used x event) (find_entry s es)) rest) ≡ entries_without_serials rm (u ∷ rest) =
+    ap (λ o. entries_without_serials rm (with_first_if_any (option_map (stored_response_as_used x event) o) rest)) f
     in
     let look' : ℕ → Option Stored = λ t. cond (eqb s t) (option_map (stored_response_as_used x event) (look t)) (look t) in
     let yes : eqb s u.serial ≡ true = eq-eqb s u.serial (sym us) in
@@ -119,8 +119,8 @@ kept_stores : (es : List Stored) (x : Option Exchange) (event : Event) (next : O
     Kept (next_serial_after next (Some s)) (Some s) None rm (look_after x event (Some s) None look) es (list_before es x event (Some s) None rm)
 unfolding list_before
 kept_stores es x event next s e rm look q f us off h n =
-    let now : with_in_front (stored_response_by_answer x event s) (without_serials rm es) ≡ e ∷ without_serials rm es =
-    ap (λ o. with_in_front o (without_serials rm es)) f in
+    let now : with_first_if_any (stored_response_by_answer x event s) (without_serials rm es) ≡ e ∷ without_serials rm es =
+    ap (λ o. with_first_if_any o (without_serials rm es)) f in
     let gone : holds_serial s es ≡ false = subst (λ o. NoSerialIsHeldFrom o es) q n s (omega arith) in
     let look' : ℕ → Option Stored = λ t. cond (eqb s t) (stored_response_by_answer x event t) (look t) in
     let yes : eqb s e.serial ≡ true = eq-eqb s e.serial (sym us) in
@@ -179,7 +179,7 @@ touched_is_cut bounds es x event next st us rm (stores s e a b q f k off) h =
 
 -- the weights of an item's responses, by which the last ones go of what was held before with what it did
 pub held_serials_more : (table : Table) (start : StoreAtStart) (i : Item) (past : List Item) → (weights : ℕ → ℕ)
-    × (held_serials table start (i ∷ past) ≡ front_within (bounds_of table start.limit) weights (recent_after_change (store_change_of i) (held_serials table start past)))
+    × (held_serials table start (i ∷ past) ≡ longest_prefix_within (bounds_of table start.limit) weights (recent_after_change (store_change_of i) (held_serials table start past)))
 held_serials_more table start i past =
     let weights : ℕ → ℕ = λ s. weight_if_any (stored_response_after (find_exchange (exchange_id_of_event i.event) (open_exchanges table start past)) i.event i.outcome (held_entry table start past) s) in
     (weights, weighed_held_more (bounds_of table start.limit) (record { change = store_change_of i; weights = weights }) (store_changes table start past))
@@ -240,10 +240,10 @@ stands_more table start first past st i p a =
       serials_are = ap serials e
           ∙ serials_stay event gone cut
           ∙ serials_are_cut bounds (λ s. weight_if_any (look' s)) raw (EachIs-weights look' raw k.entries_are)
-          ∙ ap (front_within bounds (λ s. weight_if_any (look' s))) k.serials_are
-          ∙ ap (λ xs. front_within bounds (λ s. weight_if_any (look' s)) (recent_after_change item xs)) p.serials_are
-          ∙ ap (λ xs. front_within bounds (λ s. weight_if_any (look_after (find_exchange (exchange_id_of_event event) xs) event (serial_stored_by_outcome o) (serial_used_by_outcome o) look s)) (recent_after_change item (held_serials table start past))) p.exchanges_are
-          ∙ ap (λ (w : ℕ → ℕ). front_within bounds w (recent_after_change item (held_serials table start past))) (λ i. λ s. same_weights s i)
+          ∙ ap (longest_prefix_within bounds (λ s. weight_if_any (look' s))) k.serials_are
+          ∙ ap (λ xs. longest_prefix_within bounds (λ s. weight_if_any (look' s)) (recent_after_change item xs)) p.serials_are
+          ∙ ap (λ xs. longest_prefix_within bounds (λ s. weight_if_any (look_after (find_exchange (exchange_id_of_event event) xs) event (serial_stored_by_outcome o) (serial_used_by_outcome o) look s)) (recent_after_change item (held_serials table start past))) p.exchanges_are
+          ∙ ap (λ (w : ℕ → ℕ). longest_prefix_within bounds w (recent_after_change item (held_serials table start past))) (λ i. λ s. same_weights s i)
           ∙ sym (weighed_held_more bounds (record {
             change = item;
             weights = λ s. weight_if_any (stored_response_after (find_exchange (exchange_id_of_event event) (open_exchanges table start past)) event o look s);

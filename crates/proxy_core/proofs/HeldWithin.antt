@@ -5,14 +5,14 @@ use Rattle.std.proofs.lemmas.Bool.{eq-eqb}
 use Rattle.std.proofs.lemmas.List.Sums.{sum_by-cons}
 use Rattle.std.proofs.lemmas.List.Filters.{sum_by-filter_both}
 use Rattle.std.proofs.lemmas.Option.{IfSome_then}
-use Rattle.hx_fields.specs.declared.field_line.Field.{Field}
+use Rattle.hx_fields.specs.Line.{Field}
 use Rattle.hx_fields.specs.FieldLines.{without_named, is_named}
 use Rattle.hx_framing.specs.declared.messages.Response.{Response}
 use Rattle.hx_hop.specs.Answering.{answered_of}
 use Rattle.hx_allow.specs.TableLines.{Table}
 use Rattle.hx_store.specs.Stored.{Stored}
 use Rattle.hx_store.specs.Serials.{serial_is_in}
-use Rattle.hx_store.specs.Shelf.{serials, without_serials, with_in_front}
+use Rattle.hx_store.specs.Shelf.{serials, without_serials, with_first_if_any}
 use Rattle.hx_store.specs.Recency.{is_that_serial, held_of}
 use Rattle.hx_store.specs.WeightedRecency.{weighed_held_of}
 use Rattle.hx_store.specs.Weights.{StoreBounds, IsWithin, weight_of, weight_of_line, weight_of_lines, cut_to_bounds}
@@ -141,8 +141,8 @@ stored_is_held table start first serial item past room good stored =
     let after : entries_after (bounds_of st.table st.limit) st.entries x item.event item.outcome ≡ cut_to_bounds (bounds_of table start.limit) (m.made ∷ rest) =
     ap (λ gone. entries_after_expiring item.event gone (cut_where_touched (bounds_of st.table st.limit) (serial_stored_by_outcome item.outcome) used (entries_after_storing x item.event (serial_stored_by_outcome item.outcome) removed (entries_after_use x item.event used st.entries)))) (stores_expires table start first serial item past good stored)
     ∙ ap (λ o. cut_where_touched (bounds_of st.table st.limit) o used (entries_after_storing x item.event o removed (entries_after_use x item.event used st.entries))) stored
-    ∙ ap (λ (b : StoreBounds). cut_to_bounds b (with_in_front (stored_response_by_answer x item.event serial) rest)) bounds_are
-    ∙ ap (λ (o : Option Stored). cut_to_bounds (bounds_of table start.limit) (with_in_front o rest)) here
+    ∙ ap (λ (b : StoreBounds). cut_to_bounds b (with_first_if_any (stored_response_by_answer x item.event serial) rest)) bounds_are
+    ∙ ap (λ (o : Option Stored). cut_to_bounds (bounds_of table start.limit) (with_first_if_any o rest)) here
     in
     let front = first_stays (bounds_of table start.limit) weight_of m.made rest (alone_fits table start m.made room m.fits) in
     let held = stands_for table start first (item ∷ past) plain in

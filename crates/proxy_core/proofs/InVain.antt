@@ -75,20 +75,20 @@ module _ (policy : Policy) (held later : List Stored) (asked : Asked) (now momen
       by_test false b k h = false≢true h
 
   looks : (rule : ReuseRule) → IsLeastReuseRule policy later asked moment rule → looks_at_the_response rule ≡ true
-  looks rules.Operator least = absurd (false≢true (sym (own rules.Operator (omega arith)) ∙ least.it_applies))
-  looks rules.Method least = absurd (false≢true (sym (own rules.Method (omega arith)) ∙ least.it_applies))
-  looks rules.Content least = absurd (false≢true (sym (own rules.Content (omega arith)) ∙ least.it_applies))
-  looks rules.Range least = absurd (false≢true (sym (own rules.Range (omega arith)) ∙ least.it_applies))
-  looks rules.Precondition least = absurd (false≢true (sym (own rules.Precondition (omega arith)) ∙ least.it_applies))
-  looks rules.UriMiss least = absurd (false≢true (sym held_for_it ∙ least.it_applies))
+  looks rules.Operator least = absurd (false≢true (sym (own rules.Operator (omega arith)) ∙ least.rule_applies))
+  looks rules.Method least = absurd (false≢true (sym (own rules.Method (omega arith)) ∙ least.rule_applies))
+  looks rules.Content least = absurd (false≢true (sym (own rules.Content (omega arith)) ∙ least.rule_applies))
+  looks rules.Range least = absurd (false≢true (sym (own rules.Range (omega arith)) ∙ least.rule_applies))
+  looks rules.Precondition least = absurd (false≢true (sym (own rules.Precondition (omega arith)) ∙ least.rule_applies))
+  looks rules.UriMiss least = absurd (false≢true (sym held_for_it ∙ least.rule_applies))
   looks rules.VaryMiss least = refl
   looks rules.ResponseNoCache least = refl
-  looks rules.RequestNoCache least = absurd (no_cache (λ e. is_fresh_situation (situation_of_request policy e asked moment)) (chosen_of later asked) least.it_applies)
+  looks rules.RequestNoCache least = absurd (no_cache (λ e. is_fresh_situation (situation_of_request policy e asked moment)) (chosen_of later asked) least.rule_applies)
   looks rules.AboveMaxAge least = refl
   looks rules.BelowMinFresh least = refl
   looks rules.MustRevalidate least = refl
   looks rules.NoLifetime least = refl
-  looks rules.StaleNoCache least = absurd (no_cache (λ e. not (is_fresh_situation (situation_of_request policy e asked moment))) (chosen_of later asked) least.it_applies)
+  looks rules.StaleNoCache least = absurd (no_cache (λ e. not (is_fresh_situation (situation_of_request policy e asked moment))) (chosen_of later asked) least.rule_applies)
   looks rules.NoMaxStale least = refl
   looks rules.PastMaxStale least = refl
   looks rules.StaleMaxAge least = refl

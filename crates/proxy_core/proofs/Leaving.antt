@@ -8,7 +8,7 @@ use Rattle.std.proofs.lemmas.Bool.{eqb-true, eq-eqb, cases_Bool, false≢true}
 use Rattle.std.proofs.lemmas.Option.{same_Some}
 use Rattle.hx_framing.specs.declared.messages.Response.{Response}
 use Rattle.hx_store.specs.Stored.{Stored}
-use Rattle.hx_store.specs.Shelf.{find_entry, holds_serial, without_serials, with_in_front, with_promoted}
+use Rattle.hx_store.specs.Shelf.{find_entry, holds_serial, without_serials, with_first_if_any, with_promoted}
 use Rattle.hx_status.specs.declared.cause.FailKind.{FailKind}
 use Rattle.hx_validate.specs.Answering.{answers304, freshened_of}
 use Rattle.hx_hop.specs.Answering.{answered_of}
@@ -44,7 +44,7 @@ module _ (bounds : StoreBounds) (es : List Stored) (x : Exchange) (now id : ℕ)
   same_use event (Some e) h = ap Some (h e)
 
   same_used : (event : Event) (serial : ℕ) → ((e : Stored) → stored_response_as_used (Some x) event e ≡ e) → with_promoted serial es ≡ entries_after_use (Some x) event (Some serial) es
-  same_used event serial h = ap (λ (o : Option Stored). with_in_front o (without_serials (serial ∷ []) es)) (sym (same_use event (find_entry serial es) h))
+  same_used event serial h = ap (λ (o : Option Stored). with_first_if_any o (without_serials (serial ∷ []) es)) (sym (same_use event (find_entry serial es) h))
 
   made_by : (r : Response) (removed : List ℕ) (c : Change) → ((e : Stored) → stored_response_as_used (Some x) (Answer now id r) e ≡ e) → ChangeIsMadeByAnswer x r now c
       → entries_before_cut removed c es ≡ entries_after_storing (Some x) (Answer now id r) (serial_stored_by_change c) removed (entries_after_use (Some x) (Answer now id r) (serial_used_by_change c) es)
@@ -173,7 +173,7 @@ module _ (bounds : StoreBounds) (es : List Stored) (x : Exchange) (now id : ℕ)
       let uf = stored_response_as_used (Some x) (Answer now id r) in
       let used : option_map uf (find_entry s es) ≡ Some f =
       ap (option_map uf) (ap (λ z. find_entry z es) h ∙ v.found) ∙ (ap (λ b. Some (cond b (freshened_by_304 x r now e) e)) v.answered ∙ ap Some (sym k)) in
-      ap (λ (o : Option Stored). with_in_front o (without_serials (s ∷ []) es)) (sym used)
+      ap (λ (o : Option Stored). with_first_if_any o (without_serials (s ∷ []) es)) (sym used)
 
   refresh_by : (removed : List ℕ) (kept : Bool) (f : Stored) (c : Change) → f ≡ freshened_by_304 x r now e → IsChangeAfterFreshening kept f c → removed ≡ cond kept [] (f.serial ∷ [])
       → entries_before_cut removed c es ≡ entries_after_storing (Some x) (Answer now id r) (serial_stored_by_change c) removed (entries_after_use (Some x) (Answer now id r) (serial_used_by_change c) es)
@@ -248,7 +248,7 @@ module _ (bounds : StoreBounds) (es : List Stored) (x : Exchange) (now id : ℕ)
   retry_by : (removed : List ℕ) (c : Change) → ChangeStoresNothing c
       → entries_before_cut removed c es ≡ entries_after_storing (Some x) (Answer now id r) (serial_stored_by_change c) removed (entries_after_use (Some x) (Answer now id r) (serial_used_by_change c) es)
   retry_by removed Keep m = refl
-  retry_by removed (Use s) m = ap (λ (o : Option Stored). entries_without_serials removed (with_in_front o (without_serials (s ∷ []) es))) (sym (same_all s (find_entry s es) refl))
+  retry_by removed (Use s) m = ap (λ (o : Option Stored). entries_without_serials removed (with_first_if_any o (without_serials (s ∷ []) es))) (sym (same_all s (find_entry s es) refl))
   retry_by removed (Freshen e) m = absurd m
   retry_by removed (Remove s) m = absurd m
   retry_by removed (Store e) m = absurd m

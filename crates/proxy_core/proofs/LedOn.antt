@@ -15,13 +15,13 @@ use Rattle.proxy_core.specs.declared.open.leading_on.NextLeader.{NextLeader}
 use Rattle.proxy_core.specs.Leading.{waits_for, is_waiting, is_forwarded, has_authorization, is_same_truth}
 use Rattle.proxy_core.specs.Outcomes.{find_exchange}
 use Rattle.proxy_core.proofs.ExchangeLists.{find-abandoned, led_on-id}
-use Rattle.proxy_core.specs.LeadingOn.{wait_has_an_end, may_lead_on, leading_on, first_to_lead_on, count_waiting, most_led_on, next_leader, follows_leader, stage_behind, led_on_exchange, exchanges_without, exchanges_after_abandon, ExchangeMayLeadOn, IsNextLeader, CouldBeSentItsAnswer}
+use Rattle.proxy_core.specs.LeadingOn.{wait_has_an_end, may_lead_on, leading_on, first_to_lead_on, count_waiting, most_led_on, next_leader, follows_leader, stage_after_leader, led_on_exchange, exchanges_without, exchanges_after_abandon, ExchangeMayLeadOn, IsNextLeader, CouldBeSentItsAnswer}
 use Rattle.proxy_core.proofs.AskedArrivals.{KeepsItsPlace}
 use Rattle.proxy_core.proofs.Waiters.{TurnsAway}
 
 -- ---- what becomes of one that waited
 
-pub behind_is : (table : Table) (next : Option NextLeader) (x : Exchange) → (stage_behind table next x ≡ Released) ⊎ ((l : ℕ) × (stage_behind table next x ≡ Waiting l) × (wait_has_an_end table x ≡ true))
+pub behind_is : (table : Table) (next : Option NextLeader) (x : Exchange) → (stage_after_leader table next x ≡ Released) ⊎ ((l : ℕ) × (stage_after_leader table next x ≡ Waiting l) × (wait_has_an_end table x ≡ true))
 behind_is table None x = inl refl
 behind_is table (Some next) x = elim (cases_Bool (follows_leader table next x)) [
   | inl t ↦ inr (next.id, ap (λ b. cond b (Waiting next.id) Released) t, middle (not (eqb x.id next.id)) (wait_has_an_end table x) _ t)
@@ -34,8 +34,8 @@ behind_is table (Some next) x = elim (cases_Bool (follows_leader table next x)) 
     middle false b c h = absurd (false≢true h)
 
 -- the stage of one that is led on
-pub led_on-stage : (table : Table) (next : Option NextLeader) (q : ℕ) (x : Exchange) → (led_on_exchange table next q x).stage ≡ cond (waits_for q x.stage) (stage_behind table next x) x.stage
-led_on-stage table next q x = elim (waits_for q x.stage) as (λ b. (cond b (record x { stage = stage_behind table next x }) x).stage ≡ cond b (stage_behind table next x) x.stage) [
+pub led_on-stage : (table : Table) (next : Option NextLeader) (q : ℕ) (x : Exchange) → (led_on_exchange table next q x).stage ≡ cond (waits_for q x.stage) (stage_after_leader table next x) x.stage
+led_on-stage table next q x = elim (waits_for q x.stage) as (λ b. (cond b (record x { stage = stage_after_leader table next x }) x).stage ≡ cond b (stage_after_leader table next x) x.stage) [
   | true ↦ refl
   | false ↦ refl
 ]
@@ -59,13 +59,13 @@ turned_has_an_end table j id m xs z f n w there = elim (behind_is table next z) 
         sym (find-abandoned table j id xs ∙ ap (λ b. cond b None (option_map (led_on_exchange table (next_leader table j xs) j) (find_exchange id xs))) n
         ∙ ap (option_map (led_on_exchange table (next_leader table j xs) j)) f) ∙ there
 
-    waits : stage_behind table (next_leader table j xs) z ≡ Waiting m
+    waits : stage_after_leader table (next_leader table j xs) z ≡ Waiting m
     waits =
-        sym (led_on-stage table (next_leader table j xs) j z ∙ ap (λ b. cond b (stage_behind table (next_leader table j xs) z) z.stage) w)
+        sym (led_on-stage table (next_leader table j xs) j z ∙ ap (λ b. cond b (stage_after_leader table (next_leader table j xs) z) z.stage) w)
         ∙ ap (λ (y : Exchange). y.stage) (same_Some (led_on_exchange table (next_leader table j xs) j z) (record z { stage = Waiting m }) is)
 
 -- nobody is at the origin behind it
-pub behind-not_out : (table : Table) (next : Option NextLeader) (x : Exchange) → is_forwarded (stage_behind table next x) ≡ false
+pub behind-not_out : (table : Table) (next : Option NextLeader) (x : Exchange) → is_forwarded (stage_after_leader table next x) ≡ false
 behind-not_out table next x = elim (behind_is table next x) [
   | inl r ↦ ap is_forwarded r
   | inr w ↦ ap is_forwarded w.1
@@ -83,15 +83,15 @@ waits_waiting q Released h = absurd (false≢true h)
 
 pub led_on-place : (table : Table) (next : Option NextLeader) (q : ℕ) → KeepsItsPlace (led_on_exchange table next q)
 led_on-place table next q x = (
-  elim (waits_for q x.stage) as (λ b. (cond b (record x { stage = stage_behind table next x }) x).asked ≡ x.asked) [ true ↦ refl | false ↦ refl ],
+  elim (waits_for q x.stage) as (λ b. (cond b (record x { stage = stage_after_leader table next x }) x).asked ≡ x.asked) [ true ↦ refl | false ↦ refl ],
   elim (cases_Bool (waits_for q x.stage)) [
-    | inl t ↦ ap (λ b. is_forwarded (cond b (record x { stage = stage_behind table next x }) x).stage) t ∙ (behind-not_out table next x ∙ sym (waits_not_out q x.stage t))
-    | inr f ↦ ap (λ b. is_forwarded (cond b (record x { stage = stage_behind table next x }) x).stage) f
+    | inl t ↦ ap (λ b. is_forwarded (cond b (record x { stage = stage_after_leader table next x }) x).stage) t ∙ (behind-not_out table next x ∙ sym (waits_not_out q x.stage t))
+    | inr f ↦ ap (λ b. is_forwarded (cond b (record x { stage = stage_after_leader table next x }) x).stage) f
   ],
 )
 
 pub led_on-others : (table : Table) (next : Option NextLeader) (q : ℕ) (x : Exchange) → waits_for q x.stage ≡ false → led_on_exchange table next q x ≡ x
-led_on-others table next q x f = ap (λ b. cond b (record x { stage = stage_behind table next x }) x) f
+led_on-others table next q x f = ap (λ b. cond b (record x { stage = stage_after_leader table next x }) x) f
 
 -- it waits for the next leader, or for nobody
 pub led_away : (table : Table) (next : NextLeader) (q : ℕ) → eqb next.id q ≡ false → TurnsAway q (led_on_exchange table (Some next) q)
@@ -104,7 +104,7 @@ led_away table next q apart = record {
     by_follow true = apart
     by_follow false = refl
 
-    by_wait : (x : Exchange) (b : Bool) → waits_for q x.stage ≡ b → waits_for q (cond b (stage_behind table (Some next) x) x.stage) ≡ false
+    by_wait : (x : Exchange) (b : Bool) → waits_for q x.stage ≡ b → waits_for q (cond b (stage_after_leader table (Some next) x) x.stage) ≡ false
     by_wait x true w = by_follow (follows_leader table next x)
     by_wait x false w = w
 

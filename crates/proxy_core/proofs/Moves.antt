@@ -27,7 +27,7 @@ use Rattle.proxy_core.specs.Moments.{moment_too_late_fault}
 use Rattle.proxy_core.specs.declared.open.stage.Stage.TheVariants.{Waiting, Released}
 use Rattle.proxy_core.specs.declared.open.leading_on.NextLeader.{NextLeader}
 use Rattle.proxy_core.specs.Leading.{is_forwarded, is_waiting, is_released, waits_for}
-use Rattle.proxy_core.specs.LeadingOn.{wait_has_an_end, next_leader, stage_behind, led_on_exchange, exchanges_without, exchanges_after_abandon}
+use Rattle.proxy_core.specs.LeadingOn.{wait_has_an_end, next_leader, stage_after_leader, led_on_exchange, exchanges_without, exchanges_after_abandon}
 use Rattle.proxy_core.specs.declared.steps.fallback.Fallback.{Fallback}
 use Rattle.proxy_core.specs.declared.steps.fallback.Fallback.TheVariants.{Sends, Refuses}
 use Rattle.proxy_core.specs.declared.outcome.Outcome.{Outcome}
@@ -414,13 +414,13 @@ module _ (table : Table) (es : List Stored) (xs : List Exchange) (next : Option 
   abandons_another i w next None n y h = apart n h
   abandons_another i w next (Some z) n y h = by_wait (waits_for i z.stage) refl
     where
-      by_stage : (stage_behind table next z ≡ Released) ⊎ ((l : ℕ) × (stage_behind table next z ≡ Waiting l) × (wait_has_an_end table z ≡ true)) → waits_for i z.stage ≡ true → Move id (Some w) (Abandon i) Ended (Some z) y
-      by_stage (inl r) e = apart n (h ∙ ap (λ b. Some (cond b (record z { stage = stage_behind table next z }) z)) e ∙ ap (λ (s : Stage). Some (record z { stage = s })) r ∙ sym (ap (λ b. Some (cond b (record z { stage = Released }) z)) e))
-      by_stage (inr w) e = turns z i w.0 refl n refl e refl (h ∙ ap (λ b. Some (cond b (record z { stage = stage_behind table next z }) z)) e ∙ ap (λ (s : Stage). Some (record z { stage = s })) w.1)
+      by_stage : (stage_after_leader table next z ≡ Released) ⊎ ((l : ℕ) × (stage_after_leader table next z ≡ Waiting l) × (wait_has_an_end table z ≡ true)) → waits_for i z.stage ≡ true → Move id (Some w) (Abandon i) Ended (Some z) y
+      by_stage (inl r) e = apart n (h ∙ ap (λ b. Some (cond b (record z { stage = stage_after_leader table next z }) z)) e ∙ ap (λ (s : Stage). Some (record z { stage = s })) r ∙ sym (ap (λ b. Some (cond b (record z { stage = Released }) z)) e))
+      by_stage (inr w) e = turns z i w.0 refl n refl e refl (h ∙ ap (λ b. Some (cond b (record z { stage = stage_after_leader table next z }) z)) e ∙ ap (λ (s : Stage). Some (record z { stage = s })) w.1)
 
       by_wait : (b : Bool) → waits_for i z.stage ≡ b → Move id (Some w) (Abandon i) Ended (Some z) y
       by_wait true e = by_stage (behind_is table next z) e
-      by_wait false e = apart n (h ∙ ap (λ b. Some (cond b (record z { stage = stage_behind table next z }) z)) e ∙ sym (ap (λ b. Some (cond b (record z { stage = Released }) z)) e))
+      by_wait false e = apart n (h ∙ ap (λ b. Some (cond b (record z { stage = stage_after_leader table next z }) z)) e ∙ sym (ap (λ b. Some (cond b (record z { stage = Released }) z)) e))
 
   abandons : (i : ℕ) (w : Exchange) (o : Outcome) → find_exchange i xs ≡ Some w → o ≡ Ended → Move id (Some w) (Abandon i) o (find_exchange id xs) (find_exchange id (exchanges_after_abandon table i xs))
   abandons i w o f h =

@@ -14,7 +14,7 @@ use Rattle.proxy_core.specs.declared.open.leading_on.NextLeader.{NextLeader}
 use Rattle.proxy_core.specs.declared.event.Event.{Event}
 use Rattle.proxy_core.specs.declared.event.Event.TheVariants.{Arrive, Answer, Fail, Wake, Abandon, Overdue}
 use Rattle.proxy_core.specs.Leading.{waits_for, has_authorization, is_same_truth}
-use Rattle.proxy_core.specs.LeadingOn.{wait_has_an_end, leading_on, first_to_lead_on, count_waiting, most_led_on, next_leader, follows_leader, stage_behind, led_on_exchange, exchanges_without, exchanges_after_abandon, IsNextLeader}
+use Rattle.proxy_core.specs.LeadingOn.{wait_has_an_end, leading_on, first_to_lead_on, count_waiting, most_led_on, next_leader, follows_leader, stage_after_leader, led_on_exchange, exchanges_without, exchanges_after_abandon, IsNextLeader}
 use Rattle.proxy_core.specs.Outcomes.{find_exchange, exchange_id_of_event}
 use Rattle.proxy_core.specs.State.{open_exchanges_after, exchanges_after_close}
 use Rattle.proxy_core.specs.Starts.{StoreAtStart}
@@ -40,10 +40,10 @@ module _ (table : Table) (start : StoreAtStart) (leader id : ℕ) (item : Item) 
       ∙ ap (option_map (led_on_exchange table next_of leader)) here))
 
   -- by the next leader
-  pub stage_after : (next : Option NextLeader) → next_of ≡ next → waits_for leader x.stage ≡ true → stage_of_exchange (find_exchange id (open_exchanges table start (item ∷ past))) ≡ Some (stage_behind table next x)
+  pub stage_after : (next : Option NextLeader) → next_of ≡ next → waits_for leader x.stage ≡ true → stage_of_exchange (find_exchange id (open_exchanges table start (item ∷ past))) ≡ Some (stage_after_leader table next x)
   stage_after next e w =
       ap stage_of_exchange after_it
-      ∙ ap (λ (s : Stage). Some s) (led_on-stage table next_of leader x ∙ (ap (λ b. cond b (stage_behind table next_of x) x.stage) w ∙ ap (λ (n : Option NextLeader). stage_behind table n x) e))
+      ∙ ap (λ (s : Stage). Some s) (led_on-stage table next_of leader x ∙ (ap (λ b. cond b (stage_after_leader table next_of x) x.stage) w ∙ ap (λ (n : Option NextLeader). stage_after_leader table n x) e))
 
   pub unchanged : waits_for leader x.stage ≡ false → find_exchange id (open_exchanges table start (item ∷ past)) ≡ Some x
   unchanged w = after_it ∙ ap (λ (y : Exchange). Some y) (led_on-others table next_of leader x w)
@@ -95,10 +95,10 @@ module _ (table : Table) (no_end : (line : ℕ) → is_some (wait_timeout_of tab
 
   none_followed : (xs : List Exchange) (id l : ℕ) → leader_followed table xs id l ≡ None
   none_followed xs id l =
-      ap (λ (next : Option NextLeader). option_and_then (λ (x : Exchange). leader_of_stage (stage_behind table next x)) (find_exchange id (exchanges_without l xs))) (none_next l xs)
+      ap (λ (next : Option NextLeader). option_and_then (λ (x : Exchange). leader_of_stage (stage_after_leader table next x)) (find_exchange id (exchanges_without l xs))) (none_next l xs)
       ∙ nothing (find_exchange id (exchanges_without l xs))
     where
-      nothing : (o : Option Exchange) → option_and_then (λ (x : Exchange). leader_of_stage (stage_behind table None x)) o ≡ None
+      nothing : (o : Option Exchange) → option_and_then (λ (x : Exchange). leader_of_stage (stage_after_leader table None x)) o ≡ None
       nothing None = refl
       nothing (Some x) = refl
 

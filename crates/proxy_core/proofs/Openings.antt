@@ -7,7 +7,7 @@ use Rattle.hx_allow.specs.declared.verdicts.Verdict.{Verdict}
 use Rattle.hx_allow.specs.declared.verdicts.Verdict.TheVariants as verdict
 use Rattle.std.specs.Prelude.{option_map}
 use Rattle.hx_store.specs.Stored.{Stored}
-use Rattle.hx_store.specs.Shelf.{find_entry, without_serials, with_in_front, with_promoted}
+use Rattle.hx_store.specs.Shelf.{find_entry, without_serials, with_first_if_any, with_promoted}
 use Rattle.hx_store.specs.Weights.{cut_to_bounds}
 use Rattle.hx_allow.specs.declared.verdicts.Route.{Route}
 use Rattle.hx_reuse.specs.Rules.{decision_of}
@@ -78,8 +78,8 @@ as_it_is event (Some e) = refl
 pub sends_of : (s : State) (now id serial : ℕ) (asked : Asked) (info : CacheStatusInfo) → find_exchange id s.exchanges ≡ None →
     record s { entries = cut_to_bounds (bounds_of s.table s.limit) (with_promoted serial s.entries) } ≡ state_after s (Arrive now id asked) (outcome_of_sending_stored s.table s.entries serial now info asked)
 sends_of s now id serial asked info free =
-    ap (λ (o : Option Stored). record s { entries = cut_to_bounds (bounds_of s.table s.limit) (with_in_front o (without_serials (serial ∷ []) s.entries)) }) (as_it_is (Arrive now id asked) (find_entry serial s.entries))
-    ∙ ap (λ (x : Option Exchange). record s { entries = cut_to_bounds (bounds_of s.table s.limit) (with_in_front (option_map (stored_response_as_used x (Arrive now id asked)) (find_entry serial s.entries)) (without_serials (serial ∷ []) s.entries)) }) (sym free)
+    ap (λ (o : Option Stored). record s { entries = cut_to_bounds (bounds_of s.table s.limit) (with_first_if_any o (without_serials (serial ∷ []) s.entries)) }) (as_it_is (Arrive now id asked) (find_entry serial s.entries))
+    ∙ ap (λ (x : Option Exchange). record s { entries = cut_to_bounds (bounds_of s.table s.limit) (with_first_if_any (option_map (stored_response_as_used x (Arrive now id asked)) (find_entry serial s.entries)) (without_serials (serial ∷ []) s.entries)) }) (sym free)
 
 -- what such a call gives, and leaves where it gives that
 pub sends_by : {E : Type 0} (s t : State) (now id serial : ℕ) (asked : Asked) (info : CacheStatusInfo) (r : Result Outcome E) → find_exchange id s.exchanges ≡ None →

@@ -32,7 +32,7 @@ use Rattle.proxy_core.specs.Starts.{StoreAtStart}
 use Rattle.proxy_core.specs.Traces.{Item, initial_state, state_after_trace}
 use Rattle.proxy_core.specs.Histories.{IsGoodHistory, held_entries, held_entry, open_exchanges, response_if_any_after_expiring}
 use Rattle.proxy_core.specs.Validating.{stored_response_is_answered, freshened_by_304}
-use Rattle.proxy_core.specs.Expiring.{expired_where, is_made_fresh, makes_fresh, NoItemMakesFresh, PurgeThatExpiresLeavesAllElse, PurgeThatRemovesLeavesAllElse, ExpiredStaysSoUntilMadeFresh, A304MakesFreshUnlessOvertaken, MadeFreshByWhatWasAskedBehind}
+use Rattle.proxy_core.specs.Expiring.{expired_where, is_made_fresh, makes_fresh, NoItemMakesFresh, PurgeThatExpiresLeavesAllElse, PurgeThatRemovesLeavesAllElse, ExpiredStaysSoUntilMadeFresh, A304MakesFreshUnlessOvertaken, MadeFreshByWhatWasAskedAfter}
 use Rattle.proxy_core.specs.StoredAnswers.{KeyStaysValidSinceItWent}
 use Rattle.proxy_core.proofs.Carries.{carries_its_arrival}
 use Rattle.proxy_core.proofs.ExchangeLists.{found-id}
@@ -180,6 +180,6 @@ module _ (table : Table) (start : StoreAtStart) (first : ℕ) (past : List Item)
   asked_behind w (Abandon id) o is allowed h = absurd (false≢true h)
   asked_behind w (Overdue id) o is allowed h = absurd (false≢true h)
 
-pub made_fresh_behind : MadeFreshByWhatWasAskedBehind
+pub made_fresh_behind : MadeFreshByWhatWasAskedAfter
 made_fresh_behind table start first s item past g h =
     asked_behind table start first past g.1 (find_exchange (exchange_id_of_event item.event) (open_exchanges table start past)) item.event (held_entry table start past s) refl g.0.allowed h

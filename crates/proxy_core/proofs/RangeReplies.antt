@@ -1,7 +1,7 @@
 -- What of a stored response is sent to a request for a range.
 use Rattle.std.proofs.Common.{◌≡◌, ℕ, ◌+◌, Bool, true, false, cond, List, [], length, refl, sym, ◌∙◌, ap}
 use Rattle.std.specs.Prelude.{bytes_eq, codes, slice_range, Some}
-use Rattle.hx_fields.specs.declared.field_line.Field.{Field}
+use Rattle.hx_fields.specs.Line.{Field}
 use Rattle.hx_framing.specs.Text.{response_text}
 use Rattle.hx_hop.specs.declared.request_view.Asked.{Asked}
 use Rattle.hx_store.specs.Stored.{Stored}
@@ -11,14 +11,14 @@ use Rattle.hx_validate.specs.Room.{head_leaves_room}
 use Rattle.hx_validate.specs.declared.ranges.RangeAnswer.{RangeAnswer}
 use Rattle.hx_validate.specs.declared.ranges.RangeAnswer.TheVariants.{Part, Unsatisfiable}
 use Rattle.hx_validate.proofs.RangeLemmas.{of_no_range}
-use Rattle.proxy_core.specs.Replies.{content_unless_head, fields_of_sent_response, form_sent, is_head, not_modified_text, stored_text, text_in_form}
+use Rattle.proxy_core.specs.Replies.{content_unless_head, fields_of_sent_response, stored_response_as_sent, is_head, not_modified_text, stored_text, text_in_form}
 use Rattle.proxy_core.specs.RangeReplies.{ConditionsComeFirst, ForwardedRangesChangeNothing, PartIsCutFromTheWhole, UnsatisfiableIsTold, WithoutARangeAllIsSent}
 use Rattle.proxy_core.specs.Validating.{without_cookies}
 use Rattle.proxy_core.specs.declared.replies.stored_reply.CacheStatusInfo.{CacheStatusInfo}
 
 pub conditions_first : ConditionsComeFirst
 conditions_first name e now info asked has =
-    ap (λ b. cond b (not_modified_text name e now info asked) (text_in_form name (form_sent info.policy asked e) e now info asked)) has
+    ap (λ b. cond b (not_modified_text name e now info asked) (text_in_form name (stored_response_as_sent info.policy asked e) e now info asked)) has
 
 pub forwarded_unchanged : ForwardedRangesChangeNothing
 forwarded_unchanged name e now info asked forwards =
@@ -37,7 +37,7 @@ all_sent name e now info asked none =
 module _ (name : List ℕ) (e : Stored) (now : ℕ) (info : CacheStatusInfo) (asked : Asked) (served : info.policy.forwards_ranges ≡ false) (has_not : gets_304 asked e ≡ false) where
   in_range : (answer : RangeAnswer) → range_answer asked e ≡ answer → stored_text name e now info asked ≡ text_in_form name (in_form_of answer e) e now info asked
   in_range answer is =
-      ap (λ b. cond b (not_modified_text name e now info asked) (text_in_form name (form_sent info.policy asked e) e now info asked)) has_not
+      ap (λ b. cond b (not_modified_text name e now info asked) (text_in_form name (stored_response_as_sent info.policy asked e) e now info asked)) has_not
       ∙ (ap (λ b. text_in_form name (cond b e (response_in_range asked e)) e now info asked) served
       ∙ ap (λ (a : RangeAnswer). text_in_form name (in_form_of a e) e now info asked) is)
 

@@ -198,7 +198,7 @@ module _ (policy : Policy) (es : List Stored) (distinct : Distinct (serials es))
       absurd (by_number r.0 r.1)
     where
       by_number : IsLeastReuseRule policy es asked now rule → RuleNamesTheResponse es asked rule None → ⊥
-      by_number least (inl low) = false≢true (sym (may.is_for_the_cache rule low.0) ∙ least.it_applies)
+      by_number least (inl low) = false≢true (sym (may.is_for_the_cache rule low.0) ∙ least.rule_applies)
       by_number least (inr high) = never_one high.1.0.serial high.1.2
   instead_sent s response may serial (decision.Forward rule (Some t)) d_is =
       let n = named_is rule t d_is in

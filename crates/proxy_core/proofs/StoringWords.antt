@@ -4,7 +4,7 @@ use Rattle.std.specs.Prelude.{All, Option, Some, None, IfSome, bytes_eq, codes, 
 use Rattle.std.specs.List.{list_any}
 use Rattle.std.proofs.lemmas.Bool.Decides.{nat_tests}
 use Rattle.std.proofs.lemmas.List.Elements.{All-nil, All-cons, All-head, All-tail}
-use Rattle.hx_fields.specs.declared.field_line.Field.{Field}
+use Rattle.hx_fields.specs.Line.{Field}
 use Rattle.hx_fields.specs.FieldLines.{has_field as has_line}
 use Rattle.hx_fields.specs.Tokens.{is_token}
 use Rattle.hx_directives.specs.Occurrences.{occurrences_of}

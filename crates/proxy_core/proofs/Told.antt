@@ -16,14 +16,14 @@ use Rattle.hx_validate.specs.declared.ranges.RangeAnswer.TheVariants.{Whole, Par
 use Rattle.proxy_core.specs.declared.open.exchange.Exchange.{Exchange}
 use Rattle.proxy_core.specs.declared.replies.stored_reply.CacheStatusInfo.{CacheStatusInfo}
 use Rattle.proxy_core.specs.Abouts.{about_answer_in_range, about_in_place_of_answer, about_sent, about_whole_answer, SaysWhatItIs, PassedAnswerSaysWhatItIs, PurgeSaysWhatItIs, RefusalSaysWhatItIs, StoredReplySaysWhatItIs}
-use Rattle.proxy_core.specs.Replies.{answer_in_range_text, client_has_answer, content_unless_head, fields_of_answer_416, fields_of_answer_part, form_sent, is_head, length_of_passed_answer, length_unless_forbidden, line, not_modified_answer_text, not_modified_text, range_of_answer, text_in_form, text_in_place_of_answer, whole_answer_text, without_tags}
+use Rattle.proxy_core.specs.Replies.{answer_in_range_text, client_has_answer, content_unless_head, fields_of_answer_416, fields_of_answer_part, stored_response_as_sent, is_head, length_of_passed_answer, length_unless_forbidden, line, not_modified_answer_text, not_modified_text, range_of_answer, text_in_form, text_in_place_of_answer, whole_answer_text, without_tags}
 use Rattle.proxy_core.specs.Validating.{without_cookies}
 
 pub stored_says : StoredReplySaysWhatItIs
 stored_says name e now info asked = by_304 (gets_304 asked e)
   where
-    by_304 : (b : Bool) → SaysWhatItIs name (cond b (not_modified_text name e now info asked) (text_in_form name (form_sent info.policy asked e) e now info asked))
-        (cond b (about_sent 304 e now info) (about_sent (form_sent info.policy asked e).status e now info))
+    by_304 : (b : Bool) → SaysWhatItIs name (cond b (not_modified_text name e now info asked) (text_in_form name (stored_response_as_sent info.policy asked e) e now info asked))
+        (cond b (about_sent 304 e now info) (about_sent (stored_response_as_sent info.policy asked e).status e now info))
     by_304 true = record {
       fields = fields_of_304 e.fields ++ line (codes "Age") (decimal (age_of e.times now)) ∷ [];
       length = None;
@@ -32,10 +32,10 @@ stored_says name e now info asked = by_304 (gets_304 asked e)
       bytes_are = refl;
     }
     by_304 false = record {
-      fields = without_tags info.policy.hides_tags (without_cookies info.policy.removes_cookies (form_sent info.policy asked e).fields) ++ line (codes "Age") (decimal (age_of e.times now)) ∷ [];
-      length = length_unless_forbidden (form_sent info.policy asked e).status (Some (length (form_sent info.policy asked e).content));
+      fields = without_tags info.policy.hides_tags (without_cookies info.policy.removes_cookies (stored_response_as_sent info.policy asked e).fields) ++ line (codes "Age") (decimal (age_of e.times now)) ∷ [];
+      length = length_unless_forbidden (stored_response_as_sent info.policy asked e).status (Some (length (stored_response_as_sent info.policy asked e).content));
       close = asked.close;
-      content = content_unless_head (is_head asked) (form_sent info.policy asked e).content;
+      content = content_unless_head (is_head asked) (stored_response_as_sent info.policy asked e).content;
       bytes_are = refl;
     }
 

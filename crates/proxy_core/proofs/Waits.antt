@@ -56,7 +56,7 @@ use Rattle.proxy_core.specs.Histories.{held_entries, open_exchanges, next_serial
 use Rattle.proxy_core.specs.Promises.{outcome_ends_exchange, is_arrival_event}
 use Rattle.proxy_core.specs.Carrying.{ArrivesBefore, IdsAreInOrderOfArrival, exchange_ids}
 use Rattle.proxy_core.specs.Sending.{StoredResponseIsReusable, MayBeSentBesideLeader}
-use Rattle.proxy_core.specs.Waiting.{RequestCouldWait, RequestWaitsWhereOneLeads, RequestIsToWait, RequestWaitsNowhereElse, exchange_has_closed, went_for, OnlyOneGoesForwardForKey, PlainLinesWaitForMisses, ExchangeMayBeWoken, ReleasedAreInOrderOfArrival, WakeIsAcceptedExactlyWhereReady, WokenRequestIsJudgedAnew}
+use Rattle.proxy_core.specs.Waiting.{RequestCouldWait, RequestWaitsWhereOneLeads, RequestIsToWait, RequestWaitsNowhereElse, exchange_has_closed, went_forward_for, OnlyOneGoesForwardForKey, PlainLinesWaitForMisses, ExchangeMayBeWoken, ReleasedAreInOrderOfArrival, WakeIsAcceptedExactlyWhereReady, WokenRequestIsJudgedAnew}
 use Rattle.proxy_core.proofs.Awaits.{one_named}
 use Rattle.proxy_core.proofs.Leads.{led_by, led_for, first_leads, is_led, no_leader}
 use Rattle.proxy_core.proofs.ExchangeLists.{changed_by, find-push}
@@ -444,7 +444,7 @@ where_the_word_stands : (w b : Bool) → (w ≡ true → b ≡ true) → (not w 
 where_the_word_stands true b h = h refl
 where_the_word_stands false b h = refl
 
-asks_for_it : (awaited : Awaited) (rule : ReuseRule) (named : Option ℕ) (x : Exchange) → x.rule ≡ rule → x.named ≡ named → went_for awaited rule named ≡ true → asks_for awaited x ≡ true
+asks_for_it : (awaited : Awaited) (rule : ReuseRule) (named : Option ℕ) (x : Exchange) → x.rule ≡ rule → x.named ≡ named → went_forward_for awaited rule named ≡ true → asks_for awaited x ≡ true
 asks_for_it Missing rule named x r n h = ap is_uri_miss r ∙ h
 asks_for_it (Expired serial) rule named x r n h = ap (λ m. names_serial m serial) n ∙ h
 

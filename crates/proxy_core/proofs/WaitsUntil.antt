@@ -24,7 +24,7 @@ use Rattle.proxy_core.specs.Waiting.{is_wake_event, was_woken, is_overdue_event,
 use Rattle.proxy_core.proofs.Waits.{is_wait, ready_by}
 use Rattle.std.specs.Option.{option_and_then}
 use Rattle.proxy_core.specs.declared.open.leading_on.NextLeader.{NextLeader}
-use Rattle.proxy_core.specs.LeadingOn.{wait_has_an_end, next_leader, stage_behind, led_on_exchange, exchanges_without}
+use Rattle.proxy_core.specs.LeadingOn.{wait_has_an_end, next_leader, stage_after_leader, led_on_exchange, exchanges_without}
 use Rattle.proxy_core.proofs.LedOn.{behind_is, led_on-stage}
 use Rattle.proxy_core.proofs.ExchangeLists.{changed_by, find-abandoned, find-without}
 use Rattle.proxy_core.proofs.Moves.{Move, apart, opens, queues, passes, again, wakes, closes, turns, lapses, asked_of, ended_by, move_of, and_none, key_taken_by_step}
@@ -103,33 +103,33 @@ stage_more table xs id i (Some l) n k =
     by_end true = ap (λ b. cond b Released (Waiting l)) (other_way l (exchange_id_of_event i.event)) ∙ by_id (eqb (exchange_id_of_event i.event) l)
 
 -- it is the stage of one that waits for the next leader, or for nobody
-of_its_leader : (table : Table) (next : Option NextLeader) (x : Exchange) → stage_behind table next x ≡ stage_of_waiter (leader_of_stage (stage_behind table next x))
+of_its_leader : (table : Table) (next : Option NextLeader) (x : Exchange) → stage_after_leader table next x ≡ stage_of_waiter (leader_of_stage (stage_after_leader table next x))
 of_its_leader table next x = by_stage (behind_is table next x)
   where
-    by_stage : (stage_behind table next x ≡ Released) ⊎ ((l : ℕ) × (stage_behind table next x ≡ Waiting l) × (wait_has_an_end table x ≡ true)) → stage_behind table next x ≡ stage_of_waiter (leader_of_stage (stage_behind table next x))
+    by_stage : (stage_after_leader table next x ≡ Released) ⊎ ((l : ℕ) × (stage_after_leader table next x ≡ Waiting l) × (wait_has_an_end table x ≡ true)) → stage_after_leader table next x ≡ stage_of_waiter (leader_of_stage (stage_after_leader table next x))
     by_stage (inl r) = r ∙ sym (ap (λ (s : Stage). stage_of_waiter (leader_of_stage s)) r)
     by_stage (inr w) = w.1 ∙ sym (ap (λ (s : Stage). stage_of_waiter (leader_of_stage s)) w.1)
 
 -- the client of another goes away
 stage_abandoned : (table : Table) (xs : List Exchange) (id j : ℕ) (o : Outcome) (x : Exchange) (leads : Option ℕ) → eqb j id ≡ false → o ≡ Ended → find_exchange id xs ≡ Some x → x.stage ≡ stage_of_waiter leads →
-    cond (waits_for j x.stage) (stage_behind table (next_leader table j xs) x) x.stage
+    cond (waits_for j x.stage) (stage_after_leader table (next_leader table j xs) x) x.stage
     ≡ stage_of_waiter (option_and_then (λ l. leader_after_item table xs id l (record { event = Abandon j; outcome = o })) leads)
 stage_abandoned table xs id j o x None n e f s =
-    ap (λ (t : Stage). cond (waits_for j t) (stage_behind table (next_leader table j xs) x) t) s
+    ap (λ (t : Stage). cond (waits_for j t) (stage_after_leader table (next_leader table j xs) x) t) s
 stage_abandoned table xs id j o x (Some l) n e f s =
-    ap (λ (t : Stage). cond (waits_for j t) (stage_behind table (next_leader table j xs) x) t) s
-    ∙ (ap (λ b. cond b (stage_behind table (next_leader table j xs) x) (Waiting l)) (other_way l j)
+    ap (λ (t : Stage). cond (waits_for j t) (stage_after_leader table (next_leader table j xs) x) t) s
+    ∙ (ap (λ b. cond b (stage_after_leader table (next_leader table j xs) x) (Waiting l)) (other_way l j)
     ∙ (by_id (eqb j l) refl
     ∙ sym (ap (λ b. stage_of_waiter (cond (b && false) None (cond (eqb j l && (true && outcome_ends_exchange o)) (leader_followed table xs id l) (Some l)))) n
     ∙ ap (λ (o : Outcome). stage_of_waiter (cond (eqb j l && (true && outcome_ends_exchange o)) (leader_followed table xs id l) (Some l))) e)))
   where
-    followed : eqb j l ≡ true → leader_followed table xs id l ≡ leader_of_stage (stage_behind table (next_leader table j xs) x)
+    followed : eqb j l ≡ true → leader_followed table xs id l ≡ leader_of_stage (stage_after_leader table (next_leader table j xs) x)
     followed t =
         ap (leader_followed table xs id) (sym (eqb-true j l t))
-        ∙ ap (λ (w : Option Exchange). option_and_then (λ (x : Exchange). leader_of_stage (stage_behind table (next_leader table j xs) x)) w)
+        ∙ ap (λ (w : Option Exchange). option_and_then (λ (x : Exchange). leader_of_stage (stage_after_leader table (next_leader table j xs) x)) w)
         (find-without j id xs ∙ (ap (λ b. cond b None (find_exchange id xs)) n ∙ f))
 
-    by_id : (b : Bool) → eqb j l ≡ b → cond b (stage_behind table (next_leader table j xs) x) (Waiting l) ≡ stage_of_waiter (cond (b && true) (leader_followed table xs id l) (Some l))
+    by_id : (b : Bool) → eqb j l ≡ b → cond b (stage_after_leader table (next_leader table j xs) x) (Waiting l) ≡ stage_of_waiter (cond (b && true) (leader_followed table xs id l) (Some l))
     by_id true t = of_its_leader table (next_leader table j xs) x ∙ sym (ap stage_of_waiter (followed t))
     by_id false t = refl
 

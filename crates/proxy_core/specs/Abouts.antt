@@ -3,7 +3,7 @@
 -- about_stored: a stored response that is sent     about_passed_answer: an answer of the origin that is passed on
 -- about_by_outcome: what is told of an outcome     ToldStandsInTheBytes: the bytes of each reply say the same
 use Rattle.std.specs.Prelude.{◌≡◌, ℕ, List, [], ◌∷◌, ◌++◌, codes, decimal, Bool, Option, Some, None, cond}
-use Rattle.hx_fields.specs.declared.field_line.Field.{Field}
+use Rattle.hx_fields.specs.Line.{Field}
 use Rattle.hx_framing.specs.Text.{response_text}
 use Rattle.hx_framing.specs.declared.messages.Response.{Response}
 use Rattle.hx_hop.specs.Answering.{answered_of}
@@ -28,7 +28,8 @@ use Rattle.proxy_core.specs.declared.outcome.Outcome.TheVariants.{Reply, Forward
 use Rattle.proxy_core.specs.declared.replies.stored_reply.CacheStatusInfo.{CacheStatusInfo}
 use Rattle.proxy_core.specs.Replies.{cache_status_of_sent, cache_status_of_passed_answer}
 use Rattle.proxy_core.specs.Replies.{cache_status_in_place_of_answer}
-use Rattle.proxy_core.specs.Replies.{client_has_answer, fields_of_answer_416, fields_of_answer_part, form_sent}
+use Rattle.proxy_core.specs.Replies.{client_has_answer, fields_of_answer_416}
+use Rattle.proxy_core.specs.Replies.{fields_of_answer_part, stored_response_as_sent}
 use Rattle.proxy_core.specs.Replies.{passed_answer_text, purge_reply_text, range_of_answer, refusal_reply_text, line}
 use Rattle.proxy_core.specs.Replies.{stored_text}
 
@@ -43,7 +44,8 @@ about_sent status e now info = record {
 -- as a 304 to who has it already, or in the form that the request asks for
 abbrev pub about_stored : Stored → ℕ → CacheStatusInfo → Asked → About
 about_stored e now info asked =
-    cond (gets_304 asked e) (about_sent 304 e now info) (about_sent (form_sent info.policy asked e).status e now info)
+    cond (gets_304 asked e) (about_sent 304 e now info)
+    (about_sent (stored_response_as_sent info.policy asked e).status e now info)
 
 -- a response that is sent under a status, where the origin of the exchange's line answered
 abbrev pub about_answer : Exchange → ℕ → Status → About

@@ -52,9 +52,9 @@ ArrivalIsTakenOut key n old new = (q : Key) (m : ℕ) → is_in_key_index new q 
     (not (same_key key q && n == m) && is_in_key_index old q m)
 
 -- it was put in where others ask for that key, and else nothing was done
-abbrev pub ArrivalIsPutIf : Bool → Key → ℕ → KeyIndex → KeyIndex → Type 0
-ArrivalIsPutIf true key n old new = ArrivalIsPut key n old new
-ArrivalIsPutIf false key n old new = AreSameKeyIndex old new × ((m : ℕ) → is_in_key_index old key m ≡ false)
+abbrev pub ArrivalIsIndexedIf : Bool → Key → ℕ → KeyIndex → KeyIndex → Type 0
+ArrivalIsIndexedIf true key n old new = ArrivalIsPut key n old new
+ArrivalIsIndexedIf false key n old new = AreSameKeyIndex old new × ((m : ℕ) → is_in_key_index old key m ≡ false)
 
 -- the arrival of such an exchange was put in, and taken out
 abbrev pub ArrivalIsPutWhere : (Key → Exchange → Bool) → Exchange → ℕ → KeyIndex → KeyIndex → Type 0

@@ -2,7 +2,7 @@
 use Rattle.std.specs.Prelude.{ℕ, zero, suc, ◌+◌, true, false, List, [], ◌∷◌, map, codes, Some, None}
 use Rattle.hx_policy.specs.declared.words.Policy.{Policy}
 use Rattle.hx_policy.specs.Policies.{plain}
-use Rattle.hx_fields.specs.declared.field_line.Field.{Field}
+use Rattle.hx_fields.specs.Line.{Field}
 use Rattle.hx_fields.specs.Examples.{line}
 use Rattle.hx_framing.specs.declared.messages.Response.{Response}
 use Rattle.hx_target.specs.declared.keys.Key.{Key}
@@ -178,22 +178,22 @@ abbrev pub waiting : Exchange
 waiting = record (forwarded_on_miss (get_a_with [])) { id = 2; stage = Waiting 1 }
 
 -- the exchange of this id, which waits for this one, and the stages in which some stand
-abbrev pub waits_behind : ℕ → ℕ → Asked → Exchange
-waits_behind leader id asked = record (forwarded_on_miss asked) { id = id; stage = Waiting leader }
+abbrev pub exchange_waiting_for : ℕ → ℕ → Asked → Exchange
+exchange_waiting_for leader id asked = record (forwarded_on_miss asked) { id = id; stage = Waiting leader }
 
 abbrev pub stages_of : List Exchange → List Stage
 stages_of xs = map (λ (x : Exchange). x.stage) xs
 
 -- the first leads, two wait for it behind the one of this request, and one waits for another
-abbrev pub crowd_behind : Asked → List Exchange
-crowd_behind asked =
-    forwarded_on_miss (get_a_with []) ∷ waits_behind 1 2 asked ∷ waits_behind 1 3 (get_a_with [])
-    ∷ waits_behind 7 4 (get_a_with []) ∷ waits_behind 1 5 (get_a_with []) ∷ []
+abbrev pub exchanges_waiting_with : Asked → List Exchange
+exchanges_waiting_with asked =
+    forwarded_on_miss (get_a_with []) ∷ exchange_waiting_for 1 2 asked ∷ exchange_waiting_for 1 3 (get_a_with [])
+    ∷ exchange_waiting_for 7 4 (get_a_with []) ∷ exchange_waiting_for 1 5 (get_a_with []) ∷ []
 
 -- so many that wait for the first
 abbrev pub waits_in_a_row : ℕ → List Exchange
 waits_in_a_row zero = []
-waits_in_a_row (suc n) = waits_behind 1 (2 + n) (get_a_with []) ∷ waits_in_a_row n
+waits_in_a_row (suc n) = exchange_waiting_for 1 (2 + n) (get_a_with []) ∷ waits_in_a_row n
 
 -- one that asked about the stored response of serial 1, which states no lifetime, by its tag
 abbrev pub revalidates_e : Asked → Exchange
@@ -271,8 +271,8 @@ abbrev pub stored_with_tags : ℕ → List ℕ → Stored
 stored_with_tags serial tags = stored_with serial (cache_tag tags ∷ first_answer_fields)
 
 -- four that are held: one of another host, and three of /a, of which one has no tag
-abbrev pub tagged_held : List Stored
-tagged_held =
+abbrev pub entries_held_with_tags : List Stored
+entries_held_with_tags =
     record (stored_with_tags 4 (codes "news")) { key = record (key_of_path (codes "/c")) { host = codes "g" } }
     ∷ stored_with_tags 3 (codes "sport, old-news") ∷ stored_with 2 first_answer_fields
     ∷ stored_with_tags 1 (codes "front,news") ∷ []

@@ -92,8 +92,8 @@ ExpiredStaysSoUntilMadeFresh =
 
 -- An item that makes a response fresh is the answer to a request under whose key nothing was overtaken since it last
 -- went forward. So it went behind each purge within whose scope its key is.
-abbrev pub MadeFreshByWhatWasAskedBehind : Type 0
-MadeFreshByWhatWasAskedBehind =
+abbrev pub MadeFreshByWhatWasAskedAfter : Type 0
+MadeFreshByWhatWasAskedAfter =
     (table : Table) (start : StoreAtStart) (first s : ℕ) (item : Item) (past : List Item) →
     IsGoodHistory table start first (item ∷ past) →
     is_made_fresh (find_exchange (exchange_id_of_event item.event) (open_exchanges table start past)) item.event

@@ -4,7 +4,7 @@
 -- may_lead_on, first_to_lead_on: the first of those that wait whose answer others could be sent
 -- count_waiting, most_led_on, next_leader: the same, where not too many wait
 -- follows_leader: one that could be sent that answer, and waits for it
--- stage_behind, led_on_exchange, exchanges_after_abandon: what becomes of them
+-- stage_after_leader, led_on_exchange, exchanges_after_abandon: what becomes of them
 -- ExchangeMayLeadOn, IsNextLeader, CouldBeSentItsAnswer: the same in words
 use Rattle.std.specs.Prelude.{◌≡◌, ℕ, ◌≤◌, nat_le, ◌==◌, ◌&&◌, ◌||◌, not, Bool, true, false, List, [], ◌∷◌, ◌++◌}
 use Rattle.std.specs.Prelude.{Option, Some, None, cond, is_some, filter, length, map}
@@ -73,13 +73,13 @@ follows_leader table next x =
 
 -- One that follows waits for the next leader. That one itself may be woken, and so may all others, which may not be
 -- sent its answer.
-abbrev pub stage_behind : Table → Option NextLeader → Exchange → Stage
-stage_behind table None x = Released
-stage_behind table (Some next) x = cond (follows_leader table next x) (Waiting next.id) Released
+abbrev pub stage_after_leader : Table → Option NextLeader → Exchange → Stage
+stage_after_leader table None x = Released
+stage_after_leader table (Some next) x = cond (follows_leader table next x) (Waiting next.id) Released
 
 -- what becomes of an exchange where the client of the one of this id goes away
 abbrev pub led_on_exchange : Table → Option NextLeader → ℕ → Exchange → Exchange
-led_on_exchange table next id x = cond (waits_for id x.stage) (record x { stage = stage_behind table next x }) x
+led_on_exchange table next id x = cond (waits_for id x.stage) (record x { stage = stage_after_leader table next x }) x
 
 -- own: an exchange ends since its client went away, and the first that waits for it leads on, if one may ("The first
 -- that waits leads on")

@@ -8,7 +8,7 @@ use Rattle.std.specs.Prelude.{decimal, Bool, true}
 use Rattle.std.specs.Prelude.{false, Option}
 use Rattle.std.specs.Prelude.{Some, None, cond}
 use Rattle.std.specs.Fmt.{decimal}
-use Rattle.hx_fields.specs.declared.field_line.Field.{Field}
+use Rattle.hx_fields.specs.Line.{Field}
 use Rattle.hx_fields.specs.FieldLines.{without_named}
 use Rattle.hx_framing.specs.Text.{response_text}
 use Rattle.hx_framing.specs.declared.messages.Response.{Response}
@@ -105,8 +105,8 @@ not_modified_text name e now info asked =
 
 -- the form in which a stored response is sent: over a line that doesn't forward ranges the part of it that the request
 -- asks for, or that none is there (RFC 9110, sections 14.2, 15.3.7 and 15.5.17)
-abbrev pub form_sent : Policy → Asked → Stored → Stored
-form_sent policy asked e = cond policy.forwards_ranges e (response_in_range asked e)
+abbrev pub stored_response_as_sent : Policy → Asked → Stored → Stored
+stored_response_as_sent policy asked e = cond policy.forwards_ranges e (response_in_range asked e)
 
 -- a stored response is sent in a form: of that are the status, the lines and the content
 -- own: over a line that removes cookies without those, whatever line it was stored over ("A cookie stays with the one
@@ -122,7 +122,7 @@ text_in_form name form e now info asked =
 abbrev pub stored_text : List ℕ → Stored → ℕ → CacheStatusInfo → Asked → List ℕ
 stored_text name e now info asked =
     cond (gets_304 asked e) (not_modified_text name e now info asked)
-    (text_in_form name (form_sent info.policy asked e) e now info asked)
+    (text_in_form name (stored_response_as_sent info.policy asked e) e now info asked)
 
 -- to HEAD an answer of the origin has the length that it announced
 abbrev pub length_of_passed_answer : Bool → Response → Option ℕ

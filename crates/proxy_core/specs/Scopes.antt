@@ -7,7 +7,7 @@
 -- serials_to_remove, serials_to_expire: what of it goes, and what stays and is expired
 -- scope_if_removing: a scope whose purge removes
 use Rattle.std.specs.Prelude.{ℕ, Bool, ◌&&◌, List, [], Option, None, Some}
-use Rattle.hx_fields.specs.declared.field_line.Field.{Field}
+use Rattle.hx_fields.specs.Line.{Field}
 use Rattle.hx_target.specs.declared.keys.Key.{Key}
 use Rattle.hx_hop.specs.declared.request_view.Asked.{Asked}
 use Rattle.hx_allow.specs.PurgeModes.{mode_to_purge}

@@ -16,7 +16,8 @@ use Rattle.hx_allow.specs.declared.verdicts.Route.{Route}
 use Rattle.hx_allow.specs.declared.verdicts.Verdict.{Verdict}
 use Rattle.hx_allow.specs.declared.verdicts.Verdict.TheVariants as verdict
 use Rattle.hx_store.specs.Stored.{Stored}
-use Rattle.hx_store.specs.Shelf.{holds_serial, find_entry, without_serials, with_in_front, expired_entry, with_expired}
+use Rattle.hx_store.specs.Shelf.{holds_serial, find_entry, without_serials}
+use Rattle.hx_store.specs.Shelf.{with_first_if_any, expired_entry, with_expired}
 use Rattle.hx_store.specs.Weights.{StoreBounds, cut_to_bounds}
 use Rattle.hx_reuse.specs.Rules.{decision_of}
 use Rattle.hx_reuse.specs.declared.decision.Decision.{Decision}
@@ -106,7 +107,7 @@ stored_response_as_used None event e = e
 abbrev pub entries_after_use : Option Exchange → Event → Option ℕ → List Stored → List Stored
 entries_after_use x event None es = es
 entries_after_use x event (Some serial) es =
-    with_in_front (option_map (stored_response_as_used x event) (find_entry serial es))
+    with_first_if_any (option_map (stored_response_as_used x event) (find_entry serial es))
     (without_serials (serial ∷ []) es)
 
 -- the response that an answer makes
@@ -127,7 +128,7 @@ entries_without_serials (s ∷ gone) es = without_serials (s ∷ gone) es
 abbrev pub entries_after_storing : Option Exchange → Event → Option ℕ → List ℕ → List Stored → List Stored
 entries_after_storing x event None removed es = entries_without_serials removed es
 entries_after_storing x event (Some serial) removed es =
-    with_in_front (stored_response_by_answer x event serial) (without_serials removed es)
+    with_first_if_any (stored_response_by_answer x event serial) (without_serials removed es)
 
 -- the most responses that are held, and the most bytes that they weigh together, where the table bounds those
 abbrev pub bounds_of : Table → ℕ → StoreBounds

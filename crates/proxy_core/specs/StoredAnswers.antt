@@ -9,7 +9,7 @@
 -- ThoseAreRemoved, ThoseAreExpired: what an item takes away, and what it expires
 use Rattle.std.specs.Prelude.{◌≡◌, ◌⊎◌, ℕ, ◌≤◌, Bool, true, false, cond, bytes_eq, List, [], ◌∷◌, ◌++◌, length, codes}
 use Rattle.std.specs.Prelude.{is_some, All, Option, Some, None, IfSome}
-use Rattle.hx_fields.specs.declared.field_line.Field.{Field}
+use Rattle.hx_fields.specs.Line.{Field}
 use Rattle.hx_fields.specs.FieldLines.{has_field as has_line}
 use Rattle.hx_fields.specs.Tokens.{is_token}
 use Rattle.hx_framing.specs.declared.messages.Response.{Response}

@@ -41,7 +41,7 @@ use Rattle.proxy_core.specs.Moments.{moment_too_late_fault}
 use Rattle.hx_policy.specs.declared.words.Policy.{Policy}
 use Rattle.proxy_core.specs.Leading.{is_forwarded, is_released, is_get, is_uri_miss, names_serial, may_serve}
 use Rattle.proxy_core.specs.Leading.{is_waiting, waits_for, leads_waiters, ready_ids, IsFirstLeader}
-use Rattle.proxy_core.specs.LeadingOn.{stage_behind, next_leader, exchanges_without, exchanges_after_abandon}
+use Rattle.proxy_core.specs.LeadingOn.{stage_after_leader, next_leader, exchanges_without, exchanges_after_abandon}
 use Rattle.proxy_core.specs.LeadingOn.{IsNextLeader, CouldBeSentItsAnswer}
 use Rattle.proxy_core.specs.Awaiting.{RequestAwaits}
 use Rattle.proxy_core.specs.Outcomes.{find_exchange, exchange_id_of_event, step_fault, is_only_if_cached}
@@ -117,9 +117,9 @@ pub record RequestGoesOutBy (table : Table) (start : StoreAtStart) (rule : Reuse
 
 -- What it went forward for is what a request could be sent: nothing was held for its key, or the rule
 -- names that held response.
-abbrev pub went_for : Awaited → ReuseRule → Option ℕ → Bool
-went_for Missing rule named = is_uri_miss rule
-went_for (Expired serial) rule named = names_serial named serial
+abbrev pub went_forward_for : Awaited → ReuseRule → Option ℕ → Bool
+went_forward_for Missing rule named = is_uri_miss rule
+went_forward_for (Expired serial) rule named = names_serial named serial
 
 -- The answer to the exchange of this id may be one for a request over a line of this policy: nothing
 -- that is known of it, should it be open still, says otherwise.
@@ -142,7 +142,7 @@ OnlyOneGoesForwardForKey = (table : Table) (start : StoreAtStart) (first : ℕ) 
     → (went : RequestGoesOutBy table start rule named earlier before)
     → is_get went.asked ≡ true → forwards_range (policy_of table.lines line) went.asked ≡ false
     → same_key went.asked.target.key asked.target.key ≡ true
-    → went_for awaited rule named ≡ true
+    → went_forward_for awaited rule named ≡ true
     → AnswerMayServe (policy_of table.lines line) asked
     (find_exchange went.id (open_exchanges table start (between ++ earlier ∷ before))) →
     exchange_has_closed (exchange_id_of_event earlier.event) between ≡ true
@@ -226,7 +226,7 @@ stage_of_waiter (Some leader) = Waiting leader
 abbrev pub leader_followed : Table → List Exchange → ℕ → ℕ → Option ℕ
 leader_followed table xs id leader =
     option_and_then (λ (x : Exchange). leader_of_stage
-    (stage_behind table (next_leader table leader xs) x))
+    (stage_after_leader table (next_leader table leader xs) x))
     (find_exchange id (exchanges_without leader xs))
 
 abbrev pub leader_after_end : Table → List Exchange → ℕ → ℕ → Event → Option ℕ

@@ -6,7 +6,7 @@
 -- trace_with_wrong_item: another outcome of the last event     HeadlineRefuses: no headline
 use Rattle.std.specs.Prelude.{ℕ, true, false, List, [], ◌∷◌, codes, Option, Some, None}
 use Rattle.hx_policy.specs.Policies.{plain}
-use Rattle.hx_fields.specs.declared.field_line.Field.{Field}
+use Rattle.hx_fields.specs.Line.{Field}
 use Rattle.hx_fields.specs.Examples.{line}
 use Rattle.hx_framing.specs.declared.messages.Response.{Response}
 use Rattle.hx_hop.specs.declared.request_view.Asked.{Asked}
@@ -276,8 +276,8 @@ trace_stores_invalidated =
     ∷ item_of (Arrive 100 1 get_a) forward_over_line_3 ∷ []
 
 -- GET /a was stored as 1, DELETE /a was answered by this, and what is stored is sent
-abbrev pub trace_sends_behind : Response → List Item
-trace_sends_behind response =
+abbrev pub trace_sends_after : Response → List Item
+trace_sends_after response =
     item_of (Arrive 120 3 get_a) (reply_that_sends_stored 1 [])
     ∷ item_of (Answer 111 2 response) (reply_without_store []) ∷ item_of (Arrive 110 2 delete_a) forward_over_line_3
     ∷ item_of (Answer 101 1 fresh_for_a_minute) (reply_that_stores [] (Some 1) []) ∷ item_of
@@ -318,20 +318,20 @@ trace_stores_tagged =
     (reply_that_stores [] (Some 1) []) ∷ item_of (Arrive 100 1 get_a) forward_over_line_3 ∷ []
 
 -- a tag was purged, and it is sent
-abbrev pub trace_sends_behind_a_purge : List ℕ → List Item
-trace_sends_behind_a_purge tag =
+abbrev pub trace_sends_after_a_purge : List ℕ → List Item
+trace_sends_after_a_purge tag =
     item_of (Arrive 120 3 get_a) (reply_that_sends_stored 1 []) ∷ purge_item tag ∷ trace_stores_tagged
 
 -- a tag was purged while it was on its way, and it is stored and sent
-abbrev pub trace_stores_behind_a_purge : List ℕ → List Item
-trace_stores_behind_a_purge tag =
+abbrev pub trace_stores_after_a_purge : List ℕ → List Item
+trace_stores_after_a_purge tag =
     item_of (Arrive 120 3 get_a) (reply_that_sends_stored 1 [])
     ∷ item_of (Answer 112 1 fresh_for_a_minute) (reply_that_stores [] (Some 1) []) ∷ purge_item tag
     ∷ item_of (Arrive 100 1 get_a) forward_over_line_3 ∷ []
 
 -- /a is held at first as 1, a tag was purged, and it is sent
-abbrev pub trace_sends_of_the_start_behind_a_purge : List ℕ → List Item
-trace_sends_of_the_start_behind_a_purge tag =
+abbrev pub trace_sends_of_the_start_after_a_purge : List ℕ → List Item
+trace_sends_of_the_start_after_a_purge tag =
     item_of (Arrive 120 3 get_a) (reply_that_sends_stored 1 []) ∷ purge_item tag ∷ []
 
 -- ---- a purge that expires

@@ -125,7 +125,7 @@ impl<S: Shelf> Core<S> {
 
     /// The shelf with what it holds, and the next serial if one is left: what another core may begin with, where no
     /// exchange is open.
-    pub fn into_store(self) -> (S, Option<u64>)
+    pub fn into_shelf_and_serial(self) -> (S, Option<u64>)
         ensures entries { S.entries result.0 ≡ self.entries }
         ensures limit { S.limit result.0 ≡ self.limit }
         ensures next { result.1 ≡ self.next }
@@ -167,7 +167,7 @@ impl<S: Shelf> Core<S> {
         self.exchanges.ready(alloc)
     }
 
-    /// The first of them. No memory is taken.
+    /// The first exchange that waited and may be woken. Nothing is allocated.
     pub fn first_ready(&self) -> Option<u64>
         ensures value { result ≡ slice_get (ready_ids self.now.exchanges) 0 }
         ensures ready { IfSome result (λ id. ExchangeMayBeWoken id self.now.exchanges) }
@@ -252,7 +252,7 @@ impl<S: Shelf> Core<S> {
     }
 
     /// The client went away: its exchange ends without an answer. The first of those that wait for it leads on, if one
-    /// may, and memory is taken for that alone.
+    /// may, and nothing but that allocates.
     pub fn abandon(&mut self, id: u64) -> Result<Outcome, CoreFault>
         ensures ok { IfOk result (λ outcome. StepIsAccepted self.old (Abandon id) outcome self.new) }
         ensures err { IfErr result (λ fault. StepIsRefusedWith self.old (Abandon id) fault) }
@@ -268,7 +268,7 @@ impl<S: Shelf> Core<S> {
     }
 
     /// A request has waited for another's answer as long as it is to wait: it may be woken from now on, as if its
-    /// leader had ended, and others wait as before. No memory is taken.
+    /// leader had ended, and others wait as before. Nothing is allocated.
     pub fn overdue(&mut self, id: u64) -> Result<Outcome, CoreFault>
         ensures ok { IfOk result (λ outcome. StepIsAccepted self.old (Overdue id) outcome self.new) }
         ensures err { IfErr result (λ fault. step_fault self.old.exchanges (Overdue id) ≡ Some fault) }

@@ -61,7 +61,8 @@ mod worked_cases;
 
 pub use about_cases::a_reply_says_what_it_is;
 pub use bound_cases::{
-    what_an_answer_weighs, what_is_held_at_first, what_is_held_by_weight, what_is_too_heavy_alone,
+    worked_answers_too_large_for_the_store, worked_store_at_the_start,
+    worked_store_bounded_by_bytes, worked_weights_of_answers,
 };
 pub use cookie_cases::{worked_cookies_that_are_sent, worked_cookies_that_are_stored};
 pub use event_cases::{worked_counts_of_traces, worked_kinds_of_events, worked_kinds_of_outcomes};
@@ -72,7 +73,9 @@ pub use headline_cases::{
     the_headline_refuses_what_never_comes, the_headline_refuses_what_the_table_forbids,
     the_headline_refuses_wrong_purges, the_headline_refuses_wrong_storing,
 };
-pub use leader_cases::{how_many_are_led_on, who_follows_the_next_leader, who_leads_on};
+pub use leader_cases::{
+    at_most_512_follow_the_next_leader, worked_followers_of_the_next_leader, worked_next_leaders,
+};
 pub use promise_cases::{
     a_denied_request_leaves_no_trace, an_exchange_goes_twice_and_replies_once,
     no_run_stops_without_a_fault, sending_what_is_invalidated_is_refused,
@@ -81,15 +84,16 @@ pub use promise_cases::{
 pub use purge_cases::{
     a_purge_takes_what_is_within_its_scope, what_a_purge_takes, what_a_purge_with_a_tag_takes,
 };
-pub use purged_cases::what_is_told_of_what_was_purged;
+pub use purged_cases::worked_ttl_after_a_purge;
 pub use range_cases::{worked_parts_of_answers, worked_ranges_that_lead};
 pub use tag_cases::{tags_stay_with_the_proxy, worked_tags_of_parts, worked_tags_that_are_hidden};
 pub use worked_cases::{
-    faults_and_serials_in_order, statuses_of_errors, what_a_304_leaves, what_a_step_leaves_open,
-    what_a_step_leaves_stored, what_an_answer_gives, what_an_arrival_gives, what_invalidates,
-    what_is_made_of_an_answer, what_is_sent_after_a_failure, which_304_was_asked_for,
-    which_answers_are_stored, who_waits_for_what_is_stale, who_waits_for_whom,
-    who_would_wait_in_vain, worked_passed_answers, worked_stored_replies,
+    statuses_of_errors, what_is_sent_after_a_failure, which_304_was_asked_for,
+    which_answers_are_stored, worked_invalidating_answers, worked_leaders_for_stale_responses,
+    worked_leaders_of_requests, worked_open_exchanges_after_a_step, worked_outcomes_of_answers,
+    worked_outcomes_of_arrivals, worked_passed_answers, worked_requests_that_do_not_wait,
+    worked_step_faults_and_serials, worked_stored_replies, worked_stored_responses,
+    worked_stored_responses_after_a_304, worked_stored_responses_after_a_step,
 };
 
 /// After a good trace an exchange is open from its arrival to its end and not else, with the
@@ -136,7 +140,7 @@ pub fn a_core_keeps_what_is_held()
 {}
 
 /// What is held is within both bounds of the store at each moment. What is stored weighs no more than the store may,
-/// and is held behind the item that stores it. Where the table bounds no bytes, what is held is what is held by number.
+/// and is held after the item that stores it. Where the table bounds no bytes, what is held is what is held by number.
 pub fn what_is_held_is_within_the_bounds()
     ensures within { HeldIsWithinTheBounds }
     ensures stored { StoredIsHeld }
@@ -226,7 +230,7 @@ pub fn who_waited_is_kept_back_by_the_answer_alone()
 /// for the next that leads on, if it could be sent the answer to it; until the last of them has ended, or its own time
 /// to wait is over. From then on it may be woken, once; those that may be woken stand in the order of arrival. What a
 /// woken one gets is decided anew, and it doesn't wait again.
-pub fn a_waiting_request_is_woken_once_behind_its_leader()
+pub fn a_waiting_request_is_woken_once_after_its_leader()
     ensures waits { RequestWaitsUntilItsLeaderEndsOrItsTime }
     ensures once { RequestIsWokenOnceBehindItsLeaderOrItsTime }
     ensures order { ReleasedAreInOrderOfArrival }

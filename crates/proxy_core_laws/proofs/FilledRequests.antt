@@ -4,7 +4,7 @@ use Rattle.std.specs.Prelude.{All, IfSome, Ok, Option, codes, is_some}
 use Rattle.std.proofs.lemmas.Str.{IsUtf8-from_ascii}
 use Rattle.std.proofs.lemmas.List.Elements.{All-nil, All-cons, All-append, All-filter, All-weaker}
 use Rattle.httparse.specs.Grammar.{IsToken, is_uri_byte}
-use Rattle.hx_fields.specs.declared.field_line.Field.{Field}
+use Rattle.hx_fields.specs.Line.{Field}
 use Rattle.hx_fields.specs.FieldLines.{has_field, is_named, values_of, without_named}
 use Rattle.hx_framing.specs.declared.messages.Request.{Request}
 use Rattle.hx_framing.specs.Reading.{Spelled}

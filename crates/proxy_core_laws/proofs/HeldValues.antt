@@ -4,7 +4,7 @@ use Rattle.std.specs.Prelude.{All, IfSome, Option, None, Some, codes, option_map
 use Rattle.std.specs.List.{AllByRecursion, cons_option, filter_map}
 use Rattle.std.proofs.lemmas.Bool.{eqb-true}
 use Rattle.std.proofs.lemmas.List.Elements.{All-filter, All-head, All-map, All-weaker}
-use Rattle.hx_fields.specs.declared.field_line.Field.{Field}
+use Rattle.hx_fields.specs.Line.{Field}
 use Rattle.hx_fields.specs.FieldLines.{is_named, only_one, only_value, values_of}
 use Rattle.hx_framing.specs.Written.{FieldIsWritable}
 use Rattle.hx_framing.specs.declared.messages.Response.{Response}

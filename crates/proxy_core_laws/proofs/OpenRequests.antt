@@ -16,7 +16,7 @@ use Rattle.proxy_core.specs.declared.outcome.Outcome.TheVariants.{Reply, Forward
 use Rattle.proxy_core.specs.Histories.{held_entries, open_exchanges}
 use Rattle.proxy_core.specs.Outcomes.{find_exchange}
 use Rattle.proxy_core.specs.Scopes.{Scope, is_in_scope}
-use Rattle.proxy_core.specs.LeadingOn.{next_leader, stage_behind, led_on_exchange, exchanges_without, exchanges_after_abandon}
+use Rattle.proxy_core.specs.LeadingOn.{next_leader, stage_after_leader, led_on_exchange, exchanges_without, exchanges_after_abandon}
 use Rattle.proxy_core.specs.State.{exchanges_after_close, exchanges_after_end, exchanges_after_purge, scope_purged, exchange_forwarded_again, open_exchanges_after, forwarded_exchange, overtaken_exchange, waiting_exchange, released_exchange, exchange_gone_forward, exchange_sent_forward, exchanges_after_wake, scope_invalidated_by_response, overdue_exchange, exchange_past_its_wait}
 use Rattle.proxy_core.specs.Starts.{StoreAtStart}
 use Rattle.proxy_core.specs.Traces.{Item}
@@ -50,7 +50,7 @@ closed_so : (id : ℕ) (xs : List Exchange) → All HasReadRequest xs → All Ha
 closed_so id xs all = mapped (released_exchange id) (release-asked id) (filter (λ (x : Exchange). not (x.id == id)) xs) (All-filter (λ (x : Exchange). not (x.id == id)) HasReadRequest xs all)
 
 led_on-asked : (table : Table) (ys : List Exchange) (q : ℕ) (x : Exchange) → (led_on_exchange table (next_leader table q ys) q x).asked ≡ x.asked
-led_on-asked table ys q x = elim (waits_for q x.stage) as (λ b. (cond b (record x { stage = stage_behind table (next_leader table q ys) x }) x).asked ≡ x.asked) [ true ↦ refl | false ↦ refl ]
+led_on-asked table ys q x = elim (waits_for q x.stage) as (λ b. (cond b (record x { stage = stage_after_leader table (next_leader table q ys) x }) x).asked ≡ x.asked) [ true ↦ refl | false ↦ refl ]
 
 abandoned_so : (table : Table) (id : ℕ) (xs : List Exchange) → All HasReadRequest xs → All HasReadRequest (exchanges_after_abandon table id xs)
 abandoned_so table id xs all =

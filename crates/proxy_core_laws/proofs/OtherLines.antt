@@ -3,7 +3,7 @@ use Rattle.std.proofs.Common.{◌≡◌, ℕ, Bool, true, false, not, ◌||◌, 
 use Rattle.std.specs.Prelude.{bytes_eq, codes, filter, map}
 use Rattle.std.specs.List.{list_any}
 use Rattle.std.specs.Str.{str_to_ascii_lowercase}
-use Rattle.hx_fields.specs.declared.field_line.Field.{Field}
+use Rattle.hx_fields.specs.Line.{Field}
 use Rattle.hx_fields.specs.FieldLines.{is_named, values_of}
 use Rattle.hx_fields.specs.Names.{is_same_name, joined_lists, members_of_value}
 use Rattle.hx_hop.proofs.Lines.{filter_keeps, same_lower}

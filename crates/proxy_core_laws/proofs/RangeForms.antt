@@ -6,7 +6,7 @@ use Rattle.std.proofs.lemmas.Bool.{or_from}
 use Rattle.std.proofs.lemmas.List.Elements.{All-nil, All-cons, All-append, All-filter}
 use Rattle.std.proofs.lemmas.List.Folds.{list_any-append}
 use Rattle.httparse.specs.Grammar.{is_token_byte}
-use Rattle.hx_fields.specs.declared.field_line.Field.{Field}
+use Rattle.hx_fields.specs.Line.{Field}
 use Rattle.hx_fields.specs.FieldLines.{has_field, is_named, without_named}
 use Rattle.hx_framing.specs.Text.{response_text}
 use Rattle.hx_framing.specs.Written.{FieldIsWritable}
@@ -25,7 +25,7 @@ use Rattle.hx_validate.specs.Room.{head_leaves_room}
 use Rattle.hx_validate.specs.declared.ranges.RangeAnswer.{RangeAnswer}
 use Rattle.hx_validate.specs.declared.ranges.RangeAnswer.TheVariants.{Whole, Part, Unsatisfiable}
 use Rattle.hx_fields.proofs.JoinedTests.{never}
-use Rattle.proxy_core.specs.Replies.{cache_status_of_sent, content_unless_head, form_sent, is_head, length_unless_forbidden, line, text_in_form}
+use Rattle.proxy_core.specs.Replies.{cache_status_of_sent, content_unless_head, stored_response_as_sent, is_head, length_unless_forbidden, line, text_in_form}
 use Rattle.proxy_core_laws.specs.StoredReplies.{StoredIsSendable, fields_seen, stored_sent_whole}
 use Rattle.proxy_core_laws.proofs.ReplyValues.{part_value, unsatisfied_value}
 
@@ -94,26 +94,26 @@ module _ (P : Stored → Type 0) (e : Stored) (whole : P e) (part : (first last 
   by_answer (Part first last) = either (part_of e first last) (part first last)
   by_answer Unsatisfiable = either (unsatisfied_of e) unsatisfied
 
-  pub by_form : (policy : Policy) (asked : Asked) → P (form_sent policy asked e)
+  pub by_form : (policy : Policy) (asked : Asked) → P (stored_response_as_sent policy asked e)
   by_form policy asked = by_word policy.forwards_ranges
     where
       by_word : (t : Bool) → P (cond t e (response_in_range asked e))
       by_word true = whole
       by_word false = by_answer (range_answer asked e)
 
-pub form_sendable : (policy : Policy) (asked : Asked) (e : Stored) → StoredIsSendable e → StoredIsSendable (form_sent policy asked e)
+pub form_sendable : (policy : Policy) (asked : Asked) (e : Stored) → StoredIsSendable e → StoredIsSendable (stored_response_as_sent policy asked e)
 form_sendable policy asked e is =
     by_form StoredIsSendable e is (λ first last. part_sendable e first last is) (unsatisfied_sendable e is) policy asked
 
-same_times : (policy : Policy) (asked : Asked) (e : Stored) → (form_sent policy asked e).times ≡ e.times
+same_times : (policy : Policy) (asked : Asked) (e : Stored) → (stored_response_as_sent policy asked e).times ≡ e.times
 same_times policy asked e = by_form (λ (f : Stored). f.times ≡ e.times) e refl (λ first last. refl) refl policy asked
 
-pub form_small : (policy : Policy) (asked : Asked) (e : Stored) → length e.content < 2 ^ 64 → length (form_sent policy asked e).content < 2 ^ 64
+pub form_small : (policy : Policy) (asked : Asked) (e : Stored) → length e.content < 2 ^ 64 → length (stored_response_as_sent policy asked e).content < 2 ^ 64
 form_small policy asked e small =
     by_form (λ (f : Stored). length f.content < 2 ^ 64) e small (λ first last. omega (arith, small, slice_shorter e.content first (last + 1))) (omega arith) policy asked
 
 -- a form that isn't the whole has room, since else the whole is sent
-pub form_roomy : (policy : Policy) (asked : Asked) (e : Stored) → head_leaves_room e.fields ≡ true → head_leaves_room (form_sent policy asked e).fields ≡ true
+pub form_roomy : (policy : Policy) (asked : Asked) (e : Stored) → head_leaves_room e.fields ≡ true → head_leaves_room (stored_response_as_sent policy asked e).fields ≡ true
 form_roomy policy asked e room = by_word policy.forwards_ranges
   where
     roomy : (form : Stored) → head_leaves_room (if_room e form).fields ≡ true
@@ -135,10 +135,10 @@ form_roomy policy asked e room = by_word policy.forwards_ranges
 -- ---- its text is that of the form, sent whole
 
 pub text_of_form : (name : List ℕ) (e : Stored) (now : ℕ) (info : _) (asked : Asked) →
-    text_in_form name (form_sent info.policy asked e) e now info asked
-    ≡ sent_response_text (stored_sent_whole info.policy name (form_sent info.policy asked e) now (cache_status_of_sent (form_sent info.policy asked e).status e now info) asked)
+    text_in_form name (stored_response_as_sent info.policy asked e) e now info asked
+    ≡ sent_response_text (stored_sent_whole info.policy name (stored_response_as_sent info.policy asked e) now (cache_status_of_sent (stored_response_as_sent info.policy asked e).status e now info) asked)
 text_of_form name e now info asked =
-    let form : Stored = form_sent info.policy asked e in
+    let form : Stored = stored_response_as_sent info.policy asked e in
     ap (λ (t : Times). response_text form.status ((fields_seen info.policy form.fields ++ line (codes "Age") (decimal (age_of t now)) ∷ []) ++ line (codes "Cache-Status") (member_text name (cache_status_of_sent form.status e now info)) ∷ [])
     (length_unless_forbidden form.status (Some (length form.content))) asked.close (content_unless_head (is_head asked) form.content))
     (sym (same_times info.policy asked e))

@@ -9,7 +9,7 @@ use Rattle.httparse.specs.Grammar.{LineEnd, crlf, lf, ResponseHead, field_value,
 use Rattle.httparse.specs.Grammar as grammar
 use Rattle.httpdate.specs.Text.{day_name, four_digits, imf_fixdate, month_name, time_of_day, two_digits}
 use Rattle.httpdate.specs.declared.parts.Parts.{Parts}
-use Rattle.hx_fields.specs.declared.field_line.Field.{Field}
+use Rattle.hx_fields.specs.Line.{Field}
 use Rattle.hx_fields.specs.FieldLines.{is_named, without_named}
 use Rattle.hx_framing.specs.declared.frame_fault.FrameFault.TheVariants as fault
 use Rattle.hx_framing.specs.declared.heads.status_head.StatusHead.{StatusHead}

@@ -3,7 +3,7 @@ use Rattle.std.proofs.Common.{◌≡◌, ℕ, ◌+◌, length, Bool, true, false
 use Rattle.std.specs.Prelude.{Option, None, Some, filter, map, option_map, codes, slice_range}
 use Rattle.std.proofs.lemmas.Bool.{false≢true}
 use Rattle.std.proofs.lemmas.List.Elements.{filter-append}
-use Rattle.hx_fields.specs.declared.field_line.Field.{Field}
+use Rattle.hx_fields.specs.Line.{Field}
 use Rattle.hx_fields.specs.FieldLines.{has_field, is_named, values_of, without_named}
 use Rattle.hx_framing.specs.declared.messages.Response.{Response}
 use Rattle.hx_policy.specs.declared.words.Policy.{Policy}
@@ -31,7 +31,7 @@ use Rattle.proxy_core.specs.declared.outcome.Outcome.TheVariants.{Reply as Repli
 use Rattle.proxy_core.specs.declared.outcome.Reply.{Reply}
 use Rattle.proxy_core.specs.Histories.{held_entries, held_entry, open_exchanges}
 use Rattle.proxy_core.specs.Outcomes.{find_exchange, exchange_id_of_event}
-use Rattle.proxy_core.specs.Replies.{fields_of_answer_416, fields_of_answer_part, range_of_answer, cache_status_of_sent, client_has_answer, form_sent, not_modified_text, stored_text, text_in_form, without_tags}
+use Rattle.proxy_core.specs.Replies.{fields_of_answer_416, fields_of_answer_part, range_of_answer, cache_status_of_sent, client_has_answer, stored_response_as_sent, not_modified_text, stored_text, text_in_form, without_tags}
 use Rattle.proxy_core.specs.Sending.{ReplyIsThatStoredResponse}
 use Rattle.proxy_core.specs.Starts.{StoreAtStart}
 use Rattle.proxy_core.specs.State.{serials_expired_by_outcome, serial_stored_by_outcome, serial_used_by_outcome, stored_response_as_used, stored_response_by_answer}
@@ -43,9 +43,9 @@ use Rattle.proxy_core.proofs.ExpiredEntries.{was_there}
 use Rattle.proxy_core.proofs.SentResponses.{sends_what_is_held}
 use Rattle.hx_hop.proofs.Lines.{list_any_fewer}
 use Rattle.proxy_core_laws.specs.OneResponse.{answer_in_range_sent, in_place_of_answer_sent, not_modified_answer_sent, passed_answer_sent, whole_answer_sent}
-use Rattle.proxy_core_laws.specs.RemovedCookies.{IsResponseWithoutCookies, NoCookieIsLeftInTheStore, NoCookieIsSentOutOfTheStore, WhoAskedGetsTheCookies}
+use Rattle.proxy_core_laws.specs.RemovedCookies.{IsTextWithoutSetCookie, NoCookieIsLeftInTheStore, NoCookieIsSentOutOfTheStore, WhoAskedGetsTheCookies}
 use Rattle.proxy_core_laws.specs.StoredReplies.{fields_seen, stored_sent_as_304, stored_sent_whole}
-use Rattle.proxy_core_laws.specs.Varied.{exchange_left_by, exchange_that_left, is_answered_by}
+use Rattle.proxy_core_laws.specs.Varied.{maker_after_event, latest_maker_of, is_answered_by}
 use Rattle.proxy_core_laws.proofs.HiddenTags.{hidden_without}
 use Rattle.proxy_core_laws.proofs.RangeForms.{text_of_form}
 use Rattle.proxy_core_laws.proofs.OtherLines.{cookie, other_name}
@@ -109,12 +109,12 @@ module _ (table : Table) (held : List Stored) (x : Option Exchange) (event : Eve
 
   -- or a part of it
   abbrev as_sent : Stored
-  as_sent = form_sent is.info.policy is.asked form
+  as_sent = stored_response_as_sent is.info.policy is.asked form
 
-  none_sent : IsResponseWithoutCookies (stored_text table.name form is.now is.info is.asked)
+  none_sent : IsTextWithoutSetCookie (stored_text table.name form is.now is.info is.asked)
   none_sent = by_test (gets_304 is.asked form)
     where
-      by_test : (t : Bool) → IsResponseWithoutCookies (cond t (not_modified_text table.name form is.now is.info is.asked) (text_in_form table.name as_sent form is.now is.info is.asked))
+      by_test : (t : Bool) → IsTextWithoutSetCookie (cond t (not_modified_text table.name form is.now is.info is.asked) (text_in_form table.name as_sent form is.now is.info is.asked))
       by_test true = record {
         sent = stored_sent_as_304 table.name form is.now (cache_status_of_sent 304 form is.now is.info) is.asked;
         text_is = refl;
@@ -133,8 +133,8 @@ sends_no_cookie table start first s line item past reply good over removes used 
     let held : List Stored = held_entries table start past in
     let is = sends_what_is_held table start first s item past good used in
     let told : is.info.policy.removes_cookies ≡ true = ap (λ (p : Policy). p.removes_cookies) (policy_shown table held x item.event item.outcome s line is over) ∙ removes in
-    subst (λ (q : Reply). IsResponseWithoutCookies q.bytes) (same_reply is.reply reply (sym is.outcome_is ∙ replied))
-    (subst (λ (bytes : List ℕ). IsResponseWithoutCookies bytes) (sym is.bytes_are) (none_sent table held x item.event item.outcome s is told))
+    subst (λ (q : Reply). IsTextWithoutSetCookie q.bytes) (same_reply is.reply reply (sym is.outcome_is ∙ replied))
+    (subst (λ (bytes : List ℕ). IsTextWithoutSetCookie bytes) (sym is.bytes_are) (none_sent table held x item.event item.outcome s is told))
 
 -- ---- what is left in the store
 
@@ -159,8 +159,8 @@ freshened_none x r now e removes = removed_none x.removes_cookies (freshened_of 
 
 -- before a purge may have ended its lifetime
 leaves_none_before : (table : Table) (start : StoreAtStart) (item : Item) (past : List Item) (s : ℕ) (x : Exchange) (e : Stored) → (policy_of table.lines x.line).removes_cookies ≡ true
-    → ((f : Stored) → exchange_that_left table start past s ≡ Some x → held_entry table start past s ≡ Some f → HasNone f.fields)
-    → exchange_that_left table start (item ∷ past) s ≡ Some x
+    → ((f : Stored) → latest_maker_of table start past s ≡ Some x → held_entry table start past s ≡ Some f → HasNone f.fields)
+    → latest_maker_of table start (item ∷ past) s ≡ Some x
     → cond (is_that_serial (serial_stored_by_outcome item.outcome) s) (stored_response_by_answer (find_exchange (exchange_id_of_event item.event) (open_exchanges table start past)) item.event s)
     (cond (is_that_serial (serial_used_by_outcome item.outcome) s) (option_map (stored_response_as_used (find_exchange (exchange_id_of_event item.event) (open_exchanges table start past)) item.event) (held_entry table start past s)) (held_entry table start past s)) ≡ Some e
     → HasNone e.fields
@@ -169,7 +169,7 @@ leaves_none_before table start item past s x e removes rest left held =
     (λ y h. removes_so table start (exchange_id_of_event item.event) past y h) (held_entry table start past s) rest left held
   where
     before : Option Exchange
-    before = exchange_that_left table start past s
+    before = latest_maker_of table start past s
 
     stored : Bool
     stored = is_that_serial (serial_stored_by_outcome item.outcome) s
@@ -182,7 +182,7 @@ leaves_none_before table start item past s x e removes rest left held =
 
     by_event : (o : Option Exchange) (event : Event) → ((y : Exchange) → o ≡ Some y → Removes y) → (look : Option Stored)
         → ((f : Stored) → before ≡ Some x → look ≡ Some f → HasNone f.fields)
-        → exchange_left_by o event item.outcome look before s ≡ Some x
+        → maker_after_event o event item.outcome look before s ≡ Some x
         → cond stored (stored_response_by_answer o event s) (cond used (option_map (stored_response_as_used o event) look) look) ≡ Some e → HasNone e.fields
     by_event (Some y) (Answer now id r) own look earlier k h = by_tests stored used look k h refl
       where

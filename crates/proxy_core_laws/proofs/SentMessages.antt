@@ -6,7 +6,7 @@ use Rattle.std.specs.Option.{option_and_then}
 use Rattle.httparse.specs.Grammar.{IsToken}
 use Rattle.hx_policy.specs.declared.words.Policy.{Policy}
 use Rattle.hx_fields.specs.declared.limits.TheConstants.{END_OF_TIME}
-use Rattle.hx_fields.specs.declared.field_line.Field.{Field}
+use Rattle.hx_fields.specs.Line.{Field}
 use Rattle.hx_framing.specs.declared.messages.Response.{Response}
 use Rattle.hx_framing.specs.Reading.{Spelled}
 use Rattle.hx_framing.specs.declared.messages.Request.{Request}
@@ -63,7 +63,7 @@ use Rattle.proxy_core.specs.Histories.{held_entries, held_entry, held_serials, n
 use Rattle.proxy_core.specs.Outcomes.{outcome_of_allowed_request, outcome_of_answer, outcome_of_arrival, outcome_of_failure, fallback_for, fault_at_exchange, find_exchange, forward_text, exchange_id_of_event, is_error_status, is_only_if_cached, fault_if_not_forwarded, fault_if_not_released, outcome_of, outcome_of_passing_on, outcome_of_passing_on_or_stale, outcome_of_refusal, outcome_of_304, outcome_of_waiting_or_forwarding, serial_of_stored_answer, outcome_without_stored_response, outcome_of_wake}
 use Rattle.proxy_core.specs.Moments.{moment_too_late_fault}
 use Rattle.proxy_core.specs.ReadAnswers.{WasReadFromAStream, EventIsReadFromAStream}
-use Rattle.proxy_core.specs.Replies.{answer_in_range_text, fields_of_answer_416, fields_of_answer_part, range_of_answer, text_in_place_of_answer, client_has_answer, form_sent, is_head, not_modified_answer_text, not_modified_text, passed_answer_text, whole_answer_text, purge_reply_text, refusal_reply_text, cache_status_of_sent, stored_text, text_in_form}
+use Rattle.proxy_core.specs.Replies.{answer_in_range_text, fields_of_answer_416, fields_of_answer_part, range_of_answer, text_in_place_of_answer, client_has_answer, stored_response_as_sent, is_head, not_modified_answer_text, not_modified_text, passed_answer_text, whole_answer_text, purge_reply_text, refusal_reply_text, cache_status_of_sent, stored_text, text_in_form}
 use Rattle.proxy_core.specs.Sending.{IsAbout, ReplyIsThatStoredResponse}
 use Rattle.proxy_core.specs.State.{stored_response_as_used, serial_used_by_outcome}
 use Rattle.proxy_core.specs.Storing.{is_304_without_condition}
@@ -284,19 +284,19 @@ module _ (table : Table) (held : List Stored) (x : Option Exchange) (event : Eve
   one_stored : StoredIsSendable form → length form.content < 2 ^ 64 → BytesAreOneResponse (is_head is.asked) (stored_text table.name form is.now is.info is.asked)
   one_stored sendable small = by_test (gets_304 is.asked form)
     where
-      by_test : (t : Bool) → BytesAreOneResponse (is_head is.asked) (cond t (not_modified_text table.name form is.now is.info is.asked) (text_in_form table.name (form_sent is.info.policy is.asked form) form is.now is.info is.asked))
+      by_test : (t : Bool) → BytesAreOneResponse (is_head is.asked) (cond t (not_modified_text table.name form is.now is.info is.asked) (text_in_form table.name (stored_response_as_sent is.info.policy is.asked form) form is.now is.info is.asked))
       by_test true = record {
         sent = stored_sent_as_304 table.name form is.now (cache_status_of_sent 304 form is.now is.info) is.asked;
         text_is = refl;
         alone = λ most little limits over behind. sends_a_304_as_one most is.now table.name form (cache_status_of_sent 304 form is.now is.info) is.asked sendable token limits over behind;
       }
       by_test false = record {
-        sent = stored_sent_whole is.info.policy table.name (form_sent is.info.policy is.asked form) is.now (cache_status_of_sent (form_sent is.info.policy is.asked form).status form is.now is.info) is.asked;
+        sent = stored_sent_whole is.info.policy table.name (stored_response_as_sent is.info.policy is.asked form) is.now (cache_status_of_sent (stored_response_as_sent is.info.policy is.asked form).status form is.now is.info) is.asked;
         text_is = text_of_form table.name form is.now is.info is.asked;
         alone = λ most little limits over behind.
-            subst (λ (bytes : List ℕ). ReadsResponse most (is_head is.asked) over (bytes ++ behind) (Spelled (response_as_read_back (is_head is.asked) (stored_sent_whole is.info.policy table.name (form_sent is.info.policy is.asked form) is.now (cache_status_of_sent (form_sent is.info.policy is.asked form).status form is.now is.info) is.asked)) behind))
+            subst (λ (bytes : List ℕ). ReadsResponse most (is_head is.asked) over (bytes ++ behind) (Spelled (response_as_read_back (is_head is.asked) (stored_sent_whole is.info.policy table.name (stored_response_as_sent is.info.policy is.asked form) is.now (cache_status_of_sent (stored_response_as_sent is.info.policy is.asked form).status form is.now is.info) is.asked)) behind))
             (sym (text_of_form table.name form is.now is.info is.asked))
-            (sends_whole_as_one is.info.policy most is.now table.name (form_sent is.info.policy is.asked form) (cache_status_of_sent (form_sent is.info.policy is.asked form).status form is.now is.info) is.asked
+            (sends_whole_as_one is.info.policy most is.now table.name (stored_response_as_sent is.info.policy is.asked form) (cache_status_of_sent (stored_response_as_sent is.info.policy is.asked form).status form is.now is.info) is.asked
             (form_sendable is.info.policy is.asked form sendable) token (form_small is.info.policy is.asked form small) limits over behind);
       }
 

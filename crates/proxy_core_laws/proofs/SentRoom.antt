@@ -4,7 +4,7 @@ use Rattle.std.specs.Prelude.{IfSome, Option, None, Some, pos, negsuc, ◌-ℤ�
 use Rattle.std.specs.List.{AllByRecursion}
 use Rattle.std.proofs.Math.Nat.{min-le_left, min-le_right}
 use Rattle.httparse.specs.Grammar.{IsToken}
-use Rattle.hx_fields.specs.declared.field_line.Field.{Field}
+use Rattle.hx_fields.specs.Line.{Field}
 use Rattle.hx_fields.specs.FieldLines.{has_field as has_line}
 use Rattle.hx_directives.specs.Occurrences.{occurrences_of}
 use Rattle.hx_directives.specs.Answers.{directive_occurs, seconds_of_directive}
@@ -35,7 +35,7 @@ use Rattle.proxy_core.specs.declared.outcome.Reply.{Reply}
 use Rattle.proxy_core.specs.Histories.{held_entries, held_entry, held_serials, open_exchanges}
 use Rattle.proxy_core.specs.Outcomes.{find_exchange, exchange_id_of_event}
 use Rattle.proxy_core.specs.ReadAnswers.{WasReadFromAStream, EventIsReadFromAStream}
-use Rattle.proxy_core.specs.Replies.{form_sent, fwd_status_of, is_head, not_modified_text, cache_status_of_sent, stored_text, text_in_form, ttl_of_stored}
+use Rattle.proxy_core.specs.Replies.{stored_response_as_sent, fwd_status_of, is_head, not_modified_text, cache_status_of_sent, stored_text, text_in_form, ttl_of_stored}
 use Rattle.proxy_core.specs.Sending.{ReplyIsThatStoredResponse}
 use Rattle.proxy_core.specs.State.{stored_response_as_used}
 use Rattle.proxy_core.proofs.SentResponses.{sends_what_is_held}
@@ -137,7 +137,7 @@ module _ (table : Table) (held : List Stored) (x : Option Exchange) (event : Eve
   form = stored_response_as_used x event is.response
 
   abbrev as_sent : Stored
-  as_sent = form_sent is.info.policy is.asked form
+  as_sent = stored_response_as_sent is.info.policy is.asked form
 
   abbrev whole_form : SentResponse
   whole_form = stored_sent_whole is.info.policy table.name as_sent is.now (cache_status_of_sent as_sent.status form is.now is.info) is.asked
@@ -151,7 +151,7 @@ module _ (table : Table) (held : List Stored) (x : Option Exchange) (event : Eve
       little_enough : length as_sent.content < 2 ^ 64
       little_enough = form_small is.info.policy is.asked form small
 
-      by_test : (t : Bool) → IsOneSentResponse (is_head is.asked) (cond t (not_modified_text table.name form is.now is.info is.asked) (text_in_form table.name (form_sent is.info.policy is.asked form) form is.now is.info is.asked))
+      by_test : (t : Bool) → IsOneSentResponse (is_head is.asked) (cond t (not_modified_text table.name form is.now is.info is.asked) (text_in_form table.name (stored_response_as_sent is.info.policy is.asked form) form is.now is.info is.asked))
       by_test true = record {
         sent = stored_sent_as_304 table.name form is.now (cache_status_of_sent 304 form is.now is.info) is.asked;
         text_is = refl;

@@ -7,7 +7,7 @@ use Rattle.std.proofs.lemmas.List.Elements.{All-nil, All-cons, All-append, All-f
 use Rattle.std.proofs.lemmas.List.Folds.{list_any-append}
 use Rattle.httparse.specs.Grammar.{IsToken, is_token_byte}
 use Rattle.hx_fields.specs.declared.limits.TheConstants.{END_OF_TIME}
-use Rattle.hx_fields.specs.declared.field_line.Field.{Field}
+use Rattle.hx_fields.specs.Line.{Field}
 use Rattle.hx_fields.specs.FieldLines.{has_field, is_named}
 use Rattle.hx_framing.specs.declared.messages.Response.{Response}
 use Rattle.hx_framing.specs.Lengths.{is_interim, response_has_no_content}

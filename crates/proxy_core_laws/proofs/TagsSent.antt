@@ -2,7 +2,7 @@
 use Rattle.std.proofs.Common.{◌≡◌, ℕ, ◌+◌, ◌||◌, Bool, true, false, not, cond, List, [], ◌∷◌, ◌++◌, refl, sym, ap, ◌∙◌, subst, length}
 use Rattle.std.specs.Prelude.{Option, None, Some, codes, slice_range}
 use Rattle.std.proofs.lemmas.Bool.{false≢true}
-use Rattle.hx_fields.specs.declared.field_line.Field.{Field}
+use Rattle.hx_fields.specs.Line.{Field}
 use Rattle.hx_fields.specs.FieldLines.{has_field, is_named}
 use Rattle.hx_policy.specs.declared.words.Policy.{Policy}
 use Rattle.hx_hop.specs.Answering.{answered_of}
@@ -20,7 +20,7 @@ use Rattle.proxy_core.specs.declared.outcome.Outcome.{Outcome}
 use Rattle.proxy_core.specs.declared.outcome.Reply.{Reply}
 use Rattle.proxy_core.specs.Histories.{held_entries, open_exchanges}
 use Rattle.proxy_core.specs.Outcomes.{find_exchange, exchange_id_of_event}
-use Rattle.proxy_core.specs.Replies.{cache_status_in_place_of_answer, cache_status_of_passed_answer, cache_status_of_sent, client_has_answer, fields_of_answer_416, fields_of_answer_part, form_sent, line, not_modified_text, range_of_answer, stored_text, text_in_form, without_tags}
+use Rattle.proxy_core.specs.Replies.{cache_status_in_place_of_answer, cache_status_of_passed_answer, cache_status_of_sent, client_has_answer, fields_of_answer_416, fields_of_answer_part, stored_response_as_sent, line, not_modified_text, range_of_answer, stored_text, text_in_form, without_tags}
 use Rattle.proxy_core.specs.Sending.{ReplyIsThatStoredResponse}
 use Rattle.proxy_core.specs.State.{stored_response_as_used}
 use Rattle.proxy_core.specs.Validating.{without_cookies}
@@ -62,7 +62,7 @@ module _ (table : Table) (held : List Stored) (x : Option Exchange) (event : Eve
 
   -- or a part of it
   abbrev as_sent : Stored
-  as_sent = form_sent is.info.policy is.asked form
+  as_sent = stored_response_as_sent is.info.policy is.asked form
 
   none_sent : IsResponseWithoutTags (stored_text table.name form is.now is.info is.asked)
   none_sent = by_test (gets_304 is.asked form)

@@ -37,7 +37,7 @@ use Rattle.proxy_core.specs.Outcomes.{find_exchange, exchange_id_of_event, outco
 use Rattle.proxy_core.specs.Sending.{IsStoredFallback, ReplyIsThatStoredResponse, StoredResponseIsReusable, StoredResponseMayBeSent, StoredResponseMayBeSentAt, StoredResponseMayBeSentBeside}
 use Rattle.proxy_core.specs.Starts.{StoreAtStart}
 use Rattle.proxy_core.specs.Scopes.{Scope, is_in_scope}
-use Rattle.proxy_core.specs.LeadingOn.{next_leader, stage_behind, led_on_exchange, exchanges_without, exchanges_after_abandon}
+use Rattle.proxy_core.specs.LeadingOn.{next_leader, stage_after_leader, led_on_exchange, exchanges_without, exchanges_after_abandon}
 use Rattle.proxy_core.specs.State.{serials_expired_by_outcome, exchanges_after_close, exchanges_after_end, exchanges_after_purge, scope_purged, exchange_forwarded_again, open_exchanges_after, forwarded_exchange, overtaken_exchange, waiting_exchange, released_exchange, exchange_gone_forward, exchange_sent_forward, exchanges_after_wake, scope_invalidated_by_response, serial_stored_by_outcome, serial_used_by_outcome, serials_removed_by_outcome, stored_response_as_used, stored_response_by_answer, overdue_exchange, exchange_past_its_wait}
 use Rattle.proxy_core.specs.Storing.{stored_response_made}
 use Rattle.proxy_core.specs.Traces.{Item}
@@ -50,7 +50,7 @@ use Rattle.proxy_core.proofs.SendLaws.{sends_nothing_else}
 use Rattle.proxy_core.proofs.SentResponses.{sends_what_is_held}
 use Rattle.proxy_core.proofs.StoringWords.{star_absent}
 use Rattle.proxy_core_laws.specs.PastStore.{request_of_event}
-use Rattle.proxy_core_laws.specs.Varied.{NothingOfAnotherValueIsSent, OpenExchangeHasTheNamesOfItsLine, exchange_left_by, exchange_that_left, is_answered_by}
+use Rattle.proxy_core_laws.specs.Varied.{NothingOfAnotherValueIsSent, OpenExchangeHasTheNamesOfItsLine, maker_after_event, latest_maker_of, is_answered_by}
 use Rattle.proxy_core_laws.proofs.OtherLines.{star_stays}
 use Rattle.proxy_core_laws.proofs.HeldHeads.{entry_of, held_in, kept_so, not_removed, stays_in}
 
@@ -83,7 +83,7 @@ release-names : (q : ℕ) (x : Exchange) → names_and_line (released_exchange q
 release-names q x = elim (waits_for q x.stage) as (λ b. names_and_line (cond b (record x { stage = Released }) x) ≡ names_and_line x) [ true ↦ refl | false ↦ refl ]
 
 led_on-names : (table : Table) (ys : List Exchange) (q : ℕ) (x : Exchange) → names_and_line (led_on_exchange table (next_leader table q ys) q x) ≡ names_and_line x
-led_on-names table ys q x = elim (waits_for q x.stage) as (λ b. names_and_line (cond b (record x { stage = stage_behind table (next_leader table q ys) x }) x) ≡ names_and_line x) [ true ↦ refl | false ↦ refl ]
+led_on-names table ys q x = elim (waits_for q x.stage) as (λ b. names_and_line (cond b (record x { stage = stage_after_leader table (next_leader table q ys) x }) x) ≡ names_and_line x) [ true ↦ refl | false ↦ refl ]
 
 overdue-names : (q : ℕ) (x : Exchange) → names_and_line (overdue_exchange q x) ≡ names_and_line x
 overdue-names q x = elim (x.id == q && is_waiting x.stage) as (λ b. names_and_line (cond b (exchange_past_its_wait x) x) ≡ names_and_line x) [ true ↦ refl | false ↦ refl ]
@@ -253,7 +253,7 @@ module _ (table : Table) (es : List Stored) (xs : List Exchange) (distinct : Dis
   -- the request is that of the exchange that leaves it, or compares with it
   same_or_compared : (o : Option Exchange) (event : Event) (outcome : Outcome) (before : Option Exchange) (s : ℕ) (x : Exchange) (asked : Asked) (f : Stored) →
       StoredResponseMayBeSent table es xs o event s → find_entry s es ≡ Some f → is_that_serial (serial_used_by_outcome outcome) s ≡ true → request_of_event o event ≡ Some asked →
-      exchange_left_by o event outcome (Some f) before s ≡ Some x → (before ≡ Some x → ComparesNames x f) → (x.asked ≡ asked) ⊎ (both_have_same x.vary x.asked.fields asked.fields ≡ true)
+      maker_after_event o event outcome (Some f) before s ≡ Some x → (before ≡ Some x → ComparesNames x f) → (x.asked ≡ asked) ⊎ (both_have_same x.vary x.asked.fields asked.fields ≡ true)
   same_or_compared (Some y) (Answer now id r) outcome before s x asked f may found used is left earlier =
       by_tests (is_that_serial (serial_stored_by_outcome outcome) s) (is_that_serial (serial_used_by_outcome outcome) s) used (stored_response_is_answered y r now f) refl left
     where
@@ -287,7 +287,7 @@ both_false false b h k = k
 
 module _ (table : Table) (start : StoreAtStart) (first : ℕ) where
   abbrev Earlier : ℕ → List Item → Type 0
-  Earlier s past = (x : Exchange) (f : Stored) → serial_is_in s (held_serials table start past) ≡ true → held_entry table start past s ≡ Some f → exchange_that_left table start past s ≡ Some x → ComparesNames x f
+  Earlier s past = (x : Exchange) (f : Stored) → serial_is_in s (held_serials table start past) ≡ true → held_entry table start past s ≡ Some f → latest_maker_of table start past s ≡ Some x → ComparesNames x f
 
   -- an event that is no answer leaves it as it was
   as_it_was : (o : Option Exchange) (event : Event) (outcome : Outcome) (look : Option Stored) (s : ℕ) (e : Stored) → stored_response_by_answer o event s ≡ None → ((f : Stored) → stored_response_as_used o event f ≡ f) →
@@ -302,7 +302,7 @@ module _ (table : Table) (start : StoreAtStart) (first : ℕ) where
       ((f : Stored) → is_that_serial (serial_used_by_outcome outcome) s ≡ true → look ≡ Some f → (y : Exchange) (now id : ℕ) (r : Response) → o ≡ Some y → event ≡ Answer now id r → stored_response_is_answered y r now f ≡ true → freshened_may_be_kept table y r (freshened_by_304 y r now f) ≡ true) →
       ((f : Stored) → is_that_serial (serial_stored_by_outcome outcome) s ≡ false → look ≡ Some f → before ≡ Some x → ComparesNames x f) →
       cond (is_that_serial (serial_stored_by_outcome outcome) s) (stored_response_by_answer o event s) (cond (is_that_serial (serial_used_by_outcome outcome) s) (option_map (stored_response_as_used o event) look) look) ≡ Some e →
-      exchange_left_by o event outcome look before s ≡ Some x → ComparesNames x e
+      maker_after_event o event outcome look before s ≡ Some x → ComparesNames x e
   step_so (Some y) (Answer now id r) outcome look before s x e kept earlier k left = by_tests (is_that_serial (serial_stored_by_outcome outcome) s) refl (is_that_serial (serial_used_by_outcome outcome) s) refl look refl k left
     where
       by_answered : (f : Stored) → look ≡ Some f → is_that_serial (serial_used_by_outcome outcome) s ≡ true → is_that_serial (serial_stored_by_outcome outcome) s ≡ false → (b : Bool) → stored_response_is_answered y r now f ≡ b →
@@ -343,7 +343,7 @@ module _ (table : Table) (start : StoreAtStart) (first : ℕ) where
   held_so (item ∷ past) good s x e inside h left =
       let there = was_there item.event (serials_expired_by_outcome item.outcome) _ e h in
       subst (ComparesNames x) (sym there.is)
-      (step_so o item.event item.outcome (held_entry table start past s) (exchange_that_left table start past s) s x there.response kept (earlier (held_so past good.1 s)) there.was left)
+      (step_so o item.event item.outcome (held_entry table start past s) (latest_maker_of table start past s) s x there.response kept (earlier (held_so past good.1 s)) there.was left)
     where
       o : Option Exchange
       o = find_exchange (exchange_id_of_event item.event) (open_exchanges table start past)
@@ -370,7 +370,7 @@ module _ (table : Table) (start : StoreAtStart) (first : ℕ) where
           ∙ sym good.0.outcome_is)
           ∙ not_removed table start item past s inside)
 
-      earlier : Earlier s past → (f : Stored) → is_that_serial (serial_stored_by_outcome item.outcome) s ≡ false → held_entry table start past s ≡ Some f → exchange_that_left table start past s ≡ Some x → ComparesNames x f
+      earlier : Earlier s past → (f : Stored) → is_that_serial (serial_stored_by_outcome item.outcome) s ≡ false → held_entry table start past s ≡ Some f → latest_maker_of table start past s ≡ Some x → ComparesNames x f
       earlier rest f unstored look before = by_used (is_that_serial (serial_used_by_outcome item.outcome) s) refl
         where
           by_used : (u : Bool) → is_that_serial (serial_used_by_outcome item.outcome) s ≡ u → ComparesNames x f
@@ -379,7 +379,7 @@ module _ (table : Table) (start : StoreAtStart) (first : ℕ) where
 
 -- ---- the law
 
-left_named : (table : Table) (start : StoreAtStart) (trace : List Item) (s : ℕ) (x : Exchange) → exchange_that_left table start trace s ≡ Some x → x.vary ≡ vary_of table.lines x.line.number
+left_named : (table : Table) (start : StoreAtStart) (trace : List Item) (s : ℕ) (x : Exchange) → latest_maker_of table start trace s ≡ Some x → x.vary ≡ vary_of table.lines x.line.number
 left_named table start [] s x left = absurd cc
 left_named table start (item ∷ past) s x left =
     by_event (find_exchange (exchange_id_of_event item.event) (open_exchanges table start past)) item.event (λ y h. named_so table start (exchange_id_of_event item.event) past y h) (λ h. left_named table start past s x h) left
@@ -388,12 +388,12 @@ left_named table start (item ∷ past) s x left =
     look = held_entry table start past s
 
     by_event : (o : Option Exchange) (event : Event) → ((y : Exchange) → o ≡ Some y → y.vary ≡ vary_of table.lines y.line.number) →
-        (exchange_that_left table start past s ≡ Some x → x.vary ≡ vary_of table.lines x.line.number) →
-        exchange_left_by o event item.outcome look (exchange_that_left table start past s) s ≡ Some x → x.vary ≡ vary_of table.lines x.line.number
+        (latest_maker_of table start past s ≡ Some x → x.vary ≡ vary_of table.lines x.line.number) →
+        maker_after_event o event item.outcome look (latest_maker_of table start past s) s ≡ Some x → x.vary ≡ vary_of table.lines x.line.number
     by_event (Some y) (Answer now id r) own earlier k =
         by_test (is_that_serial (serial_stored_by_outcome item.outcome) s || (is_that_serial (serial_used_by_outcome item.outcome) s && is_answered_by y r now look)) k
       where
-        by_test : (b : Bool) → cond b (Some y) (exchange_that_left table start past s) ≡ Some x → x.vary ≡ vary_of table.lines x.line.number
+        by_test : (b : Bool) → cond b (Some y) (latest_maker_of table start past s) ≡ Some x → x.vary ≡ vary_of table.lines x.line.number
         by_test true h = own x h
         by_test false h = earlier h
     by_event (Some y) (Arrive now id asked) own earlier k = earlier k
@@ -417,9 +417,9 @@ each_same (name ∷ names) earlier later h =
 
 pub sends_the_same_values : NothingOfAnotherValueIsSent
 sends_the_same_values table start first s item past x asked name good used about left named =
-    by_case (same_or_compared table es xs distinct o item.event item.outcome (exchange_that_left table start past s) s x asked is.response
+    by_case (same_or_compared table es xs distinct o item.event item.outcome (latest_maker_of table start past s) s x asked is.response
     (sends_nothing_else table start first s item past good used) is.is_held (its_serial (serial_used_by_outcome item.outcome) s used) about
-    (sym (ap (λ (look : Option Stored). exchange_left_by o item.event item.outcome look (exchange_that_left table start past s) s) look_is) ∙ left)
+    (sym (ap (λ (look : Option Stored). maker_after_event o item.event item.outcome look (latest_maker_of table start past s) s) look_is) ∙ left)
     (λ before. held_so table start first past good.1 s x is.response (held_in table start first past good.1 s is.response is.is_held) look_is before))
   where
     es : List Stored

@@ -1,7 +1,7 @@
 -- When a client's own conditions get a 304 from a stored response, in the words of RFC 9110, sections 13.1.2, 13.1.3
 -- and 13.2.2, and RFC 9111, section 4.3.2.
 use Rattle.std.specs.Prelude.{◌≡◌, ◌⊎◌, ℕ, ◌≤◌, true, false, List, codes, Some, None, Any}
-use Rattle.hx_fields.specs.declared.field_line.Field.{Field}
+use Rattle.hx_fields.specs.Line.{Field}
 use Rattle.hx_fields.specs.FieldLines.{combined_of, has_field, members_of, values_of}
 use Rattle.hx_age.specs.Dates.{single_date}
 use Rattle.hx_store.specs.Stored.{Stored}

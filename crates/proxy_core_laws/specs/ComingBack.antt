@@ -3,7 +3,7 @@
 -- WhoCameBackWaitsForNobody: a request that was here before doesn't wait, so not for itself
 -- EachPassIsNamed: who goes forward names the proxy once more
 use Rattle.std.specs.Prelude.{◌≡◌, ℕ, ◌+◌, Bool, true, List, [], ◌∷◌, ◌++◌, codes, Option}
-use Rattle.hx_fields.specs.declared.field_line.Field.{Field}
+use Rattle.hx_fields.specs.Line.{Field}
 use Rattle.hx_hop.specs.declared.request_view.Asked.{Asked}
 use Rattle.hx_hop.specs.declared.conditions.Conditions.{Conditions}
 use Rattle.hx_hop.specs.Forwarding.{forwarded_of, line, via_text}

@@ -4,7 +4,7 @@
 -- PassesTheStore: what is given past the store
 -- WhoIsSignedInPassesTheStore, WhoGoesPastTheStoreLeadsNobody, AnswerPastTheStoreTellsOfTheCookie: the laws
 use Rattle.std.specs.Prelude.{◌≡◌, ℕ, Bool, true, false, List, ◌∷◌, Option, Some, None}
-use Rattle.hx_fields.specs.declared.field_line.Field.{Field}
+use Rattle.hx_fields.specs.Line.{Field}
 use Rattle.hx_hop.specs.declared.request_view.Asked.{Asked}
 use Rattle.hx_policy.specs.declared.words.Policy.{Policy}
 use Rattle.hx_allow.specs.Cookies.{has_cookie_of}

@@ -1,7 +1,7 @@
 -- What becomes of Set-Cookie over a line that removes it: a cookie is for the one who asked (RFC 6265, section 3), and
 -- what is stored may be sent to others (RFC 9111, section 7.3).
 --
--- IsResponseWithoutCookies: a response that sets none
+-- IsTextWithoutSetCookie: a response that sets none
 -- NoCookieIsSentOutOfTheStore, NoCookieIsLeftInTheStore: none comes to others
 -- WhoAskedGetsTheCookies: they come to the one who asked
 use Rattle.std.specs.Prelude.{◌≡◌, ℕ, Bool, true, false, List, ◌∷◌, Option, Some, codes}
@@ -25,10 +25,10 @@ use Rattle.proxy_core.specs.State.{serial_used_by_outcome}
 use Rattle.proxy_core.specs.Traces.{Item}
 use Rattle.proxy_core.specs.Uncached.{EventGoesOverLine}
 use Rattle.proxy_core_laws.specs.OneResponse.{passed_answer_sent}
-use Rattle.proxy_core_laws.specs.Varied.{exchange_that_left}
+use Rattle.proxy_core_laws.specs.Varied.{latest_maker_of}
 
 -- the bytes are the text of a response without a line of that name
-pub record IsResponseWithoutCookies (bytes : List ℕ) : Type 0 where
+pub record IsTextWithoutSetCookie (bytes : List ℕ) : Type 0 where
   pub sent : SentResponse
   pub text_is : bytes ≡ sent_response_text sent
   pub has_none : has_field sent.fields (codes "Set-Cookie") ≡ false
@@ -45,13 +45,13 @@ NoCookieIsSentOutOfTheStore = (table : Table) (start : StoreAtStart) (first s : 
     (open_exchanges table start past)) item.event line
     → (policy_of table.lines line).removes_cookies ≡ true
     → serial_used_by_outcome item.outcome ≡ Some s → item.outcome ≡ Replied reply
-    → IsResponseWithoutCookies reply.bytes
+    → IsTextWithoutSetCookie reply.bytes
 
 -- and what a request over it left in the store, by its answer or by a 304, has none for any other line
 abbrev pub NoCookieIsLeftInTheStore : Type 0
 NoCookieIsLeftInTheStore = (table : Table) (start : StoreAtStart) (trace : List Item) (s : ℕ) (x : Exchange)
     (e : Stored)
-    → exchange_that_left table start trace s ≡ Some x → (policy_of table.lines x.line).removes_cookies ≡ true
+    → latest_maker_of table start trace s ≡ Some x → (policy_of table.lines x.line).removes_cookies ≡ true
     → held_entry table start trace s ≡ Some e
     → has_field e.fields (codes "Set-Cookie") ≡ false
 

@@ -7,7 +7,7 @@ use Rattle.std.specs.List.{AllByRecursion}
 use Rattle.std.specs.Prelude.{◌≡◌, ℕ, ◌<◌, ◌≤◌, ◌^◌, ◌++◌, Bool, true, false, List, [], ◌∷◌, length, codes, decimal}
 use Rattle.std.specs.Prelude.{All, None, Some}
 use Rattle.hx_fields.specs.declared.limits.TheConstants.{END_OF_TIME}
-use Rattle.hx_fields.specs.declared.field_line.Field.{Field}
+use Rattle.hx_fields.specs.Line.{Field}
 use Rattle.httparse.specs.Grammar.{IsToken}
 use Rattle.hx_fields.specs.FieldLines.{has_field}
 use Rattle.hx_allow.specs.TableLines.{Table}

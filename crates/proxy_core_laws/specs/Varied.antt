@@ -1,6 +1,6 @@
 -- What the names do that a line gives for Vary, over a whole history (RFC 9111, section 4.1).
 --
--- exchange_that_left: the exchange whose answer a response is, or by whose 304 it was freshened last
+-- latest_maker_of: the exchange whose answer a response is, or by whose 304 it was freshened last
 -- NothingOfAnotherValueIsSent, OpenExchangeHasTheNamesOfItsLine: the laws
 use Rattle.std.specs.Prelude.{◌≡◌, ℕ, ◌||◌, ◌&&◌, Bool, false, List, [], ◌∷◌, Option, Some, None, cond}
 use Rattle.std.specs.List.{Contains}
@@ -28,23 +28,23 @@ is_answered_by x r now None = false
 is_answered_by x r now (Some e) = stored_response_is_answered x r now e
 
 -- an answer is stored as the response of this serial, or is the 304 that freshens it; else that is as it was
-abbrev pub exchange_left_by : Option Exchange → Event → Outcome → Option Stored → Option Exchange → ℕ → Option Exchange
-exchange_left_by (Some x) (Answer now id r) o e before s =
+abbrev pub maker_after_event : Option Exchange → Event → Outcome → Option Stored → Option Exchange → ℕ → Option Exchange
+maker_after_event (Some x) (Answer now id r) o e before s =
     cond (is_that_serial (serial_stored_by_outcome o) s
     || (is_that_serial (serial_used_by_outcome o) s && is_answered_by x r now e)) (Some x) before
-exchange_left_by (Some x) (Arrive now id asked) o e before s = before
-exchange_left_by (Some x) (Fail now id kind) o e before s = before
-exchange_left_by (Some x) (Wake now id) o e before s = before
-exchange_left_by (Some x) (Abandon id) o e before s = before
-exchange_left_by (Some x) (Overdue id) o e before s = before
-exchange_left_by None event o e before s = before
+maker_after_event (Some x) (Arrive now id asked) o e before s = before
+maker_after_event (Some x) (Fail now id kind) o e before s = before
+maker_after_event (Some x) (Wake now id) o e before s = before
+maker_after_event (Some x) (Abandon id) o e before s = before
+maker_after_event (Some x) (Overdue id) o e before s = before
+maker_after_event None event o e before s = before
 
 -- there is none for what was held at first
-abbrev pub exchange_that_left : Table → StoreAtStart → List Item → ℕ → Option Exchange
-exchange_that_left table start [] s = None
-exchange_that_left table start (item ∷ past) s =
-    exchange_left_by (find_exchange (exchange_id_of_event item.event) (open_exchanges table start past)) item.event
-    item.outcome (held_entry table start past s) (exchange_that_left table start past s) s
+abbrev pub latest_maker_of : Table → StoreAtStart → List Item → ℕ → Option Exchange
+latest_maker_of table start [] s = None
+latest_maker_of table start (item ∷ past) s =
+    maker_after_event (find_exchange (exchange_id_of_event item.event) (open_exchanges table start past)) item.event
+    item.outcome (held_entry table start past s) (latest_maker_of table start past s) s
 
 -- ---- the statements
 
@@ -56,7 +56,7 @@ NothingOfAnotherValueIsSent = (table : Table) (start : StoreAtStart) (first s : 
     serial_used_by_outcome item.outcome ≡ Some s →
     request_of_event (find_exchange (exchange_id_of_event item.event) (open_exchanges table start past)) item.event
     ≡ Some asked →
-    exchange_that_left table start (item ∷ past) s ≡ Some x → Contains (vary_of table.lines x.line.number) name →
+    latest_maker_of table start (item ∷ past) s ≡ Some x → Contains (vary_of table.lines x.line.number) name →
     combined_of x.asked.fields name ≡ combined_of asked.fields name
 
 -- an exchange has the names of its line from its arrival to its end

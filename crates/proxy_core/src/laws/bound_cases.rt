@@ -16,7 +16,7 @@ ghost use Rattle.proxy_core.specs.Validating.{stored_is_too_large};
 /// 27. Vary has 23 more, and what it names of the request 17; Age has 8. What the line names for Vary has a name of 17
 /// and a value of 5.
 #[tactic(auto, unfolding(httpdate::proofs::OnLiterals::httpdate_on_literals))]
-pub fn what_an_answer_weighs()
+pub fn worked_weights_of_answers()
     ensures plain { weight_of_answer (forwarded_on_miss (get_a_with []))
         (response_with 200 (date_101 ∷ cache_control (codes "max-age=60") ∷ [])) 130 ≡ 1272 }
     ensures nominating { weight_of_answer (forwarded_on_miss (get_a_with (accept_language (codes "en") ∷ [])))
@@ -32,7 +32,7 @@ pub fn what_an_answer_weighs()
 /// What weighs as much as the whole store may isn't too large, and a byte more is. What nominates a star isn't asked
 /// for its weight, and without a bound nothing is too heavy.
 #[tactic(auto, unfolding(httpdate::proofs::OnLiterals::httpdate_on_literals))]
-pub fn what_is_too_heavy_alone()
+pub fn worked_answers_too_large_for_the_store()
     ensures just { answer_is_too_large (table_with_store (Some 1272)) (forwarded_on_miss (get_a_with []))
         (response_with 200 (date_101 ∷ cache_control (codes "max-age=60") ∷ [])) 130 ≡ false }
     ensures a_byte_less { answer_is_too_large (table_with_store (Some 1271)) (forwarded_on_miss (get_a_with []))
@@ -53,7 +53,7 @@ pub fn what_is_too_heavy_alone()
 /// is a byte less, or room for one by number. The 304 makes the first a byte heavier, and it comes first: then the
 /// second goes, unless there is room for that byte.
 #[tactic(auto, unfolding(hx_validate::specs::Answering::freshened_of, httpdate::proofs::OnLiterals::httpdate_on_literals, hx_allow::specs::Matching::policy_of, hx_reuse::specs::Rules::reuse_rule_of, hx_reuse::specs::Rules::decision_of, hx_age::specs::Lifetime::lifetime_of))]
-pub fn what_is_held_by_weight()
+pub fn worked_store_bounded_by_bytes()
     ensures just { held_serials (table_with_store (Some 2554)) (empty_store 5) two_were_stored ≡ 2 ∷ 1 ∷ [] }
     ensures a_byte_less { held_serials (table_with_store (Some 2553)) (empty_store 5) two_were_stored ≡ 2 ∷ [] }
     ensures unbounded { held_serials (table_with_store None) (empty_store 5) two_were_stored ≡ 2 ∷ 1 ∷ [] }
@@ -65,7 +65,7 @@ pub fn what_is_held_by_weight()
 
 /// What is held at first is held in its order of use, and what is used comes first.
 #[tactic(auto, unfolding(hx_validate::specs::Answering::freshened_of, httpdate::proofs::OnLiterals::httpdate_on_literals, hx_allow::specs::Matching::policy_of, hx_reuse::specs::Rules::reuse_rule_of, hx_reuse::specs::Rules::decision_of, hx_age::specs::Lifetime::lifetime_of))]
-pub fn what_is_held_at_first()
+pub fn worked_store_at_the_start()
     ensures at_first { held_serials (table_with_store None) two_at_first [] ≡ 2 ∷ 1 ∷ [] }
     ensures entries { held_entries (table_with_store None) two_at_first [] ≡ stored_with 2 [] ∷ stored_with 1 [] ∷ [] }
     ensures used { held_serials (table_with_store None) two_at_first one_was_sent ≡ 1 ∷ 2 ∷ [] }

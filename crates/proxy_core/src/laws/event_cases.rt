@@ -14,7 +14,7 @@ ghost use Rattle.proxy_core.specs.Carrying.{judges_a_request};
 ghost use Rattle.proxy_core.specs.Waiting.{exchange_has_closed, is_wake_event, was_overdue, was_woken};
 ghost use Rattle.proxy_core.specs.Cases.{key_of_path, response_with};
 ghost use Rattle.proxy_core.specs.WrongTraces.{fresh_for_a_minute, get_a, get_b, forward_over_line_3};
-ghost use Rattle.proxy_core.specs.WrongTraces.{trace_sends_invalidated, trace_sends_behind, item_of};
+ghost use Rattle.proxy_core.specs.WrongTraces.{trace_sends_invalidated, trace_sends_after, item_of};
 ghost use Rattle.proxy_core.specs.WrongTraces.{reply_without_store, reply_that_sends_stored, trace_with_two_replies};
 
 /// Which events are arrivals, which are wakes, and which judge a request.
@@ -94,9 +94,9 @@ pub fn worked_counts_of_traces()
     ensures not_woken { was_woken 2 (item_of (Abandon 2) Ended ∷ trace_with_two_replies) ≡ false }
     ensures invalidated { some_item_overtakes (key_of_path (codes "/a")) trace_sends_invalidated [] ≡ true }
     ensures another_key { some_item_overtakes (key_of_path (codes "/b")) trace_sends_invalidated [] ≡ false }
-    ensures by_a_304 { some_item_overtakes (key_of_path (codes "/a")) (trace_sends_behind (response_with 304 [])) []
+    ensures by_a_304 { some_item_overtakes (key_of_path (codes "/a")) (trace_sends_after (response_with 304 [])) []
         ≡ true }
     ensures by_no_error { some_item_overtakes (key_of_path (codes "/a"))
-        (trace_sends_behind (response_with 404 [])) []
+        (trace_sends_after (response_with 404 [])) []
         ≡ false }
 {}

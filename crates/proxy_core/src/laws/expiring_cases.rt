@@ -12,9 +12,9 @@ ghost use Rattle.hx_store.specs.Stored.{Stored};
 ghost use Rattle.hx_status.specs.Abouts.{about_purge};
 ghost use Rattle.proxy_core.specs.Cases.{date_101, etag_field, purged_at, first_stored, get_a_to_expire, get_a_with};
 ghost use Rattle.proxy_core.specs.Cases.{as_overtaken, key_of_path, post_exchange, response_with, revalidates_e};
-ghost use Rattle.proxy_core.specs.Cases.{stored_with, table, tagged_held};
+ghost use Rattle.proxy_core.specs.Cases.{stored_with, table, entries_held_with_tags};
 ghost use Rattle.proxy_core.specs.Expiring.{A304MakesFreshUnlessOvertaken, ExpiredStaysSoUntilMadeFresh};
-ghost use Rattle.proxy_core.specs.Expiring.{MadeFreshByWhatWasAskedBehind, PurgeThatExpiresLeavesAllElse};
+ghost use Rattle.proxy_core.specs.Expiring.{MadeFreshByWhatWasAskedAfter, PurgeThatExpiresLeavesAllElse};
 ghost use Rattle.proxy_core.specs.Expiring.{PurgeThatRemovesLeavesAllElse, is_made_fresh};
 ghost use Rattle.proxy_core.specs.Outcomes.{outcome_of_arrival, outcome_of_purge};
 ghost use Rattle.proxy_core.specs.Scopes.{serials_to_expire, serials_to_remove};
@@ -23,8 +23,8 @@ ghost use Rattle.proxy_core.specs.Validating.{freshened_by_304};
 ghost use Rattle.proxy_core.specs.declared.event.Event.TheVariants.{Answer, Arrive};
 ghost use Rattle.proxy_core.specs.declared.outcome.Outcome.TheVariants.{Reply};
 
-/// In a good trace, behind a purge that says that what it takes stays, that is held with its lifetime ended at the
-/// moment of the purge; behind any other purge it is held no more. All else is held as it was.
+/// In a good trace, after a purge that says that what it takes stays, that is held with its lifetime ended at the
+/// moment of the purge; after any other purge it is held no more. All else is held as it was.
 pub fn a_purge_leaves_all_else()
     ensures expired { PurgeThatExpiresLeavesAllElse }
     ensures removed { PurgeThatRemovesLeavesAllElse }
@@ -35,21 +35,21 @@ pub fn a_purge_leaves_all_else()
 pub fn what_is_expired_stays_so_until_it_is_made_fresh()
     ensures stays { ExpiredStaysSoUntilMadeFresh }
     ensures by_a_304 { A304MakesFreshUnlessOvertaken }
-    ensures asked_behind { MadeFreshByWhatWasAskedBehind }
+    ensures asked_behind { MadeFreshByWhatWasAskedAfter }
 {}
 
 /// What a purge of `/a` at 130 does that expires, of what is held for `/a` and for `/b`: what stays, what is told, and
 /// whose answers are overtaken.
 #[tactic(auto, unfolding(httpdate::proofs::OnLiterals::httpdate_on_literals))]
-pub fn what_a_purge_that_expires_leaves()
+pub fn worked_purges_that_expire()
     ensures removes_none { serials_to_remove get_a_to_expire (first_stored ∷ []) ≡ [] }
     ensures expires { serials_to_expire get_a_to_expire (first_stored ∷ []) ≡ Some (1 ∷ []) }
     ensures none_there { serials_to_expire get_a_to_expire [] ≡ Some [] }
     ensures without_the_word { serials_to_expire (get_a_with []) (first_stored ∷ []) ≡ None }
     ensures by_its_tag { serials_to_expire (get_a_with (line (codes "Purge-Mode") (codes "stale")
-        ∷ line (codes "Purge-Tag") (codes "news") ∷ [])) tagged_held ≡ Some (1 ∷ 4 ∷ []) }
+        ∷ line (codes "Purge-Tag") (codes "news") ∷ [])) entries_held_with_tags ≡ Some (1 ∷ 4 ∷ []) }
     ensures of_a_host { serials_to_expire (get_a_with (line (codes "Purge-Scope") (codes "host")
-        ∷ line (codes "Purge-Mode") (codes "stale") ∷ line (codes "Purge-Tag") (codes "news") ∷ [])) tagged_held
+        ∷ line (codes "Purge-Mode") (codes "stale") ∷ line (codes "Purge-Tag") (codes "news") ∷ [])) entries_held_with_tags
         ≡ Some (1 ∷ []) }
     ensures told { outcome_of_arrival table (first_stored ∷ []) [] 130 get_a_to_expire (verdict.Purged 3)
         ≡ Reply (record {
@@ -77,7 +77,7 @@ pub fn what_a_purge_that_expires_leaves()
 {}
 
 /// A response that was made at 101, came within a second and is fresh for a minute, is sent before 160. Where a purge
-/// at 130 expired it, it is sent before that moment, and then asked about as a stale one is: its age is 30 then, and so
+/// at 130 expired it, it is sent before that moment, and then revalidated as a stale one is: its age is 30 then, and so
 /// is its lifetime (RFC 9111, sections 4.2 and 4.2.3).
 #[tactic(auto, unfolding(hx_reuse::specs::Rules::decision_of, hx_reuse::specs::Rules::reuse_rule_of))]
 pub fn what_is_expired_is_stale()
@@ -97,7 +97,7 @@ pub fn what_is_expired_is_stale()
 /// A 304 makes it fresh, unless its request was overtaken: then the response stays expired as it was, with the other
 /// times of the 304.
 #[tactic(auto, unfolding(httpdate::proofs::OnLiterals::httpdate_on_literals, hx_validate::specs::Answering::freshened_of))]
-pub fn what_a_304_makes_fresh()
+pub fn a_304_makes_an_expired_response_fresh()
     ensures fresh { (freshened_by_304 (revalidates_e (get_a_with [])) (response_with 304 (date_101 ∷ [])) 105
         (purged_at 103 (stored_with 1 (etag_field (codes "\"e\"") ∷ [])))).times
         ≡ record { date = 101; age_value = 0; request_time = 100; response_time = 105; expired = None } }

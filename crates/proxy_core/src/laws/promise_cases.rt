@@ -18,9 +18,9 @@ ghost use Rattle.proxy_core.specs.Cases.{cache_tag, key_of_path, response_with, 
 ghost use Rattle.proxy_core.specs.WrongTraces.{edge_table, fresh_for_a_minute, get_a, get_admin, events_that_store_a};
 ghost use Rattle.proxy_core.specs.WrongTraces.{item_of, condition_about_v, post_a};
 ghost use Rattle.proxy_core.specs.WrongTraces.{reply_that_stores, reply_that_sends_stored, trace_of_good_events};
-ghost use Rattle.proxy_core.specs.WrongTraces.{trace_sends_invalidated, trace_sends_behind, response_304};
-ghost use Rattle.proxy_core.specs.WrongTraces.{trace_sends_of_the_start, trace_sends_of_the_start_behind_a_purge};
-ghost use Rattle.proxy_core.specs.WrongTraces.{trace_sends_behind_a_purge, trace_stores_behind_a_purge};
+ghost use Rattle.proxy_core.specs.WrongTraces.{trace_sends_invalidated, trace_sends_after, response_304};
+ghost use Rattle.proxy_core.specs.WrongTraces.{trace_sends_of_the_start, trace_sends_of_the_start_after_a_purge};
+ghost use Rattle.proxy_core.specs.WrongTraces.{trace_sends_after_a_purge, trace_stores_after_a_purge};
 ghost use Rattle.proxy_core.specs.WrongTraces.{trace_stores_tagged, purge_item, purge_item_that_expires};
 ghost use Rattle.proxy_core.specs.WrongTraces.{trace_stores_invalidated, trace_with_three_forwards};
 ghost use Rattle.proxy_core.specs.WrongTraces.{trace_with_two_replies, GoingForwardIsWrong};
@@ -80,18 +80,18 @@ pub fn sending_what_is_invalidated_is_refused()
     ensures since_stored { NothingInvalidatedIsSent edge_table (empty_store 2) trace_sends_invalidated → ⊥ }
     ensures on_its_way { NothingInvalidatedIsSent edge_table (empty_store 2) trace_stores_invalidated → ⊥ }
     ensures behind_a_304 { NothingInvalidatedIsSent edge_table (empty_store 2)
-        (trace_sends_behind (response_304 [])) → ⊥ }
+        (trace_sends_after (response_304 [])) → ⊥ }
     ensures behind_a_redirect { NothingInvalidatedIsSent edge_table (empty_store 2)
-        (trace_sends_behind (response_with 303 [])) → ⊥ }
+        (trace_sends_after (response_with 303 [])) → ⊥ }
     ensures by_its_tag { NothingInvalidatedIsSent edge_table (empty_store 2)
-        (trace_sends_behind_a_purge (codes "news")) → ⊥ }
+        (trace_sends_after_a_purge (codes "news")) → ⊥ }
     ensures on_its_way_by_any_tag { NothingInvalidatedIsSent edge_table (empty_store 2)
-        (trace_stores_behind_a_purge (codes "sport")) → ⊥ }
+        (trace_stores_after_a_purge (codes "sport")) → ⊥ }
     ensures since_the_start { NothingInvalidatedSinceTheStartIsSent edge_table
         (record { limit = 2; entries = stored_with 1 [] ∷ [] }) trace_sends_of_the_start → ⊥ }
     ensures since_the_start_by_its_tag { NothingInvalidatedSinceTheStartIsSent edge_table
         (record { limit = 2; entries = stored_with 1 (cache_tag (codes "sport, news") ∷ []) ∷ [] })
-        (trace_sends_of_the_start_behind_a_purge (codes "news")) → ⊥ }
+        (trace_sends_of_the_start_after_a_purge (codes "news")) → ⊥ }
 {}
 
 /// A purge with a tag invalidates of what is held within its scope what names the tag, and leaves the rest to be sent;
@@ -113,7 +113,7 @@ pub fn what_a_purge_that_expires_invalidates()
     ensures on_its_way { overtakes_key (key_of_path (codes "/a")) purge_item_that_expires trace_stores_tagged ≡ true }
 {}
 
-/// No run stops behind its last event, nor at one that no fault stands against, but where memory runs out.
+/// No run stops after its last event, nor at one that no fault stands against, but where memory runs out.
 pub fn no_run_stops_without_a_fault()
     ensures behind_the_last { HistoryStopsAt [] None OutOfMemory → ⊥ }
     ensures at_a_good_event { HistoryStopsAt [] (Some (Arrive 100 1 get_a)) IdTaken → ⊥ }

@@ -12,7 +12,7 @@ ghost use Rattle.hx_store.specs.Serials.{serial_is_in, Distinct};
 ghost use Rattle.hx_store.specs.Shelf.{serials, serials_of, without_serials};
 ghost use Rattle.hx_store.specs.Stored.{Stored};
 ghost use Rattle.proxy_core.specs.Cases.{first_stored, get_a_with, key_of_path, post_exchange, stored_with_tags};
-ghost use Rattle.proxy_core.specs.Cases.{table, tagged_held};
+ghost use Rattle.proxy_core.specs.Cases.{table, entries_held_with_tags};
 ghost use Rattle.proxy_core.specs.Outcomes.{outcome_of_purge};
 ghost use Rattle.proxy_core.specs.Scopes.{is_purged, serials_purged};
 ghost use Rattle.proxy_core.specs.State.{open_exchanges_after};
@@ -62,14 +62,14 @@ pub fn what_a_purge_takes()
 /// What goes where the tag `news` is purged, alone and of a host; and whose answers aren't stored then. A response with
 /// more than 64 tags goes by each tag, one with 64 by those alone.
 pub fn what_a_purge_with_a_tag_takes()
-    ensures tag { serials_purged (get_a_with (line (codes "Purge-Tag") (codes "news") ∷ [])) tagged_held ≡ 1 ∷ 4 ∷ [] }
-    ensures another_tag { serials_purged (get_a_with (line (codes "Purge-Tag") (codes "New") ∷ [])) tagged_held ≡ [] }
+    ensures tag { serials_purged (get_a_with (line (codes "Purge-Tag") (codes "news") ∷ [])) entries_held_with_tags ≡ 1 ∷ 4 ∷ [] }
+    ensures another_tag { serials_purged (get_a_with (line (codes "Purge-Tag") (codes "New") ∷ [])) entries_held_with_tags ≡ [] }
     ensures of_a_host { serials_purged (get_a_with (line (codes "Purge-Scope") (codes "host")
-        ∷ line (codes "purge-tag") (codes "news") ∷ [])) tagged_held ≡ 1 ∷ [] }
+        ∷ line (codes "purge-tag") (codes "news") ∷ [])) entries_held_with_tags ≡ 1 ∷ [] }
     ensures of_all { serials_purged (get_a_with (line (codes "Purge-Tag") (codes "news")
-        ∷ line (codes "Purge-Scope") (codes "all") ∷ [])) tagged_held ≡ 1 ∷ 4 ∷ [] }
+        ∷ line (codes "Purge-Scope") (codes "all") ∷ [])) entries_held_with_tags ≡ 1 ∷ 4 ∷ [] }
     ensures of_a_prefix { serials_purged (get_a_with (line (codes "Purge-Scope") (codes "prefix")
-        ∷ line (codes "Purge-Tag") (codes "sport") ∷ [])) tagged_held ≡ 3 ∷ [] }
+        ∷ line (codes "Purge-Tag") (codes "sport") ∷ [])) entries_held_with_tags ≡ 3 ∷ [] }
     ensures more_than_64 { serials_purged (get_a_with (line (codes "Purge-Tag") (codes "news") ∷ []))
         (stored_with_tags 2 (seven_tags_and_a_comma ++ seven_tags_and_a_comma ++ seven_tags_and_a_comma
         ++ seven_tags_and_a_comma ++ seven_tags_and_a_comma ++ seven_tags_and_a_comma ++ seven_tags_and_a_comma

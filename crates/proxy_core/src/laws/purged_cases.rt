@@ -13,7 +13,7 @@ ghost use Rattle.proxy_core.specs.Replies.{ttl_of_stored};
 /// second left then, and is 20 past its lifetime at 130. A request waits for it as for any that is over, also where the
 /// purge came at once.
 #[tactic(auto, unfolding(hx_age::specs::Lifetime::lifetime_of))]
-pub fn what_is_told_of_what_was_purged()
+pub fn worked_ttl_after_a_purge()
     ensures not_purged { ttl_of_stored (plain true) first_stored 110 ≡ pos 50 }
     ensures at_the_purge { ttl_of_stored (plain true) (purged_at 110 first_stored) 110 ≡ pos 0 }
     ensures later { ttl_of_stored (plain true) (purged_at 110 first_stored) 130 ≡ negsuc 19 }

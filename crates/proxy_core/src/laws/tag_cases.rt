@@ -2,7 +2,7 @@
 //! from the definitions, and its body is empty.
 
 ghost use Rattle.std.specs.Prelude.{◌≡◌, ◌∷◌, ◌++◌, [], ℕ, Bool, List, Option, Some, None, true, false, codes};
-ghost use Rattle.hx_fields.specs.declared.field_line.Field.{Field};
+ghost use Rattle.hx_fields.specs.Line.{Field};
 ghost use Rattle.hx_fields.specs.Examples.{line};
 ghost use Rattle.hx_fields.specs.FieldLines.{has_field};
 ghost use Rattle.hx_policy.specs.Policies.{plain};

@@ -147,7 +147,7 @@ pub fn which_304_was_asked_for()
 
 /// An unsafe method that isn't refused invalidates, whatever it is called (RFC 9111, section 4.4;
 /// RFC 9110, section 9.2.1).
-pub fn what_invalidates()
+pub fn worked_invalidating_answers()
     ensures post { answer_invalidates (forwarded_on_miss (request_for (codes "POST") (codes "/a") []))
         (response_with 200 []) ≡ true }
     ensures unknown { answer_invalidates (forwarded_on_miss (request_for (codes "BREW") (codes "/a") []))
@@ -204,7 +204,7 @@ pub fn which_answers_are_stored()
 /// (RFC 9111, sections 3, 3.1, 4.1 and 4.2.3); and of the stored responses of the path the one in
 /// German whose place it takes.
 #[tactic(auto, unfolding(httpdate::proofs::OnLiterals::httpdate_on_literals, hx_storable::specs::Rules::storage_rule_of, hx_allow::specs::Matching::policy_of))]
-pub fn what_is_made_of_an_answer()
+pub fn worked_stored_responses()
     ensures whole { stored_response_made 4 (forwarded_on_miss (get_a_with (accept_language (codes "de") ∷ [])))
         (response_with 404 (connection_field (codes "X-A") ∷ line (codes "X-A") (codes "1") ∷ vary_field (codes "Accept-Language")
         ∷ line (codes "Age") (codes "5") ∷ first_answer_fields)) 102
@@ -245,10 +245,10 @@ pub fn what_is_made_of_an_answer()
         (Refuses UriMiss None)) ≡ None }
 {}
 
-/// What is asked about a stored response (RFC 9111, section 4.3.1), when that is kept behind a 304
-/// (section 4.3.4), and from when on it is as old as the 304.
+/// With what condition a stored response is revalidated (RFC 9111, section 4.3.1), when that response is kept after a
+/// 304 (section 4.3.4), and from when on it is as old as the 304.
 #[tactic(auto, unfolding(httpdate::proofs::OnLiterals::httpdate_on_literals, hx_storable::specs::Rules::storage_rule_of, hx_allow::specs::Matching::policy_of, hx_validate::specs::Answering::freshened_of))]
-pub fn what_a_304_leaves()
+pub fn worked_stored_responses_after_a_304()
     ensures asked_about { condition_about_stored (stored_with 3 (etag_field (codes "\"e\"") ∷ []))
         ≡ Some (record { serial = 3; sent = record { etag = Some (codes "\"e\""); modified = None } }) }
     ensures not_asked_about { condition_about_stored (stored_with 3 (cache_control (codes "max-age=60") ∷ [])) ≡ None }
@@ -295,9 +295,9 @@ pub fn what_a_304_leaves()
 /// What the words of the line change: an answer that isn't stored says why where its line explains
 /// it (RFC 9211, section 2.8), a stored response without a lifetime has the operator's (RFC 9111,
 /// section 4.2.2), as one with a long lifetime has his most; a page for one visitor isn't stored by the lifetime alone,
-/// nor kept behind his 304; and a 304 keeps neither a cookie nor an error whose line stores none.
+/// nor kept after his 304; and a 304 keeps neither a cookie nor an error whose line stores none.
 #[tactic(auto, unfolding(httpdate::proofs::OnLiterals::httpdate_on_literals, hx_storable::specs::Rules::storage_rule_of, hx_allow::specs::Matching::policy_of))]
-pub fn what_the_words_of_a_line_change()
+pub fn worked_line_options_in_storing()
     ensures explained { storing_rule_to_explain (table_with_policy explains_storing_policy)
         (forwarded_on_miss (get_a_with [])) (response_with 200 []) 101 (Some 4)
         ≡ Some NothingToReuse }
@@ -361,7 +361,7 @@ pub fn what_is_sent_after_a_failure()
 
 /// For whom a request waits: for the first GET of its key that went forward since nothing was held,
 /// where it is one as well. Over a line without the word nothing else counts.
-pub fn who_waits_for_whom()
+pub fn worked_leaders_of_requests()
     ensures first { leader_of_request (plain true) [] (forwarded_on_miss (get_a_with []) ∷ record
         (forwarded_on_miss (get_a_with [])) { id = 2 } ∷ []) (get_a_with []) UriMiss
         ≡ Some 1 }
@@ -394,7 +394,7 @@ pub fn who_waits_for_whom()
 /// And where its line lets a request wait for what is stale: for the first GET of its key whose rule
 /// names the chosen response, whichever rule that is, where that had a lifetime, which is over.
 #[tactic(auto, unfolding(hx_age::specs::Lifetime::lifetime_of))]
-pub fn who_waits_for_what_is_stale()
+pub fn worked_leaders_for_stale_responses()
     ensures first { leader_of_request wait_for_stale_policy stale_held (forwarded_on_stale
         ∷ record forwarded_on_stale { id = 2 } ∷ []) (get_a_with []) NoMaxStale ≡ Some 1 }
     ensures must_revalidate { leader_of_request wait_for_stale_policy
@@ -438,7 +438,7 @@ pub fn who_waits_for_what_is_stale()
 /// was invalidated since, or with Authorization where it has none; nor where no-cache keeps all that
 /// is held from it.
 #[tactic(auto, unfolding(hx_age::specs::Lifetime::lifetime_of))]
-pub fn who_would_wait_in_vain()
+pub fn worked_requests_that_do_not_wait()
     ensures another_variant { leader_of_request wait_for_stale_policy stale_held
         (record forwarded_on_stale { named = Some 2 } ∷ []) (get_a_with []) NoMaxStale ≡ None }
     ensures a_missing_variant { leader_of_request wait_for_stale_policy stale_held
@@ -484,8 +484,8 @@ pub fn who_would_wait_in_vain()
         MustRevalidate ≡ None }
 {}
 
-/// The faults of steps, the least of those that stand; and the serial behind a serial, while there is one.
-pub fn faults_and_serials_in_order()
+/// The faults of steps, the least of those that stand; and the serial after a serial, while there is one.
+pub fn worked_step_faults_and_serials()
     ensures taken { fault_at_exchange (Some (forwarded_on_miss (get_a_with []))) (Arrive 5 1 (get_a_with []))
         ≡ Some IdTaken }
     ensures arrives { fault_at_exchange None (Arrive 253402300799 1 (get_a_with [])) ≡ None }
@@ -514,7 +514,7 @@ pub fn faults_and_serials_in_order()
 /// answer to another, or the rule where it takes no response but a stored one; and a request that
 /// waited, when it is woken.
 #[tactic(auto, unfolding(hx_reuse::specs::Rules::decision_of, hx_reuse::specs::Rules::reuse_rule_of, hx_allow::specs::Matching::policy_of, hx_hop::specs::Forwarding::forwarded_of, httpdate::proofs::OnLiterals::httpdate_on_literals))]
-pub fn what_an_arrival_gives()
+pub fn worked_outcomes_of_arrivals()
     ensures denied { outcome_of_arrival table (first_stored ∷ []) [] 130 (get_a_with []) (verdict.DeniedBy 3)
         ≡ outcome_of_refusal 130 (Denied 3) (get_a_with []) }
     ensures unmatched { outcome_of_arrival table (first_stored ∷ []) [] 130 (get_a_with []) verdict.NoLine
@@ -560,12 +560,12 @@ pub fn what_an_arrival_gives()
         ≡ Forward (over_line 1) (codes "GET /a HTTP/1.1\r\nHost: h\r\nIf-None-Match: \"e\"\r\nVia: 1.1 edge\r\nConnection: close\r\n\r\n") }
 {}
 
-/// What an answer of the origin gives: a 304 sends the stored response that was asked about with
+/// What an answer of the origin gives: a 304 sends the stored response that was revalidated, with
 /// its new lines, and where it has another tag the request goes forward once more without
 /// conditions (RFC 9111, section 4.3.4); one that nobody asked for is a failure; in place of a 503
 /// a stored response is sent (RFC 5861, section 4).
 #[tactic(auto, unfolding(hx_hop::specs::Forwarding::forwarded_of, hx_validate::specs::Answering::freshened_of, httpdate::proofs::OnLiterals::httpdate_on_literals))]
-pub fn what_an_answer_gives()
+pub fn worked_outcomes_of_answers()
     ensures validated { reply_bytes (outcome_of_answer table (stored_without_lifetime ∷ []) 105
         (revalidates_e (get_a_with [])) (response_with 304 lines_of_304)
         (Some 4) (decision.Forward NoLifetime (Some 1))) ≡ codes "HTTP/1.1 200 \r\nDate: Thu, 01 Jan 1970 00:01:41 GMT\r\nCache-Control: max-age=60\r\nETag: \"e\"\r\nAge: 5\r\nCache-Status: edge;fwd=stale;fwd-status=304;ttl=55;detail=no-lifetime\r\nContent-Length: 2\r\n\r\nhi" }
@@ -594,7 +594,7 @@ pub fn what_an_answer_gives()
 /// invalidation overtakes those of its key (RFC 9111, section 4.4), what arrives stands behind the
 /// others, and what goes forward has the moment and the rule of that.
 #[tactic(auto, unfolding(hx_reuse::specs::Rules::decision_of, hx_reuse::specs::Rules::reuse_rule_of, hx_allow::specs::Matching::policy_of, hx_allow::specs::Matching::verdict_of, hx_allow::specs::Matching::verdict_of_request, hx_allow::specs::Matching::matches_line, httpdate::proofs::OnLiterals::httpdate_on_literals))]
-pub fn what_a_step_leaves_open()
+pub fn worked_open_exchanges_after_a_step()
     ensures gone { open_exchanges_after table [] (forwarded_on_miss (get_a_with []) ∷ waiting
         ∷ record waiting { id = 3; stage = Waiting 9 } ∷ [])
         (Abandon 1) Ended ≡ record waiting { stage = Released } ∷ record waiting { id = 3; stage = Waiting 9 } ∷ [] }
@@ -637,7 +637,7 @@ pub fn what_a_step_leaves_open()
 
 /// And of the stored responses: what is stored or used comes first, the last goes beyond the limit, and a 304 freshens.
 #[tactic(auto, unfolding(hx_validate::specs::Answering::freshened_of, httpdate::proofs::OnLiterals::httpdate_on_literals))]
-pub fn what_a_step_leaves_stored()
+pub fn worked_stored_responses_after_a_step()
     ensures stored { serials (entries_after_storing (Some (forwarded_on_miss (get_a_with [])))
         (Answer 101 1 (response_with 200 first_answer_fields)) (Some 4)
         (3 ∷ []) three_held) ≡ 4 ∷ 2 ∷ 1 ∷ [] }

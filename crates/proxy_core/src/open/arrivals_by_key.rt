@@ -72,8 +72,8 @@ impl ArrivalsByKey {
         Ok(())
     }
 
-    /// Takes the arrival of an exchange out. No memory is taken.
-    pub(crate) fn leave(&mut self, exchange: &Exchange, arrival: u64)
+    /// Takes the arrival of an exchange out. Nothing is allocated.
+    pub(crate) fn remove_arrival(&mut self, exchange: &Exchange, arrival: u64)
         ensures left { ArrivalHasLeft exchange.now arrival self.old self.new }
         ensures trim { HasNoEmptyKeysInEither self.old → HasNoEmptyKeysInEither self.new }
     {

@@ -6,7 +6,7 @@ ghost use Rattle.proxy_core.specs.State.{exchange_gone_forward, overtaken_exchan
 ghost use Rattle.proxy_core.specs.State.{released_exchange, exchange_past_its_wait};
 
 use crate::open::leading::waits_for;
-use crate::open::leading_on::{NextLeader, stage_behind};
+use crate::open::leading_on::{NextLeader, stage_after_leader};
 use crate::open::stage::Stage;
 use crate::steps::condition::Condition;
 use hx_allow::{Config, PurgeScope, Route};
@@ -95,7 +95,7 @@ impl Exchange {
         ensures { self.new ≡ led_on_exchange config.now (Some next) leader self.old }
     {
         if waits_for(self.stage, leader) {
-            self.stage = stage_behind(config, next, self);
+            self.stage = stage_after_leader(config, next, self);
         }
     }
 

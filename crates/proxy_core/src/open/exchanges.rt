@@ -161,7 +161,7 @@ impl Exchanges {
         }
     }
 
-    /// The first of those that may be woken. No memory is taken.
+    /// The first exchange that may be woken. Nothing is allocated.
     pub(crate) fn first_ready(&self) -> Option<u64>
         ensures value { result ≡ slice_get (ready_ids self.now) 0 }
         ensures ready { IfSome result (λ id. ExchangeMayBeWoken id self.now) }
@@ -182,7 +182,7 @@ impl Exchanges {
         Ok(ids)
     }
 
-    /// The exchange of an id ends, and releases those that wait for it. Gives it. No memory is taken.
+    /// The exchange of an id ends, and releases those that wait for it. Gives it. Nothing is allocated.
     pub(crate) fn close(&mut self, id: u64) -> Option<Exchange>
         ensures after { self.new ≡ exchanges_after_close id self.old }
         ensures taken { result ≡ find_exchange id self.old }
@@ -275,7 +275,7 @@ impl Exchanges {
         }
     }
 
-    /// The exchange of an id waits no longer, if it waits. No memory is taken.
+    /// The exchange of an id waits no longer, if it waits. Nothing is allocated.
     pub(crate) fn overdue(&mut self, id: u64)
         ensures { self.new ≡ map (overdue_exchange id) self.old }
     {
@@ -286,7 +286,7 @@ impl Exchanges {
             return;
         };
         if is_waiting(x.stage) {
-            self.waiting.leave(x.stage, *arrival);
+            self.waiting.remove_arrival(x.stage, *arrival);
             x.wait_no_more();
             self.released.enter(Stage::Released, *arrival);
             self.released.settle(&self.by_arrival);
@@ -336,8 +336,8 @@ impl Exchanges {
         Ok(())
     }
 
-    /// The exchange of an id ends, and the others of an invalidated key are overtaken. Gives it. No memory is taken.
-    pub(crate) fn leave(&mut self, id: u64, invalidated: Option<&Key>) -> Option<Exchange>
+    /// The exchange of an id ends, and the others of an invalidated key are overtaken. Gives it. Nothing is allocated.
+    pub(crate) fn end_exchange(&mut self, id: u64, invalidated: Option<&Key>) -> Option<Exchange>
         ensures after { self.new
             ≡ exchanges_after_end (option_map target_alone (option_copied invalidated.entry)) id self.old }
         ensures taken { result ≡ find_exchange id self.old }
@@ -411,7 +411,7 @@ fn push(
         Ok(_) => Ok(()),
         Err(refused) => {
             let (_, exchange) = refused.value;
-            by_key.leave(&exchange, arrival);
+            by_key.remove_arrival(&exchange, arrival);
             Err(AllocError)
         }
     }
@@ -443,7 +443,7 @@ fn enter(
     match push(by_arrival, by_key, arrival, exchange) {
         Ok(()) => Ok(()),
         Err(error) => {
-            waiting.leave(stage, arrival);
+            waiting.remove_arrival(stage, arrival);
             Err(error)
         }
     }
@@ -465,7 +465,7 @@ fn leave_for_origin(
     ensures trim_keys { HasNoEmptyKeysInEither by_key.old → HasNoEmptyKeysInEither by_key.new }
 {
     by_key.move_to_origin(exchange, arrival)?;
-    waiting.leave(exchange.stage, arrival);
+    waiting.remove_arrival(exchange.stage, arrival);
     Ok(())
 }
 
@@ -488,8 +488,8 @@ fn remove(
     ensures trim_keys { HasNoEmptyKeysInEither by_key.old → HasNoEmptyKeysInEither by_key.new }
 {
     let taken = by_arrival.remove(&arrival)?;
-    waiting.leave(taken.stage, arrival);
-    by_key.leave(&taken, arrival);
+    waiting.remove_arrival(taken.stage, arrival);
+    by_key.remove_arrival(&taken, arrival);
     Some(taken)
 }
 

@@ -5,7 +5,7 @@ ghost use Rattle.std.specs.Prelude.{◌≡◌, ℕ, false, IfOk, OnOk, OnErr, op
 ghost use Rattle.std.specs.Bool.{OnFalse, OnTrue};
 ghost use Rattle.std.specs.BTreeMap.{get};
 ghost use Rattle.hx_target.specs.KeyOrder.{key_cmp};
-ghost use Rattle.proxy_core.specs.ByKey.{is_in_key_index, IsEmptyKeyIndex, ArrivalIsPut, ArrivalIsPutIf};
+ghost use Rattle.proxy_core.specs.ByKey.{is_in_key_index, IsEmptyKeyIndex, ArrivalIsPut, ArrivalIsIndexedIf};
 ghost use Rattle.proxy_core.specs.ByKey.{ArrivalIsTakenOut, AreSameKeyIndex, HasNoEmptyKeys, HasNoOtherEmptyKeys};
 
 use hx_target::Key;
@@ -64,7 +64,7 @@ impl KeyIndex {
 
     /// Enters an arrival where others ask for that key, and says whether some do.
     fn insert_beside(&mut self, key: &Key, arrival: u64) -> Result<bool, AllocError>
-        ensures ok { IfOk result (λ has. ArrivalIsPutIf has key.now arrival self.old self.new) }
+        ensures ok { IfOk result (λ has. ArrivalIsIndexedIf has key.now arrival self.old self.new) }
         ensures err { OnErr result (AreSameKeyIndex self.old self.new) }
         ensures trim { HasNoEmptyKeys self.old → HasNoEmptyKeys self.new }
     {
@@ -77,7 +77,7 @@ impl KeyIndex {
         }
     }
 
-    /// Takes an arrival out at a key. No memory is taken.
+    /// Takes an arrival out at a key. Nothing is allocated.
     pub(crate) fn remove(&mut self, key: &Key, arrival: u64)
         ensures taken { ArrivalIsTakenOut key.now arrival self.old self.new }
         ensures trim { HasNoEmptyKeys self.old → HasNoEmptyKeys self.new }

@@ -1,7 +1,8 @@
 //! Who leads on where the client of a leader goes away before its answer.
 ghost use Rattle.std.specs.Prelude.{◌≡◌, ◌==◌, ◌&&◌, not, Some};
 ghost use Rattle.proxy_core.specs.Leading.{waits_for};
-ghost use Rattle.proxy_core.specs.LeadingOn.{wait_has_an_end, may_lead_on, leading_on, follows_leader, stage_behind};
+ghost use Rattle.proxy_core.specs.LeadingOn.{wait_has_an_end, may_lead_on};
+ghost use Rattle.proxy_core.specs.LeadingOn.{leading_on, follows_leader, stage_after_leader};
 
 use crate::open::exchange::Exchange;
 use crate::open::leading::{has_authorization, waits_for as stage_waits_for};
@@ -69,8 +70,8 @@ pub(crate) fn follows_leader(config: &Config, next: NextLeader, exchange: &Excha
 }
 
 /// Whether an exchange waits for the next leader from now on, or may be woken.
-pub(crate) fn stage_behind(config: &Config, next: NextLeader, exchange: &Exchange) -> Stage
-    ensures { result ≡ stage_behind config.now (Some next) exchange.now }
+pub(crate) fn stage_after_leader(config: &Config, next: NextLeader, exchange: &Exchange) -> Stage
+    ensures { result ≡ stage_after_leader config.now (Some next) exchange.now }
 {
     if follows_leader(config, next, exchange) {
         Stage::Waiting(next.id)

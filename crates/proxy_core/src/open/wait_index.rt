@@ -56,8 +56,8 @@ impl WaitIndex {
         }
     }
 
-    /// Takes an arrival out, if its exchange waits. No memory is taken.
-    pub(crate) fn leave(&mut self, stage: Stage, arrival: u64)
+    /// Takes an arrival out, if its exchange waits. Nothing is allocated.
+    pub(crate) fn remove_arrival(&mut self, stage: Stage, arrival: u64)
         ensures left { WaiterHasLeft stage arrival self.old self.new }
         ensures trim { HasNoEmptyWaiterSets self.old → HasNoEmptyWaiterSets self.new }
     {
@@ -67,7 +67,7 @@ impl WaitIndex {
         }
     }
 
-    /// Takes all out that wait for the exchange of an id. No memory is taken.
+    /// Takes all out that wait for the exchange of an id. Nothing is allocated.
     pub(crate) fn take(&mut self, id: u64) -> Option<BTreeSet<u64>>
         ensures all { SetHoldsAllWaiters result id self.old }
         ensures emptied { WaitersAreTakenOut id self.old self.new }

@@ -281,7 +281,7 @@ fn not_modified_answer_text(
 }
 
 /// Whether the client has the answer already: the condition that it set stayed with the proxy, and is false of it.
-fn client_has_it(answer: &OriginAnswer<'_>, head: &Answered, policy: Policy) -> bool
+fn client_has_the_answer(answer: &OriginAnswer<'_>, head: &Answered, policy: Policy) -> bool
     requires { head.now ≡ answered_of answer.now.response.now answer.now.response_time }
     ensures { result ≡ client_has_answer policy answer.now.exchange.now answer.now.response.now
         answer.now.response_time }
@@ -306,7 +306,7 @@ pub(crate) fn passed_answer_text(
     ensures about { IfOk result (λ sent. sent.about ≡ about_passed_answer shown.policy answer.now.exchange.now
         answer.now.response.now answer.now.response_time shown.stored shown.rule) }
 {
-    if client_has_it(answer, head, shown.policy) {
+    if client_has_the_answer(answer, head, shown.policy) {
         not_modified_answer_text(alloc, name, answer, head, shown)
     } else {
         answer_in_range_text(alloc, name, answer, head, shown)

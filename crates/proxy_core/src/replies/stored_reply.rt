@@ -15,7 +15,7 @@ use crate::open::exchange::Exchange;
 use crate::replies::reply_text::{content_unless_head, is_head, length_unless_forbidden};
 use hx_age::{current_age, ttl};
 use hx_fields::{Bytes, Fields};
-use hx_framing::{AddedLine, ResponseLines, write_response_with};
+use hx_framing::{AddedLine, ResponseLines, write_response_with_added_lines};
 use hx_hop::Asked;
 use hx_policy::Policy;
 use hx_reuse::lifetime_of_held;
@@ -365,7 +365,7 @@ impl StoredReply<'_> {
             length,
             close: self.asked.close,
         };
-        let bytes = write_response_with(alloc, status, &lines, content)?;
+        let bytes = write_response_with_added_lines(alloc, status, &lines, content)?;
         let about = About {
             status,
             told: Told::Handled(shown),

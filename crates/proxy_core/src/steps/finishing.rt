@@ -1,7 +1,7 @@
 //! What a pending reply does to the core.
 ghost use Rattle.std.specs.Prelude.{◌≡◌, ◌<◌, ◌-◌, ◌^◌, ◌∷◌, [], map, false, IfOk, IfSome, OnOk, OnErr, option_copied};
 ghost use Rattle.hx_store.specs.Shelf.{holds_serial, without_serials};
-ghost use Rattle.hx_store.specs.Weights.{cut_to_bounds, front_of_weight_if_any, weight_of};
+ghost use Rattle.hx_store.specs.Weights.{cut_to_bounds, prefix_of_weight_if_any, weight_of};
 ghost use Rattle.proxy_core.specs.AnsweredRequests.{request_of_exchange};
 ghost use Rattle.proxy_core.specs.Outcomes.{find_exchange};
 ghost use Rattle.proxy_core.specs.State.{entries_without_serials, next_serial_after, exchange_forwarded_again};
@@ -21,10 +21,10 @@ use hx_store::{Entry, Shelf, shed_to};
 use hx_target::Key;
 use std::alloc::AllocError;
 
-/// Lets the least recently used go until the others weigh no more than `most` bytes together. No memory is taken.
+/// Lets the least recently used go until the others weigh no more than `most` bytes together. Nothing is allocated.
 fn shed<S: Shelf>(shelf: &mut S, most: Option<u64>)
     requires { IfSome most (λ most. most < 2 ^ 64 - 1) }
-    ensures entries { S.entries shelf.new ≡ front_of_weight_if_any weight_of most (S.entries shelf.old) }
+    ensures entries { S.entries shelf.new ≡ prefix_of_weight_if_any weight_of most (S.entries shelf.old) }
     ensures limit { S.limit shelf.new ≡ S.limit shelf.old }
 {
     if let Some(most) = most {
@@ -32,7 +32,7 @@ fn shed<S: Shelf>(shelf: &mut S, most: Option<u64>)
     }
 }
 
-/// Lets the least recently used go until both bounds of the store hold. No memory is taken.
+/// Lets the least recently used go until both bounds of the store hold. Nothing is allocated.
 #[tactic(auto, using(crate::proofs::Cutting::shed_is_cut))]
 pub(crate) fn cut<S: Shelf>(shelf: &mut S, most: Option<u64>)
     requires { IfSome most (λ most. most < 2 ^ 64 - 1) }
@@ -69,7 +69,7 @@ fn put_in<S: Shelf>(
     }
 }
 
-/// Takes out the responses of these serials. No memory is taken.
+/// Takes out the responses of these serials. Nothing is allocated.
 pub(crate) fn remove_each<S: Shelf>(shelf: &mut S, removed: &[u64])
     ensures entries { S.entries shelf.new ≡ entries_without_serials removed.now (S.entries shelf.old) }
     ensures limit { S.limit shelf.new ≡ S.limit shelf.old }
@@ -192,7 +192,7 @@ impl<S: Shelf> Core<S> {
             Ok(()) => {}
             Err(error) => return Err(error),
         }
-        let ended = self.exchanges.leave(id, invalidated.as_ref());
+        let ended = self.exchanges.end_exchange(id, invalidated.as_ref());
         self.next = next_serial_after(self.next, stored);
         let outcome = Outcome::Reply(Reply {
             bytes,

@@ -50,10 +50,11 @@ returns-clause-outcome g c =
     let awaited = c.in_ok-awaited-in-Forward.awaited in
     let decided : decision_of (policy_of s.table.lines line) s.entries asked c.args.now ≡ decision.Forward rule named = search rules in
     let none_only : is_only_if_cached asked ≡ false = search rules in
-    let is : awaited ≡ awaited_of (policy_of s.table.lines line) s.entries asked rule = search rules in
     let asks : c.in_ok-condition_about_serial-in-Forward.field-0 ≡ condition_about_serial s.entries named = search rules in
     let same : c.in_ok-copy-in-Forward.field-0 ≡ asked = c.in_ok-copy-in-Forward.ensures in
     let policy : c.policy-policy.result ≡ policy_of s.table.lines line = search rules in
+    let is : awaited ≡ awaited_of (policy_of s.table.lines line) s.entries asked rule =
+    subst (λ (p : Policy). awaited ≡ awaited_of p s.entries asked rule) policy c.in_ok-awaited-in-Forward.ensures in
     let left : c.sent_beside-beside.result ≡ None = search rules in
     let none : sent_beside (policy_of s.table.lines line) s.entries asked c.args.now awaited (leader_if_awaited (policy_of s.table.lines line) asked (exchanges_to_wait_for s.table line asked s.exchanges) awaited) ≡ None =
     subst (λ (p : Policy). sent_beside p s.entries asked c.args.now awaited (leader_if_awaited p asked (exchanges_to_wait_for s.table line asked s.exchanges) awaited) ≡ None) policy (sym c.sent_beside-beside.ensures ∙ left) in
@@ -72,7 +73,8 @@ returns-clause-after g c =
     let outcome : IfOk c.wait_or_forward.result (λ (o : Outcome). o ≡ outcome_of_waiting_or_forwarding s.table x.line x.asked x.condition (leader_if_awaited c.policy-policy.result x.asked (exchanges_to_wait_for s.table x.line x.asked s.exchanges) c.in_ok-awaited-in-Forward.awaited)) = c.wait_or_forward.ensures.outcome in
     let leaves : OnOk c.wait_or_forward.result (c.wait_or_forward.new.self ≡ record s { exchanges = s.exchanges ++ exchange_with_leader (leader_if_awaited c.policy-policy.result x.asked (exchanges_to_wait_for s.table x.line x.asked s.exchanges) c.in_ok-awaited-in-Forward.awaited) x ∷ [] }) = c.wait_or_forward.ensures.after in
     let decided : decision_of (policy_of s.table.lines c.args.line) s.entries c.args.asked.now c.args.now ≡ decision.Forward rule named = search rules in
-    let told : c.vary.result.now ≡ vary_of s.table.lines c.args.line.number = search rules in
+    let told : c.vary.result.now ≡ vary_of s.table.lines c.args.line.number =
+    c.vary.ensures ∙ ap (λ (st : State). vary_of st.table.lines c.args.line.number) c.self.view_is in
     let names : x.vary ≡ vary_of s.table.lines c.args.line.number = c.in_ok-copy_of-in-Forward.ensures ∙ told in
     let drops : x.removes_cookies ≡ (policy_of s.table.lines c.args.line).removes_cookies = search rules in
     let asks : x.condition ≡ condition_about_serial s.entries named = search rules in

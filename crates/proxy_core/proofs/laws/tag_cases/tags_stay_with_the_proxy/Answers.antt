@@ -1,6 +1,6 @@
 use Rattle.std.proofs.Common.{◌++◌, ◌∷◌, [], List, ap, refl}
 use Rattle.std.specs.Prelude.{codes, decimal}
-use Rattle.hx_fields.specs.declared.field_line.Field.{Field}
+use Rattle.hx_fields.specs.Line.{Field}
 use Rattle.hx_age.specs.Age.{age_of}
 use Rattle.hx_status.specs.Member.{member_text}
 use Rattle.proxy_core.specs.Replies.{cache_status_in_place_of_answer, cache_status_of_passed_answer, cache_status_of_sent, fields_with_age_and_status, line, without_tags}

@@ -1,5 +1,5 @@
 use Rattle.std.proofs.Common.{◌≡◌, List, [], None, subst, ap, ◌∙◌}
-use Rattle.hx_fields.specs.declared.field_line.Field.{Field}
+use Rattle.hx_fields.specs.Line.{Field}
 use Rattle.hx_framing.specs.Text.{response_text}
 use Rattle.hx_hop.specs.declared.response_view.Answered.{Answered}
 use Rattle.proxy_core.specs.Replies.{fields_in_place_of_answer, fields_of_304_sent}

@@ -40,12 +40,12 @@ invariant_of-self-then-is_waiting c =
       indexes = record {
         ids = subst (λ (zs : List (ℕ × Exchange)). IsIdIndexOf zs (λ id. get nat_cmp s.arrivals id)) (sym is)
             (indexed_on_all f (overdue-id id) es _ c.self.invariant.indexes.ids);
-        waiters = subst (AllIndexed c.leave.new.self) (sym (c.get_mut.follows.holds y).0)
-            (waiters-past n x y es s.waiting c.leave.new.self (sym c.in-Some-get_mut.ensures.value) c.wait_no_more.ensures c.leave.ensures.left c.self.invariant.indexes.waiters);
+        waiters = subst (AllIndexed c.remove_arrival.new.self) (sym (c.get_mut.follows.holds y).0)
+            (waiters-past n x y es s.waiting c.remove_arrival.new.self (sym c.in-Some-get_mut.ensures.value) c.wait_no_more.ensures c.remove_arrival.ensures.left c.self.invariant.indexes.waiters);
       };
       releases = c.settle.ensures.settled;
       asking = subst (TellsAllByKey s.by_key) (sym is) (asked-on_all f (overdue-place id) es s.by_key c.self.invariant.asking);
-      trim_waits = c.leave.ensures.trim c.self.invariant.trim_waits;
+      trim_waits = c.remove_arrival.ensures.trim c.self.invariant.trim_waits;
       trim_keys = c.self.invariant.trim_keys;
     }
 

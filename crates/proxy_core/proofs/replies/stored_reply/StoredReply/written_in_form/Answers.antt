@@ -1,6 +1,6 @@
 use Rattle.std.proofs.Common.{◌≡◌, ℕ, List, IfOk, ap, subst, ◌∙◌}
 use Rattle.std.specs.Prelude.{length, Some}
-use Rattle.hx_fields.specs.declared.field_line.Field.{Field}
+use Rattle.hx_fields.specs.Line.{Field}
 use Rattle.hx_framing.specs.Text.{response_text}
 use Rattle.proxy_core.specs.Replies.{content_unless_head, fields_of_sent_response, is_head}
 use Rattle.proxy_core.proofs.replies.stored_reply.StoredReply.written_in_form.Goals as goal

@@ -3,7 +3,7 @@ use Rattle.std.specs.Fmt.{digits}
 use Rattle.httpdate.proofs.OnLiterals.{httpdate_on_literals}
 use Rattle.hx_hop.specs.Moments.{part_holding_day}
 use Rattle.hx_allow.specs.Matching.{policy_of}
-use Rattle.proxy_core.proofs.laws.worked_cases.what_an_arrival_gives.Goals as goal
+use Rattle.proxy_core.proofs.laws.worked_cases.worked_outcomes_of_arrivals.Goals as goal
 
 pub returns-clause-woken_hit : goal.returns-clause-woken_hit
 unfolding digits httpdate_on_literals policy_of

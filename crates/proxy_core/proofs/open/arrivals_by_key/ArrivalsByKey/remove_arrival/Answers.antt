@@ -1,4 +1,4 @@
-use Rattle.proxy_core.proofs.open.arrivals_by_key.ArrivalsByKey.leave.Goals as goal
+use Rattle.proxy_core.proofs.open.arrivals_by_key.ArrivalsByKey.remove_arrival.Goals as goal
 
 pub returns-then-is_get_at_origin-clause-trim : goal.returns-then-is_get_at_origin-clause-trim
 returns-then-is_get_at_origin-clause-trim c o = (c.remove.ensures.trim o.0, o.1)

@@ -5,7 +5,7 @@ use Rattle.hx_storable.specs.Rules.{storage_rule_of}
 use Rattle.hx_validate.specs.Answering.{freshened_of}
 use Rattle.hx_validate.proofs.Rooms.{leaves_room_to_the_byte}
 use Rattle.proxy_core.specs.Cases.{etag_field}
-use Rattle.proxy_core.proofs.laws.worked_cases.what_a_304_leaves.Goals as goal
+use Rattle.proxy_core.proofs.laws.worked_cases.worked_stored_responses_after_a_304.Goals as goal
 
 pub returns-clause-bytes : goal.returns-clause-bytes
 unfolding httpdate_on_literals storage_rule_of policy_of freshened_of

@@ -2,7 +2,7 @@ use Rattle.std.proofs.Common.{refl}
 use Rattle.std.specs.Fmt.{digits}
 use Rattle.httpdate.proofs.OnLiterals.{httpdate_on_literals}
 use Rattle.hx_hop.specs.Moments.{part_holding_day}
-use Rattle.proxy_core.proofs.laws.expiring_cases.what_a_purge_that_expires_leaves.Goals as goal
+use Rattle.proxy_core.proofs.laws.expiring_cases.worked_purges_that_expire.Goals as goal
 
 pub returns-clause-told : goal.returns-clause-told
 unfolding digits httpdate_on_literals part_holding_day
