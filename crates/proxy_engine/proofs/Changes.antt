@@ -18,7 +18,7 @@ use Rattle.proxy_engine.specs.declared.endpoints.peeked.Peeked.{Peeked}
 use Rattle.proxy_engine.specs.Peeked.{ResponseRepresents}
 use Rattle.proxy_engine.specs.EngineModel.{EngineModel, ConnectionModel, LinkModel, new_link_model, no_connection, no_link, connection_at, link_at, with_connection, with_link, with_core}
 use Rattle.proxy_engine.specs.Pairing.{activity_of}
-use Rattle.proxy_engine.specs.State.{RelatesLists, ConnectionRepresents, LinkRepresents, EngineRepresents, engine_state, due_request_at, due_request_seen, load_of_due_request, connection_is_free_at, is_gone_at, is_retired_at, link_result_at, connection_load}
+use Rattle.proxy_engine.specs.State.{RelatesLists, ConnectionRepresents, LinkRepresents, EngineRepresents, engine_state, due_request_at, due_request_seen, work_left_of_due_request, connection_is_free_at, is_gone_at, is_retired_at, link_result_at, connection_work_left}
 use Rattle.proxy_engine.specs.declared.endpoints.activities.Activity.{Activity}
 use Rattle.proxy_engine.specs.declared.endpoints.activities.Activity.TheVariants.{Free, Forwarded}
 use Rattle.proxy_engine.specs.declared.endpoints.ends.Connection.{Connection}
@@ -131,7 +131,7 @@ pub retired_in_model : (cs : List (Option Connection)) (ks : List (Option Link))
 retired_in_model cs ks core first s i within there h = retired_there (get_or cs i None) (connection_at s i) there (both_at ConnectionRepresents cs s.connections i None no_connection h.connections within)
 
 -- what is open counts
-pub counts_one : (o : Option Connection) → is_some o ≡ true → 1 ≤ connection_load o
+pub counts_one : (o : Option Connection) → is_some o ≡ true → 1 ≤ connection_work_left o
 counts_one None e = absurd (cc)
 counts_one (Some c) e = omega arith
 
@@ -158,7 +158,7 @@ action_due false (Due next.End) a e = ap (λ (b : Next Request). Due b) (some_sa
 pub due_at : (c : Connection) (a : Next Request) → due_request_at (Some c) ≡ Some a → c.reader.ahead ≡ Due a
 due_at c a e = action_due (takes_no_request c.gone false c.activity) c.reader.ahead a e
 
-known_by : (busy : Bool) (l : Lookahead Request) → load_of_due_request (cond busy None (due_request_seen l)) ≤ one_if_message_or_continue l
+known_by : (busy : Bool) (l : Lookahead Request) → work_left_of_due_request (cond busy None (due_request_seen l)) ≤ one_if_message_or_continue l
 known_by true l = omega arith
 known_by false Unknown = omega arith
 known_by false Quiet = omega arith
@@ -168,5 +168,5 @@ known_by false (Due (next.Message m)) = omega arith
 known_by false (Due (next.Refused f)) = omega arith
 known_by false (Due next.End) = omega arith
 
-pub action_known : (c : Connection) → load_of_due_request (due_request_at (Some c)) ≤ one_if_message_or_continue c.reader.ahead
+pub action_known : (c : Connection) → work_left_of_due_request (due_request_at (Some c)) ≤ one_if_message_or_continue c.reader.ahead
 action_known c = known_by (takes_no_request c.gone false c.activity) c.reader.ahead

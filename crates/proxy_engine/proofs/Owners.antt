@@ -3,7 +3,7 @@ use Rattle.std.proofs.Common.{◌≡◌, ◌∙◌, refl, ap, subst, ℕ, ◌<�
 use Rattle.proxy_core.specs.State.{State as CoreState}
 use Rattle.proxy_engine.specs.ConnectionNumbers.{link_place}
 use Rattle.proxy_engine.specs.EngineModel.{EngineModel, link_at}
-use Rattle.proxy_engine.specs.Pairing.{IsPaired, owner_of, owner_kept}
+use Rattle.proxy_engine.specs.Pairing.{StateIsPaired, owner_of, owner_kept}
 use Rattle.proxy_engine.specs.Reading.{owner_in_model, owner_of_number, line_of_owner, line_of_link}
 use Rattle.proxy_engine.specs.State.{State, EngineRepresents}
 use Rattle.proxy_engine.specs.declared.endpoints.ends.Link.{Link}
@@ -11,7 +11,7 @@ use Rattle.proxy_engine.proofs.Pairs.{owned_link, within_connections}
 use Rattle.proxy_engine.proofs.Readable.{owner_read_at}
 
 -- a link that is open belongs to a connection that there is
-pub owner_is_there : (e : State) (l i : ℕ) → IsPaired e → owner_kept e l ≡ Some i → i < length e.connections
+pub owner_is_there : (e : State) (l i : ℕ) → StateIsPaired e → owner_kept e l ≡ Some i → i < length e.connections
 owner_is_there e l i paired owns = by_first (nat_le e.first l) refl owns
   where
     j : ℕ

@@ -21,7 +21,7 @@ use Rattle.proxy_core.specs.declared.core_fault.CoreFault.TheVariants.{MomentToo
 use Rattle.hx_hop.specs.declared.request_view.Asked.{Asked}
 use Rattle.hx_allow.specs.TableLines.{Table}
 use Rattle.hx_store.specs.Stored.{Stored}
-use Rattle.proxy_core.specs.LeadingOn.{next_leader, stage_behind, led_on_exchange, exchanges_after_abandon}
+use Rattle.proxy_core.specs.LeadingOn.{next_leader, stage_after_leader, led_on_exchange, exchanges_after_abandon}
 use Rattle.proxy_core.proofs.LedOn.{behind-not_out}
 use Rattle.proxy_engine.proofs.Ending.{Remains, Renews, renewed}
 use Rattle.proxy_core.specs.Scopes.{Scope, is_in_scope}
@@ -343,10 +343,10 @@ out_led_on table ys l id [] = refl
 out_led_on table ys l id (x ∷ xs) = led_on_by (waits_for l x.stage) refl (find_exchange id (map (led_on_exchange table (next_leader table l ys) l) xs)) (find_exchange id xs) (out_led_on table ys l id xs)
   where
     led_on_by : (b : Bool) → waits_for l x.stage ≡ b → (o p : Option Exchange) → out o ≡ out p
-        → out (cond ((cond b (record x { stage = stage_behind table (next_leader table l ys) x }) x).id == id) (Some (cond b (record x { stage = stage_behind table (next_leader table l ys) x }) x)) o) ≡ out (cond (x.id == id) (Some x) p)
+        → out (cond ((cond b (record x { stage = stage_after_leader table (next_leader table l ys) x }) x).id == id) (Some (cond b (record x { stage = stage_after_leader table (next_leader table l ys) x }) x)) o) ≡ out (cond (x.id == id) (Some x) p)
     led_on_by true w o p h = open_by (x.id == id)
       where
-        open_by : (b : Bool) → out (cond b (Some (record x { stage = stage_behind table (next_leader table l ys) x })) o) ≡ out (cond b (Some x) p)
+        open_by : (b : Bool) → out (cond b (Some (record x { stage = stage_after_leader table (next_leader table l ys) x })) o) ≡ out (cond b (Some x) p)
         open_by true = ap (λ (c : Bool). Some c) (behind-not_out table (next_leader table l ys) x) ∙ waits_apart l x.stage w
         open_by false = h
     led_on_by false w o p h = out_by (x.id == id) x o p h

@@ -28,7 +28,7 @@ use Rattle.proxy_engine.specs.Questions.{question_of}
 use Rattle.proxy_engine.specs.EngineModel.{EngineModel, connection_at, link_at, with_connection, with_core}
 use Rattle.proxy_engine.specs.Due.{Abandons, LinkResult, Gives, Breaks, Finishes, Wakes, Serves, IsDueFirst}
 use Rattle.proxy_engine.specs.Acts.{OutcomeOnConnection, CoreIsStepped, LinkIsFinished, asks_head, outcome_by_table, with_activity, with_next_passed, model_after_link_freed, effects_of_outcome, model_after_outcome, next_link_number}
-use Rattle.proxy_engine.specs.State.{LinkRepresents, EngineRepresents, engine_state, link_result_seen, link_result_at, load_of_link_result, link_load, EngineDoesAct, NoActWasDoneSince}
+use Rattle.proxy_engine.specs.State.{LinkRepresents, EngineRepresents, engine_state, link_result_seen, link_result_at, work_left_of_link_result, link_work_left, EngineDoesAct, NoActWasDoneSince}
 use Rattle.proxy_engine.specs.Actions.{is_whole_answer, ExchangeIsFinishedBy, IsFaultOfFinishing}
 use Rattle.proxy_engine.specs.declared.work.EngineFault.TheVariants.{OutOfMemory, Spent}
 use Rattle.proxy_engine.specs.declared.endpoints.ends.Connection.{Connection}
@@ -238,11 +238,11 @@ memory_found exhausted (Gives r) left = left refl
 memory_found exhausted (Breaks kind) left = tt
 
 -- a link on which something stands counts two
-pub link_counts : (k : Option Link) (f : LinkResult) → link_result_at k ≡ Some f → link_load k ≡ 2
+pub link_counts : (k : Option Link) (f : LinkResult) → link_result_at k ≡ Some f → link_work_left k ≡ 2
 link_counts None f h = absurd (cc)
 link_counts (Some k) f h = ap (λ n. 1 + n) (by_look k.reader.ahead k.failed h)
   where
-    by_look : (l : Lookahead Response) (failed : Option FailKind) → link_result_seen l failed ≡ Some f → load_of_link_result l failed ≡ 1
+    by_look : (l : Lookahead Response) (failed : Option FailKind) → link_result_seen l failed ≡ Some f → work_left_of_link_result l failed ≡ 1
     by_look Unknown None h = absurd (cc)
     by_look Unknown (Some kind) h = refl
     by_look Quiet None h = absurd (cc)

@@ -15,8 +15,8 @@ use Rattle.proxy_engine.specs.Lookahead.{lookahead_may_be_due}
 use Rattle.proxy_engine.specs.EngineModel.{ConnectionModel, LinkModel}
 use Rattle.proxy_engine.specs.Due.{takes_no_request, IsDueOnLink, IsDueOnConnection}
 use Rattle.proxy_engine.specs.State.{ConnectionRepresents, LinkRepresents, link_result_at, due_request_at}
-use Rattle.proxy_engine.specs.State.{connection_load}
-use Rattle.proxy_engine.specs.State.{link_load}
+use Rattle.proxy_engine.specs.State.{connection_work_left}
+use Rattle.proxy_engine.specs.State.{link_work_left}
 use Rattle.proxy_engine.specs.declared.endpoints.ends.Connection.{Connection}
 use Rattle.proxy_engine.specs.declared.endpoints.ends.Link.{Link}
 
@@ -51,12 +51,12 @@ pub record ConnectionAfterLook (old new : Connection) : Type 0 where
   pub represents : (s : ConnectionModel) → ConnectionRepresents (Some old) s → ConnectionRepresents (Some new) s
   pub gone : new.gone ≡ old.gone
   pub activity : new.activity ≡ old.activity
-  pub load : connection_load (Some new) ≤ connection_load (Some old)
+  pub load : connection_work_left (Some new) ≤ connection_work_left (Some old)
 
 pub record LinkAfterLook (old new : Link) : Type 0 where
   pub represents : (s : LinkModel) → LinkRepresents (Some old) s → LinkRepresents (Some new) s
   pub connection : new.connection ≡ old.connection
-  pub load : link_load (Some new) ≤ link_load (Some old)
+  pub load : link_work_left (Some new) ≤ link_work_left (Some old)
 
 -- room was made for bytes, or given back: it is alike, and as much may be due
 pub record DiffersInRoom {A : Type 0} (Alike : A → A → Type 0) (flag : A → Bool) (old new : A) : Type 0 where

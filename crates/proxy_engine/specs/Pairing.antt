@@ -3,7 +3,7 @@
 -- activities_after, owners_after: what an outcome of the core adds
 -- forwarded_or_waiting_at: whether an exchange is open, and its request at the origin
 -- ConnectionsAndLinksArePaired: connections, links and open exchanges belong together
--- IsPaired: those of an engine do
+-- StateIsPaired: those of an engine do
 -- owner_kept: the connection of a link by its number
 use Rattle.std.specs.Prelude.{◌≡◌, ℕ, Bool, List, [], ◌∷◌, ◌++◌, map, Option, None, Some, slice_set}
 use Rattle.std.specs.Prelude.{slice_index_or, nat_le, if◌then◌else◌}
@@ -76,8 +76,8 @@ activities_of connections = map activity_of connections
 abbrev pub owners_of : List (Option Link) → List (Option ℕ)
 owners_of links = map owner_of links
 
-abbrev pub IsPaired : State → Type 0
-IsPaired e = ConnectionsAndLinksArePaired (activities_of e.connections) (owners_of e.links) e.core.exchanges
+abbrev pub StateIsPaired : State → Type 0
+StateIsPaired e = ConnectionsAndLinksArePaired (activities_of e.connections) (owners_of e.links) e.core.exchanges
 
 -- the place of the connection that the link of this number belongs to, where it is open
 abbrev pub owner_kept : State → ℕ → Option ℕ

@@ -32,8 +32,8 @@ abbrev pub PeekedRepresents : {S M : Type 0} → (S → Progress M → Type 0) �
 PeekedRepresents RepresentsStream Answers w p = RepresentsWithLookahead RepresentsStream Answers w.inner w.ahead p
 
 -- a bound on the continues and messages that are still to come
-abbrev pub peeked_load : {S M : Type 0} → (S → ℕ) → Peeked S M → ℕ
-peeked_load weight w = weight w.inner + one_if_message_or_continue w.ahead
+abbrev pub peeked_work_left : {S M : Type 0} → (S → ℕ) → Peeked S M → ℕ
+peeked_work_left weight w = weight w.inner + one_if_message_or_continue w.ahead
 
 -- ---- of a connection's requests, and of a link's answer
 
@@ -43,5 +43,5 @@ RequestRepresents w p = PeekedRepresents RequestRepresentsStream RequestAnswers 
 abbrev pub ResponseRepresents : Peeked ResponseState Response → Progress Response → Type 0
 ResponseRepresents w p = PeekedRepresents ResponseRepresentsStream ResponseAnswers w p
 
-abbrev pub request_load : Peeked RequestState Request → ℕ
-request_load w = peeked_load weight w
+abbrev pub request_work_left : Peeked RequestState Request → ℕ
+request_work_left w = peeked_work_left weight w

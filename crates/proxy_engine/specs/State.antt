@@ -5,8 +5,8 @@
 -- EngineTakesHappening, IsFaultOfTaking: a happening
 -- link_result_at, due_request_at: what a look has found
 -- IsFirstFound, IsFirstFoundLink, IsFirstFoundConnection: the first place at which it found something
--- engine_load: a bound on the acts still to come
--- FirstDueActWasDone, NoActWasDoneSince, WorkLessensLoad: what a call of work did, or why it did nothing
+-- engine_work_left: a bound on the acts still to come
+-- FirstDueActWasDone, NoActWasDoneSince, EachActLeavesLessWork: what a call of work did, or why it did nothing
 use Rattle.std.specs.Prelude.{◌≡◌, ℕ, ◌+◌, ◌*◌, ◌<◌, ◌≤◌, ◌^◌, List, [], ◌∷◌, length, sum_by, ◌&&◌, ◌||◌, not, Bool}
 use Rattle.std.specs.Prelude.{true, false, Option, None, Some, slice_index_or, if◌then◌else◌}
 use Rattle.std.specs.Option.{option_map}
@@ -22,7 +22,7 @@ use Rattle.proxy_engine.specs.Happenings.{PlainHappening}
 use Rattle.proxy_engine.specs.declared.endpoints.lookahead.Lookahead.{Lookahead}
 use Rattle.proxy_engine.specs.declared.endpoints.lookahead.Lookahead.TheVariants.{Unknown, Quiet, Due}
 use Rattle.proxy_engine.specs.Lookahead.{one_if_maybe_due}
-use Rattle.proxy_engine.specs.Peeked.{RequestRepresents, ResponseRepresents, request_load}
+use Rattle.proxy_engine.specs.Peeked.{RequestRepresents, ResponseRepresents, request_work_left}
 use Rattle.proxy_engine.specs.EngineModel.{EngineModel, ConnectionModel, LinkModel, no_connection, no_link}
 use Rattle.proxy_engine.specs.EngineModel.{happening_fault}
 use Rattle.proxy_engine.specs.EngineModel.{model_after_happening}
@@ -183,42 +183,42 @@ IsFirstFoundConnection cs r = IsFirstFound ConnectionRepresents IsDueOnConnectio
 -- ---- how much is still to come
 
 -- a message or a continue that is due
-abbrev pub load_of_due_request : Option (Next Request) → ℕ
-load_of_due_request None = 0
-load_of_due_request (Some next.More) = 0
-load_of_due_request (Some next.NeedsContinue) = 1
-load_of_due_request (Some (next.Message m)) = 1
-load_of_due_request (Some (next.Refused fault)) = 0
-load_of_due_request (Some next.End) = 0
+abbrev pub work_left_of_due_request : Option (Next Request) → ℕ
+work_left_of_due_request None = 0
+work_left_of_due_request (Some next.More) = 0
+work_left_of_due_request (Some next.NeedsContinue) = 1
+work_left_of_due_request (Some (next.Message m)) = 1
+work_left_of_due_request (Some (next.Refused fault)) = 0
+work_left_of_due_request (Some next.End) = 0
 
 -- a request that waits is woken, and then may go forward
-abbrev pub load_of_waiting : Activity → ℕ
-load_of_waiting Free = 0
-load_of_waiting (Forwarded place) = 0
-load_of_waiting Waiting = 2
+abbrev pub work_left_of_waiting : Activity → ℕ
+work_left_of_waiting Free = 0
+work_left_of_waiting (Forwarded place) = 0
+work_left_of_waiting Waiting = 2
 
 -- a message or a continue counts three, a connection that isn't over one, and one whose request waits two more
-abbrev pub connection_load : Option Connection → ℕ
-connection_load None = 0
-connection_load (Some c) = 3 * request_load c.reader + (1 + load_of_waiting c.activity)
+abbrev pub connection_work_left : Option Connection → ℕ
+connection_work_left None = 0
+connection_work_left (Some c) = 3 * request_work_left c.reader + (1 + work_left_of_waiting c.activity)
 
 -- an answer that may stand there counts one, and so does a failure
-abbrev pub load_of_link_result : Lookahead Response → Option FailKind → ℕ
-load_of_link_result ahead None = one_if_maybe_due ahead
-load_of_link_result ahead (Some kind) = 1
+abbrev pub work_left_of_link_result : Lookahead Response → Option FailKind → ℕ
+work_left_of_link_result ahead None = one_if_maybe_due ahead
+work_left_of_link_result ahead (Some kind) = 1
 
 -- a link that isn't dropped counts one, and what may stand on it one more: so a request that goes forward again leaves
 -- less
-abbrev pub link_load : Option Link → ℕ
-link_load None = 0
-link_load (Some k) = 1 + load_of_link_result k.reader.ahead k.failed
+abbrev pub link_work_left : Option Link → ℕ
+link_work_left None = 0
+link_work_left (Some k) = 1 + work_left_of_link_result k.reader.ahead k.failed
 
 -- no more acts than this are due, one after another, while nothing is taken
-abbrev pub engine_load : List (Option Connection) → List (Option Link) → ℕ
-engine_load connections links = sum_by connection_load connections + sum_by link_load links
+abbrev pub engine_work_left : List (Option Connection) → List (Option Link) → ℕ
+engine_work_left connections links = sum_by connection_work_left connections + sum_by link_work_left links
 
-abbrev pub load_of_state : State → ℕ
-load_of_state e = engine_load e.connections e.links
+abbrev pub work_left_of_state : State → ℕ
+work_left_of_state e = engine_work_left e.connections e.links
 
 -- ---- what a call of work does
 
@@ -251,6 +251,6 @@ NoActWasDoneSince s OutOfMemory = Unit {0}
 NoActWasDoneSince s Spent = (act : Act) × IsDueFirst s (Some act) × ActMayForward act × (2 ^ 64 ≤ next_link_number s)
 
 -- each act leaves less to do
-abbrev pub WorkLessensLoad : State → Work → State → Type 0
-WorkLessensLoad old work.Idle new = Unit {0}
-WorkLessensLoad old (work.Did effects) new = load_of_state new < load_of_state old
+abbrev pub EachActLeavesLessWork : State → Work → State → Type 0
+EachActLeavesLessWork old work.Idle new = Unit {0}
+EachActLeavesLessWork old (work.Did effects) new = work_left_of_state new < work_left_of_state old

@@ -96,7 +96,7 @@ impl<S: Shelf + Drop> Drop for Engine<S> {
 
 impl<S: Shelf> Model for Engine<S> {
     ghost use Rattle.proxy_engine.specs.State.{State, engine_state};
-    ghost use Rattle.proxy_engine.specs.Pairing.{IsPaired};
+    ghost use Rattle.proxy_engine.specs.Pairing.{StateIsPaired};
 
     ghost Value = { State };
 
@@ -108,7 +108,7 @@ impl<S: Shelf> Model for Engine<S> {
       room = e.ends.connections.has_room;
     } };
 
-    ghost invariant = { λ e. IsPaired
+    ghost invariant = { λ e. StateIsPaired
         (engine_state e.ends.connections.items e.ends.links.items e.core e.ends.first_link) };
 }
 
@@ -169,13 +169,13 @@ impl<S: Shelf> Engine<S> {
 
     /// The shelf with what it holds, and the next serial if one is left: what another engine may begin with, where no
     /// exchange is open.
-    pub fn into_store(self) -> (S, Option<u64>)
+    pub fn into_shelf_and_serial(self) -> (S, Option<u64>)
         ensures entries { S.entries result.0 ≡ self.core.entries }
         ensures limit { S.limit result.0 ≡ self.core.limit }
         ensures next { result.1 ≡ self.core.next }
     {
         let Engine { ends: _, core } = self;
-        core.into_store()
+        core.into_shelf_and_serial()
     }
 
     /// Takes what happened. An `Err` changes nothing, and says out of memory only where no other refusal stands.
@@ -184,7 +184,7 @@ impl<S: Shelf> Engine<S> {
             (plain_happening happening.entry) self.new) }
         ensures fault { IfErr result (λ fault. (s : EngineModel) → EngineRepresents self.old s
             → IsFaultOfTaking s (plain_happening happening.entry) fault) }
-        // Only connections and bytes take memory, and bytes only of an end that is still read.
+        // Only connections and bytes allocate, and bytes only of an end that is still read.
         ensures memory { result ≡ Err EngineFault.OutOfMemory → happening_takes_memory
             (plain_happening happening.entry) ≡ true }
         ensures kept { result ≡ Err EngineFault.OutOfMemory → (s : EngineModel) → EngineRepresents self.old s
@@ -259,7 +259,7 @@ impl<S: Shelf> Engine<S> {
                 if self.ends.connections.next_number().is_none() {
                     return Ok(());
                 }
-                self.ends.connections.reserve_one(alloc)
+                self.ends.connections.reserve_place(alloc)
             }
             End::Client(n) => self
                 .ends
@@ -273,7 +273,7 @@ impl<S: Shelf> Engine<S> {
     }
 
     /// Gives back the room for the bytes of a client of which none waits, as `reserve` made it: who is idle keeps
-    /// none. Its next bytes find their memory behind a `reserve` again.
+    /// none. Its next bytes find their memory after a `reserve` again.
     pub fn release_room(&mut self, alloc: Global, n: u64)
         ensures given { ClientRoomIsGivenBack self.new n }
         ensures represents { (s : EngineModel) → EngineRepresents self.old s → EngineRepresents self.new s }
@@ -314,7 +314,7 @@ impl<S: Shelf> Engine<S> {
     {
         self.ends
             .connections
-            .is_between(ConnectionPlace::of_number(n))
+            .client_is_between_requests(ConnectionPlace::of_number(n))
     }
 
     /// Whether bytes may come from an end: a link that isn't dropped, failed or shut, or an open client without an

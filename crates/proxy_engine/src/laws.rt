@@ -18,9 +18,9 @@ mod model_cases;
 mod run_laws;
 
 pub use end_cases::{
-    worked_actions, worked_activities, worked_lines_of_links, worked_loads, worked_lookaheads,
-    worked_marks, worked_numbers, worked_open_connections, worked_readable_ends,
-    worked_waits_of_clients,
+    worked_actions, worked_activities, worked_lines_of_links, worked_lookaheads, worked_marks,
+    worked_numbers, worked_open_connections, worked_readable_ends, worked_waits_of_clients,
+    worked_work_left,
 };
 use hx_framing::laws::response_laws::what_is_read_is_final;
 use hx_hop::laws::a_request_is_asked_in_one_way;
@@ -35,7 +35,7 @@ pub fn one_act_is_due_first()
     ensures { (s : EngineModel) → (a b : Option Act) → IsDueFirst s a → IsDueFirst s b → a ≡ b }
 {}
 
-/// No effect names a connection behind its close, or one that is gone; a link that ends is dropped once. It holds of
+/// No effect names a connection after its close, or one that is gone; a link that ends is dropped once. It holds of
 /// each model that an engine lives through, from one whose core has no open exchange on.
 pub fn effects_name_open_ends()
     ensures first { NewModelIsOrderly }
@@ -79,7 +79,7 @@ pub fn each_drop_is_emitted()
     ensures takes { HappeningsDropNoLink }
 {}
 
-/// An act that is done has one model behind it, and its effects.
+/// An act that is done has one model after it, and its effects.
 pub fn an_act_is_done_in_one_way()
     ensures { ActIsDoneInOneWay }
 {
@@ -103,7 +103,7 @@ pub fn executions_are_runs()
 {}
 
 /// The answer that an act hands to the core is the response that the stream of its own link spells, and the request
-/// that of its own connection behind those that were served. So whatever an engine lives through, each answer in its
+/// that of its own connection after those that were served. So whatever an engine lives through, each answer in its
 /// trace is one that a stream spells as a response, and has a final status, from 200 to 599.
 pub fn answers_are_final()
     ensures spelled { EachActIsSpelled }

@@ -32,7 +32,7 @@ pub(crate) fn reads(connection: &Connection) -> bool
 }
 
 /// Whether the client is between two requests.
-pub(crate) fn is_between(connection: &Connection) -> bool
+pub(crate) fn client_is_between_requests(connection: &Connection) -> bool
     ensures { (c : ConnectionModel) → ConnectionHolds connection.now c → result ≡ true → IsBetweenRequests c }
 {
     reads(connection) && connection.reader.is_between_requests()

@@ -7,7 +7,7 @@ use Rattle.proxy_engine.specs.Happenings.{PlainHappening as Happening}
 use Rattle.proxy_engine.specs.EngineModel.{EngineModel, model_after_happening}
 use Rattle.proxy_engine.specs.Drops.{OnlyFirstEffectDropsALink, ActHasFewEffects}
 use Rattle.proxy_engine.specs.Orderly.{ModelIsOrderly, EffectsNameOpenEnds, EndedStaysEnded, HappeningKeepsOrder, ActKeepsOrder, HappeningKeepsEnded, ActKeepsEnded}
-use Rattle.proxy_replay.specs.Played.{DoneAct, ActsAreDoneInOrder, effects_of_acts, Scene, ItemsArePlayed, HappeningIfAnyIsPlayed, happening_of_item}
+use Rattle.proxy_replay.specs.Played.{DoneAct, ActsAreDoneInOrder, effects_of_acts, PlayState, ItemsArePlayed, HappeningIfAnyIsPlayed, happening_of_item}
 use Rattle.proxy_replay.specs.Closes.{EffectsNeverName, EffectEndsWhatItNames}
 
 -- what an act in an orderly model keeps to
@@ -62,7 +62,7 @@ module _ (takes_order : HappeningKeepsOrder) (acts_order : ActKeepsOrder) (takes
         subst (λ (es : List Effect). EffectsNeverName of n es) (sym h.emitted)
         (works_unnamed (model_after_happening s happening) now h.done_acts t n h.settles.0 (takes_order s happening o) (later s (model_after_happening s happening) n (takes_stay s happening) over))
 
-    pub plays_unnamed : (a : Scene) (items : List Item) (emitted : List Effect) (c : Scene) (n : ℕ) → ItemsArePlayed a items emitted c → ModelIsOrderly a.model → Over a.model n → EffectsNeverName of n emitted
+    pub plays_unnamed : (a : PlayState) (items : List Item) (emitted : List Effect) (c : PlayState) (n : ℕ) → ItemsArePlayed a items emitted c → ModelIsOrderly a.model → Over a.model n → EffectsNeverName of n emitted
     plays_unnamed a [] emitted c n h o over = subst (λ (es : List Effect). EffectsNeverName of n es) (sym h.0) tt
     plays_unnamed a (item ∷ items) emitted c n h o over =
         let happened = h.3.happened in
@@ -89,7 +89,7 @@ module _ (takes_order : HappeningKeepsOrder) (acts_order : ActKeepsOrder) (takes
       item_ends s now (Some happening) emitted t rest h o behind ending =
           subst (λ (es : List Effect). EffectEndsWhatItNames ends of (es ++ rest)) (sym h.emitted) (works_end (model_after_happening s happening) now h.done_acts t rest h.settles.0 (takes_order s happening o) behind ending)
 
-      pub plays_end : (a : Scene) (items : List Item) (emitted : List Effect) (c : Scene) → ItemsArePlayed a items emitted c → ModelIsOrderly a.model → EffectEndsWhatItNames ends of emitted
+      pub plays_end : (a : PlayState) (items : List Item) (emitted : List Effect) (c : PlayState) → ItemsArePlayed a items emitted c → ModelIsOrderly a.model → EffectEndsWhatItNames ends of emitted
       plays_end a [] emitted c h o = subst (EffectEndsWhatItNames ends of) (sym h.0) tt
       plays_end a (item ∷ items) emitted c h o =
           let happened = h.3.happened in

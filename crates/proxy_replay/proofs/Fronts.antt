@@ -10,7 +10,7 @@ use Rattle.proxy_store_file.specs.declared.store_faults.StoreFault.{StoreFault}
 use Rattle.proxy_store_file.specs.declared.store_faults.StoreFault.TheVariants as store
 use Rattle.proxy_store_file.specs.Stores.{StoreReading}
 use Rattle.proxy_script.specs.ScriptLines.{is_config, line_text}
-use Rattle.proxy_script.specs.Script.{PlainItem as Item, item_spelling, line_of_item, block_of_item, ItemHasSpelling, ItemMayStandHere, ItemReading, Found, Cut, Wrong, item_in_front}
+use Rattle.proxy_script.specs.Script.{PlainItem as Item, item_spelling, line_of_item, block_of_item, ItemHasSpelling, ItemMayStandHere, ItemReading, Found, Cut, Wrong, leading_item}
 use Rattle.proxy_script.specs.Script as item
 use Rattle.proxy_script.proofs.ItemLaws.{item_found, item_again}
 use Rattle.proxy_replay.specs.Played.{moment_after}
@@ -23,32 +23,32 @@ pub item_shorter : (first : Bool) (rest more : List ℕ) (h : Item) → BytesBeg
 item_shorter first rest more h represents =
     omega (arith, ap length represents.0, length-append (item_spelling h) more, length-append (line_text (line_of_item h)) (10 ∷ block_of_item h))
 
-pub item_nil : (first : Bool) → item_in_front first [] ≡ Cut
-unfolding item_in_front
+pub item_nil : (first : Bool) → leading_item first [] ≡ Cut
+unfolding leading_item
 item_nil first = refl
 
 -- an item that stands here is found
-found_by : (first : Bool) (rest : List ℕ) (h : Item) (more : List ℕ) → BytesBeginWithItem first rest h more → item_in_front first rest ≡ Found h more
-found_by first rest h more represents = ap (item_in_front first) represents.0 ∙ item_again first h more represents.1 represents.2
+found_by : (first : Bool) (rest : List ℕ) (h : Item) (more : List ℕ) → BytesBeginWithItem first rest h more → leading_item first rest ≡ Found h more
+found_by first rest h more represents = ap (leading_item first) represents.0 ∙ item_again first h more represents.1 represents.2
 
 -- where an item is wrong, none stands
-pub wrong_by : (first ended : Bool) (rest : List ℕ) → item_in_front first rest ≡ Wrong → NoItemStandsInFront first ended rest
+pub wrong_by : (first ended : Bool) (rest : List ℕ) → leading_item first rest ≡ Wrong → NoItemStandsInFront first ended rest
 wrong_by first true rest e = (
-  λ none. let cut : Wrong ≡ Cut = sym e ∙ (ap (item_in_front first) none ∙ item_nil first) in cc,
+  λ none. let cut : Wrong ≡ Cut = sym e ∙ (ap (leading_item first) none ∙ item_nil first) in cc,
   λ h more represents. let found : Wrong ≡ Found h more = sym e ∙ found_by first rest h more represents in cc,
 )
 wrong_by first false rest e = e
 
 -- nor where the script ends in the middle of one
-pub cut_by : (first : Bool) (rest : List ℕ) → item_in_front first rest ≡ Cut → (rest ≡ [] → first ≡ true) → NoItemStandsInFront first true rest
+pub cut_by : (first : Bool) (rest : List ℕ) → leading_item first rest ≡ Cut → (rest ≡ [] → first ≡ true) → NoItemStandsInFront first true rest
 cut_by first rest e some = (some, λ h more represents. let found : Cut ≡ Found h more = sym e ∙ found_by first rest h more represents in cc)
 
 -- behind the table, where something is left
-pub short_by : (rest : List ℕ) (ended none : Bool) → ended ≡ true → none ≡ (length rest == 0) → none ≡ false → item_in_front false rest ≡ Cut → NoItemStandsInFront false ended rest
+pub short_by : (rest : List ℕ) (ended none : Bool) → ended ≡ true → none ≡ (length rest == 0) → none ≡ false → leading_item false rest ≡ Cut → NoItemStandsInFront false ended rest
 short_by rest ended none whole is some cut =
     subst (λ e. NoItemStandsInFront false e rest) (sym whole) (cut_by false rest cut (λ empty. sym some ∙ (is ∙ ap (λ (xs : List ℕ). length xs == 0) empty)))
 
-pub opens_by : (bytes rest text : List ℕ) (h : Item) (table : Table) → Found h rest ≡ item_in_front true bytes → h ≡ item.Table text → BytesReadAs text (Ok table) → TableIsReadFirst bytes table rest
+pub opens_by : (bytes rest text : List ℕ) (h : Item) (table : Table) → Found h rest ≡ leading_item true bytes → h ≡ item.Table text → BytesReadAs text (Ok table) → TableIsReadFirst bytes table rest
 opens_by bytes rest text h table found is reads = record {
   text = text;
   represents = subst (λ h. BytesBeginWithItem true bytes h rest) is (item_found true bytes rest h (sym found));
@@ -63,7 +63,7 @@ refused_with : (bytes rest text : List ℕ) (ended : Bool) (fault : ConfigFault)
 refused_with bytes rest text ended config.OutOfMemory represents reads = tt
 refused_with bytes rest text ended fault represents reads = (text, rest, represents, reads (λ e. cc))
 
-pub refused_by : (bytes rest text : List ℕ) (ended : Bool) (h : Item) (fault : ConfigFault) → Found h rest ≡ item_in_front true bytes → h ≡ item.Table text → ((◌≢◌ {A = Result Table ConfigFault} (Err fault) (Err config.OutOfMemory)) → BytesReadAs text (Err fault)) → TableIsNotRead bytes ended (replay_fault_of_config_fault fault)
+pub refused_by : (bytes rest text : List ℕ) (ended : Bool) (h : Item) (fault : ConfigFault) → Found h rest ≡ leading_item true bytes → h ≡ item.Table text → ((◌≢◌ {A = Result Table ConfigFault} (Err fault) (Err config.OutOfMemory)) → BytesReadAs text (Err fault)) → TableIsNotRead bytes ended (replay_fault_of_config_fault fault)
 refused_by bytes rest text ended h fault found is reads =
     refused_with bytes rest text ended fault (subst (λ h. BytesBeginWithItem true bytes h rest) is (item_found true bytes rest h (sym found))) reads
 
@@ -78,7 +78,7 @@ not_read Opens bytes ended (faults.Engine fault) why = absurd why
 not_read Opens bytes ended faults.Write why = absurd why
 
 -- no other item stands first
-pub other_by : (bytes rest : List ℕ) (h : Item) → Found h rest ≡ item_in_front true bytes → is_config (line_of_item h) ≡ false → ⊥
+pub other_by : (bytes rest : List ℕ) (h : Item) → Found h rest ≡ leading_item true bytes → is_config (line_of_item h) ≡ false → ⊥
 other_by bytes rest h found other = let placed = item_found true bytes rest h (sym found) in let same : true ≡ false = sym placed.2 ∙ other in cc
 
 -- the moment stays below the end of moments

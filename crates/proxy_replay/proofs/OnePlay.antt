@@ -4,7 +4,7 @@ use Rattle.std.specs.List.{flat_map, AllByRecursion}
 use Rattle.hx_allow.specs.TableLines.{Table}
 use Rattle.hx_allow.specs.Tables.{BytesReadAs}
 use Rattle.hx_allow.specs.declared.config_faults.ConfigFault.{ConfigFault}
-use Rattle.proxy_script.specs.Script.{PlainItem as Item, item_spelling, ItemHasSpelling, ItemMayStandHere, IsScript, ItemReading, Found, Cut, item_in_front}
+use Rattle.proxy_script.specs.Script.{PlainItem as Item, item_spelling, ItemHasSpelling, ItemMayStandHere, IsScript, ItemReading, Found, Cut, leading_item}
 use Rattle.proxy_script.specs.Script as item
 use Rattle.proxy_script.specs.Effects.{effects_text}
 use Rattle.proxy_script.specs.declared.effect_list.Effect.{Effect}
@@ -13,7 +13,7 @@ use Rattle.proxy_engine.specs.EngineModel.{EngineModel, model_after_happening}
 use Rattle.proxy_engine.specs.Due.{Act, IsDueFirst}
 use Rattle.proxy_engine.specs.Acts.{ActIsDone}
 use Rattle.proxy_engine.specs.Executions.{ActIsDoneInOneWay}
-use Rattle.proxy_replay.specs.Played.{DoneAct, ActsAreDoneInOrder, effects_of_acts, Scene, scene_over, ItemIsPlayed, ItemsArePlayed, HappeningIfAnyIsPlayed, happening_of_item}
+use Rattle.proxy_replay.specs.Played.{DoneAct, ActsAreDoneInOrder, effects_of_acts, PlayState, play_state_over, ItemIsPlayed, ItemsArePlayed, HappeningIfAnyIsPlayed, happening_of_item}
 use Rattle.proxy_replay.specs.Runs.{ScriptHasOnePlay}
 use Rattle.proxy_replay.specs.Replay.{ReplayHasOneText}
 use Rattle.proxy_replay.proofs.Fronts.{item_nil}
@@ -43,7 +43,7 @@ module _ (due : (s : EngineModel) → (a b : Option Act) → IsDueFirst s a → 
       let same = settled_once h.done_acts k.done_acts (model_after_happening s happening) now t u h.settles.0 h.settles.1 k.settles.0 k.settles.1 in
       (h.emitted ∙ (same.0 ∙ sym k.emitted), same.1)
 
-  item_once : (a b c : Scene) (item : Item) (effects more : List Effect) → ItemIsPlayed a item effects b → ItemIsPlayed a item more c → (effects ≡ more) × (b ≡ c)
+  item_once : (a b c : PlayState) (item : Item) (effects more : List Effect) → ItemIsPlayed a item effects b → ItemIsPlayed a item more c → (effects ≡ more) × (b ≡ c)
   item_once a b c item effects more h k =
       let now : c.now ≡ b.now = k.moment ∙ sym h.moment in
       let same = happened_once a.model b.now (happening_of_item item) effects more b.model c.model h.happened
@@ -56,22 +56,22 @@ module _ (due : (s : EngineModel) → (a b : Option Act) → IsDueFirst s a → 
   has_one_play a [] effects more b c h k = (h.0 ∙ sym k.0, h.1 ∙ sym k.1)
   has_one_play a (item ∷ items) effects more b c h k =
       let here = item_once a h.0 k.0 item h.1 k.1 h.3 k.3 in
-      let rest = has_one_play h.0 items h.2 k.2 b c h.4 (subst (λ (m : Scene). ItemsArePlayed m items k.2 c) (sym here.1) k.4) in
+      let rest = has_one_play h.0 items h.2 k.2 b c h.4 (subst (λ (m : PlayState). ItemsArePlayed m items k.2 c) (sym here.1) k.4) in
       (h.5 ∙ (ap (λ (es : List Effect). es ++ h.2) here.0 ∙ (ap (λ (es : List Effect). k.1 ++ es) rest.0 ∙ sym k.5)), rest.1)
 
 -- where what is spelled is found
-module _ (again : (first : Bool) (h : Item) (rest : List ℕ) → ItemHasSpelling h → ItemMayStandHere first h → item_in_front first (item_spelling h ++ rest) ≡ Found h rest) where
+module _ (again : (first : Bool) (h : Item) (rest : List ℕ) → ItemHasSpelling h → ItemMayStandHere first h → leading_item first (item_spelling h ++ rest) ≡ Found h rest) where
   record SameFront (h k : Item) (xs ys : List ℕ) : Type 0 where
     item_is : h ≡ k
     rest_is : xs ≡ ys
 
   front_once : (first : Bool) (h k : Item) (xs ys : List ℕ) → ItemHasSpelling h → ItemMayStandHere first h → ItemHasSpelling k → ItemMayStandHere first k → (item_spelling h ++ xs) ≡ (item_spelling k ++ ys) → SameFront h k xs ys
   front_once first h k xs ys f p g q e =
-      let found : Found h xs ≡ Found k ys = sym (again first h xs f p) ∙ (ap (item_in_front first) e ∙ again first k ys g q) in
+      let found : Found h xs ≡ Found k ys = sym (again first h xs f p) ∙ (ap (leading_item first) e ∙ again first k ys g q) in
       record { item_is = cc; rest_is = cc }
 
   never_empty : {P : Type 0} (h : Item) (xs : List ℕ) → ItemHasSpelling h → ItemMayStandHere false h → (item_spelling h ++ xs) ≡ [] → P
-  never_empty {P} h xs f p e = let found : Found h xs ≡ Cut = sym (again false h xs f p) ∙ (ap (item_in_front false) e ∙ item_nil false) in absurd (cc)
+  never_empty {P} h xs f p e = let found : Found h xs ≡ Cut = sym (again false h xs f p) ∙ (ap (leading_item false) e ∙ item_nil false) in absurd (cc)
 
   items_once : (items others : List Item) → AllByRecursion ItemHasSpelling items → AllByRecursion (ItemMayStandHere false) items → AllByRecursion ItemHasSpelling others → AllByRecursion (ItemMayStandHere false) others →
       flat_map item_spelling items ≡ flat_map item_spelling others → items ≡ others
@@ -96,6 +96,6 @@ module _ (again : (first : Bool) (h : Item) (rest : List ℕ) → ItemHasSpellin
       items_once h.items k.items h.is_script.items_fit h.is_script.one_table k.is_script.items_fit k.is_script.one_table front.rest_is in
       let read : Ok h.config ≡ Ok k.config = reads h.table (Ok h.config) (Ok k.config) h.reads (subst (λ (b : List ℕ). BytesReadAs b (Ok k.config)) (sym table) k.reads) in
       let config : h.config ≡ k.config = cc in
-      let plays : ItemsArePlayed (scene_over h.config held first) h.items k.effects k.last =
-      subst (λ (t : Table). ItemsArePlayed (scene_over t held first) h.items k.effects k.last) (sym config) (subst (λ (is : List Item). ItemsArePlayed (scene_over k.config held first) is k.effects k.last) (sym items) k.plays) in
-      h.emitted ∙ (ap effects_text (play (scene_over h.config held first) h.items h.effects k.effects h.last k.last h.plays plays).0 ∙ sym k.emitted)
+      let plays : ItemsArePlayed (play_state_over h.config held first) h.items k.effects k.last =
+      subst (λ (t : Table). ItemsArePlayed (play_state_over t held first) h.items k.effects k.last) (sym config) (subst (λ (is : List Item). ItemsArePlayed (play_state_over k.config held first) is k.effects k.last) (sym items) k.plays) in
+      h.emitted ∙ (ap effects_text (play (play_state_over h.config held first) h.items h.effects k.effects h.last k.last h.plays plays).0 ∙ sym k.emitted)

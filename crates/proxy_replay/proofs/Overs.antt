@@ -14,7 +14,7 @@ use Rattle.proxy_engine.specs.EngineModel.{EngineModel, ConnectionModel, LinkMod
 use Rattle.proxy_engine.specs.Acts.{next_link_number}
 use Rattle.proxy_engine.specs.Drops.{link_dropped_by_effect, EffectsDropNoLink, ActHasFewEffects, EachDroppedLinkIsEmitted, HappeningsDropNoLink}
 use Rattle.proxy_engine.specs.Orderly.{ModelIsOrderly, ConnectionIsOpen, ConnectionHasClosed, LinkIsDropped, EffectsNameOpenEnds, EndedStaysEnded, HappeningKeepsOrder, ActKeepsOrder, HappeningKeepsEnded, ActKeepsEnded}
-use Rattle.proxy_replay.specs.Played.{DoneAct, ActsAreDoneInOrder, effects_of_acts, Scene, ItemsArePlayed, HappeningIfAnyIsPlayed, happening_of_item}
+use Rattle.proxy_replay.specs.Played.{DoneAct, ActsAreDoneInOrder, effects_of_acts, PlayState, ItemsArePlayed, HappeningIfAnyIsPlayed, happening_of_item}
 use Rattle.proxy_replay.specs.Closes.{client_named_by_effect, link_named_by_effect, client_closed_by_effect, EffectsNeverName, EffectEndsWhatItNames, EffectsDropLink}
 use Rattle.proxy_replay.proofs.Behind.{IsAct, item_orderly, works_over, works_unnamed, plays_unnamed, plays_end}
 
@@ -181,21 +181,21 @@ drop_ends s after (effects.Drop l ∷ emitted) rest a behind ending =
 -- ---- plays
 
 module _ (takes_order : HappeningKeepsOrder) (acts_order : ActKeepsOrder) (takes_stay : HappeningKeepsEnded) (acts_stay : ActKeepsEnded) (acts_short : ActHasFewEffects) where
-  pub nothing_follows_a_close : (a : Scene) (items : List Item) (emitted : List Effect) (c : Scene) → ItemsArePlayed a items emitted c → ModelIsOrderly a.model → EffectEndsWhatItNames client_closed_by_effect client_named_by_effect emitted
+  pub nothing_follows_a_close : (a : PlayState) (items : List Item) (emitted : List Effect) (c : PlayState) → ItemsArePlayed a items emitted c → ModelIsOrderly a.model → EffectEndsWhatItNames client_closed_by_effect client_named_by_effect emitted
   nothing_follows_a_close a items emitted c h o =
       plays_end takes_order acts_order takes_stay acts_stay acts_short client_named_by_effect IsShut shut_later shut_unnamed client_closed_by_effect
       (λ s after emitted rest a behind ending. close_ends s after emitted rest a.names a.stays behind ending) a items emitted c h o
 
   -- a play in two parts
-  record Parted (a : Scene) (items more : List Item) (emitted : List Effect) (c : Scene) : Type 0 where
-    there : Scene
+  record Parted (a : PlayState) (items more : List Item) (emitted : List Effect) (c : PlayState) : Type 0 where
+    there : PlayState
     before : List Effect
     behind : List Effect
     plays : ItemsArePlayed a items before there
     others : ItemsArePlayed there more behind c
     emitted_is : emitted ≡ before ++ behind
 
-  parted : (items more : List Item) (a : Scene) (emitted : List Effect) (c : Scene) → ItemsArePlayed a (items ++ more) emitted c → Parted a items more emitted c
+  parted : (items more : List Item) (a : PlayState) (emitted : List Effect) (c : PlayState) → ItemsArePlayed a (items ++ more) emitted c → Parted a items more emitted c
   parted [] more a emitted c h = record { there = a; before = []; behind = emitted; plays = (refl, refl); others = h; emitted_is = refl }
   parted (item ∷ items) more a emitted c h =
       let rest = parted items more h.0 h.2 c h.4 in
@@ -208,8 +208,8 @@ module _ (takes_order : HappeningKeepsOrder) (acts_order : ActKeepsOrder) (takes
         emitted_is = h.5 ∙ (ap (λ (es : List Effect). h.1 ++ es) rest.emitted_is ∙ sym (append_assoc h.1 rest.before rest.behind));
       }
 
-  plays_orderly : (items : List Item) (a : Scene) (emitted : List Effect) (c : Scene) → ItemsArePlayed a items emitted c → ModelIsOrderly a.model → ModelIsOrderly c.model
-  plays_orderly [] a emitted c h o = subst (λ (x : Scene). ModelIsOrderly x.model) (sym h.1) o
+  plays_orderly : (items : List Item) (a : PlayState) (emitted : List Effect) (c : PlayState) → ItemsArePlayed a items emitted c → ModelIsOrderly a.model → ModelIsOrderly c.model
+  plays_orderly [] a emitted c h o = subst (λ (x : PlayState). ModelIsOrderly x.model) (sym h.1) o
   plays_orderly (item ∷ items) a emitted c h o =
       plays_orderly items h.0 h.2 c h.4 (item_orderly takes_order acts_order takes_stay acts_stay acts_short a.model h.0.now (happening_of_item item) h.1 h.0.model h.3.happened o)
 
@@ -236,8 +236,8 @@ module _ (takes_order : HappeningKeepsOrder) (acts_order : ActKeepsOrder) (takes
       by_closed true e same = inl (ap (λ (c : ConnectionModel). c.closed) same ∙ ap (λ b. (cond b (connection_at s (n - 1)) (record (connection_at s (n - 1)) { gone = true })).closed) e ∙ e)
       by_closed false e same = inr (ap (λ (c : ConnectionModel). c.gone) same ∙ ap (λ b. (cond b (connection_at s (n - 1)) (record (connection_at s (n - 1)) { gone = true })).gone) e)
 
-  pub nothing_follows_a_gone : (a : Scene) (items more : List Item) (n : ℕ) (emitted : List Effect) (c : Scene) → ItemsArePlayed a (items ++ item.Happens (Leaves n) ∷ more) emitted c → ModelIsOrderly a.model →
-      (before behind : List Effect) × (there : Scene) × ItemsArePlayed a items before there × (emitted ≡ before ++ behind) × EffectsNeverName client_named_by_effect n behind
+  pub nothing_follows_a_gone : (a : PlayState) (items more : List Item) (n : ℕ) (emitted : List Effect) (c : PlayState) → ItemsArePlayed a (items ++ item.Happens (Leaves n) ∷ more) emitted c → ModelIsOrderly a.model →
+      (before behind : List Effect) × (there : PlayState) × ItemsArePlayed a items before there × (emitted ≡ before ++ behind) × EffectsNeverName client_named_by_effect n behind
   nothing_follows_a_gone a items more n emitted c h o =
       let p = parted items (item.Happens (Leaves n) ∷ more) a emitted c h in
       let orderly = plays_orderly items a p.before p.there p.plays o in
@@ -261,7 +261,7 @@ module _ (takes_order : HappeningKeepsOrder) (acts_order : ActKeepsOrder) (takes
       both n [] ys h k = k
       both n (x ∷ xs) ys h k = (h.0, both n xs ys h.1 k)
 
-  pub each_ends_with_its_drop : (a : Scene) (items : List Item) (emitted : List Effect) (c : Scene) → ItemsArePlayed a items emitted c → ModelIsOrderly a.model → EffectEndsWhatItNames link_dropped_by_effect link_named_by_effect emitted
+  pub each_ends_with_its_drop : (a : PlayState) (items : List Item) (emitted : List Effect) (c : PlayState) → ItemsArePlayed a items emitted c → ModelIsOrderly a.model → EffectEndsWhatItNames link_dropped_by_effect link_named_by_effect emitted
   each_ends_with_its_drop a items emitted c h o =
       plays_end takes_order acts_order takes_stay acts_stay acts_short link_named_by_effect IsOver over_later over_unnamed link_dropped_by_effect drop_ends a items emitted c h o
 
@@ -336,8 +336,8 @@ module _ (takes_stay : HappeningKeepsEnded) (acts_stay : ActKeepsEnded) (acts_em
           same_links happening j d = (let count = as_many s happening in let below = d.0 in omega (arith, count, below), sym (takes_none s happening j) ∙ d.1)
       by_works stays j (inr emitted_so) = inr (has_same (s.first + j) ((model_after_happening s happening).first + j) emitted (effects_of_acts h.done_acts) (ap (λ n. n + j) (sym stays.first)) h.emitted emitted_so)
 
-  numbered_plays : (items : List Item) (a : Scene) (emitted : List Effect) (c : Scene) → ItemsArePlayed a items emitted c → Numbered a.model c.model emitted
-  numbered_plays [] a emitted c h = record { writes = λ j d. inl (subst (λ (x : Scene). IsLost x.model j) h.1 d); first = ap (λ (x : Scene). x.model.first) h.1 }
+  numbered_plays : (items : List Item) (a : PlayState) (emitted : List Effect) (c : PlayState) → ItemsArePlayed a items emitted c → Numbered a.model c.model emitted
+  numbered_plays [] a emitted c h = record { writes = λ j d. inl (subst (λ (x : PlayState). IsLost x.model j) h.1 d); first = ap (λ (x : PlayState). x.model.first) h.1 }
   numbered_plays (item ∷ items) a emitted c h =
       let one = numbered_item a.model h.0.now (happening_of_item item) h.1 h.0.model h.3.happened in
       let rest = numbered_plays items h.0 h.2 c h.4 in
@@ -352,7 +352,7 @@ module _ (takes_stay : HappeningKeepsEnded) (acts_stay : ActKeepsEnded) (acts_em
       by_rest one j (inr so) =
           inr (has_same (a.model.first + j) (h.0.model.first + j) emitted (h.1 ++ h.2) (ap (λ n. n + j) (sym one.first)) h.5 (has_later (h.0.model.first + j) h.1 h.2 so))
 
-  pub each_drop_is_emitted : (a : Scene) (items : List Item) (emitted : List Effect) (c : Scene) → a.model.links ≡ [] → ItemsArePlayed a items emitted c →
+  pub each_drop_is_emitted : (a : PlayState) (items : List Item) (emitted : List Effect) (c : PlayState) → a.model.links ≡ [] → ItemsArePlayed a items emitted c →
       (j : ℕ) → j < length c.model.links → (link_at c.model j).dropped ≡ true → EffectsDropLink (c.model.first + j) emitted
   each_drop_is_emitted a items emitted c none h j below d =
       let all = numbered_plays items a emitted c h in

@@ -7,7 +7,7 @@ use Rattle.std.proofs.lemmas.Grind.{flat_map-append}
 use Rattle.std.proofs.lemmas.List.{append-nil, length_push, take_at, drop_at}
 use Rattle.hx_allow.specs.TableLines.{Table}
 use Rattle.hx_store.specs.Stored.{Stored}
-use Rattle.proxy_script.specs.Script.{PlainItem as Item, item_spelling, ItemHasSpelling, ItemMayStandHere, IsScript, Found, Cut, Wrong, item_in_front}
+use Rattle.proxy_script.specs.Script.{PlainItem as Item, item_spelling, ItemHasSpelling, ItemMayStandHere, IsScript, Found, Cut, Wrong, leading_item}
 use Rattle.proxy_script.specs.Script as item
 use Rattle.proxy_script.specs.Effects.{effect_text, effects_text}
 use Rattle.proxy_script.specs.declared.effect_list.Effect.{Effect}
@@ -16,7 +16,7 @@ use Rattle.proxy_store_file.specs.Streams.{contents_of}
 use Rattle.proxy_engine.specs.Beginnings.{MayBeHeldAtFirst}
 use Rattle.proxy_engine.specs.State.{State, EngineRepresents}
 use Rattle.proxy_replay.specs.Bytes.{ReaderGave, script_limit}
-use Rattle.proxy_replay.specs.Played.{Scene, scene_over, happening_of_item, moment_after, ItemIsPlayed, ItemsArePlayed, EngineRefusesHappening}
+use Rattle.proxy_replay.specs.Played.{PlayState, play_state_over, happening_of_item, moment_after, ItemIsPlayed, ItemsArePlayed, EngineRefusesHappening}
 use Rattle.proxy_replay.specs.Runs.{PlayIsAGoodRunOver}
 use Rattle.proxy_replay.proofs.Running.{plays_run}
 use Rattle.proxy_replay.specs.Replay.{BytesBeginWithItem, NoItemStandsInFront, opens_empty, BytesLeadTo, BytesLeadToWhere, ReplayEndsAt, ReplayFails, ReplayWrites, IsReplayOver, IsReplay, IsReplayed, ScriptIsRefused}
@@ -27,7 +27,7 @@ use Rattle.proxy_replay.proofs.Fronts.{ends_first}
 
 -- one item further
 
-plays_more : (items : List Item) (a b c : Scene) (effects more : List Effect) (h : Item) → ItemsArePlayed a items effects b → ItemIsPlayed b h more c → ItemsArePlayed a (items ++ h ∷ []) (effects ++ more) c
+plays_more : (items : List Item) (a b c : PlayState) (effects more : List Effect) (h : Item) → ItemsArePlayed a items effects b → ItemIsPlayed b h more c → ItemsArePlayed a (items ++ h ∷ []) (effects ++ more) c
 plays_more [] a b c effects more h before one =
     (c, more, [], subst (λ x. ItemIsPlayed x h more c) before.1 one, (refl, refl), ap (λ es. es ++ more) before.0 ∙ sym (append-nil more))
 plays_more (first ∷ items) a b c effects more h before one = (
@@ -55,8 +55,8 @@ script_more front table items h script fits placed = record {
 
 -- over a store that opens so
 module _ (Opens : Table → StoreReading → Type 0) where
-  leads_more : (bytes rest more : List ℕ) (items : List Item) (h : Item) (effects others : List Effect) (b c : Scene) → BytesLeadTo Opens bytes items rest effects b → BytesBeginWithItem false rest h more → ItemIsPlayed b h others c → BytesLeadTo Opens bytes (items ++ h ∷ []) more (effects ++ others) c
-  leads_more bytes rest more items h effects others b c leads represents one = let longer = plays_more items (scene_over leads.config leads.held leads.first) b c effects others h leads.plays one in record {
+  leads_more : (bytes rest more : List ℕ) (items : List Item) (h : Item) (effects others : List Effect) (b c : PlayState) → BytesLeadTo Opens bytes items rest effects b → BytesBeginWithItem false rest h more → ItemIsPlayed b h others c → BytesLeadTo Opens bytes (items ++ h ∷ []) more (effects ++ others) c
+  leads_more bytes rest more items h effects others b c leads represents one = let longer = plays_more items (play_state_over leads.config leads.held leads.first) b c effects others h leads.plays one in record {
     front = leads.front ++ item_spelling h;
     bytes_are = leads.bytes_are ∙ (ap (λ xs. leads.front ++ xs) represents.0 ∙ sym (append_assoc leads.front (item_spelling h) more));
     table = leads.table;
@@ -75,19 +75,19 @@ module _ (Opens : Table → StoreReading → Type 0) where
   pub record SoFar (bytes rest : List ℕ) (now line : ℕ) (e : State) (old current : Option (List ℕ)) : Type 0 where
     pub items : List Item
     pub effects : List Effect
-    pub last : Scene
+    pub last : PlayState
     pub leads : BytesLeadTo Opens bytes items rest effects last
     pub moment : last.now ≡ now
     pub line_is : line ≡ length items + 2
     pub represents : EngineRepresents e last.model
     pub appends : Appends old current (effects_text effects)
 
-  pub so_far_first : (bytes rest : List ℕ) (table : Table) (held : List Stored) (first : ℕ) (e : State) (old : Option (List ℕ)) → TableIsReadFirst bytes table rest → Opens table (Ok (contents_of held first)) → MayBeHeldAtFirst table held first → EngineRepresents e (scene_over table held first).model →
+  pub so_far_first : (bytes rest : List ℕ) (table : Table) (held : List Stored) (first : ℕ) (e : State) (old : Option (List ℕ)) → TableIsReadFirst bytes table rest → Opens table (Ok (contents_of held first)) → MayBeHeldAtFirst table held first → EngineRepresents e (play_state_over table held first).model →
       SoFar bytes rest 0 2 e old old
   so_far_first bytes rest table held first e old opens opened may represents = record {
     items = [];
     effects = [];
-    last = scene_over table held first;
+    last = play_state_over table held first;
     leads = record {
       front = item_spelling (item.Table opens.text);
       bytes_are = opens.represents.0;
@@ -100,7 +100,7 @@ module _ (Opens : Table → StoreReading → Type 0) where
       opens = opened;
       may = may;
       plays = (refl, refl);
-      run = plays_run table held first [] [] (scene_over table held first) may (refl, refl);
+      run = plays_run table held first [] [] (play_state_over table held first) may (refl, refl);
     };
     moment = refl;
     line_is = refl;
@@ -109,7 +109,7 @@ module _ (Opens : Table → StoreReading → Type 0) where
   }
 
   -- an item was played
-  played : (a : Scene) (now : ℕ) (h : Item) (e : State) (old new : Option (List ℕ)) (emitted : ItemWasPlayed a.model (moment_after now h) (happening_of_item h) e old new) → a.now ≡ now → ItemIsPlayed a h emitted.effects (record { model = emitted.last; now = moment_after now h })
+  played : (a : PlayState) (now : ℕ) (h : Item) (e : State) (old new : Option (List ℕ)) (emitted : ItemWasPlayed a.model (moment_after now h) (happening_of_item h) e old new) → a.now ≡ now → ItemIsPlayed a h emitted.effects (record { model = emitted.last; now = moment_after now h })
   played a now h e old new emitted same = record { moment = ap (λ m. moment_after m h) (sym same); happened = emitted.happened }
 
   pub so_far_more : (bytes rest more : List ℕ) (now line : ℕ) (h : Item) (e f : State) (old mid new : Option (List ℕ)) → (before : SoFar bytes rest now line e old mid) → BytesBeginWithItem false rest h more → ItemWasPlayed before.last.model (moment_after now h) (happening_of_item h) f mid new → SoFar bytes more (moment_after now h) (line + 1) f old new
@@ -126,7 +126,7 @@ module _ (Opens : Table → StoreReading → Type 0) where
 
   -- how a replay ends
 
-  leads_so_far : (P : List Item → List ℕ → List Effect → Scene → Type 0) (bytes rest : List ℕ) (now line : ℕ) (e : State) (old current : Option (List ℕ)) → (before : SoFar bytes rest now line e old current) → P before.items rest before.effects before.last → BytesLeadToWhere Opens bytes P
+  leads_so_far : (P : List Item → List ℕ → List Effect → PlayState → Type 0) (bytes rest : List ℕ) (now line : ℕ) (e : State) (old current : Option (List ℕ)) → (before : SoFar bytes rest now line e old current) → P before.items rest before.effects before.last → BytesLeadToWhere Opens bytes P
   leads_so_far P bytes rest now line e old current before holds = record { items = before.items; rest = rest; effects = before.effects; last = before.last; leads = before.leads; holds = holds }
 
   -- behind what was played so far
@@ -154,7 +154,7 @@ module _ (Opens : Table → StoreReading → Type 0) where
   }
 
   -- where the reader failed in the middle of an item
-  pub writes_cut : (bytes rest : List ℕ) (ended : Bool) (now line : ℕ) (e : State) (old current : Option (List ℕ)) → SoFar bytes rest now line e old current → ended ≡ false → item_in_front false rest ≡ Cut → ReplayWrites Opens bytes ended old current (Err faults.Read)
+  pub writes_cut : (bytes rest : List ℕ) (ended : Bool) (now line : ℕ) (e : State) (old current : Option (List ℕ)) → SoFar bytes rest now line e old current → ended ≡ false → leading_item false rest ≡ Cut → ReplayWrites Opens bytes ended old current (Err faults.Read)
   writes_cut bytes rest ended now line e old current before more cut = record {
     written = effects_text before.effects;
     appends = before.appends;
@@ -245,13 +245,13 @@ abbrev serial_of : StoreReading → ℕ
 serial_of (Ok store) = store.next_serial
 serial_of (Err fault) = 0
 
-pub begins_empty : (table : Table) (items : List Item) (effects : List Effect) (last : Scene) (held : List Stored) (first : ℕ) → opens_empty table (Ok (contents_of held first)) → ItemsArePlayed (scene_over table held first) items effects last →
-    ItemsArePlayed (scene_over table [] 1) items effects last
+pub begins_empty : (table : Table) (items : List Item) (effects : List Effect) (last : PlayState) (held : List Stored) (first : ℕ) → opens_empty table (Ok (contents_of held first)) → ItemsArePlayed (play_state_over table held first) items effects last →
+    ItemsArePlayed (play_state_over table [] 1) items effects last
 begins_empty table items effects last held first opens plays =
-    subst (λ (n : ℕ). ItemsArePlayed (scene_over table [] n) items effects last) (ap serial_of opens)
-    (subst (λ (es : List Stored). ItemsArePlayed (scene_over table es first) items effects last) (ap entries_of opens) plays)
+    subst (λ (n : ℕ). ItemsArePlayed (play_state_over table [] n) items effects last) (ap serial_of opens)
+    (subst (λ (es : List Stored). ItemsArePlayed (play_state_over table es first) items effects last) (ap entries_of opens) plays)
 
-pub runs_empty : (table : Table) (items : List Item) (effects : List Effect) (last : Scene) (held : List Stored) (first : ℕ) → opens_empty table (Ok (contents_of held first)) → PlayIsAGoodRunOver table held first items effects last →
+pub runs_empty : (table : Table) (items : List Item) (effects : List Effect) (last : PlayState) (held : List Stored) (first : ℕ) → opens_empty table (Ok (contents_of held first)) → PlayIsAGoodRunOver table held first items effects last →
     PlayIsAGoodRunOver table [] 1 items effects last
 runs_empty table items effects last held first opens run =
     subst (λ (n : ℕ). PlayIsAGoodRunOver table [] n items effects last) (ap serial_of opens)

@@ -12,7 +12,7 @@ use Rattle.proxy_engine.specs.Happenings.{PlainHappening as Happening}
 use Rattle.proxy_engine.specs.EngineModel.{EngineModel, model_after_happening}
 use Rattle.proxy_engine.specs.Executions.{ExecutionStep, Took, Worked, StepsLead, effects_of_steps}
 use Rattle.proxy_engine.proofs.Living.{executions_are_runs}
-use Rattle.proxy_replay.specs.Played.{DoneAct, ActsAreDoneInOrder, effects_of_acts, Scene, scene_over, ItemsArePlayed, HappeningIfAnyIsPlayed, happening_of_item}
+use Rattle.proxy_replay.specs.Played.{DoneAct, ActsAreDoneInOrder, effects_of_acts, PlayState, play_state_over, ItemsArePlayed, HappeningIfAnyIsPlayed, happening_of_item}
 use Rattle.proxy_replay.specs.Runs.{steps_of_acts, StepsFollowItem, StepsFollowItems, PlayIsAGoodRunOver}
 
 module _ (begin : EngineModel) where
@@ -62,12 +62,12 @@ module _ (begin : EngineModel) where
     follows : StepsFollowItems now items past steps
     executed : Executed steps t emitted
 
-  plays : (items : List Item) (past : List ExecutionStep) (a : Scene) (effects : List Effect) (last : Scene) (emitted : List Effect) → ItemsArePlayed a items effects last → Executed past a.model emitted →
+  plays : (items : List Item) (past : List ExecutionStep) (a : PlayState) (effects : List Effect) (last : PlayState) (emitted : List Effect) → ItemsArePlayed a items effects last → Executed past a.model emitted →
       Whole a.now items past last.model (emitted ++ effects)
   plays [] past a effects last emitted h executed = record {
     steps = past;
     follows = refl;
-    executed = same_end past a.model last.model emitted (emitted ++ effects) (ap (λ (b : Scene). b.model) h.1) (ap (λ (es : List Effect). emitted ++ es) h.0 ∙ append-nil emitted) executed;
+    executed = same_end past a.model last.model emitted (emitted ++ effects) (ap (λ (b : PlayState). b.model) h.1) (ap (λ (es : List Effect). emitted ++ es) h.0 ∙ append-nil emitted) executed;
   }
   plays (item ∷ items) past a effects last emitted h executed =
       let b = h.0 in
@@ -83,10 +83,10 @@ module _ (begin : EngineModel) where
         executed = same_end rest.steps last.model last.model ((emitted ++ h.1) ++ h.2) (emitted ++ effects) refl (ap (λ (es : List Effect). emitted ++ es) h.5 ∙ sym (append_assoc emitted h.1 h.2)) rest.executed;
       }
 
-pub plays_run : (table : Table) (held : List Stored) (first : ℕ) (items : List Item) (effects : List Effect) (last : Scene) → MayBeHeldAtFirst table held first → ItemsArePlayed (scene_over table held first) items effects last → PlayIsAGoodRunOver table held first items effects last
+pub plays_run : (table : Table) (held : List Stored) (first : ℕ) (items : List Item) (effects : List Effect) (last : PlayState) → MayBeHeldAtFirst table held first → ItemsArePlayed (play_state_over table held first) items effects last → PlayIsAGoodRunOver table held first items effects last
 plays_run table held first items effects last may h =
-    let begin = (scene_over table held first).model in
-    let whole = plays begin items [] (scene_over table held first) effects last [] h (record { executes = refl; emitted_is = refl }) in
+    let begin = (play_state_over table held first).model in
+    let whole = plays begin items [] (play_state_over table held first) effects last [] h (record { executes = refl; emitted_is = refl }) in
     record {
       steps = whole.steps;
       follows = whole.follows;

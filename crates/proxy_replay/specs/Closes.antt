@@ -15,7 +15,7 @@ use Rattle.proxy_script.specs.declared.effect_list.Effect.{Effect}
 use Rattle.proxy_script.specs.declared.effect_list.Effect.TheVariants as effects
 use Rattle.proxy_engine.specs.Drops.{link_dropped_by_effect}
 use Rattle.proxy_engine.specs.EngineModel.{EngineModel, link_at}
-use Rattle.proxy_replay.specs.Played.{Scene, ItemsArePlayed, initial_scene}
+use Rattle.proxy_replay.specs.Played.{PlayState, ItemsArePlayed, initial_play_state}
 
 abbrev pub client_named_by_effect : Effect → Option ℕ
 client_named_by_effect (effects.Client n bytes replied) = Some n
@@ -61,8 +61,8 @@ pub record PlayIsSilentAboutGoneClient (table : Table) (items : List Item) (n : 
     (emitted : List Effect) : Type 0 where
   pub before : List Effect
   pub behind : List Effect
-  pub there : Scene
-  pub plays : ItemsArePlayed (initial_scene table) items before there
+  pub there : PlayState
+  pub plays : ItemsArePlayed (initial_play_state table) items before there
   pub emitted_is : emitted ≡ before ++ behind
   pub silent : EffectsNeverName client_named_by_effect n behind
 
@@ -80,17 +80,18 @@ pub record EachDroppedLinkIsNamedLast (emitted : List Effect) (last : EngineMode
 
 abbrev pub NoEffectFollowsAClose : Type 0
 NoEffectFollowsAClose =
-    (table : Table) (items : List Item) (emitted : List Effect) (last : Scene)
-    → ItemsArePlayed (initial_scene table) items emitted last
+    (table : Table) (items : List Item) (emitted : List Effect) (last : PlayState)
+    → ItemsArePlayed (initial_play_state table) items emitted last
     → NoEffectFollowsItsClose emitted
 
 abbrev pub NoEffectFollowsAGoneClient : Type 0
-NoEffectFollowsAGoneClient = (table : Table) (items more : List Item) (n : ℕ) (emitted : List Effect) (last : Scene) →
-    ItemsArePlayed (initial_scene table) (items ++ item.Happens (happening.Leaves n) ∷ more) emitted last
+NoEffectFollowsAGoneClient =
+    (table : Table) (items more : List Item) (n : ℕ) (emitted : List Effect) (last : PlayState)
+    → ItemsArePlayed (initial_play_state table) (items ++ item.Happens (happening.Leaves n) ∷ more) emitted last
     → PlayIsSilentAboutGoneClient table items n emitted
 
 abbrev pub EachEndedLinkIsDroppedOnce : Type 0
 EachEndedLinkIsDroppedOnce =
-    (table : Table) (items : List Item) (emitted : List Effect) (last : Scene)
-    → ItemsArePlayed (initial_scene table) items emitted last
+    (table : Table) (items : List Item) (emitted : List Effect) (last : PlayState)
+    → ItemsArePlayed (initial_play_state table) items emitted last
     → EachDroppedLinkIsNamedLast emitted last.model

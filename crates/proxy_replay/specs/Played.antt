@@ -3,8 +3,8 @@
 -- ActsAreDoneInOrder, DueActsAreAllDone: acts are done one after another, until none is due
 -- effects_of_acts: what they did
 -- happening_of_item, moment_after: what an item tells the engine, and the moment behind it
--- Scene: a model and the moment that stands
--- initial_scene: that of a table      scene_over: that of a table over a store that was kept
+-- PlayState: a model and the moment that stands
+-- initial_play_state: that of a table      play_state_over: that of a table over a store that was kept
 -- ItemsArePlayed: items are played                        EngineStopsAtItem: why the engine stops at an item
 use Rattle.std.specs.Prelude.{◌≡◌, ◌⊎◌, ℕ, List, [], ◌∷◌, ◌++◌, Option, None, Some}
 use Rattle.std.specs.List.{flat_map}
@@ -54,13 +54,13 @@ moment_after now (item.Moment m) = m
 moment_after now _ = now
 
 -- a model, and the moment that stands
-pub record Scene : Type 0 where
+pub record PlayState : Type 0 where
   pub model : EngineModel
   pub now : ℕ
 
 -- nothing has happened to the proxy of this table: serials and links begin at 1, and the moment is 0
-abbrev pub initial_scene : Table → Scene
-initial_scene table = record {
+abbrev pub initial_play_state : Table → PlayState
+initial_play_state table = record {
   model = new_engine_model (record {
     table = table;
     limit = table.capacity;
@@ -73,8 +73,8 @@ initial_scene table = record {
 }
 
 -- the same over a store that holds these responses already: serials begin at the first that is given
-abbrev pub scene_over : Table → List Stored → ℕ → Scene
-scene_over table held first = record { model = begun_model table held first 1; now = 0 }
+abbrev pub play_state_over : Table → List Stored → ℕ → PlayState
+play_state_over table held first = record { model = begun_model table held first 1; now = 0 }
 
 -- a happening was taken, and then all was done that was due
 pub record HappeningIsPlayed (s : EngineModel) (now : ℕ) (h : Happening) (effects : List Effect)
@@ -89,15 +89,15 @@ HappeningIfAnyIsPlayed None s now effects t = (effects ≡ []) × (t ≡ s)
 HappeningIfAnyIsPlayed (Some h) s now effects t = HappeningIsPlayed s now h effects t
 
 -- an item was played, with these effects
-pub record ItemIsPlayed (a : Scene) (item : Item) (effects : List Effect) (b : Scene) : Type 0 where
+pub record ItemIsPlayed (a : PlayState) (item : Item) (effects : List Effect) (b : PlayState) : Type 0 where
   pub moment : b.now ≡ moment_after a.now item
   pub happened : HappeningIfAnyIsPlayed (happening_of_item item) a.model b.now effects b.model
 
 -- items were played in order, with these effects
-abbrev pub ItemsArePlayed : Scene → List Item → List Effect → Scene → Type 0
+abbrev pub ItemsArePlayed : PlayState → List Item → List Effect → PlayState → Type 0
 ItemsArePlayed a [] effects c = (effects ≡ []) × (c ≡ a)
 ItemsArePlayed a (item ∷ items) effects c =
-    (b : Scene) × (first others : List Effect) × ItemIsPlayed a item first b × ItemsArePlayed b items others c
+    (b : PlayState) × (first others : List Effect) × ItemIsPlayed a item first b × ItemsArePlayed b items others c
     × (effects ≡ first ++ others)
 
 -- some of what was due was done, and no more for this fault
@@ -114,6 +114,6 @@ EngineRefusesHappening s now h fault =
     (model_after_happening s h) now Spent)
 
 -- the engine stops at an item
-abbrev pub EngineStopsAtItem : Scene → Item → EngineFault → Type 0
+abbrev pub EngineStopsAtItem : PlayState → Item → EngineFault → Type 0
 EngineStopsAtItem a item fault = (h : Happening) × (happening_of_item item ≡ Some h) × EngineRefusesHappening a.model
     (moment_after a.now item) h fault

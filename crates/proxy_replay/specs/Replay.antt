@@ -13,7 +13,7 @@ use Rattle.hx_allow.specs.TableLines.{Table}
 use Rattle.hx_allow.specs.Tables.{BytesReadAs}
 use Rattle.hx_store.specs.Stored.{Stored}
 use Rattle.proxy_script.specs.Script.{PlainItem as Item, item_spelling, ItemHasSpelling, ItemMayStandHere, IsScript}
-use Rattle.proxy_script.specs.Script.{Cut, Wrong, item_in_front}
+use Rattle.proxy_script.specs.Script.{Cut, Wrong, leading_item}
 use Rattle.proxy_script.specs.Script as item
 use Rattle.proxy_script.specs.Effects.{effects_text}
 use Rattle.proxy_script.specs.declared.effect_list.Effect.{Effect}
@@ -21,7 +21,7 @@ use Rattle.proxy_engine.specs.Beginnings.{MayBeHeldAtFirst}
 use Rattle.proxy_store_file.specs.Stores.{StoreReading, read_store}
 use Rattle.proxy_store_file.specs.Streams.{IsRead, IsRefused, bounds_of, contents_of}
 use Rattle.proxy_replay.specs.Bytes.{script_limit}
-use Rattle.proxy_replay.specs.Played.{Scene, scene_over, ItemsArePlayed, EngineStopsAtItem}
+use Rattle.proxy_replay.specs.Played.{PlayState, play_state_over, ItemsArePlayed, EngineStopsAtItem}
 use Rattle.proxy_replay.specs.Runs.{PlayIsAGoodRunOver}
 use Rattle.proxy_replay.specs.declared.replay_fault.ReplayFault.{ReplayFault}
 use Rattle.proxy_replay.specs.declared.replay_fault.ReplayFault.TheVariants as faults
@@ -36,7 +36,7 @@ BytesBeginWithItem first bytes item more = (bytes ≡ item_spelling item ++ more
 abbrev pub NoItemStandsInFront : Bool → Bool → List ℕ → Type 0
 NoItemStandsInFront first true rest =
     (rest ≡ [] → first ≡ true) × ((item : Item) (more : List ℕ) → ¬ (BytesBeginWithItem first rest item more))
-NoItemStandsInFront first false rest = item_in_front first rest ≡ Wrong
+NoItemStandsInFront first false rest = leading_item first rest ≡ Wrong
 
 -- A replay opens over a store: what is held at first, and the serial that the next stored response gets. Over nothing,
 -- serials begin at 1.
@@ -53,7 +53,7 @@ StoreIsRead old table (Err fault) =
 -- The bytes are a table and items, spelled, and a rest; a store was opened, the items were played over it, with these
 -- effects, and the steps of the core that they lead to are a good run.
 pub record BytesLeadTo (Opens : Table → StoreReading → Type 0) (bytes : List ℕ) (items : List Item) (rest : List ℕ)
-    (effects : List Effect) (last : Scene) : Type 0 where
+    (effects : List Effect) (last : PlayState) : Type 0 where
   pub front : List ℕ
   pub bytes_are : bytes ≡ front ++ rest
   pub table : List ℕ
@@ -64,16 +64,16 @@ pub record BytesLeadTo (Opens : Table → StoreReading → Type 0) (bytes : List
   pub first : ℕ
   pub opens : Opens config (Ok (contents_of held first))
   pub may : MayBeHeldAtFirst config held first
-  pub plays : ItemsArePlayed (scene_over config held first) items effects last
+  pub plays : ItemsArePlayed (play_state_over config held first) items effects last
   pub run : PlayIsAGoodRunOver config held first items effects last
 
 -- they lead so far, and P holds there
 pub record BytesLeadToWhere (Opens : Table → StoreReading → Type 0) (bytes : List ℕ)
-    (P : List Item → List ℕ → List Effect → Scene → Type 0) : Type 0 where
+    (P : List Item → List ℕ → List Effect → PlayState → Type 0) : Type 0 where
   pub items : List Item
   pub rest : List ℕ
   pub effects : List Effect
-  pub last : Scene
+  pub last : PlayState
   pub leads : BytesLeadTo Opens bytes items rest effects last
   pub holds : P items rest effects last
 
@@ -110,7 +110,7 @@ ReplayFails Opens bytes ended written (faults.Engine fault) =
     × BytesBeginWithItem false rest h more
     × EngineStopsAtItem last h fault × (written ≡ effects_text effects))
 ReplayFails Opens bytes ended written faults.Read =
-    (ended ≡ false) × ReplayEndsAt Opens bytes written (λ first rest line. item_in_front first rest ≡ Cut)
+    (ended ≡ false) × ReplayEndsAt Opens bytes written (λ first rest line. leading_item first rest ≡ Cut)
 ReplayFails Opens bytes ended written faults.Write =
     BytesLeadToWhere Opens bytes (λ items rest effects last. (k : ℕ) × (written ≡ take k (effects_text effects)))
 ReplayFails Opens bytes ended written faults.OutOfMemory =
@@ -156,8 +156,8 @@ pub record IsReplayedOver (held : List Stored) (first : ℕ) (script text : List
   pub config : Table
   pub reads : BytesReadAs table (Ok config)
   pub effects : List Effect
-  pub last : Scene
-  pub plays : ItemsArePlayed (scene_over config held first) items effects last
+  pub last : PlayState
+  pub plays : ItemsArePlayed (play_state_over config held first) items effects last
   pub run : PlayIsAGoodRunOver config held first items effects last
   pub emitted : text ≡ effects_text effects
 

@@ -14,7 +14,8 @@ use Rattle.proxy_engine.specs.Beginnings.{store_with}
 use Rattle.proxy_engine.specs.Happenings.{PlainHappening as Happening}
 use Rattle.proxy_engine.specs.Executions.{ExecutionStep, Took, Worked, StepsLead, effects_of_steps}
 use Rattle.proxy_engine.specs.Executions.{StepsAreAGoodRun as IsCoreRun}
-use Rattle.proxy_replay.specs.Played.{DoneAct, Scene, scene_over, ItemsArePlayed, happening_of_item, moment_after}
+use Rattle.proxy_replay.specs.Played.{DoneAct, PlayState, play_state_over}
+use Rattle.proxy_replay.specs.Played.{ItemsArePlayed, happening_of_item, moment_after}
 
 -- the steps of acts that were done at a moment, behind those before them; the latest first
 abbrev pub steps_of_acts : ℕ → List DoneAct → List ExecutionStep → List ExecutionStep
@@ -42,19 +43,20 @@ StepsFollowItems now (item ∷ items) past steps =
 -- is what its case gives over what is held by the count, and the effects are the texts of what they gave, in order,
 -- with the proxy's own answers to what is no request. Serials begin at the first.
 pub record PlayIsAGoodRunOver (table : Table) (held : List Stored) (first : ℕ) (items : List Item)
-    (effects : List Effect) (last : Scene) : Type 0 where
+    (effects : List Effect) (last : PlayState) : Type 0 where
   pub steps : List ExecutionStep
   pub follows : StepsFollowItems 0 items [] steps
-  pub executes : StepsLead (scene_over table held first).model steps last.model
+  pub executes : StepsLead (play_state_over table held first).model steps last.model
   pub emitted : effects_of_steps steps ≡ effects
-  pub run : IsCoreRun table (store_with table held) first (scene_over table held first).model steps last.model
+  pub run : IsCoreRun table (store_with table held) first (play_state_over table held first).model steps last.model
 
 -- the same over an empty store, where serials begin at 1
-abbrev pub PlayIsAGoodRun : Table → List Item → List Effect → Scene → Type 0
+abbrev pub PlayIsAGoodRun : Table → List Item → List Effect → PlayState → Type 0
 PlayIsAGoodRun table items effects last = PlayIsAGoodRunOver table [] 1 items effects last
 
 -- items are played in one way: they have one list of effects, and lead to one model
 abbrev pub ScriptHasOnePlay : Type 0
 ScriptHasOnePlay =
-    (a : Scene) (items : List Item) (effects more : List Effect) (b c : Scene) → ItemsArePlayed a items effects b
+    (a : PlayState) (items : List Item) (effects more : List Effect) (b c : PlayState)
+    → ItemsArePlayed a items effects b
     → ItemsArePlayed a items more c → (effects ≡ more) × (b ≡ c)

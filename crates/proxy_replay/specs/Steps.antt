@@ -10,7 +10,7 @@ use Rattle.proxy_store_file.specs.declared.store_faults.StoreFault.{StoreFault}
 use Rattle.proxy_store_file.specs.declared.store_faults.StoreFault.TheVariants as store
 use Rattle.proxy_store_file.specs.Stores.{StoreReading}
 use Rattle.proxy_store_file.specs.Streams.{contents_of}
-use Rattle.proxy_script.specs.Script.{PlainItem as Item, Cut, item_in_front}
+use Rattle.proxy_script.specs.Script.{PlainItem as Item, Cut, leading_item}
 use Rattle.proxy_script.specs.Script as item
 use Rattle.proxy_script.specs.Effects.{effects_text}
 use Rattle.proxy_script.specs.declared.effect_list.Effect.{Effect}
@@ -21,7 +21,8 @@ use Rattle.proxy_engine.specs.Due.{IsDueFirst}
 use Rattle.proxy_engine.specs.State.{State, EngineRepresents}
 use Rattle.proxy_engine.specs.declared.work.EngineFault.{EngineFault}
 use Rattle.proxy_engine.specs.declared.work.EngineFault.TheVariants as engine
-use Rattle.proxy_replay.specs.Played.{DoneAct, ActsAreDoneInOrder, effects_of_acts, HappeningIfAnyIsPlayed, scene_over}
+use Rattle.proxy_replay.specs.Played.{DoneAct, ActsAreDoneInOrder}
+use Rattle.proxy_replay.specs.Played.{effects_of_acts, HappeningIfAnyIsPlayed, play_state_over}
 use Rattle.proxy_replay.specs.Played.{EngineRefusesHappening}
 use Rattle.proxy_replay.specs.Replay.{BytesBeginWithItem, NoItemStandsInFront, ReplayFails}
 use Rattle.proxy_replay.specs.declared.replay_fault.ReplayFault.{ReplayFault}
@@ -56,7 +57,7 @@ abbrev pub TableIsNotRead : List ℕ → Bool → ReplayFault → Type 0
 TableIsNotRead bytes ended (faults.Config fault) =
     (text rest : List ℕ) × BytesBeginWithItem true bytes (item.Table text) rest × BytesReadAs text (Err fault)
 TableIsNotRead bytes ended (faults.Line n) = NoItemStandsInFront true ended bytes × (n ≡ 1)
-TableIsNotRead bytes ended faults.Read = (ended ≡ false) × (item_in_front true bytes ≡ Cut)
+TableIsNotRead bytes ended faults.Read = (ended ≡ false) × (leading_item true bytes ≡ Cut)
 TableIsNotRead bytes ended faults.OutOfMemory = Unit {0}
 TableIsNotRead bytes ended (faults.Store fault) = ⊥
 TableIsNotRead bytes ended (faults.Engine fault) = ⊥
@@ -68,7 +69,7 @@ pub record EngineBegins (Opens : Table → StoreReading → Type 0) (table : Tab
   pub first : ℕ
   pub opens : Opens table (Ok (contents_of held first))
   pub may : MayBeHeldAtFirst table held first
-  pub represents : EngineRepresents e (scene_over table held first).model
+  pub represents : EngineRepresents e (play_state_over table held first).model
 
 -- or it doesn't, wherever its table was read, for this fault
 abbrev pub BeginningFails : (Table → StoreReading → Type 0) → Table → ReplayFault → Type 0

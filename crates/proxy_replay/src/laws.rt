@@ -5,7 +5,7 @@ ghost use Rattle.hx_store.specs.Stored.{Stored};
 ghost use Rattle.proxy_engine.specs.Beginnings.{MayBeHeldAtFirst};
 ghost use Rattle.proxy_script.specs.Script.{PlainItem as Item};
 ghost use Rattle.proxy_script.specs.declared.effect_list.Effect.{Effect};
-ghost use Rattle.proxy_replay.specs.Played.{Scene, ItemsArePlayed, initial_scene, scene_over};
+ghost use Rattle.proxy_replay.specs.Played.{PlayState, ItemsArePlayed, initial_play_state, play_state_over};
 ghost use Rattle.proxy_replay.specs.Closes.{NoEffectFollowsAClose, NoEffectFollowsAGoneClient};
 ghost use Rattle.proxy_replay.specs.Closes.{EachEndedLinkIsDroppedOnce};
 ghost use Rattle.proxy_replay.specs.Runs.{PlayIsAGoodRun, PlayIsAGoodRunOver, ScriptHasOnePlay};
@@ -23,11 +23,11 @@ use proxy_script::laws::items_are_found_as_they_are_spelled;
 /// good run with the headline: each outcome is that of its case over what is held by the count over the steps before
 /// it, and what was written is what the steps gave. So it is over a store that was kept, too.
 pub fn a_play_is_a_run()
-    ensures empty { (table : Table) → (items : List Item) → (effects : List Effect) → (last : Scene)
-        → ItemsArePlayed (initial_scene table) items effects last → PlayIsAGoodRun table items effects last }
+    ensures empty { (table : Table) → (items : List Item) → (effects : List Effect) → (last : PlayState)
+        → ItemsArePlayed (initial_play_state table) items effects last → PlayIsAGoodRun table items effects last }
     ensures over { (table : Table) → (held : List Stored) → (first : ℕ) → (items : List Item)
-        → (effects : List Effect) → (last : Scene) → MayBeHeldAtFirst table held first
-        → ItemsArePlayed (scene_over table held first) items effects last
+        → (effects : List Effect) → (last : PlayState) → MayBeHeldAtFirst table held first
+        → ItemsArePlayed (play_state_over table held first) items effects last
         → PlayIsAGoodRunOver table held first items effects last }
 {}
 
@@ -42,7 +42,7 @@ pub fn a_script_has_one_play()
     items_are_found_as_they_are_spelled();
 }
 
-/// Whatever a script plays, nothing goes to a client behind the close of its connection, and none is closed twice.
+/// Whatever a script plays, nothing goes to a client after the close of its connection, and none is closed twice.
 pub fn nothing_follows_a_close()
     ensures { NoEffectFollowsAClose }
 {
@@ -60,7 +60,7 @@ pub fn nothing_follows_a_gone()
     an_act_has_three_effects_at_most();
 }
 
-/// Whatever a script plays, each link that ends is dropped, and once; behind that no effect names it.
+/// Whatever a script plays, each link that ends is dropped, and once; after that no effect names it.
 pub fn each_link_is_dropped_once()
     ensures { EachEndedLinkIsDroppedOnce }
 {

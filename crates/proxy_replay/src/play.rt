@@ -14,7 +14,7 @@ use crate::replay_fault::ReplayFault;
 use hx_allow::Config;
 use hx_store::{IndexedShelf, ListShelf};
 use proxy_engine::Engine;
-use proxy_script::{FrontItem, Item, read_item};
+use proxy_script::{Item, LeadingItem, read_item};
 use std::alloc::Global;
 use std::io::{Read, Write};
 
@@ -35,16 +35,16 @@ fn read_table(alloc: Global, bytes: &[u8], ended: bool) -> Result<(Config, &[u8]
     ensures fault { IfErr result (TableIsNotRead bytes.now ended) }
 {
     match read_item(true, bytes) {
-        FrontItem::Found(item, rest) => match table_of_item(item) {
+        LeadingItem::Found(item, rest) => match table_of_item(item) {
             Some(table) => match Config::read(alloc, table) {
                 Ok(config) => Ok((config, rest)),
                 Err(fault) => Err(ReplayFault::replay_fault_of_config_fault(fault)),
             },
             None => Err(ReplayFault::Line(1)),
         },
-        FrontItem::Wrong => Err(ReplayFault::Line(1)),
-        FrontItem::Cut if ended => Err(ReplayFault::Line(1)),
-        FrontItem::Cut => Err(ReplayFault::Read),
+        LeadingItem::Wrong => Err(ReplayFault::Line(1)),
+        LeadingItem::Cut if ended => Err(ReplayFault::Line(1)),
+        LeadingItem::Cut => Err(ReplayFault::Read),
     }
 }
 
@@ -91,7 +91,7 @@ fn play<S: NewShelf + Drop, O: Opening, W: Write>(
     let mut line = 2u64;
     'items: loop {
         match read_item(false, rest) {
-            FrontItem::Found(item, more) => {
+            LeadingItem::Found(item, more) => {
                 now = moment_after(now, item);
                 match play_item(alloc, &mut engine, now, item, writer) {
                     Ok(()) => {}
@@ -100,8 +100,8 @@ fn play<S: NewShelf + Drop, O: Opening, W: Write>(
                 rest = more;
                 line += 1;
             }
-            FrontItem::Wrong => return Err(ReplayFault::Line(line)),
-            FrontItem::Cut => {
+            LeadingItem::Wrong => return Err(ReplayFault::Line(line)),
+            LeadingItem::Cut => {
                 if !ended {
                     return Err(ReplayFault::Read);
                 }
@@ -158,7 +158,7 @@ pub fn replay_on_list<R: Read, W: Write>(
 }
 
 /// The same over the store that another reader gives, as a server that read it begins: what the file of the store
-/// holds is held at first, and serials go on from there. It is read behind the table, within its bounds. Where it is
+/// holds is held at first, and serials go on from there. It is read after the table, within its bounds. Where it is
 /// refused nothing is played.
 pub fn replay_over<Q: Read + Drop, R: Read, W: Write>(
     alloc: Global,

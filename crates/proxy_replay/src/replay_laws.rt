@@ -6,7 +6,7 @@ ghost use Rattle.proxy_script.specs.declared.effect_list.Effect.TheVariants as e
 ghost use Rattle.proxy_engine.specs.Happenings.{Accepts};
 ghost use Rattle.proxy_engine.specs.Due.{Wakes};
 ghost use Rattle.proxy_engine.specs.Executions.{Took, Worked};
-ghost use Rattle.proxy_replay.specs.Played.{initial_scene, effects_of_acts, happening_of_item, moment_after};
+ghost use Rattle.proxy_replay.specs.Played.{initial_play_state, effects_of_acts, happening_of_item, moment_after};
 ghost use Rattle.proxy_replay.specs.Runs.{steps_of_acts};
 ghost use Rattle.proxy_replay.specs.OneReplay.{ReplayHasNoOtherText, NoWholeReplayBeforeTheEnd, NoReadFaultAtTheEnd};
 ghost use Rattle.proxy_replay.specs.OneReplay.{NothingIsWrittenForARefusedTable};
@@ -44,6 +44,6 @@ pub fn worked_items()
     ensures steps { steps_of_acts 7 (record { act = Wakes 0; effects = [] } ∷ record { act = Wakes 1; effects = [] }
         ∷ [])
         (Took (Accepts 1) ∷ []) ≡ Worked 7 (Wakes 1) [] ∷ Worked 7 (Wakes 0) [] ∷ Took (Accepts 1) ∷ [] }
-    ensures room { (initial_scene table).model.core.limit ≡ table.capacity }
-    ensures from_0 { (initial_scene table).now ≡ 0 }
+    ensures room { (initial_play_state table).model.core.limit ≡ table.capacity }
+    ensures from_0 { (initial_play_state table).now ≡ 0 }
 {}

@@ -5,7 +5,7 @@ use Rattle.std.proofs.lemmas.Bool.{eqb-true, leb-false, lt-leb}
 use Rattle.hx_fields.specs.Names.{cut_at}
 use Rattle.proxy_script.specs.ScriptLines.{line_text, LineHasSpelling, is_config, line_that_may_stand_here}
 use Rattle.proxy_script.specs.Happenings as happening
-use Rattle.proxy_script.specs.Script.{PlainItem, Table, Moment, Happens, line_of_item, block_of_item, item_spelling, ItemHasSpelling, ItemMayStandHere, Found, Whole, Short, Bad, block_in_front, item_reading_with_block, item_of_line, item_of_line_if_any, item_after_line_end, item_in_front}
+use Rattle.proxy_script.specs.Script.{PlainItem, Table, Moment, Happens, line_of_item, block_of_item, item_spelling, ItemHasSpelling, ItemMayStandHere, Found, Whole, Short, Bad, leading_block, item_reading_with_block, item_of_line, item_of_line_if_any, item_after_line_end, leading_item}
 use Rattle.proxy_script.specs.declared.line_parser.ItemLine.{ItemLine}
 use Rattle.proxy_script.specs.declared.line_parser.ItemLine.TheVariants.{Config, At, Accept, Client, Link, End, Gone, Retire, Overdue, Shut, Fail}
 use Rattle.proxy_script.proofs.NumberLaws.{cut_found, cut_again}
@@ -15,7 +15,7 @@ drop_past : (xs : List ℕ) (y : ℕ) (ys : List ℕ) → drop (suc (length xs))
 drop_past [] y ys = refl
 drop_past (x ∷ xs) y ys = drop_past xs y ys
 
-block_again : (bytes rest : List ℕ) → block_in_front (length bytes) ((bytes ++ 10 ∷ []) ++ rest) ≡ Whole bytes rest
+block_again : (bytes rest : List ℕ) → leading_block (length bytes) ((bytes ++ 10 ∷ []) ++ rest) ≡ Whole bytes rest
 block_again bytes rest =
     let after = append_assoc bytes (10 ∷ []) rest in
     let short : nat_le (length ((bytes ++ 10 ∷ []) ++ rest)) (length bytes) ≡ false = lt-leb (length ((bytes ++ 10 ∷ []) ++ rest)) (length bytes) (omega (arith, length-append (bytes ++ 10 ∷ []) rest, length-append bytes (10 ∷ []))) in
@@ -36,8 +36,8 @@ said_again (Happens (happening.Overdues n)) rest = refl
 said_again (Happens (happening.Shuts l)) rest = refl
 said_again (Happens (happening.Fails l kind)) rest = refl
 
-pub item_again : (first : Bool) (h : PlainItem) (rest : List ℕ) → ItemHasSpelling h → ItemMayStandHere first h → item_in_front first (item_spelling h ++ rest) ≡ Found h rest
-unfolding item_in_front
+pub item_again : (first : Bool) (h : PlainItem) (rest : List ℕ) → ItemHasSpelling h → ItemMayStandHere first h → leading_item first (item_spelling h ++ rest) ≡ Found h rest
+unfolding leading_item
 item_again first h rest fits here =
     let line = line_text (line_of_item h) in
     ap (λ bytes. item_after_line_end first (cut_at 10 bytes)) (append_assoc line (10 ∷ block_of_item h) rest)
@@ -74,7 +74,7 @@ block_found_by false true says head len bytes rest h line block long feed e =
 
 block_found : (says : List ℕ → PlainItem) (head : ℕ → ItemLine) (len : ℕ) (bytes rest : List ℕ) (h : PlainItem)
     → ((block : List ℕ) → line_of_item (says block) ≡ head (length block)) → ((block : List ℕ) → block_of_item (says block) ≡ block ++ 10 ∷ [])
-    → item_reading_with_block says (block_in_front len bytes) ≡ Found h rest → IsBehind (head len) bytes h rest
+    → item_reading_with_block says (leading_block len bytes) ≡ Found h rest → IsBehind (head len) bytes h rest
 block_found says head len bytes rest h line block e =
     block_found_by (nat_le (length bytes) len) (get_or bytes len 0 == 10) says head len bytes rest h line block (leb-false (length bytes) len) (eqb-true (get_or bytes len 0) 10) e
 
@@ -108,6 +108,6 @@ on_found first (Some p) bytes rest h is e =
     let found = under_found first (line_that_may_stand_here first p.0) p.0 p.1 rest h refl e in
     (cut_found 10 bytes p.0 p.1 is ∙ found.0, found.1, found.2)
 
-pub item_found : (first : Bool) (bytes rest : List ℕ) (h : PlainItem) → item_in_front first bytes ≡ Found h rest → (bytes ≡ item_spelling h ++ rest) × ItemHasSpelling h × ItemMayStandHere first h
-unfolding item_in_front
+pub item_found : (first : Bool) (bytes rest : List ℕ) (h : PlainItem) → leading_item first bytes ≡ Found h rest → (bytes ≡ item_spelling h ++ rest) × ItemHasSpelling h × ItemMayStandHere first h
+unfolding leading_item
 item_found first bytes rest h e = on_found first (cut_at 10 bytes) bytes rest h refl e

@@ -1,7 +1,7 @@
 -- The grammar of scripts: how an item is spelled, and what stands at the front of bytes.
 --
 -- PlainItem: what an item says       item_spelling: how it is spelled      ItemHasSpelling: what has a spelling
--- item_in_front: the item at the front, less than a whole one, or none
+-- leading_item: the item at the front, less than a whole one, or none
 -- IsScript: the bytes are the spelling of a table and of items
 use Rattle.std.specs.Prelude.{◌≡◌, ℕ, ◌+◌, ◌==◌, nat_le, List, [], ◌∷◌, ◌++◌, length, Bool, false, Option, None, Some}
 use Rattle.std.specs.Prelude.{if◌then◌else◌, slice_index, take, drop}
@@ -15,8 +15,8 @@ use Rattle.proxy_script.specs.declared.line_parser.ItemLine.TheVariants.{Config,
 use Rattle.proxy_script.specs.declared.line_parser.ItemLine.TheVariants.{Retire, Overdue, Shut, Fail}
 use Rattle.proxy_script.specs.declared.items.Item.{Item}
 use Rattle.proxy_script.specs.declared.items.Item.TheVariants as item
-use Rattle.proxy_script.specs.declared.parser.FrontItem.{FrontItem}
-use Rattle.proxy_script.specs.declared.parser.FrontItem.TheVariants as front
+use Rattle.proxy_script.specs.declared.parser.LeadingItem.{LeadingItem}
+use Rattle.proxy_script.specs.declared.parser.LeadingItem.TheVariants as front
 use Rattle.proxy_script.specs.declared.parser.Block.{Block}
 use Rattle.proxy_script.specs.declared.parser.Block.TheVariants as block
 
@@ -78,8 +78,8 @@ pub data BlockReading : Type 0 where
   Bad : BlockReading
 
 -- the block of this length at the front
-abbrev pub block_in_front : ℕ → List ℕ → BlockReading
-block_in_front len rest =
+abbrev pub leading_block : ℕ → List ℕ → BlockReading
+leading_block len rest =
     if nat_le (length rest) len then Short
     else if slice_index rest len == 10 then Whole (take len rest) (drop (len + 1) rest)
     else Bad
@@ -90,13 +90,13 @@ item_reading_with_block says Short = Cut
 item_reading_with_block says Bad = Wrong
 
 abbrev pub item_of_line : ItemLine → List ℕ → ItemReading
-item_of_line (Config len) rest = item_reading_with_block Table (block_in_front len rest)
+item_of_line (Config len) rest = item_reading_with_block Table (leading_block len rest)
 item_of_line (At m) rest = Found (Moment m) rest
 item_of_line (Accept n) rest = Found (Happens (happening.Accepts n)) rest
 item_of_line (Client n len) rest = item_reading_with_block (λ bytes. Happens (happening.Sends n bytes))
-    (block_in_front len rest)
+    (leading_block len rest)
 item_of_line (Link l len) rest = item_reading_with_block (λ bytes. Happens (happening.Hears l bytes))
-    (block_in_front len rest)
+    (leading_block len rest)
 item_of_line (End n) rest = Found (Happens (happening.Ends n)) rest
 item_of_line (Gone n) rest = Found (Happens (happening.Leaves n)) rest
 item_of_line (Retire n) rest = Found (Happens (happening.Retires n)) rest
@@ -113,8 +113,8 @@ item_after_line_end first None = Cut
 item_after_line_end first (Some p) = item_of_line_if_any p.1 (line_that_may_stand_here first p.0)
 
 -- the item at the front, the table where it is the first
-unfoldable pub item_in_front : Bool → List ℕ → ItemReading
-item_in_front first bytes = item_after_line_end first (cut_at 10 bytes)
+unfoldable pub leading_item : Bool → List ℕ → ItemReading
+leading_item first bytes = item_after_line_end first (cut_at 10 bytes)
 
 -- the bytes are a script of this table and these items
 pub record IsScript (bytes table : List ℕ) (items : List PlainItem) : Type 0 where
@@ -129,7 +129,7 @@ plain_item (item.Config bytes) = Table bytes.now
 plain_item (item.At m) = Moment m
 plain_item (item.Happens h) = Happens (happening.plain_happening h)
 
-abbrev pub plain_reading : FrontItem → ItemReading
+abbrev pub plain_reading : LeadingItem → ItemReading
 plain_reading (front.Found h rest) = Found (plain_item h) rest.now
 plain_reading front.Cut = Cut
 plain_reading front.Wrong = Wrong

@@ -1,6 +1,6 @@
 //! What the grammar and the reading of scripts say of each other.
 ghost use Rattle.std.specs.Prelude.{◌≡◌, ◌++◌, List, ℕ, Bool};
-ghost use Rattle.proxy_script.specs.Script.{PlainItem, item_spelling, ItemHasSpelling, ItemMayStandHere, item_in_front};
+ghost use Rattle.proxy_script.specs.Script.{PlainItem, item_spelling, ItemHasSpelling, ItemMayStandHere, leading_item};
 ghost use Rattle.proxy_script.specs.Script.{Found};
 
 pub use crate::script_cases::{
@@ -11,8 +11,8 @@ pub use crate::script_cases::{
 /// What is found is spelled so and stands here, and what is spelled so and stands here is found, whatever
 /// follows it.
 pub fn items_are_found_as_they_are_spelled()
-    ensures found { (first : Bool) (bytes rest : List ℕ) (h : PlainItem) → item_in_front first bytes ≡ Found h rest
+    ensures found { (first : Bool) (bytes rest : List ℕ) (h : PlainItem) → leading_item first bytes ≡ Found h rest
         → (bytes ≡ item_spelling h ++ rest) × ItemHasSpelling h × ItemMayStandHere first h }
     ensures again { (first : Bool) (h : PlainItem) (rest : List ℕ) → ItemHasSpelling h → ItemMayStandHere first h
-        → item_in_front first (item_spelling h ++ rest) ≡ Found h rest }
+        → leading_item first (item_spelling h ++ rest) ≡ Found h rest }
 {}

@@ -3,7 +3,7 @@ ghost use Rattle.std.specs.Prelude.{◌≡◌};
 ghost use Rattle.std.specs.Option.{option_map};
 ghost use Rattle.proxy_script.specs.ScriptLines.{line_that_may_stand_here};
 ghost use Rattle.proxy_script.specs.Happenings.{plain_happening};
-ghost use Rattle.proxy_script.specs.Script.{Found, Happens, block_in_front, item_of_line, item_in_front, plain_reading};
+ghost use Rattle.proxy_script.specs.Script.{Found, Happens, leading_block, item_of_line, leading_item, plain_reading};
 ghost use Rattle.proxy_script.specs.Script.{plain_block};
 
 use crate::line_parser::{ItemLine, is_config, line_of_text};
@@ -12,7 +12,7 @@ use hx_fields::cut_at;
 
 /// What stands at the front of bytes.
 #[derive(Clone, Copy)]
-pub enum FrontItem<'a> {
+pub enum LeadingItem<'a> {
     /// An item, and what follows it.
     Found(Item<'a>, &'a [u8]),
     /// The bytes end inside a line or a block. At the end of a script that is a wrong line.
@@ -28,8 +28,8 @@ enum Block<'a> {
     Wrong,
 }
 
-fn block_in_front(len: u64, rest: &[u8]) -> Block<'_>
-    ensures { plain_block result ≡ block_in_front len rest.now }
+fn leading_block(len: u64, rest: &[u8]) -> Block<'_>
+    ensures { plain_block result ≡ leading_block len rest.now }
 {
     if rest.len() as u64 <= len {
         return Block::Cut;
@@ -41,32 +41,32 @@ fn block_in_front(len: u64, rest: &[u8]) -> Block<'_>
     Block::Whole(&rest[..end], &rest[end + 1..])
 }
 
-fn front_with_happening<'a>(happening: Happening<'a>, rest: &'a [u8]) -> FrontItem<'a>
+fn front_with_happening<'a>(happening: Happening<'a>, rest: &'a [u8]) -> LeadingItem<'a>
     ensures { plain_reading result ≡ Found (Happens (plain_happening happening.entry)) rest.now }
 {
-    FrontItem::Found(Item::Happens(happening), rest)
+    LeadingItem::Found(Item::Happens(happening), rest)
 }
 
-fn item_of_line(header: ItemLine, rest: &[u8]) -> FrontItem<'_>
+fn item_of_line(header: ItemLine, rest: &[u8]) -> LeadingItem<'_>
     ensures { plain_reading result ≡ item_of_line header rest.now }
 {
     match header {
-        ItemLine::Config(len) => match block_in_front(len, rest) {
-            Block::Whole(table, rest) => FrontItem::Found(Item::Config(table), rest),
-            Block::Cut => FrontItem::Cut,
-            Block::Wrong => FrontItem::Wrong,
+        ItemLine::Config(len) => match leading_block(len, rest) {
+            Block::Whole(table, rest) => LeadingItem::Found(Item::Config(table), rest),
+            Block::Cut => LeadingItem::Cut,
+            Block::Wrong => LeadingItem::Wrong,
         },
-        ItemLine::At(moment) => FrontItem::Found(Item::At(moment), rest),
+        ItemLine::At(moment) => LeadingItem::Found(Item::At(moment), rest),
         ItemLine::Accept(n) => front_with_happening(Happening::Accept(n), rest),
-        ItemLine::Client(n, len) => match block_in_front(len, rest) {
+        ItemLine::Client(n, len) => match leading_block(len, rest) {
             Block::Whole(bytes, rest) => front_with_happening(Happening::Client(n, bytes), rest),
-            Block::Cut => FrontItem::Cut,
-            Block::Wrong => FrontItem::Wrong,
+            Block::Cut => LeadingItem::Cut,
+            Block::Wrong => LeadingItem::Wrong,
         },
-        ItemLine::Link(l, len) => match block_in_front(len, rest) {
+        ItemLine::Link(l, len) => match leading_block(len, rest) {
             Block::Whole(bytes, rest) => front_with_happening(Happening::Link(l, bytes), rest),
-            Block::Cut => FrontItem::Cut,
-            Block::Wrong => FrontItem::Wrong,
+            Block::Cut => LeadingItem::Cut,
+            Block::Wrong => LeadingItem::Wrong,
         },
         ItemLine::End(n) => front_with_happening(Happening::End(n), rest),
         ItemLine::Gone(n) => front_with_happening(Happening::Gone(n), rest),
@@ -94,14 +94,14 @@ fn line_that_may_stand_here(first: bool, line: &[u8]) -> Option<ItemLine>
 }
 
 /// The item at the front of the bytes of a script; the first one is the operator's table, and no other is.
-#[tactic(auto, unfolding(crate::specs::Script::item_in_front))]
-pub fn read_item(first: bool, bytes: &[u8]) -> FrontItem<'_>
-    ensures { plain_reading result ≡ item_in_front first bytes.now }
+#[tactic(auto, unfolding(crate::specs::Script::leading_item))]
+pub fn read_item(first: bool, bytes: &[u8]) -> LeadingItem<'_>
+    ensures { plain_reading result ≡ leading_item first bytes.now }
 {
     match cut_at(b'\n', bytes) {
-        None => FrontItem::Cut,
+        None => LeadingItem::Cut,
         Some((line, rest)) => match line_that_may_stand_here(first, line) {
-            None => FrontItem::Wrong,
+            None => LeadingItem::Wrong,
             Some(header) => item_of_line(header, rest),
         },
     }

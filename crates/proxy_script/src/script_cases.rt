@@ -6,7 +6,7 @@ ghost use Rattle.hx_status.specs.declared.question.AskedTarget.TheVariants.{AsIt
 ghost use Rattle.proxy_script.specs.declared.effect_list.Effect.TheVariants as effect;
 ghost use Rattle.proxy_script.specs.Effects.{effect_text, effects_text};
 ghost use Rattle.proxy_script.specs.Happenings as happening;
-ghost use Rattle.proxy_script.specs.Script.{Cut, Found, Happens, Moment, Table, Wrong, item_in_front, item_spelling};
+ghost use Rattle.proxy_script.specs.Script.{Cut, Found, Happens, Moment, Table, Wrong, leading_item, item_spelling};
 
 /// How each item is spelled: a word, its numbers, and for bytes a block behind the line.
 pub fn worked_items_are_spelled()
@@ -27,64 +27,64 @@ pub fn worked_items_are_spelled()
 {}
 
 /// What stands at the front of a script; what follows it is left.
-#[tactic(auto, unfolding(crate::specs::Script::item_in_front, crate::specs::ScriptLines::line_of_text, crate::specs::DecimalNumbers::number_of))]
+#[tactic(auto, unfolding(crate::specs::Script::leading_item, crate::specs::ScriptLines::line_of_text, crate::specs::DecimalNumbers::number_of))]
 pub fn worked_items_are_read()
-    ensures table { item_in_front true (codes "config 3\na\nb\nat 1\n") ≡ Found (Table (codes "a\nb")) (codes "at 1\n") }
-    ensures moment { item_in_front false (codes "at 0\nx") ≡ Found (Moment 0) (codes "x") }
-    ensures last_moment { item_in_front false (codes "at 253402300799\n") ≡ Found (Moment 253402300799) [] }
-    ensures accepts { item_in_front false (codes "accept 1\n") ≡ Found (Happens (happening.Accepts 1)) [] }
-    ensures last_number { item_in_front false (codes "accept 18446744073709551615\n")
+    ensures table { leading_item true (codes "config 3\na\nb\nat 1\n") ≡ Found (Table (codes "a\nb")) (codes "at 1\n") }
+    ensures moment { leading_item false (codes "at 0\nx") ≡ Found (Moment 0) (codes "x") }
+    ensures last_moment { leading_item false (codes "at 253402300799\n") ≡ Found (Moment 253402300799) [] }
+    ensures accepts { leading_item false (codes "accept 1\n") ≡ Found (Happens (happening.Accepts 1)) [] }
+    ensures last_number { leading_item false (codes "accept 18446744073709551615\n")
         ≡ Found (Happens (happening.Accepts 18446744073709551615)) [] }
-    ensures sends { item_in_front false (codes "client 1 3\nGET\nend 1\n")
+    ensures sends { leading_item false (codes "client 1 3\nGET\nend 1\n")
         ≡ Found (Happens (happening.Sends 1 (codes "GET"))) (codes "end 1\n") }
-    ensures nothing { item_in_front false (codes "client 1 0\n\n") ≡ Found (Happens (happening.Sends 1 [])) [] }
-    ensures hears { item_in_front false (codes "link 2 4\nHTTP\n") ≡ Found (Happens (happening.Hears 2 (codes "HTTP"))) [] }
-    ensures ends { item_in_front false (codes "end 1\n") ≡ Found (Happens (happening.Ends 1)) [] }
-    ensures leaves { item_in_front false (codes "gone 1\n") ≡ Found (Happens (happening.Leaves 1)) [] }
-    ensures retires { item_in_front false (codes "retire 1\n") ≡ Found (Happens (happening.Retires 1)) [] }
-    ensures overdue { item_in_front false (codes "overdue 1\n") ≡ Found (Happens (happening.Overdues 1)) [] }
-    ensures shuts { item_in_front false (codes "shut 2\n") ≡ Found (Happens (happening.Shuts 2)) [] }
-    ensures refused { item_in_front false (codes "fail 2 refused\n") ≡ Found (Happens (happening.Fails 2 Refused)) [] }
-    ensures timed_out { item_in_front false (codes "fail 2 timed-out\n") ≡ Found (Happens (happening.Fails 2 TimedOut)) [] }
-    ensures closed { item_in_front false (codes "fail 2 closed\n") ≡ Found (Happens (happening.Fails 2 Closed)) [] }
+    ensures nothing { leading_item false (codes "client 1 0\n\n") ≡ Found (Happens (happening.Sends 1 [])) [] }
+    ensures hears { leading_item false (codes "link 2 4\nHTTP\n") ≡ Found (Happens (happening.Hears 2 (codes "HTTP"))) [] }
+    ensures ends { leading_item false (codes "end 1\n") ≡ Found (Happens (happening.Ends 1)) [] }
+    ensures leaves { leading_item false (codes "gone 1\n") ≡ Found (Happens (happening.Leaves 1)) [] }
+    ensures retires { leading_item false (codes "retire 1\n") ≡ Found (Happens (happening.Retires 1)) [] }
+    ensures overdue { leading_item false (codes "overdue 1\n") ≡ Found (Happens (happening.Overdues 1)) [] }
+    ensures shuts { leading_item false (codes "shut 2\n") ≡ Found (Happens (happening.Shuts 2)) [] }
+    ensures refused { leading_item false (codes "fail 2 refused\n") ≡ Found (Happens (happening.Fails 2 Refused)) [] }
+    ensures timed_out { leading_item false (codes "fail 2 timed-out\n") ≡ Found (Happens (happening.Fails 2 TimedOut)) [] }
+    ensures closed { leading_item false (codes "fail 2 closed\n") ≡ Found (Happens (happening.Fails 2 Closed)) [] }
 {}
 
 /// A line without its LF and a block that isn't whole wait for the rest.
-#[tactic(auto, unfolding(crate::specs::Script::item_in_front, crate::specs::ScriptLines::line_of_text, crate::specs::DecimalNumbers::number_of))]
+#[tactic(auto, unfolding(crate::specs::Script::leading_item, crate::specs::ScriptLines::line_of_text, crate::specs::DecimalNumbers::number_of))]
 pub fn unfinished_items_wait()
-    ensures nothing { item_in_front false [] ≡ Cut }
-    ensures line { item_in_front false (codes "end 1") ≡ Cut }
-    ensures wrong_line { item_in_front false (codes "no such word") ≡ Cut }
-    ensures block { item_in_front false (codes "client 1 3\nGE") ≡ Cut }
-    ensures end_of_block { item_in_front false (codes "client 1 3\nGET") ≡ Cut }
-    ensures link { item_in_front false (codes "link 1 1\n") ≡ Cut }
-    ensures table { item_in_front true (codes "config 1\nx") ≡ Cut }
+    ensures nothing { leading_item false [] ≡ Cut }
+    ensures line { leading_item false (codes "end 1") ≡ Cut }
+    ensures wrong_line { leading_item false (codes "no such word") ≡ Cut }
+    ensures block { leading_item false (codes "client 1 3\nGE") ≡ Cut }
+    ensures end_of_block { leading_item false (codes "client 1 3\nGET") ≡ Cut }
+    ensures link { leading_item false (codes "link 1 1\n") ≡ Cut }
+    ensures table { leading_item true (codes "config 1\nx") ≡ Cut }
 {}
 
 /// What is no item: another word, a number that has no spelling, a block without LF, a table that isn't first.
-#[tactic(auto, unfolding(crate::specs::Script::item_in_front, crate::specs::ScriptLines::line_of_text, crate::specs::DecimalNumbers::number_of))]
+#[tactic(auto, unfolding(crate::specs::Script::leading_item, crate::specs::ScriptLines::line_of_text, crate::specs::DecimalNumbers::number_of))]
 pub fn wrong_items_are_refused()
-    ensures empty { item_in_front false (codes "\n") ≡ Wrong }
-    ensures word { item_in_front false (codes "ends 1\n") ≡ Wrong }
-    ensures upper_case { item_in_front false (codes "END 1\n") ≡ Wrong }
-    ensures no_number { item_in_front false (codes "end \n") ≡ Wrong }
-    ensures no_space { item_in_front false (codes "end\n") ≡ Wrong }
-    ensures two_spaces { item_in_front false (codes "end  1\n") ≡ Wrong }
-    ensures space_behind { item_in_front false (codes "end 1 \n") ≡ Wrong }
-    ensures retired { item_in_front false (codes "retired 1\n") ≡ Wrong }
-    ensures leading_zero { item_in_front false (codes "end 01\n") ≡ Wrong }
-    ensures slash { item_in_front false (codes "end 1/\n") ≡ Wrong }
-    ensures colon { item_in_front false (codes "end 1:\n") ≡ Wrong }
-    ensures large_number { item_in_front false (codes "end 18446744073709551616\n") ≡ Wrong }
-    ensures large_moment { item_in_front false (codes "at 253402300800\n") ≡ Wrong }
-    ensures one_number { item_in_front false (codes "client 1\n") ≡ Wrong }
-    ensures three_numbers { item_in_front false (codes "client 1 2 3\n") ≡ Wrong }
-    ensures no_failure { item_in_front false (codes "fail 1\n") ≡ Wrong }
-    ensures other_failure { item_in_front false (codes "fail 1 bad-answer\n") ≡ Wrong }
-    ensures large_answer { item_in_front false (codes "fail 1 too-large\n") ≡ Wrong }
-    ensures no_feed { item_in_front false (codes "client 1 3\nGET!") ≡ Wrong }
-    ensures second_table { item_in_front false (codes "config 0\n\n") ≡ Wrong }
-    ensures no_table { item_in_front true (codes "at 1\n") ≡ Wrong }
+    ensures empty { leading_item false (codes "\n") ≡ Wrong }
+    ensures word { leading_item false (codes "ends 1\n") ≡ Wrong }
+    ensures upper_case { leading_item false (codes "END 1\n") ≡ Wrong }
+    ensures no_number { leading_item false (codes "end \n") ≡ Wrong }
+    ensures no_space { leading_item false (codes "end\n") ≡ Wrong }
+    ensures two_spaces { leading_item false (codes "end  1\n") ≡ Wrong }
+    ensures space_behind { leading_item false (codes "end 1 \n") ≡ Wrong }
+    ensures retired { leading_item false (codes "retired 1\n") ≡ Wrong }
+    ensures leading_zero { leading_item false (codes "end 01\n") ≡ Wrong }
+    ensures slash { leading_item false (codes "end 1/\n") ≡ Wrong }
+    ensures colon { leading_item false (codes "end 1:\n") ≡ Wrong }
+    ensures large_number { leading_item false (codes "end 18446744073709551616\n") ≡ Wrong }
+    ensures large_moment { leading_item false (codes "at 253402300800\n") ≡ Wrong }
+    ensures one_number { leading_item false (codes "client 1\n") ≡ Wrong }
+    ensures three_numbers { leading_item false (codes "client 1 2 3\n") ≡ Wrong }
+    ensures no_failure { leading_item false (codes "fail 1\n") ≡ Wrong }
+    ensures other_failure { leading_item false (codes "fail 1 bad-answer\n") ≡ Wrong }
+    ensures large_answer { leading_item false (codes "fail 1 too-large\n") ≡ Wrong }
+    ensures no_feed { leading_item false (codes "client 1 3\nGET!") ≡ Wrong }
+    ensures second_table { leading_item false (codes "config 0\n\n") ≡ Wrong }
+    ensures no_table { leading_item true (codes "at 1\n") ≡ Wrong }
 {}
 
 /// How each effect is told.

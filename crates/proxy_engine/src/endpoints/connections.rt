@@ -14,14 +14,14 @@ ghost use Rattle.proxy_engine.specs.Activities.{link_place_of_activity, has_exch
 ghost use Rattle.proxy_engine.specs.Pairing.{activity_at, activity_of, activities_of};
 ghost use Rattle.proxy_engine.specs.State.{RelatesLists, ConnectionRepresents, is_gone_at, NoConnectionIsLost};
 ghost use Rattle.proxy_engine.specs.State.{IsFirstFoundConnection, is_retired_at};
-ghost use Rattle.proxy_engine.specs.State.{connection_load};
+ghost use Rattle.proxy_engine.specs.State.{connection_work_left};
 
 use crate::endpoints::ends::Connection;
 use crate::endpoints::marked_ends::MarkedEnds;
 use crate::endpoints::numbers::{ConnectionPlace, LinkPlace, next_connection};
 use crate::endpoints::ready_list::ReadyList;
 use crate::readable_ends;
-use crate::steps::finds::{first_lost, lost_count};
+use crate::steps::finds::{first_lost_exchange, lost_count};
 use crate::work::End;
 use std::alloc::{AllocError, Global};
 use std::marker::Model;
@@ -105,12 +105,12 @@ impl Connections {
     }
 
     /// Whether the client at a place is between two requests.
-    pub(crate) fn is_between(&self, i: ConnectionPlace) -> bool
+    pub(crate) fn client_is_between_requests(&self, i: ConnectionPlace) -> bool
         ensures { (ss : List ConnectionModel) → RelatesLists ConnectionRepresents self.now.items ss → result ≡ true
             → IsBetweenRequests (slice_index_or ss i no_connection) }
     {
         match self.ends.get(i) {
-            Some(connection) => readable_ends::is_between(connection),
+            Some(connection) => readable_ends::client_is_between_requests(connection),
             None => false,
         }
     }
@@ -152,7 +152,7 @@ impl Connections {
     }
 
     /// Makes room for one more, and for the marks at its place.
-    pub(crate) fn reserve_one(&mut self, alloc: Global) -> Result<(), AllocError>
+    pub(crate) fn reserve_place(&mut self, alloc: Global) -> Result<(), AllocError>
         ensures items { self.new.items ≡ self.old.items }
         ensures ok { OnOk result (self.new.has_room ≡ true) }
         ensures reserved { self.old.has_room ≡ true → IsOk result }
@@ -162,16 +162,16 @@ impl Connections {
             return Ok(());
         }
         self.ends.reserve_marks(&mut self.lost)?;
-        self.ends.reserve_one(alloc)
+        self.ends.reserve_place(alloc)
     }
 
-    /// Puts a connection at the place behind the last, and marks it. Where there is room for it, no memory is taken.
+    /// Puts a connection at the place behind the last, and marks it. Where there is room for it, nothing is allocated.
     pub(crate) fn accept(&mut self, alloc: Global, connection: Connection) -> Result<(), AllocError>
         ensures ok { OnOk result (self.new.items ≡ self.old.items ++ Some connection ∷ []) }
         ensures reserved { self.old.has_room ≡ true → IsOk result }
         ensures err { OnErr result (self.new ≡ self.old) }
     {
-        self.reserve_one(alloc)?;
+        self.reserve_place(alloc)?;
         self.lost.put(self.ends.len());
         self.ends.put(connection);
         Ok(())
@@ -256,7 +256,7 @@ impl Connections {
             ≡ p.1) }
         ensures gone { IfSome result (λ p. is_gone_at (slice_index_or self.old.items p.0 None) ≡ Some true) }
     {
-        first_lost(&self.ends, &mut self.lost)
+        first_lost_exchange(&self.ends, &mut self.lost)
     }
 
     /// The first connection on which something is due.
@@ -265,7 +265,7 @@ impl Connections {
             → RelatesLists ConnectionRepresents self.new.items ss }
         ensures found { IfOk result (λ found. IsFirstFoundConnection self.new.items found) }
         ensures activities { activities_of self.new.items ≡ activities_of self.old.items }
-        ensures load { sum_by connection_load self.new.items ≤ sum_by connection_load self.old.items }
+        ensures load { sum_by connection_work_left self.new.items ≤ sum_by connection_work_left self.old.items }
     {
         self.ends.find(alloc)
     }

@@ -5,7 +5,7 @@ ghost use Rattle.proxy_engine.specs.EngineModel.{LinkModel, no_link, keeps_answe
 ghost use Rattle.proxy_engine.specs.Reading.{places_with_flag, link_has_failed, link_end_at};
 ghost use Rattle.proxy_engine.specs.Room.{LinkHasSpare, most_bytes_of_read};
 ghost use Rattle.proxy_engine.specs.Pairing.{owner_of, owners_of};
-ghost use Rattle.proxy_engine.specs.State.{RelatesLists, LinkRepresents, IsFirstFoundLink, link_load};
+ghost use Rattle.proxy_engine.specs.State.{RelatesLists, LinkRepresents, IsFirstFoundLink, link_work_left};
 ghost use Rattle.proxy_engine.specs.Exhausted.{LookStoppedForMemory};
 
 use crate::endpoints::ends::Link;
@@ -78,7 +78,7 @@ impl MarkedEnds<Link> {
         ensures found { IfOk result (λ found. IsFirstFoundLink self.new.items found) }
         ensures failed { OnErr result (LookStoppedForMemory self.new.items) }
         ensures owners { owners_of self.new.items ≡ owners_of self.old.items }
-        ensures load { sum_by link_load self.new.items ≤ sum_by link_load self.old.items }
+        ensures load { sum_by link_work_left self.new.items ≤ sum_by link_work_left self.old.items }
     {
         self.find(alloc)
     }

@@ -131,7 +131,7 @@ impl<E: Endpoint> MarkedEnds<E> {
     }
 
     /// Makes room for one more, and for the mark at its place. An empty end stands there until then.
-    pub(crate) fn reserve_one(&mut self, alloc: Global) -> Result<(), AllocError>
+    pub(crate) fn reserve_place(&mut self, alloc: Global) -> Result<(), AllocError>
         ensures items { self.new.items ≡ self.old.items }
         ensures ok { OnOk result (self.new.has_room ≡ true) }
         ensures reserved { self.old.has_room ≡ true → IsOk result }
@@ -160,7 +160,7 @@ impl<E: Endpoint> MarkedEnds<E> {
         marks.reserve_beside(&self.ends)
     }
 
-    /// Puts an end into the box behind the last. There is one, so no memory is taken.
+    /// Puts an end into the box behind the last. The box is there, so nothing is allocated.
     pub(crate) fn put(&mut self, end: E)
         requires { self.old.has_room ≡ true }
         ensures items { self.new.items ≡ self.old.items ++ Some end ∷ [] }

@@ -1,4 +1,4 @@
-//! Changes of one connection. None takes memory.
+//! Changes of one connection. No change allocates.
 ghost use Rattle.std.specs.Prelude.{◌≡◌, ℕ, ◌+◌, ◌*◌, ◌<◌, ◌≤◌, List, sum_by, true, false, Option, Some, None, is_some};
 ghost use Rattle.std.specs.Prelude.{slice_index_or, slice_set};
 ghost use Rattle.hx_framing.specs.declared.messages.Request.{Request};
@@ -12,7 +12,7 @@ ghost use Rattle.proxy_engine.specs.Pairing.{activity_of, activities_of};
 ghost use Rattle.proxy_engine.specs.State.{EngineRepresents, ConnectionRepresents, engine_state, due_request_at};
 ghost use Rattle.proxy_engine.specs.EndChanges.{ConnectionsChangeAt};
 ghost use Rattle.proxy_engine.specs.State.{is_gone_at, connection_is_free_at};
-ghost use Rattle.proxy_engine.specs.State.{connection_load, load_of_waiting, load_of_due_request};
+ghost use Rattle.proxy_engine.specs.State.{connection_work_left, work_left_of_waiting, work_left_of_due_request};
 ghost use Rattle.proxy_engine.specs.declared.endpoints.ends.Link.{Link};
 
 use crate::endpoints::activities::Activity;
@@ -27,8 +27,8 @@ fn mark_free(connection: &mut Connection)
         → ConnectionRepresents (Some connection.new) (with_activity Activity.Free c) }
     ensures activity { connection.new.activity ≡ Activity.Free }
     ensures gone { connection.new.gone ≡ false }
-    ensures load { connection_load (Some connection.new) + load_of_waiting connection.old.activity
-        ≡ connection_load (Some connection.old) }
+    ensures load { connection_work_left (Some connection.new) + work_left_of_waiting connection.old.activity
+        ≡ connection_work_left (Some connection.old) }
 {
     connection.activity = Activity::Free;
 }
@@ -39,7 +39,7 @@ fn queue(connection: &mut Connection)
     ensures represents { (c : ConnectionModel) → ConnectionRepresents (Some connection.old) c
         → ConnectionRepresents (Some connection.new) (with_activity Activity.Waiting c) }
     ensures activity { connection.new.activity ≡ Activity.Waiting }
-    ensures load { connection_load (Some connection.new) ≡ connection_load (Some connection.old) + 2 }
+    ensures load { connection_work_left (Some connection.new) ≡ connection_work_left (Some connection.old) + 2 }
 {
     connection.activity = Activity::Waiting;
 }
@@ -50,7 +50,7 @@ fn mark_forwarded(connection: &mut Connection, place: LinkPlace)
     ensures represents { (c : ConnectionModel) → ConnectionRepresents (Some connection.old) c
         → ConnectionRepresents (Some connection.new) (with_activity (Activity.Forwarded place) c) }
     ensures activity { connection.new.activity ≡ Activity.Forwarded place }
-    ensures load { connection_load (Some connection.new) ≡ connection_load (Some connection.old) }
+    ensures load { connection_work_left (Some connection.new) ≡ connection_work_left (Some connection.old) }
 {
     connection.activity = Activity::Forwarded(place);
 }
@@ -62,8 +62,9 @@ fn pass(connection: &mut Connection)
         (with_next_passed a c) }
     ensures activity { connection.new.activity ≡ connection.old.activity }
     ensures gone { connection.new.gone ≡ connection.old.gone }
-    ensures load { connection_load (Some connection.new) + 3 * one_if_message_or_continue connection.old.reader.ahead
-        ≤ connection_load
+    ensures load { connection_work_left (Some connection.new)
+        + 3 * one_if_message_or_continue connection.old.reader.ahead
+        ≤ connection_work_left
         (Some connection.old) }
 {
     connection.reader.pass();
@@ -79,8 +80,9 @@ pub(crate) fn pass_next_at(connections: &mut Connections, i: ConnectionPlace)
         (with_connection s i (with_next_passed a)) }
     ensures activities { activities_of connections.new.items ≡ activities_of connections.old.items }
     ensures free { connection_is_free_at (slice_index_or connections.new.items i None) ≡ true }
-    ensures load { sum_by connection_load connections.new.items + 3 * load_of_due_request
-        (due_request_at (slice_index_or connections.old.items i None)) ≤ sum_by connection_load connections.old.items }
+    ensures load { sum_by connection_work_left connections.new.items + 3 * work_left_of_due_request
+        (due_request_at (slice_index_or connections.old.items i None))
+        ≤ sum_by connection_work_left connections.old.items }
 {
     match connections.at_mut(i) {
         Some(connection) => pass(connection),
@@ -95,7 +97,8 @@ pub(crate) fn link_at(connections: &mut Connections, i: ConnectionPlace, place: 
         (Activity.Forwarded place)) }
     ensures activities { activities_of connections.new.items
         ≡ slice_set (activities_of connections.old.items) i (Activity.Forwarded place) }
-    ensures load { sum_by connection_load connections.new.items ≡ sum_by connection_load connections.old.items }
+    ensures load { sum_by connection_work_left connections.new.items
+        ≡ sum_by connection_work_left connections.old.items }
 {
     match connections.at_mut(i) {
         Some(connection) => mark_forwarded(connection, place),
@@ -110,7 +113,8 @@ pub(crate) fn mark_waiting_at(connections: &mut Connections, i: ConnectionPlace)
         Activity.Waiting) }
     ensures activities { activities_of connections.new.items
         ≡ slice_set (activities_of connections.old.items) i Activity.Waiting }
-    ensures load { sum_by connection_load connections.new.items ≡ sum_by connection_load connections.old.items + 2 }
+    ensures load { sum_by connection_work_left connections.new.items
+        ≡ sum_by connection_work_left connections.old.items + 2 }
 {
     match connections.at_mut(i) {
         Some(connection) => queue(connection),
@@ -126,8 +130,9 @@ pub(crate) fn mark_free_at(connections: &mut Connections, i: ConnectionPlace)
     ensures activities { activities_of connections.new.items
         ≡ slice_set (activities_of connections.old.items) i Activity.Free }
     ensures free { connection_is_free_at (slice_index_or connections.new.items i None) ≡ true }
-    ensures load { sum_by connection_load connections.new.items + load_of_waiting
-        (activity_of (slice_index_or connections.old.items i None)) ≡ sum_by connection_load connections.old.items }
+    ensures load { sum_by connection_work_left connections.new.items + work_left_of_waiting
+        (activity_of (slice_index_or connections.old.items i None))
+        ≡ sum_by connection_work_left connections.old.items }
 {
     match connections.at_mut(i) {
         Some(connection) => mark_free(connection),
@@ -140,9 +145,10 @@ pub(crate) fn close_at(connections: &mut Connections, i: ConnectionPlace, close:
     requires free { connection_is_free_at (slice_index_or connections.old.items i None) ≡ true }
     ensures represents { ConnectionsChangeAt i connections.old.items connections.new.items (with_closed close) }
     ensures activities { activities_of connections.new.items ≡ activities_of connections.old.items }
-    ensures load { sum_by connection_load connections.new.items ≤ sum_by connection_load connections.old.items }
+    ensures load { sum_by connection_work_left connections.new.items
+        ≤ sum_by connection_work_left connections.old.items }
     ensures less { close ≡ true
-        → sum_by connection_load connections.new.items < sum_by connection_load connections.old.items }
+        → sum_by connection_work_left connections.new.items < sum_by connection_work_left connections.old.items }
 {
     if close {
         connections.release(i);

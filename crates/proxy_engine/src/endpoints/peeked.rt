@@ -8,7 +8,7 @@ ghost use Rattle.proxy_engine.specs.Lookahead.{LookaheadShows, lookahead_after_i
 ghost use Rattle.proxy_engine.specs.Lookahead.{one_if_message_or_continue, one_if_maybe_due};
 ghost use Rattle.hx_framing.specs.declared.messages.Request.{Request};
 ghost use Rattle.hx_framing.specs.RequestStream.{StreamSpells};
-ghost use Rattle.proxy_engine.specs.Peeked.{PeekedRepresents, RequestRepresents, peeked_load};
+ghost use Rattle.proxy_engine.specs.Peeked.{PeekedRepresents, RequestRepresents, peeked_work_left};
 ghost use Rattle.proxy_engine.specs.Exhausted.{lookahead_is_unknown};
 
 use crate::endpoints::lookahead::Lookahead;
@@ -35,7 +35,7 @@ impl<R: Reader> Peeked<R> {
     pub fn new(reader: R) -> Self
         ensures represents { (p : Progress R.Message) → R.RepresentsStream reader p → R.Answers p next.More
             → PeekedRepresents R.RepresentsStream R.Answers result p }
-        ensures load { peeked_load R.weight result ≡ R.weight reader }
+        ensures load { peeked_work_left R.weight result ≡ R.weight reader }
         ensures quiet { result.ahead ≡ Lookahead.Quiet }
     {
         Peeked {
@@ -62,7 +62,7 @@ impl<R: Reader> Peeked<R> {
             → PeekedRepresents R.RepresentsStream R.Answers self.new p }
         ensures looked { OnOk result ((a : Next R.Message) × LookaheadShows self.new.ahead a) }
         ensures unknown { OnErr result (lookahead_is_unknown self.new.ahead ≡ true) }
-        ensures load { peeked_load R.weight self.new ≤ peeked_load R.weight self.old }
+        ensures load { peeked_work_left R.weight self.new ≤ peeked_work_left R.weight self.old }
         ensures unsettled { one_if_maybe_due self.new.ahead ≤ one_if_maybe_due self.old.ahead }
     {
         match self.ahead {
@@ -86,7 +86,7 @@ impl<R: Reader> Peeked<R> {
             → PeekedRepresents R.RepresentsStream R.Answers self.new p }
         ensures looked { OnOk result ((a : Next R.Message) × LookaheadShows self.new.ahead a) }
         ensures unknown { OnErr result (lookahead_is_unknown self.new.ahead ≡ true) }
-        ensures load { peeked_load R.weight self.new ≤ peeked_load R.weight self.old }
+        ensures load { peeked_work_left R.weight self.new ≤ peeked_work_left R.weight self.old }
         ensures unsettled { one_if_maybe_due self.new.ahead ≤ one_if_maybe_due self.old.ahead }
     {
         match self.inner.next(alloc) {
@@ -113,13 +113,13 @@ impl<R: Reader> Peeked<R> {
         self.ahead.due()
     }
 
-    /// Goes on behind what is due.
+    /// Goes on after what is due.
     pub fn pass(&mut self)
         ensures represents { (p : Progress R.Message) → (a : Next R.Message) → self.old.ahead ≡ Lookahead.Due a
             → PeekedRepresents R.RepresentsStream R.Answers self.old p
             → PeekedRepresents R.RepresentsStream R.Answers self.new (stream_after_answer p a) }
-        ensures load { peeked_load R.weight self.new + one_if_message_or_continue self.old.ahead
-            ≤ peeked_load R.weight self.old }
+        ensures load { peeked_work_left R.weight self.new + one_if_message_or_continue self.old.ahead
+            ≤ peeked_work_left R.weight self.old }
     {
         self.ahead = Lookahead::Unknown;
     }

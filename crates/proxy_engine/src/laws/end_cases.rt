@@ -40,10 +40,11 @@ ghost use Rattle.proxy_engine.specs.declared.work.EngineFault.TheVariants.{NotWa
 ghost use Rattle.proxy_core.specs.Leading.{ready_ids};
 ghost use Rattle.proxy_engine.specs.Reading.{open_connection_count, places_with_flag, readable_ends_of};
 ghost use Rattle.proxy_engine.specs.Room.{most_bytes_of_read};
-ghost use Rattle.proxy_engine.specs.State.{connection_load, due_request_at, engine_load, link_load, link_result_at};
+ghost use Rattle.proxy_engine.specs.State.{connection_work_left, due_request_at};
+ghost use Rattle.proxy_engine.specs.State.{engine_work_left, link_work_left, link_result_at};
 ghost use Rattle.proxy_engine.specs.State.{engine_state};
-ghost use Rattle.proxy_engine.specs.State.{connection_is_free_at, is_gone_at, is_retired_at, load_of_due_request};
-ghost use Rattle.proxy_engine.specs.State.{load_of_waiting};
+ghost use Rattle.proxy_engine.specs.State.{connection_is_free_at, is_gone_at, is_retired_at, work_left_of_due_request};
+ghost use Rattle.proxy_engine.specs.State.{work_left_of_waiting};
 ghost use Rattle.proxy_engine.specs.declared.endpoints.activities.Activity.TheVariants.{Forwarded, Free, Waiting};
 ghost use Rattle.proxy_engine.specs.declared.endpoints.lookahead.Lookahead.{Lookahead};
 ghost use Rattle.proxy_engine.specs.declared.endpoints.lookahead.Lookahead.TheVariants.{Unknown, Quiet, Due};
@@ -226,23 +227,24 @@ pub fn worked_marks()
 
 /// How much is still to come: of a client 1, 3 for each message or continue that may come of its bytes, of which each
 /// counts twice, or that is due, and 2 where it waits; of a link 1, and 1 for its answer or failure.
-pub fn worked_loads()
-    ensures idle { connection_load (Some (kept_client [] Quiet false Free)) ≡ 1 }
-    ensures over { connection_load None ≡ 0 }
-    ensures waits { connection_load (Some (kept_client [] Quiet false Waiting)) ≡ 3 }
-    ensures due { connection_load (Some (kept_client [] (Due (next.Message request_of_a)) false Free)) ≡ 4 }
-    ensures bytes { connection_load (Some (kept_client (codes "ab") Unknown false Free)) ≡ 13 }
-    ensures link { link_load (Some (kept_link Quiet None false)) ≡ 1 }
-    ensures unknown_link { link_load (Some (kept_link Unknown None false)) ≡ 2 }
-    ensures failed_link { link_load (Some (kept_link Quiet (Some kinds.Closed) false)) ≡ 2 }
-    ensures no_link { link_load None ≡ 0 }
-    ensures together { engine_load (Some (kept_client [] Quiet false Waiting) ∷ None ∷ [])
+pub fn worked_work_left()
+    ensures idle { connection_work_left (Some (kept_client [] Quiet false Free)) ≡ 1 }
+    ensures over { connection_work_left None ≡ 0 }
+    ensures waits { connection_work_left (Some (kept_client [] Quiet false Waiting)) ≡ 3 }
+    ensures due { connection_work_left (Some (kept_client [] (Due (next.Message request_of_a)) false Free)) ≡ 4 }
+    ensures bytes { connection_work_left (Some (kept_client (codes "ab") Unknown false Free)) ≡ 13 }
+    ensures link { link_work_left (Some (kept_link Quiet None false)) ≡ 1 }
+    ensures unknown_link { link_work_left (Some (kept_link Unknown None false)) ≡ 2 }
+    ensures failed_link { link_work_left (Some (kept_link Quiet (Some kinds.Closed) false)) ≡ 2 }
+    ensures no_link { link_work_left None ≡ 0 }
+    ensures together { engine_work_left (Some (kept_client [] Quiet false Waiting) ∷ None ∷ [])
         (Some (kept_link Unknown None false) ∷ []) ≡ 5 }
-    ensures of_requests { map load_of_due_request (Some next.NeedsContinue ∷ Some (next.Message request_of_a) ∷ [])
+    ensures of_requests { map work_left_of_due_request (Some next.NeedsContinue ∷ Some (next.Message request_of_a) ∷ [])
         ≡ 1 ∷ 1 ∷ [] }
-    ensures of_none { map load_of_due_request (None ∷ Some next.More ∷ Some (next.Refused frame.Head) ∷ Some next.End
+    ensures of_none { map work_left_of_due_request (None ∷ Some next.More ∷ Some (next.Refused frame.Head)
+        ∷ Some next.End
         ∷ []) ≡ 0 ∷ 0 ∷ 0 ∷ 0 ∷ [] }
-    ensures of_waiting { map load_of_waiting (Free ∷ Forwarded 2 ∷ Waiting ∷ []) ≡ 0 ∷ 0 ∷ 2 ∷ [] }
+    ensures of_waiting { map work_left_of_waiting (Free ∷ Forwarded 2 ∷ Waiting ∷ []) ≡ 0 ∷ 0 ∷ 2 ∷ [] }
     ensures after_outcomes { map acts_due_after_outcome (outcomes.Forward (over_line 1) [] ∷ outcomes.Waits 1
         ∷ outcomes.Ended ∷ []) ≡ 1 ∷ 2 ∷ 0 ∷ [] }
 {}

@@ -9,7 +9,7 @@ ghost use Rattle.hx_status.specs.declared.cause.FailKind.TheVariants as kinds;
 ghost use Rattle.hx_allow.specs.Addresses.{address_of_numbers};
 ghost use Rattle.hx_allow.specs.Matching.{over_line};
 ghost use Rattle.hx_status.specs.declared.question.AskedTarget.TheVariants.{AsItCame, Uri};
-ghost use Rattle.proxy_core.specs.Cases.{get_a_with, head_of_a, key_of_path, waits_behind};
+ghost use Rattle.proxy_core.specs.Cases.{get_a_with, head_of_a, key_of_path, exchange_waiting_for};
 ghost use Rattle.proxy_core.specs.declared.event.Event.TheVariants as events;
 ghost use Rattle.proxy_core.specs.declared.outcome.Outcome.TheVariants as outcomes;
 ghost use Rattle.proxy_script.specs.declared.effect_list.Effect.TheVariants as effects;
@@ -52,7 +52,7 @@ pub fn worked_faults_of_happenings()
 {}
 
 /// What happenings add: bytes to the stream of their end, the end of it, and marks that stay. What comes of an end that
-/// is over, or behind its failure, adds nothing.
+/// is over, or after its failure, adds nothing.
 pub fn worked_happenings()
     ensures accepted { length model_with_connection.connections ≡ 1 }
     ensures stream { (connection_at model_after_two_sends 0).progress.stream ≡ codes "ab" }
@@ -94,7 +94,7 @@ pub fn worked_happenings()
     ensures nor_does_a_wait { happening_is_kept model_with_connection (Overdues 1) ≡ false }
 {}
 
-/// What is due: a fault of an answer is its failure, an answer or a fault counts before a failure that came behind it,
+/// What is due: a fault of an answer is its failure, an answer or a fault counts before a failure that came after it,
 /// and no request is served where the connection is gone, closed or has an open exchange.
 pub fn worked_due_acts()
     ensures cut { fail_kind_of_fault frame.Truncated ≡ kinds.Closed }
@@ -129,7 +129,7 @@ pub fn worked_addresses_of_outcomes()
     ensures no_line { origin_address_of_line table_of_two_origins (over_line 3) ≡ address_of_numbers 0 0 0 0 0 }
 {}
 
-/// What acts tell: a reply to its connection, with what it is and what it answers, and a close behind it where it says
+/// What acts tell: a reply to its connection, with what it is and what it answers, and a close after it where it says
 /// so; a forward on the next link; nothing of one that waits. And what they leave.
 pub fn worked_effects_of_acts()
     ensures reply { effects_of_outcome 2 7 replied_to_a.question (Replies (codes "x") (about_purge 4) false)
@@ -165,12 +165,13 @@ pub fn worked_questions()
         ≡ Some (record { method = codes "GET"; target = AsItCame (codes "/a") }) }
     ensures unread { question_refused (Serves 0 (next.Refused frame.Head)) ≡ None }
     ensures arrival { request_of_event [] (events.Arrive 5 2 head_of_a) ≡ Some head_of_a }
-    ensures answer { request_of_event (waits_behind 1 3 head_of_a ∷ waits_behind 1 2 (get_a_with []) ∷ [])
+    ensures answer { request_of_event (exchange_waiting_for 1 3 head_of_a ∷ exchange_waiting_for 1 2 (get_a_with [])
+        ∷ [])
         (events.Answer 5 2 answer_200) ≡ Some (get_a_with []) }
-    ensures wake { request_of_event (waits_behind 1 3 head_of_a ∷ waits_behind 1 2 (get_a_with []) ∷ [])
+    ensures wake { request_of_event (exchange_waiting_for 1 3 head_of_a ∷ exchange_waiting_for 1 2 (get_a_with []) ∷ [])
         (events.Wake 5 3) ≡ Some head_of_a }
-    ensures closed { request_of_event (waits_behind 1 3 head_of_a ∷ []) (events.Fail 5 2 kinds.Closed) ≡ None }
-    ensures gone { request_of_event (waits_behind 1 3 head_of_a ∷ []) (events.Abandon 3) ≡ None }
+    ensures closed { request_of_event (exchange_waiting_for 1 3 head_of_a ∷ []) (events.Fail 5 2 kinds.Closed) ≡ None }
+    ensures gone { request_of_event (exchange_waiting_for 1 3 head_of_a ∷ []) (events.Abandon 3) ≡ None }
 {}
 
 /// What steps told, in order; where an act is, and the link that it drops.

@@ -3,8 +3,8 @@
 ghost use Rattle.std.specs.Prelude.{◌≡◌, ◌<◌, ◌≤◌, Err, IfOk, IfErr, OnErr};
 ghost use Rattle.hx_fields.specs.declared.limits.TheConstants.{END_OF_TIME};
 ghost use Rattle.proxy_engine.specs.EngineModel.{EngineModel};
-ghost use Rattle.proxy_engine.specs.State.{EngineRepresents, load_of_state, FirstDueActWasDone, NoActWasDoneSince};
-ghost use Rattle.proxy_engine.specs.State.{WorkLessensLoad};
+ghost use Rattle.proxy_engine.specs.State.{EngineRepresents, work_left_of_state, FirstDueActWasDone, NoActWasDoneSince};
+ghost use Rattle.proxy_engine.specs.State.{EachActLeavesLessWork};
 ghost use Rattle.proxy_engine.specs.Exhausted.{ReportsLinkNumbersExhausted};
 ghost use Rattle.proxy_engine.specs.DueActs.{IsFirstDueActFound};
 
@@ -35,7 +35,7 @@ impl<S: Shelf> Engine<S> {
         ensures exhausted { OnErr result ((s : EngineModel) → EngineRepresents self.old s
             → ReportsLinkNumbersExhausted s self.new) }
         ensures represents { (s : EngineModel) → EngineRepresents self.old s → EngineRepresents self.new s }
-        ensures load { load_of_state self.new ≤ load_of_state self.old }
+        ensures load { work_left_of_state self.new ≤ work_left_of_state self.old }
     {
         if let Some((place, link)) = self.ends.connections.find_lost() {
             return Ok(DueAct::Abandon(place, link));
@@ -56,19 +56,19 @@ impl<S: Shelf> Engine<S> {
     /// Does the first act that is due, and at most one step of the core. `now` is in Unix seconds, up to the end of the
     /// year 9999. After an `Err` the engine stands for the models that it stood for. Out of memory hides no `Spent`,
     /// where looks have found that an answer or a waiting request is due. A request that arrives is judged before that,
-    /// which takes memory.
+    /// which allocates.
     pub fn work(&mut self, alloc: Global, now: u64) -> Result<Work, EngineFault>
         requires { now < END_OF_TIME }
         ensures ok { IfOk result (λ work. (s : EngineModel) → EngineRepresents self.old s
             → FirstDueActWasDone s now work self.new) }
-        ensures less { IfOk result (λ work. WorkLessensLoad self.old work self.new) }
+        ensures less { IfOk result (λ work. EachActLeavesLessWork self.old work self.new) }
         ensures fault { IfErr result (λ fault. (s : EngineModel) → EngineRepresents self.old s
             → NoActWasDoneSince s fault) }
         ensures exhausted { result ≡ Err EngineFault.OutOfMemory → (s : EngineModel) → EngineRepresents self.old s
             → ReportsLinkNumbersExhausted s self.new }
         ensures unchanged { OnErr result ((s : EngineModel) → EngineRepresents self.old s
             → EngineRepresents self.new s) }
-        ensures no_more { OnErr result (load_of_state self.new ≤ load_of_state self.old) }
+        ensures no_more { OnErr result (work_left_of_state self.new ≤ work_left_of_state self.old) }
     {
         let act = match self.first_due_act(alloc) {
             Ok(act) => act,

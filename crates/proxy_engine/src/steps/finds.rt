@@ -47,7 +47,7 @@ fn lost_link(ends: &MarkedEnds<Connection>, i: ConnectionPlace) -> Option<Option
 
 /// The first connection that is gone with an open exchange, and its link, if its request went forward. Places are
 /// dropped where none is.
-pub(crate) fn first_lost(
+pub(crate) fn first_lost_exchange(
     ends: &MarkedEnds<Connection>,
     lost: &mut ReadyList,
 ) -> Option<(ConnectionPlace, Option<LinkPlace>)>

@@ -7,7 +7,7 @@ ghost use Rattle.proxy_core.specs.State.{StepIsAccepted};
 ghost use Rattle.proxy_engine.specs.EngineModel.{EngineModel};
 ghost use Rattle.proxy_engine.specs.Due.{Abandons, LinkResult, Finishes, fail_kind_of_fault, IsDueFirst};
 ghost use Rattle.proxy_engine.specs.State.{EngineRepresents, link_result_at, is_gone_at, NoConnectionIsLost};
-ghost use Rattle.proxy_engine.specs.State.{load_of_state, EngineDoesAct, NoActWasDoneSince};
+ghost use Rattle.proxy_engine.specs.State.{work_left_of_state, EngineDoesAct, NoActWasDoneSince};
 ghost use Rattle.proxy_core.specs.AnsweredRequests.{request_of_exchange, request_answered};
 ghost use Rattle.proxy_core.specs.Outcomes.{find_exchange};
 ghost use Rattle.proxy_engine.specs.Activities.{link_place_of_activity, has_exchange};
@@ -19,7 +19,9 @@ use crate::endpoints::activities::Activity;
 use crate::endpoints::ends::Link;
 use crate::endpoints::numbers::{ConnectionPlace, LinkPlace};
 use crate::engine::Engine;
-use crate::steps::outcomes::{as_alloc_error, free, free_lost, put, release_waiting, room};
+use crate::steps::outcomes::{
+    as_alloc_error, effects_with_room, free_link, free_link_of_gone_client, put, release_waiting,
+};
 use crate::work::EngineFault;
 use hx_framing::{FrameFault, Next};
 use hx_status::FailKind;
@@ -135,7 +137,7 @@ impl<S: Shelf> Engine<S> {
         requires gone { is_gone_at (slice_index_or self.old.connections i None) ≡ Some true }
         ensures ok { IfOk result (λ effects. (s : EngineModel) → (now : ℕ) → EngineRepresents self.old s
             → EngineDoesAct s now (Abandons i link) effects.items self.new) }
-        ensures less { OnOk result (load_of_state self.new < load_of_state self.old) }
+        ensures less { OnOk result (work_left_of_state self.new < work_left_of_state self.old) }
         ensures err { OnErr result (self.new ≡ self.old) }
     {
         match link {
@@ -154,10 +156,10 @@ impl<S: Shelf> Engine<S> {
         requires gone { is_gone_at (slice_index_or self.old.connections i None) ≡ Some true }
         ensures ok { IfOk result (λ effects. (s : EngineModel) → (now : ℕ) → EngineRepresents self.old s
             → EngineDoesAct s now (Abandons i None) effects.items self.new) }
-        ensures less { OnOk result (load_of_state self.new < load_of_state self.old) }
+        ensures less { OnOk result (work_left_of_state self.new < work_left_of_state self.old) }
         ensures err { OnErr result (self.new ≡ self.old) }
     {
-        let effects = room(alloc)?;
+        let effects = effects_with_room(alloc)?;
         let id = self.ends.connections.number_at(i);
         match self.core.abandon(id) {
             Ok(_) => {}
@@ -178,16 +180,16 @@ impl<S: Shelf> Engine<S> {
         requires gone { is_gone_at (slice_index_or self.old.connections i None) ≡ Some true }
         ensures ok { IfOk result (λ effects. (s : EngineModel) → (now : ℕ) → EngineRepresents self.old s
             → EngineDoesAct s now (Abandons i (Some l)) effects.items self.new) }
-        ensures less { OnOk result (load_of_state self.new < load_of_state self.old) }
+        ensures less { OnOk result (work_left_of_state self.new < work_left_of_state self.old) }
         ensures err { OnErr result (self.new ≡ self.old) }
     {
-        let mut effects = room(alloc)?;
+        let mut effects = effects_with_room(alloc)?;
         let id = self.ends.connections.number_at(i);
         match self.core.abandon(id) {
             Ok(_) => {}
             Err(fault) => return Err(as_alloc_error(fault)),
         }
-        free_lost(&mut self.ends.connections, &mut self.ends.links, l, i);
+        free_link_of_gone_client(&mut self.ends.connections, &mut self.ends.links, l, i);
         put(&mut effects, Effect::Drop(self.ends.number_at(l)));
         Ok(effects)
     }
@@ -204,16 +206,16 @@ impl<S: Shelf> Engine<S> {
         ensures ok { IfOk result (λ effects. (s : EngineModel) → (f : LinkResult)
             → link_result_at (slice_index_or self.old.links j None) ≡ Some f
             → EngineRepresents self.old s → EngineDoesAct s now (Finishes j f) effects.items self.new) }
-        ensures less { OnOk result (load_of_state self.new < load_of_state self.old) }
+        ensures less { OnOk result (work_left_of_state self.new < work_left_of_state self.old) }
         ensures err { OnErr result (self.new ≡ self.old) }
     {
-        let mut effects = room(alloc)?;
-        self.ends.links.reserve_one(alloc)?;
+        let mut effects = effects_with_room(alloc)?;
+        self.ends.links.reserve_place(alloc)?;
         let i = self.ends.links.at(j).connection;
         let id = self.ends.connections.number_at(i);
         let to_head = exchange_asks_head(&self.core, id);
         let step = end(self.ends.links.at(j), &mut self.core, alloc, now, id)?;
-        free(&mut self.ends.connections, &mut self.ends.links, j, i);
+        free_link(&mut self.ends.connections, &mut self.ends.links, j, i);
         put(&mut effects, Effect::Drop(self.ends.number_at(j)));
         let config = self.core.config();
         self.ends.carry_out(
@@ -242,7 +244,7 @@ impl<S: Shelf> Engine<S> {
         ensures ok { IfOk result (λ effects. (s : EngineModel) → (f : LinkResult)
             → link_result_at (slice_index_or self.old.links j None) ≡ Some f
             → EngineRepresents self.old s → EngineDoesAct s now (Finishes j f) effects.items self.new) }
-        ensures less { OnOk result (load_of_state self.new < load_of_state self.old) }
+        ensures less { OnOk result (work_left_of_state self.new < work_left_of_state self.old) }
         ensures exhausted { IfErr result
             (λ fault. (f : LinkResult) → link_result_at (slice_index_or self.old.links j None) ≡ Some f
             → IsFaultOfFinishing (nat_le (2 ^ 64) (self.old.first + length self.old.links)) f fault) }

@@ -1,4 +1,4 @@
-//! What an outcome of the core does on the proxy's ends. Room is made first, so none of this takes memory.
+//! What an outcome of the core does on the proxy's ends. Room is made first, so nothing here allocates.
 ghost use Rattle.std.specs.Prelude.{◌≡◌, ℕ, ◌+◌, ◌<◌, ◌≤◌, ◌^◌, nat_le, ◌++◌, ◌∷◌, [], length, sum_by};
 ghost use Rattle.std.specs.Prelude.{true, false, is_some, IfOk, None, Some, vec_len, vec_capacity};
 ghost use Rattle.std.specs.Prelude.{slice_index_or, slice_set};
@@ -16,9 +16,9 @@ ghost use Rattle.proxy_engine.specs.Pairing.{activities_of, owners_of, activitie
 ghost use Rattle.proxy_engine.specs.Actions.{outcome_needs_link, acts_due_after_outcome};
 ghost use Rattle.proxy_engine.specs.State.{EngineRepresents, engine_state, connection_is_free_at};
 ghost use Rattle.proxy_engine.specs.EndChanges.{ConnectionsChangeAt, EndsChange};
-ghost use Rattle.proxy_engine.specs.State.{is_gone_at, connection_load};
-ghost use Rattle.proxy_engine.specs.State.{link_load, engine_load};
-ghost use Rattle.proxy_engine.specs.OpenEnds.{state_of_ends, load_of_ends};
+ghost use Rattle.proxy_engine.specs.State.{is_gone_at, connection_work_left};
+ghost use Rattle.proxy_engine.specs.State.{link_work_left, engine_work_left};
+ghost use Rattle.proxy_engine.specs.OpenEnds.{state_of_ends, work_left_of_ends};
 
 use crate::endpoints::activities::Activity;
 use crate::endpoints::connections::Connections;
@@ -50,7 +50,7 @@ pub(crate) fn put(effects: &mut Vec<Effect>, effect: Effect)
 }
 
 /// Room for the effects of one act.
-pub(crate) fn room(alloc: Global) -> Result<Vec<Effect>, AllocError>
+pub(crate) fn effects_with_room(alloc: Global) -> Result<Vec<Effect>, AllocError>
     ensures items { IfOk result (λ v. v.items ≡ []) }
     ensures room { IfOk result (λ v. vec_len v + 3 ≤ vec_capacity v) }
 {
@@ -72,7 +72,7 @@ pub(crate) fn as_alloc_error(fault: CoreFault) -> AllocError
     }
 }
 
-/// A reply goes to the client, with what it is and what it answers, and the connection closes behind it or doesn't.
+/// A reply goes to the client, with what it is and what it answers, and the connection closes after it or doesn't.
 pub(crate) fn send_reply(
     connections: &mut Connections,
     effects: &mut Vec<Effect>,
@@ -87,9 +87,10 @@ pub(crate) fn send_reply(
         (Replies bytes replied.about close) }
     ensures represents { ConnectionsChangeAt i connections.old.items connections.new.items (with_closed close) }
     ensures activities { activities_of connections.new.items ≡ activities_of connections.old.items }
-    ensures load { sum_by connection_load connections.new.items ≤ sum_by connection_load connections.old.items }
+    ensures load { sum_by connection_work_left connections.new.items
+        ≤ sum_by connection_work_left connections.old.items }
     ensures less { close ≡ true
-        → sum_by connection_load connections.new.items < sum_by connection_load connections.old.items }
+        → sum_by connection_work_left connections.new.items < sum_by connection_work_left connections.old.items }
 {
     let number = connections.number_at(i);
     marks::close_at(connections, i, close);
@@ -118,8 +119,8 @@ fn open_link(
     ensures activities { activities_of connections.new.items
         ≡ slice_set (activities_of connections.old.items) i (Activity.Forwarded (length links.old.items)) }
     ensures owners { owners_of links.new.items ≡ owners_of links.old.items ++ Some i ∷ [] }
-    ensures load { engine_load connections.new.items links.new.items
-        ≤ engine_load connections.old.items links.old.items + 1 }
+    ensures load { engine_work_left connections.new.items links.new.items
+        ≤ engine_work_left connections.old.items links.old.items + 1 }
 {
     marks::link_at(connections, i, links.next_place());
     links.put(Link {
@@ -141,7 +142,7 @@ fn origin_address(config: &Config, line: Route) -> SocketAddrV4
 }
 
 /// The exchange of a link is over, and its connection goes on.
-pub(crate) fn free(
+pub(crate) fn free_link(
     connections: &mut Connections,
     links: &mut Links,
     j: LinkPlace,
@@ -154,8 +155,8 @@ pub(crate) fn free(
     ensures activities { activities_of connections.new.items
         ≡ slice_set (activities_of connections.old.items) i Activity.Free }
     ensures owners { owners_of links.new.items ≡ slice_set (owners_of links.old.items) j None }
-    ensures load { engine_load connections.new.items links.new.items + link_load
-        (slice_index_or links.old.items j None) ≤ engine_load connections.old.items links.old.items }
+    ensures load { engine_work_left connections.new.items links.new.items + link_work_left
+        (slice_index_or links.old.items j None) ≤ engine_work_left connections.old.items links.old.items }
     ensures free { connection_is_free_at (slice_index_or connections.new.items i None) ≡ true }
     ensures room { links.new.has_room ≡ links.old.has_room }
     ensures links { length links.new.items ≡ length links.old.items }
@@ -171,13 +172,14 @@ pub(crate) fn release_waiting(connections: &mut Connections, i: ConnectionPlace)
         Activity.Free) }
     ensures activities { activities_of connections.new.items
         ≡ slice_set (activities_of connections.old.items) i Activity.Free }
-    ensures load { sum_by connection_load connections.new.items < sum_by connection_load connections.old.items }
+    ensures load { sum_by connection_work_left connections.new.items
+        < sum_by connection_work_left connections.old.items }
 {
     connections.release(i);
 }
 
 /// The exchange of a link is over, and so is its connection, which is gone.
-pub(crate) fn free_lost(
+pub(crate) fn free_link_of_gone_client(
     connections: &mut Connections,
     links: &mut Links,
     j: LinkPlace,
@@ -190,7 +192,7 @@ pub(crate) fn free_lost(
     ensures activities { activities_of connections.new.items
         ≡ slice_set (activities_of connections.old.items) i Activity.Free }
     ensures owners { owners_of links.new.items ≡ slice_set (owners_of links.old.items) j None }
-    ensures load { engine_load connections.new.items links.new.items < engine_load connections.old.items
+    ensures load { engine_work_left connections.new.items links.new.items < engine_work_left connections.old.items
         links.old.items }
 {
     links.release(j);
@@ -240,7 +242,7 @@ impl Ends {
         ensures activities { activities_of self.new.connections.items
             ≡ activities_after i (length self.old.links.items) outcome (activities_of self.old.connections.items) }
         ensures owners { owners_of self.new.links.items ≡ owners_after i outcome (owners_of self.old.links.items) }
-        ensures load { load_of_ends self.new ≤ load_of_ends self.old + acts_due_after_outcome outcome }
+        ensures load { work_left_of_ends self.new ≤ work_left_of_ends self.old + acts_due_after_outcome outcome }
     {
         match outcome {
             Outcome::Reply(reply) => {

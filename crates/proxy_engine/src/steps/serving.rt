@@ -13,7 +13,7 @@ ghost use Rattle.proxy_engine.specs.EngineModel.{EngineModel};
 ghost use Rattle.proxy_engine.specs.Due.{Serves, IsDueFirst};
 ghost use Rattle.proxy_engine.specs.State.{EngineRepresents, engine_state, due_request_at, connection_is_free_at};
 ghost use Rattle.proxy_engine.specs.State.{is_retired_at};
-ghost use Rattle.proxy_engine.specs.State.{connection_load, load_of_state, EngineDoesAct};
+ghost use Rattle.proxy_engine.specs.State.{connection_work_left, work_left_of_state, EngineDoesAct};
 ghost use Rattle.proxy_engine.specs.State.{NoActWasDoneSince};
 ghost use Rattle.proxy_engine.specs.Pairing.{activities_of};
 ghost use Rattle.proxy_engine.specs.Actions.{IsActionForNext};
@@ -24,7 +24,7 @@ use crate::endpoints::marks;
 use crate::endpoints::numbers::ConnectionPlace;
 use crate::engine::Engine;
 use crate::steps::actions::{Action, action_of};
-use crate::steps::outcomes::{as_alloc_error, put, room, send_reply};
+use crate::steps::outcomes::{as_alloc_error, effects_with_room, put, send_reply};
 use crate::work::EngineFault;
 use hx_fields::Bytes;
 use hx_framing::write_continue;
@@ -48,11 +48,11 @@ fn send_continue(
         → EngineDoesAct s now (Serves i next.NeedsContinue) effects.items
         (engine_state connections.new.items links core first)) }
     ensures less { OnOk result (due_request_at (slice_index_or connections.old.items i None) ≡ Some next.NeedsContinue
-        → sum_by connection_load connections.new.items < sum_by connection_load connections.old.items) }
+        → sum_by connection_work_left connections.new.items < sum_by connection_work_left connections.old.items) }
     ensures activities { activities_of connections.new.items ≡ activities_of connections.old.items }
     ensures err { OnErr result (connections.new ≡ connections.old) }
 {
-    let mut effects = room(alloc)?;
+    let mut effects = effects_with_room(alloc)?;
     let number = connections.number_at(i);
     let bytes = write_continue(alloc)?;
     marks::pass_next_at(connections, i);
@@ -85,11 +85,11 @@ fn refuse(
         → EngineRepresents (engine_state connections.old.items links core first) s
         → EngineDoesAct s now (Serves i a) effects.items (engine_state connections.new.items links core first)) }
     ensures less { OnOk result
-        (sum_by connection_load connections.new.items < sum_by connection_load connections.old.items) }
+        (sum_by connection_work_left connections.new.items < sum_by connection_work_left connections.old.items) }
     ensures activities { activities_of connections.new.items ≡ activities_of connections.old.items }
     ensures err { OnErr result (connections.new ≡ connections.old) }
 {
-    let mut effects = room(alloc)?;
+    let mut effects = effects_with_room(alloc)?;
     let bytes = proxys_own_answer(alloc, now, why, head)?;
     send_reply(
         connections,
@@ -117,11 +117,11 @@ fn shut(
         → EngineRepresents (engine_state connections.old.items links core first) s
         → EngineDoesAct s now (Serves i a) effects.items (engine_state connections.new.items links core first)) }
     ensures less { OnOk result
-        (sum_by connection_load connections.new.items < sum_by connection_load connections.old.items) }
+        (sum_by connection_work_left connections.new.items < sum_by connection_work_left connections.old.items) }
     ensures activities { activities_of connections.new.items ≡ activities_of connections.old.items }
     ensures err { OnErr result (connections.new ≡ connections.old) }
 {
-    let mut effects = room(alloc)?;
+    let mut effects = effects_with_room(alloc)?;
     let number = connections.number_at(i);
     marks::close_at(connections, i, true);
     put(&mut effects, Effect::Close(number));
@@ -155,11 +155,11 @@ impl<S: Shelf> Engine<S> {
             → EngineRepresents self.old s → EngineDoesAct s now (Serves i (next.Message r)) effects.items self.new) }
         ensures less { OnOk result ((r : Request) → due_request_at (slice_index_or self.old.connections i None)
             ≡ Some (next.Message r)
-            → load_of_state self.new < load_of_state self.old) }
+            → work_left_of_state self.new < work_left_of_state self.old) }
         ensures err { OnErr result (self.new ≡ self.old) }
     {
-        let mut effects = room(alloc)?;
-        self.ends.links.reserve_one(alloc)?;
+        let mut effects = effects_with_room(alloc)?;
+        self.ends.links.reserve_place(alloc)?;
         let id = self.ends.connections.number_at(i);
         let outcome = match self.core.arrive(alloc, now, id, &asked) {
             Ok(outcome) => outcome,
@@ -197,7 +197,7 @@ impl<S: Shelf> Engine<S> {
             → EngineRepresents self.old s → EngineDoesAct s now (Serves i (next.Message r)) effects.items self.new) }
         ensures less { OnOk result ((r : Request) → due_request_at (slice_index_or self.old.connections i None)
             ≡ Some (next.Message r)
-            → load_of_state self.new < load_of_state self.old) }
+            → work_left_of_state self.new < work_left_of_state self.old) }
         ensures exhausted { result ≡ Err EngineFault.OutOfMemory → self.old.first + length self.old.links < 2 ^ 64 }
         ensures fault { IfErr result (λ fault. (s : EngineModel) → (r : Request)
             → RequestIsHandedOver (is_retired_at (slice_index_or self.old.connections i None)) r asked
@@ -226,7 +226,7 @@ impl<S: Shelf> Engine<S> {
         ensures ok { IfOk result (λ effects. (s : EngineModel) → (a : Next Request)
             → due_request_at (slice_index_or self.old.connections i None) ≡ Some a
             → EngineRepresents self.old s → EngineDoesAct s now (Serves i a) effects.items self.new) }
-        ensures less { OnOk result (load_of_state self.new < load_of_state self.old) }
+        ensures less { OnOk result (work_left_of_state self.new < work_left_of_state self.old) }
         ensures fault { IfErr result (λ fault. (s : EngineModel) → (a : Next Request)
             → due_request_at (slice_index_or self.old.connections i None) ≡ Some a → IsDueFirst s (Some (Serves i a))
             → EngineRepresents self.old s → NoActWasDoneSince s fault) }

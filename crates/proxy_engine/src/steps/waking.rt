@@ -5,14 +5,14 @@ ghost use Rattle.proxy_core.specs.Waiting.{ExchangeMayBeWoken};
 ghost use Rattle.proxy_engine.specs.ConnectionNumbers.{connection_number};
 ghost use Rattle.proxy_engine.specs.EngineModel.{EngineModel};
 ghost use Rattle.proxy_engine.specs.Due.{Wakes, IsDueFirst};
-ghost use Rattle.proxy_engine.specs.State.{EngineRepresents, NoConnectionIsLost, load_of_state, EngineDoesAct};
+ghost use Rattle.proxy_engine.specs.State.{EngineRepresents, NoConnectionIsLost, work_left_of_state, EngineDoesAct};
 ghost use Rattle.proxy_engine.specs.State.{NoActWasDoneSince};
 
 use crate::endpoints::marks;
 use crate::endpoints::numbers::ConnectionPlace;
 use crate::engine::Engine;
 use crate::steps::finishing::exchange_asks_head;
-use crate::steps::outcomes::{as_alloc_error, room};
+use crate::steps::outcomes::{as_alloc_error, effects_with_room};
 use crate::work::EngineFault;
 use hx_store::Shelf;
 use proxy_script::Effect;
@@ -33,11 +33,11 @@ impl<S: Shelf> Engine<S> {
         requires early { now < END_OF_TIME }
         ensures ok { IfOk result (λ effects. (s : EngineModel) → EngineRepresents self.old s
             → EngineDoesAct s now (Wakes i) effects.items self.new) }
-        ensures less { OnOk result (load_of_state self.new < load_of_state self.old) }
+        ensures less { OnOk result (work_left_of_state self.new < work_left_of_state self.old) }
         ensures err { OnErr result (self.new ≡ self.old) }
     {
-        let mut effects = room(alloc)?;
-        self.ends.links.reserve_one(alloc)?;
+        let mut effects = effects_with_room(alloc)?;
+        self.ends.links.reserve_place(alloc)?;
         let id = self.ends.connections.number_at(i);
         let to_head = exchange_asks_head(&self.core, id);
         let step = match self.core.wake(alloc, now, id) {
@@ -71,7 +71,7 @@ impl<S: Shelf> Engine<S> {
         requires early { now < END_OF_TIME }
         ensures ok { IfOk result (λ effects. (s : EngineModel) → EngineRepresents self.old s
             → EngineDoesAct s now (Wakes i) effects.items self.new) }
-        ensures less { OnOk result (load_of_state self.new < load_of_state self.old) }
+        ensures less { OnOk result (work_left_of_state self.new < work_left_of_state self.old) }
         ensures exhausted { result ≡ Err EngineFault.OutOfMemory → self.old.first + length self.old.links < 2 ^ 64 }
         ensures fault { IfErr result (λ fault. (s : EngineModel) → IsDueFirst s (Some (Wakes i))
             → EngineRepresents self.old s → NoActWasDoneSince s fault) }

@@ -1,10 +1,10 @@
 use Rattle.std.proofs.Common.{refl}
-use Rattle.proxy_replay.specs.Played.{initial_scene}
+use Rattle.proxy_replay.specs.Played.{initial_play_state}
 use Rattle.proxy_replay.proofs.Overs.{nothing_follows_a_gone}
 use Rattle.proxy_replay.proofs.laws.nothing_follows_a_gone.Goals as goal
 
 pub returns : goal.returns
 returns c = λ table items more n emitted last h.
     let p = nothing_follows_a_gone c.effects_name_open_ends.ensures.takes c.effects_name_open_ends.ensures.acts c.what_ends_stays_ended.ensures.takes c.what_ends_stays_ended.ensures.acts c.an_act_has_three_effects_at_most.ensures
-    (initial_scene table) items more n emitted last h (c.effects_name_open_ends.ensures.first _ 1 refl) in
+    (initial_play_state table) items more n emitted last h (c.effects_name_open_ends.ensures.first _ 1 refl) in
     record { before = p.0; behind = p.1; there = p.2; plays = p.3; emitted_is = p.4; silent = p.5 }

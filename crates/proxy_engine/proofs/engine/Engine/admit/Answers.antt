@@ -10,7 +10,7 @@ use Rattle.proxy_engine.specs.Admitted.{asked_on_connection}
 use Rattle.proxy_engine.specs.Questions.{question_of}
 use Rattle.proxy_engine.specs.EngineModel.{connection_at}
 use Rattle.proxy_engine.specs.Acts.{effects_of_outcome, outcome_by_table, model_after_outcome}
-use Rattle.proxy_engine.specs.State.{EngineRepresents, EngineDoesAct, engine_state, load_of_due_request, link_load}
+use Rattle.proxy_engine.specs.State.{EngineRepresents, EngineDoesAct, engine_state, work_left_of_due_request, link_work_left}
 use Rattle.proxy_engine.specs.Due.{Serves}
 use Rattle.proxy_engine.specs.Pairing.{ConnectionsAndLinksArePaired, activities_of, owners_of}
 use Rattle.proxy_engine.specs.declared.endpoints.ends.Link.{Link}
@@ -27,8 +27,8 @@ number_at-id-requires g c = inside c.self.inside.ends.connections.items c.args.i
 pub returns-clause-less : goal.returns-clause-less
 returns-clause-less g c = rw (← c.self.view_is) (
     λ r due.
-    let one = ap load_of_due_request due in
-    omega (arith, one, two_more c.in-Ok.outcome, ap (sum_by link_load) c.reserve_one.ensures.items, c.pass_next_at.ensures.load, c.carry_out.ensures.load)
+    let one = ap work_left_of_due_request due in
+    omega (arith, one, two_more c.in-Ok.outcome, ap (sum_by link_work_left) c.reserve_place.ensures.items, c.pass_next_at.ensures.load, c.carry_out.ensures.load)
     )
 
 pub returns-clause-ok : goal.returns-clause-ok
@@ -39,8 +39,8 @@ returns-clause-ok g c = rw (← c.self.view_is) (
     let there = free_there _ (action_free _ (rw (← c.self.view_is) at c.requires.due)) in
     let retired = retired_in_model cs c.self.inside.ends.links.items c.self.inside.core c.self.inside.ends.first_link s c.args.i (inside cs c.args.i there) there h in
     let asked : c.args.asked ≡ asked_on_connection (connection_at s c.args.i).retired sent = came.2 ∙ ap (λ (b : Bool). asked_on_connection b sent) retired in
-    let ks = c.reserve_one.new.self.items in
-    let same = c.reserve_one.ensures.items in
+    let ks = c.reserve_place.new.self.items in
+    let same = c.reserve_place.ensures.items in
     let core = c.self.inside.core in
     let table = c.config-config.result.now in
     let table_is : table ≡ core.table = c.config-config.ensures ∙ ap (λ (k : CoreState). k.table) (rw c.number_at-id.ensures at c.in-Ok.ensures.ok).leaves in
@@ -68,6 +68,6 @@ invariant_of-self-2 g c = let cs = c.self.inside.ends.connections.items in
     let idle = action_free _ (rw (← c.self.view_is) at c.requires.due) in
     let free = not_open cs c.self.inside.ends.links.items core.exchanges i idle c.self.invariant in
     subst (λ (xs : List Exchange). ConnectionsAndLinksArePaired (activities_of c.carry_out.new.self.connections.items) (owners_of c.carry_out.new.self.links.items) xs) (sym (ap (λ (k : CoreState). k.exchanges) (rw c.number_at-id.ensures at c.in-Ok.ensures.ok).leaves))
-    (paired_arrived core.table cs c.pass_next_at.new.connections.items c.carry_out.new.self.connections.items c.reserve_one.new.self.items c.carry_out.new.self.links.items core.entries core.exchanges c.args.now i c.args.asked c.in-Ok.outcome
+    (paired_arrived core.table cs c.pass_next_at.new.connections.items c.carry_out.new.self.connections.items c.reserve_place.new.self.items c.carry_out.new.self.links.items core.entries core.exchanges c.args.now i c.args.asked c.in-Ok.outcome
     (inside cs i (free_there _ idle)) c.pass_next_at.ensures.activities free.0 c.carry_out.ensures.activities c.carry_out.ensures.owners
-    (subst (λ (ls : List (Option Link)). ConnectionsAndLinksArePaired (activities_of cs) (owners_of ls) core.exchanges) (sym c.reserve_one.ensures.items) c.self.invariant))
+    (subst (λ (ls : List (Option Link)). ConnectionsAndLinksArePaired (activities_of cs) (owners_of ls) core.exchanges) (sym c.reserve_place.ensures.items) c.self.invariant))

@@ -6,7 +6,7 @@ use Rattle.proxy_engine.specs.Questions.{question_of}
 use Rattle.proxy_engine.specs.EngineModel.{no_link}
 use Rattle.proxy_engine.specs.Due.{LinkResult, Finishes}
 use Rattle.proxy_engine.specs.Acts.{outcome_by_table, effects_of_outcome, model_after_outcome}
-use Rattle.proxy_engine.specs.State.{LinkRepresents, EngineRepresents, engine_state, EngineDoesAct, link_result_at, link_load}
+use Rattle.proxy_engine.specs.State.{LinkRepresents, EngineRepresents, engine_state, EngineDoesAct, link_result_at, link_work_left}
 use Rattle.proxy_engine.specs.Pairing.{owners_of}
 use Rattle.proxy_engine.specs.declared.endpoints.ends.Link.{Link}
 use Rattle.proxy_engine.proofs.Parts.{both_length, both_at}
@@ -19,19 +19,19 @@ use Rattle.proxy_engine.proofs.Stepping.{finished_done, ends_table, link_counts}
 use Rattle.proxy_engine.proofs.engine.Engine.complete.Goals as goal
 
 pub at-requires : goal.at-requires
-at-requires g c = ap (λ (ls : List (Option Link)). is_some (get_or ls c.args.j None)) c.reserve_one.ensures.items ∙ finish_there _ (rw (← c.self.view_is) at c.requires.due)
+at-requires g c = ap (λ (ls : List (Option Link)). is_some (get_or ls c.args.j None)) c.reserve_place.ensures.items ∙ finish_there _ (rw (← c.self.view_is) at c.requires.due)
 
 pub number_at-id-requires : goal.number_at-id-requires
 number_at-id-requires g c = let x = c.at.result.now in
-    let there = subst (λ (ls : List (Option Link)). get_or ls c.args.j None ≡ Some x) c.reserve_one.ensures.items c.at.ensures in
+    let there = subst (λ (ls : List (Option Link)). get_or ls c.args.j None ≡ Some x) c.reserve_place.ensures.items c.at.ensures in
     let link = owned_link c.self.inside.ends.connections.items c.self.inside.ends.links.items c.self.inside.core.exchanges c.args.j x there c.self.invariant in
     within_connections c.self.inside.ends.connections.items x.connection c.args.j link
 
 pub at-requires-2 : goal.at-requires-2
-at-requires-2 g c = ap (λ (ls : List (Option Link)). is_some (get_or ls c.args.j None)) c.reserve_one.ensures.items ∙ finish_there _ (rw (← c.self.view_is) at c.requires.due)
+at-requires-2 g c = ap (λ (ls : List (Option Link)). is_some (get_or ls c.args.j None)) c.reserve_place.ensures.items ∙ finish_there _ (rw (← c.self.view_is) at c.requires.due)
 
 pub end-requires-clause-due : goal.end-requires-clause-due
-end-requires-clause-due g c = let here = subst (λ (ls : List (Option Link)). get_or ls c.args.j None ≡ Some c.at-2.result.now) c.reserve_one.ensures.items c.at-2.ensures in
+end-requires-clause-due g c = let here = subst (λ (ls : List (Option Link)). get_or ls c.args.j None ≡ Some c.at-2.result.now) c.reserve_place.ensures.items c.at-2.ensures in
     ap (λ (o : Option Link). is_some (link_result_at o)) (sym here) ∙ (rw (← c.self.view_is) at c.requires.due)
 
 pub end-requires-clause-open : goal.end-requires-clause-open
@@ -39,21 +39,21 @@ end-requires-clause-open g c = let cs = c.self.inside.ends.connections.items in
     let ks = c.self.inside.ends.links.items in
     let xs = c.self.inside.core.exchanges in
     let x = c.at.result.now in
-    let there = subst (λ (ls : List (Option Link)). get_or ls c.args.j None ≡ Some x) c.reserve_one.ensures.items c.at.ensures in
+    let there = subst (λ (ls : List (Option Link)). get_or ls c.args.j None ≡ Some x) c.reserve_place.ensures.items c.at.ensures in
     rw c.number_at-id.ensures (is_out cs ks xs x.connection c.args.j (owned_link cs ks xs c.args.j x there c.self.invariant) c.self.invariant)
 
-pub free-requires-clause-link : goal.free-requires-clause-link
-free-requires-clause-link g c = ap (λ (ls : List (Option Link)). is_some (get_or ls c.args.j None)) c.reserve_one.ensures.items ∙ finish_there _ (rw (← c.self.view_is) at c.requires.due)
+pub free_link-requires-clause-link : goal.free_link-requires-clause-link
+free_link-requires-clause-link g c = ap (λ (ls : List (Option Link)). is_some (get_or ls c.args.j None)) c.reserve_place.ensures.items ∙ finish_there _ (rw (← c.self.view_is) at c.requires.due)
 
-pub free-requires-clause-connection : goal.free-requires-clause-connection
-free-requires-clause-connection g c = let cs = c.self.inside.ends.connections.items in
+pub free_link-requires-clause-connection : goal.free_link-requires-clause-connection
+free_link-requires-clause-connection g c = let cs = c.self.inside.ends.connections.items in
     let ks = c.self.inside.ends.links.items in
     let x = c.at.result.now in
-    let there = subst (λ (ls : List (Option Link)). get_or ls c.args.j None ≡ Some x) c.reserve_one.ensures.items c.at.ensures in
+    let there = subst (λ (ls : List (Option Link)). get_or ls c.args.j None ≡ Some x) c.reserve_place.ensures.items c.at.ensures in
     still_here cs x.connection c.args.j (rw (← c.self.view_is) at c.requires.here) (owned_link cs ks c.self.inside.core.exchanges c.args.j x there c.self.invariant)
 
 pub carry_out-requires-clause-room_for_link : goal.carry_out-requires-clause-room_for_link
-carry_out-requires-clause-room_for_link g c = c.free.ensures.room ∙ c.in_ok-reserve_one.ensures.ok
+carry_out-requires-clause-room_for_link g c = c.free_link.ensures.room ∙ c.in_ok-reserve_place.ensures.ok
 
 pub carry_out-requires-clause-left : goal.carry_out-requires-clause-left
 carry_out-requires-clause-left g c = λ goes.
@@ -62,41 +62,41 @@ carry_out-requires-clause-left g c = λ goes.
     let j = c.args.j in
     let core = c.self.inside.core in
     let x = c.at.result.now in
-    let same = c.reserve_one.ensures.items in
+    let same = c.reserve_place.ensures.items in
     let there = subst (λ (ls : List (Option Link)). get_or ls j None ≡ Some x) same c.at.ensures in
     let here = subst (λ (ls : List (Option Link)). get_or ls j None ≡ Some c.at-2.result.now) same c.at-2.ensures in
     let link = owned_link cs ks core.exchanges j x there c.self.invariant in
     let ended = (rw c.number_at-id.ensures at c.in_ok-step.ensures.ok) in
     let may = goes_given core c.end.new.core c.args.now (x.connection + 1) ended.0 c.in_ok-step.step.outcome (is_open cs ks core.exchanges x.connection j link c.self.invariant) ended.2 goes in
     let few = (rw (← c.self.view_is) at c.requires.left) ended.0 (ap link_result_at here ∙ ended.1) may in
-    omega (arith, few, c.free.ensures.links, ap length same)
+    omega (arith, few, c.free_link.ensures.links, ap length same)
 
 pub invariant_of-self-2 : goal.invariant_of-self-2
 invariant_of-self-2 g c = let cs = c.self.inside.ends.connections.items in
     let ks = c.self.inside.ends.links.items in
     let core = c.self.inside.core in
     let x = c.at.result.now in
-    let same = c.reserve_one.ensures.items in
+    let same = c.reserve_place.ensures.items in
     let there = subst (λ (ls : List (Option Link)). get_or ls c.args.j None ≡ Some x) same c.at.ensures in
     let link = owned_link cs ks core.exchanges c.args.j x there c.self.invariant in
     let is_there = is_open cs ks core.exchanges x.connection c.args.j link c.self.invariant in
-    let owners : owners_of c.free.new.links.items ≡ set (owners_of ks) c.args.j None = c.free.ensures.owners ∙ ap (λ (ls : List (Option Link)). set (owners_of ls) c.args.j None) same in
-    paired_finished cs c.free.new.connections.items c.carry_out.new.self.connections.items ks c.free.new.links.items c.carry_out.new.self.links.items core.exchanges c.end.new.core.exchanges x.connection c.args.j c.in_ok-step.step.outcome link c.free.ensures.activities owners
+    let owners : owners_of c.free_link.new.links.items ≡ set (owners_of ks) c.args.j None = c.free_link.ensures.owners ∙ ap (λ (ls : List (Option Link)). set (owners_of ls) c.args.j None) same in
+    paired_finished cs c.free_link.new.connections.items c.carry_out.new.self.connections.items ks c.free_link.new.links.items c.carry_out.new.self.links.items core.exchanges c.end.new.core.exchanges x.connection c.args.j c.in_ok-step.step.outcome link c.free_link.ensures.activities owners
     c.carry_out.ensures.activities c.carry_out.ensures.owners is_there (remains core c.end.new.core c.args.now (x.connection + 1) (rw c.number_at-id.ensures at c.in_ok-step.ensures.ok).0 c.in_ok-step.step.outcome is_there (rw c.number_at-id.ensures at c.in_ok-step.ensures.ok).2) c.self.invariant
 
 pub returns-clause-less : goal.returns-clause-less
 returns-clause-less g c = rw (← c.self.view_is) (
-    let rooms = c.reserve_one.new.self.items in
+    let rooms = c.reserve_place.new.self.items in
     let ended = (rw c.number_at-id.ensures at c.in_ok-step.ensures.ok) in
-    let counts : link_load (get_or rooms c.args.j None) ≡ 2 = link_counts (get_or rooms c.args.j None) ended.0 (ap link_result_at c.at-2.ensures ∙ ended.1) in
+    let counts : link_work_left (get_or rooms c.args.j None) ≡ 2 = link_counts (get_or rooms c.args.j None) ended.0 (ap link_result_at c.at-2.ensures ∙ ended.1) in
     let cs = c.self.inside.ends.connections.items in
     let ks = c.self.inside.ends.links.items in
     let core = c.self.inside.core in
     let x = c.at.result.now in
-    let there = subst (λ (ls : List (Option Link)). get_or ls c.args.j None ≡ Some x) c.reserve_one.ensures.items c.at.ensures in
+    let there = subst (λ (ls : List (Option Link)). get_or ls c.args.j None ≡ Some x) c.reserve_place.ensures.items c.at.ensures in
     let is_there = is_open cs ks core.exchanges x.connection c.args.j (owned_link cs ks core.exchanges c.args.j x there c.self.invariant) c.self.invariant in
     let few = one_more c.in_ok-step.step.outcome (x.connection + 1) core.exchanges c.end.new.core.exchanges (remains core c.end.new.core c.args.now (x.connection + 1) ended.0 c.in_ok-step.step.outcome is_there ended.2) in
-    omega (arith, counts, few, ap (sum_by link_load) c.reserve_one.ensures.items, c.free.ensures.load, c.carry_out.ensures.load)
+    omega (arith, counts, few, ap (sum_by link_work_left) c.reserve_place.ensures.items, c.free_link.ensures.load, c.carry_out.ensures.load)
     )
 
 pub returns-clause-ok : goal.returns-clause-ok
@@ -108,7 +108,7 @@ returns-clause-ok g c = rw (← c.self.view_is) (
     let j = c.args.j in
     let x = c.at.result.now in
     let i = x.connection in
-    let items = c.reserve_one.ensures.items in
+    let items = c.reserve_place.ensures.items in
     let there = subst (λ (ls : List (Option Link)). get_or ls j None ≡ Some x) items c.at.ensures in
     let here = subst (λ (ls : List (Option Link)). get_or ls j None ≡ Some c.at-2.result.now) items c.at-2.ensures in
     let ended = (rw c.number_at-id.ensures at c.in_ok-step.ensures.ok) in
@@ -126,14 +126,14 @@ returns-clause-ok g c = rw (← c.self.view_is) (
     let emitted : c.put.new.effects.items ≡ Drop (c.self.inside.ends.first_link + j) ∷ [] = emitted_one c.in_ok-effects.effects.items c.put.new.effects.items _ c.put.ensures.items c.in_ok-effects.ensures.items ∙ ap (λ (n : ℕ). Drop n ∷ []) number in
     let table = c.config-config.result.now in
     let table_is : table ≡ core.table = c.config-config.ensures ∙ ends_table core c.end.new.core c.args.now (i + 1) ended.0 c.in_ok-step.step.outcome ended.2 in
-    let free = c.free.ensures.represents s core c.self.inside.ends.first_link (subst (λ (ls : List (Option Link)). EngineRepresents (engine_state cs ls core c.self.inside.ends.first_link) s) (sym items) h) in
-    let fresh = c.free.ensures.links in
+    let free = c.free_link.ensures.represents s core c.self.inside.ends.first_link (subst (λ (ls : List (Option Link)). EngineRepresents (engine_state cs ls core c.self.inside.ends.first_link) s) (sym items) h) in
+    let fresh = c.free_link.ensures.links in
     subst (λ (n : ℕ). EngineDoesAct s c.args.now (Finishes j f) c.carry_out.new.effects.items (engine_state c.carry_out.new.self.connections.items c.carry_out.new.self.links.items c.end.new.core n)) (sym c.carry_out.ensures.first)
     (subst (λ (x : LinkResult). EngineDoesAct s c.args.now (Finishes j x) c.carry_out.new.effects.items (engine_state c.carry_out.new.self.connections.items c.carry_out.new.self.links.items c.end.new.core c.self.inside.ends.first_link)) (sym same)
-    (finished_done s c.free.new.connections.items c.carry_out.new.self.connections.items c.free.new.links.items c.carry_out.new.self.links.items core c.end.new.core c.self.inside.ends.first_link c.args.now i j ended.0 c.in_ok-step.step.outcome
+    (finished_done s c.free_link.new.connections.items c.carry_out.new.self.connections.items c.free_link.new.links.items c.carry_out.new.self.links.items core c.end.new.core c.self.inside.ends.first_link c.args.now i j ended.0 c.in_ok-step.step.outcome
     table c.exchange_asks_head-to_head.result (option_map question_of c.in_ok-step.step.asked) c.carry_out.new.effects.items is_there (λ t. let few = (rw (← c.self.view_is) at c.requires.left) ended.0 due t in omega (arith, few, links)) ended.2 table_is
     (rw c.number_at-id.ensures at c.exchange_asks_head-to_head.ensures)
     (ap (option_map question_of) (rw c.number_at-id.ensures at c.in_ok-step.ensures.asked)) (omega (arith, fresh, sizes, links, first_is))
-    (c.carry_out.ensures.effects ∙ ap (λ (b : List Effect). b ++ effects_of_outcome i (c.self.inside.ends.first_link + length c.free.new.links.items) (option_map question_of c.in_ok-step.step.asked) (outcome_by_table table c.in_ok-step.step.outcome)) emitted)
+    (c.carry_out.ensures.effects ∙ ap (λ (b : List Effect). b ++ effects_of_outcome i (c.self.inside.ends.first_link + length c.free_link.new.links.items) (option_map question_of c.in_ok-step.step.asked) (outcome_by_table table c.in_ok-step.step.outcome)) emitted)
     first_is h.core owner.connection free (λ t k most represents. subst (λ (n : ℕ). EngineRepresents (engine_state c.carry_out.new.self.connections.items c.carry_out.new.self.links.items k n) (model_after_outcome i c.exchange_asks_head-to_head.result (outcome_by_table table c.in_ok-step.step.outcome) t)) c.carry_out.ensures.first (c.carry_out.ensures.represents t k most represents))))
     )

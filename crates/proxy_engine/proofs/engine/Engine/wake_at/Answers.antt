@@ -5,7 +5,7 @@ use Rattle.proxy_core.specs.State.{State as CoreState}
 use Rattle.proxy_engine.specs.Questions.{question_of}
 use Rattle.proxy_engine.specs.Acts.{effects_of_outcome, outcome_by_table, model_after_outcome}
 use Rattle.proxy_engine.specs.Due.{Wakes}
-use Rattle.proxy_engine.specs.State.{EngineRepresents, EngineDoesAct, engine_state, link_load, load_of_waiting}
+use Rattle.proxy_engine.specs.State.{EngineRepresents, EngineDoesAct, engine_state, link_work_left, work_left_of_waiting}
 use Rattle.proxy_engine.specs.Pairing.{ConnectionsAndLinksArePaired, activity_of, activities_of, owners_of}
 use Rattle.proxy_engine.specs.declared.endpoints.ends.Link.{Link}
 use Rattle.proxy_engine.proofs.Ending.{woken_remains, one_more}
@@ -34,16 +34,16 @@ returns-clause-less g c = rw (← c.self.view_is) (
     let core = c.self.inside.core in
     let ready = (rw (← c.self.view_is) at c.requires.ready) in
     let waits = ready_waits (activities_of cs) (owners_of c.self.inside.ends.links.items) core.exchanges c.args.i ready c.self.invariant in
-    let weight : load_of_waiting (activity_of (get_or cs c.args.i None)) ≡ 2 = ap load_of_waiting (sym (doing_at cs c.args.i (within_waiting cs c.args.i waits)) ∙ waits) in
+    let weight : work_left_of_waiting (activity_of (get_or cs c.args.i None)) ≡ 2 = ap work_left_of_waiting (sym (doing_at cs c.args.i (within_waiting cs c.args.i waits)) ∙ waits) in
     let few = one_more c.in-Ok.step.outcome (c.args.i + 1) core.exchanges c.wake.new.self.exchanges (woken_remains core c.wake.new.self c.args.now (c.args.i + 1) c.in-Ok.step.outcome (ap is_some ready.is_open) (rw c.number_at-id.ensures at c.in-Ok.ensures.ok)) in
-    omega (arith, weight, few, ap (sum_by link_load) c.reserve_one.ensures.items, c.mark_free_at.ensures.load, c.carry_out.ensures.load)
+    omega (arith, weight, few, ap (sum_by link_work_left) c.reserve_place.ensures.items, c.mark_free_at.ensures.load, c.carry_out.ensures.load)
     )
 
 pub returns-clause-ok : goal.returns-clause-ok
 returns-clause-ok g c = rw (← c.self.view_is) (
     λ s h.
-    let ks = c.reserve_one.new.self.items in
-    let same = c.reserve_one.ensures.items in
+    let ks = c.reserve_place.new.self.items in
+    let same = c.reserve_place.ensures.items in
     let core = c.self.inside.core in
     let table = c.config-config.result.now in
     let table_is : table ≡ core.table = c.config-config.ensures ∙ ap (λ (k : CoreState). k.table) (rw c.number_at-id.ensures at c.in-Ok.ensures.ok).leaves in
@@ -64,7 +64,7 @@ invariant_of-self-2 g c =
     let core = c.self.inside.core in
     let ready = (rw (← c.self.view_is) at c.requires.ready) in
     let there = ap is_some ready.is_open in
-    let paired = subst (λ (ls : List (Option Link)). ConnectionsAndLinksArePaired (activities_of cs) (owners_of ls) core.exchanges) (sym c.reserve_one.ensures.items) c.self.invariant in
-    paired_woken cs c.mark_free_at.new.connections.items c.carry_out.new.self.connections.items c.reserve_one.new.self.items c.carry_out.new.self.links.items core.exchanges c.wake.new.self.exchanges c.args.i c.in-Ok.step.outcome
+    let paired = subst (λ (ls : List (Option Link)). ConnectionsAndLinksArePaired (activities_of cs) (owners_of ls) core.exchanges) (sym c.reserve_place.ensures.items) c.self.invariant in
+    paired_woken cs c.mark_free_at.new.connections.items c.carry_out.new.self.connections.items c.reserve_place.new.self.items c.carry_out.new.self.links.items core.exchanges c.wake.new.self.exchanges c.args.i c.in-Ok.step.outcome
     (ready_waits (activities_of cs) (owners_of c.self.inside.ends.links.items) core.exchanges c.args.i ready c.self.invariant) c.mark_free_at.ensures.activities c.carry_out.ensures.activities c.carry_out.ensures.owners there
     (woken_remains core c.wake.new.self c.args.now (c.args.i + 1) c.in-Ok.step.outcome there (rw c.number_at-id.ensures at c.in-Ok.ensures.ok)) paired

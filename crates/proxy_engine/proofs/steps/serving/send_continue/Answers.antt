@@ -3,7 +3,7 @@ use Rattle.hx_framing.specs.declared.messages.Next.TheVariants.{NeedsContinue}
 use Rattle.proxy_script.specs.declared.effect_list.Effect.TheVariants.{Client}
 use Rattle.proxy_engine.specs.EngineModel.{with_connection}
 use Rattle.proxy_engine.specs.Acts.{with_next_passed}
-use Rattle.proxy_engine.specs.State.{load_of_due_request}
+use Rattle.proxy_engine.specs.State.{work_left_of_due_request}
 use Rattle.proxy_engine.proofs.Keeping.{inside}
 use Rattle.proxy_engine.proofs.Changes.{free_there, action_free}
 use Rattle.proxy_engine.proofs.Acting.{emitted_one}
@@ -21,5 +21,5 @@ returns-clause-ok c = λ s links core first now due h. record {
 
 pub returns-clause-less : goal.returns-clause-less
 returns-clause-less c = λ due.
-    let one = ap load_of_due_request due in
+    let one = ap work_left_of_due_request due in
     omega (arith, one, c.pass_next_at.ensures.load)

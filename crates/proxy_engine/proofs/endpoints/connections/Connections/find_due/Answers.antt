@@ -2,7 +2,7 @@ use Rattle.std.proofs.Common.{sym, ap, ◌∙◌, subst, arith, sum_by}
 use Rattle.proxy_engine.specs.Pairing.{activity_of, activities_of}
 use Rattle.proxy_engine.specs.EngineModel.{no_connection}
 use Rattle.proxy_engine.specs.Due.{IsDueOnConnection}
-use Rattle.proxy_engine.specs.State.{RelatesLists, ConnectionRepresents, due_request_at, connection_load}
+use Rattle.proxy_engine.specs.State.{RelatesLists, ConnectionRepresents, due_request_at, connection_work_left}
 use Rattle.proxy_engine.specs.Marked.{EndList, ConnectionAfterLook, connection_may_be_due}
 use Rattle.proxy_engine.specs.declared.endpoints.ends.Connection.{Connection}
 use Rattle.proxy_engine.proofs.Losing.{lost_looked}
@@ -28,5 +28,5 @@ returns-clause-activities c =
 
 pub returns-clause-load : goal.returns-clause-load
 returns-clause-load c =
-    let less = sum_alike ConnectionAfterLook connection_load (λ x y r. r.load) c.self.inside.ends.items c.find.new.self.items c.find.ensures.length c.find.ensures.alike in
-    omega (arith, less, ap (λ (v : EndList Connection). sum_by connection_load v.items) c.self.view_is)
+    let less = sum_alike ConnectionAfterLook connection_work_left (λ x y r. r.load) c.self.inside.ends.items c.find.new.self.items c.find.ensures.length c.find.ensures.alike in
+    omega (arith, less, ap (λ (v : EndList Connection). sum_by connection_work_left v.items) c.self.view_is)

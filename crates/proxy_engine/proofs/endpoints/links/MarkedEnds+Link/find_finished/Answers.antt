@@ -2,7 +2,7 @@ use Rattle.std.proofs.Common.{ap, Some}
 use Rattle.proxy_engine.specs.Pairing.{owner_of}
 use Rattle.proxy_engine.specs.EngineModel.{no_link}
 use Rattle.proxy_engine.specs.Due.{IsDueOnLink}
-use Rattle.proxy_engine.specs.State.{LinkRepresents, link_result_at, link_load}
+use Rattle.proxy_engine.specs.State.{LinkRepresents, link_result_at, link_work_left}
 use Rattle.proxy_engine.specs.Marked.{LinkAfterLook, link_may_be_due}
 use Rattle.proxy_engine.proofs.Searching.{both_alike, map_alike, sum_alike}
 use Rattle.proxy_engine.proofs.Marking.{no_finish_due, no_finish_due_over}
@@ -24,4 +24,4 @@ pub returns-clause-owners : goal.returns-clause-owners
 returns-clause-owners c = map_alike LinkAfterLook owner_of (λ x y r. ap Some r.connection) c.args.self.now.items c.find.new.self.items c.find.ensures.length c.find.ensures.alike
 
 pub returns-clause-load : goal.returns-clause-load
-returns-clause-load c = sum_alike LinkAfterLook link_load (λ x y r. r.load) c.args.self.now.items c.find.new.self.items c.find.ensures.length c.find.ensures.alike
+returns-clause-load c = sum_alike LinkAfterLook link_work_left (λ x y r. r.load) c.args.self.now.items c.find.new.self.items c.find.ensures.length c.find.ensures.alike

@@ -1,7 +1,7 @@
 use Rattle.std.proofs.Common.{◌∙◌, sym, ap, arith}
 use Rattle.proxy_engine.specs.Marked.{item_at, kept_count, may_be_lost, lost_connection_at}
 use Rattle.proxy_engine.proofs.Marking.{marked_dropped, none_before, no_mark}
-use Rattle.proxy_engine.proofs.steps.finds.first_lost.Goals as goal
+use Rattle.proxy_engine.proofs.steps.finds.first_lost_exchange.Goals as goal
 
 pub returns-in-Some-lost_link-clause-some : goal.returns-in-Some-lost_link-clause-some
 returns-in-Some-lost_link-clause-some c =

@@ -2,7 +2,7 @@ use Rattle.std.proofs.Common.{List, Option, None, true, refl, sym, ap, subst, â—
 use Rattle.std.proofs.lemmas.List.{map-set}
 use Rattle.proxy_engine.specs.EngineModel.{with_link}
 use Rattle.proxy_engine.specs.Acts.{with_activity, with_dropped, model_after_link_freed}
-use Rattle.proxy_engine.specs.State.{EngineRepresents, engine_state, connection_load, link_load}
+use Rattle.proxy_engine.specs.State.{EngineRepresents, engine_state, connection_work_left, link_work_left}
 use Rattle.proxy_engine.specs.Pairing.{activity_of, activities_of, owner_of, owners_of}
 use Rattle.proxy_engine.specs.declared.endpoints.ends.Connection.{Connection}
 use Rattle.proxy_engine.specs.declared.endpoints.ends.Link.{Link}
@@ -10,7 +10,7 @@ use Rattle.proxy_engine.specs.declared.endpoints.activities.Activity.TheVariants
 use Rattle.proxy_engine.proofs.Keeping.{inside}
 use Rattle.proxy_engine.proofs.Searching.{sum_changed}
 use Rattle.proxy_engine.proofs.Changes.{changed_connection, changed_link, lost_over, gone_there, counts_one}
-use Rattle.proxy_engine.proofs.steps.outcomes.free_lost.Goals as goal
+use Rattle.proxy_engine.proofs.steps.outcomes.free_link_of_gone_client.Goals as goal
 
 pub release-requires-2 : goal.release-requires-2
 release-requires-2 c = inside c.args.connections.now.items c.args.i (gone_there _ true c.requires.connection)
@@ -38,6 +38,6 @@ returns-clause-load c =
     let cs = c.args.connections.now.items in
     let ks = c.args.links.now.items in
     let there = gone_there _ true c.requires.connection in
-    let links = sum_changed link_load ks c.args.j None None (inside ks c.args.j c.requires.link) in
-    let connections = sum_changed connection_load cs c.args.i None None (inside cs c.args.i there) in
-    omega (arith, links, connections, counts_one _ there, ap (sum_by link_load) c.release.ensures.items, ap (sum_by connection_load) c.release-2.ensures)
+    let links = sum_changed link_work_left ks c.args.j None None (inside ks c.args.j c.requires.link) in
+    let connections = sum_changed connection_work_left cs c.args.i None None (inside cs c.args.i there) in
+    omega (arith, links, connections, counts_one _ there, ap (sum_by link_work_left) c.release.ensures.items, ap (sum_by connection_work_left) c.release-2.ensures)

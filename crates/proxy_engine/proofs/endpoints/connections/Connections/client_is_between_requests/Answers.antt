@@ -5,11 +5,11 @@ use Rattle.proxy_engine.specs.Marked.{EndList, item_at}
 use Rattle.proxy_engine.specs.declared.endpoints.ends.Connection.{Connection}
 use Rattle.proxy_engine.proofs.Keeping.{inside}
 use Rattle.proxy_engine.proofs.Parts.{both_at}
-use Rattle.proxy_engine.proofs.endpoints.connections.Connections.is_between.Goals as goal
+use Rattle.proxy_engine.proofs.endpoints.connections.Connections.client_is_between_requests.Goals as goal
 
 pub returns-in-Some : goal.returns-in-Some
 returns-in-Some c ss both is =
     let items = c.args.self.now.items in
     let kept : Some c.in-Some.connection.now ≡ slice_index_or items c.args.i None = c.in-Some.ensures ∙ ap (λ (v : EndList Connection). item_at v.items c.args.i) c.self.view_is in
     let here = inside items c.args.i (sym (ap (λ (o : Option Connection). is_some o) kept)) in
-    c.is_between.ensures (slice_index_or ss c.args.i no_connection) (subst (λ (o : Option Connection). ConnectionRepresents o (slice_index_or ss c.args.i no_connection)) (sym kept) (both_at ConnectionRepresents items ss c.args.i None no_connection both here)) is
+    c.client_is_between_requests.ensures (slice_index_or ss c.args.i no_connection) (subst (λ (o : Option Connection). ConnectionRepresents o (slice_index_or ss c.args.i no_connection)) (sym kept) (both_at ConnectionRepresents items ss c.args.i None no_connection both here)) is

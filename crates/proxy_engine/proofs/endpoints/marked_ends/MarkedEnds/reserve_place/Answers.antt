@@ -4,7 +4,7 @@ use Rattle.std.specs.BTreeMap.{get}
 use Rattle.proxy_engine.specs.Marked.{EndList}
 use Rattle.proxy_engine.proofs.Keeping.{elsewhere, listed_same, one_more}
 use Rattle.proxy_engine.proofs.Marking.{marked_room, marked_spare, same_at, below_same, none_changed}
-use Rattle.proxy_engine.proofs.endpoints.marked_ends.MarkedEnds.reserve_one.Goals as goal
+use Rattle.proxy_engine.proofs.endpoints.marked_ends.MarkedEnds.reserve_place.Goals as goal
 
 pub invariant_of-self : goal.invariant_of-self
 invariant_of-self g c = (

@@ -3,13 +3,13 @@ use Rattle.std.proofs.lemmas.List.{map-set}
 use Rattle.std.proofs.Math.ListN.{length-set}
 use Rattle.proxy_engine.specs.EngineModel.{with_link}
 use Rattle.proxy_engine.specs.Acts.{with_dropped}
-use Rattle.proxy_engine.specs.State.{EngineRepresents, engine_state, link_load}
+use Rattle.proxy_engine.specs.State.{EngineRepresents, engine_state, link_work_left}
 use Rattle.proxy_engine.specs.Pairing.{owner_of, owners_of}
 use Rattle.proxy_engine.specs.declared.endpoints.ends.Link.{Link}
 use Rattle.proxy_engine.proofs.Keeping.{inside}
 use Rattle.proxy_engine.proofs.Searching.{sum_changed}
 use Rattle.proxy_engine.proofs.Changes.{changed_link}
-use Rattle.proxy_engine.proofs.steps.outcomes.free.Goals as goal
+use Rattle.proxy_engine.proofs.steps.outcomes.free_link.Goals as goal
 
 pub returns-clause-represents : goal.returns-clause-represents
 returns-clause-represents c = λ s core first h.
@@ -26,8 +26,8 @@ returns-clause-owners c = ap owners_of c.release.ensures.items ∙ map-set owner
 pub returns-clause-load : goal.returns-clause-load
 returns-clause-load c =
     let ks = c.args.links.now.items in
-    let sum = sum_changed link_load ks c.args.j None None (inside ks c.args.j c.requires.link) in
-    omega (arith, sum, ap (sum_by link_load) c.release.ensures.items, c.mark_free_at.ensures.load)
+    let sum = sum_changed link_work_left ks c.args.j None None (inside ks c.args.j c.requires.link) in
+    omega (arith, sum, ap (sum_by link_work_left) c.release.ensures.items, c.mark_free_at.ensures.load)
 
 pub returns-clause-links : goal.returns-clause-links
 returns-clause-links c = ap length c.release.ensures.items ∙ length-set c.args.links.now.items c.args.j None
