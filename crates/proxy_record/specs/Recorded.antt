@@ -4,7 +4,7 @@
 -- CallsArePassedOn: calls, one after another
 -- happening_of_call: what is recorded of a call
 -- HappeningIfAnyIsNoted, CallIsNoted, CallsAreNoted: calls are recorded, one after another
--- NoCallFailed: and none failed, where a record ends
+-- NoEffectCallFailed: no write, connect or shut failed, where a record ends
 -- AtMostOneThingIsTaken: at most one gives something      TurnIsNoted: calls, while recording doesn't fail
 -- passed_on_joined, passed_on_of_one_call, was_recording_before, turn_is_noted_with_no_call, turn_is_noted_joined,
 -- recording_had_not_failed: laws
@@ -100,11 +100,11 @@ happening_of_call (call.Connect link address done) = cond done None (happening_o
 happening_of_call (call.Shut end done) = cond done None (happening_of_loss end Closed)
 
 -- a write, a connect or a close that failed
-abbrev pub call_failed : Call → Bool
-call_failed (call.Write end bytes replied done) = not done
-call_failed (call.Connect link address done) = not done
-call_failed (call.Shut end done) = not done
-call_failed other = false
+abbrev pub effect_call_failed : Call → Bool
+effect_call_failed (call.Write end bytes replied done) = not done
+effect_call_failed (call.Connect link address done) = not done
+effect_call_failed (call.Shut end done) = not done
+effect_call_failed other = false
 
 -- what happened is recorded at this moment, where there is something, and where a record is written
 abbrev pub HappeningIfAnyIsNoted : ℕ → Option Happening → Option Record → Option Record → Type 0
@@ -132,8 +132,8 @@ CallsAreNoted now (made ∷ more) old new =
     (mid : Option Record) × CallIsNoted now made old mid × CallsAreNoted now more mid new
 
 -- no write, connect or close among them failed
-abbrev pub NoCallFailed : List Call → Type 0
-NoCallFailed made = AllByRecursion (λ (one : Call). call_failed one ≡ false) made
+abbrev pub NoEffectCallFailed : List Call → Type 0
+NoEffectCallFailed made = AllByRecursion (λ (one : Call). effect_call_failed one ≡ false) made
 
 -- a record is being written
 abbrev pub is_recording : Option Record → Bool
@@ -170,7 +170,7 @@ pub record TurnIsNoted (now : ℕ) (old : Option Record) (taken : Bool) (made : 
   pub stays : then ≡ now
   pub notes : CallsAreNoted now made old new
   pub takes : is_recording new ≡ true → AtMostOneThingIsTaken taken made later
-  pub whole : is_recording new ≡ true → NoCallFailed made
+  pub whole : is_recording new ≡ true → NoEffectCallFailed made
 
 open_before : (over fits later : Bool) → later ≡ not (not over && fits) → not later ≡ true → not over ≡ true
 open_before false fits later ends is = refl
@@ -199,7 +199,7 @@ still_done false old new ends is =
 
 -- a record that is being written behind a call was so before it, and the call hasn't failed
 pub call_was_recorded : (now : ℕ) (made : Call) (old new : Option Record) → CallIsNoted now made old new
-    → is_recording new ≡ true → (call_failed made ≡ false) × (is_recording old ≡ true)
+    → is_recording new ≡ true → (effect_call_failed made ≡ false) × (is_recording old ≡ true)
 call_was_recorded now (call.Accept n answer) old new noted is =
     (refl, was_recording_before now (happening_of_call (call.Accept n answer)) old new noted is)
 call_was_recorded now (call.Read end given) old new noted is =
@@ -234,7 +234,7 @@ takes_on taken mid later [] b one two = subst (λ (t : Bool). AtMostOneThingIsTa
 takes_on taken mid later (made ∷ more) b one two =
     (one.0, takes_on (cond (call_gave_something made) true taken) mid later more b one.1 two)
 
-none_failed : (a b : List Call) → NoCallFailed a → NoCallFailed b → NoCallFailed (a ++ b)
+none_failed : (a b : List Call) → NoEffectCallFailed a → NoEffectCallFailed b → NoEffectCallFailed (a ++ b)
 none_failed [] b one two = two
 none_failed (made ∷ more) b one two = (one.0, none_failed more b one.1 two)
 

@@ -9,7 +9,7 @@ use Rattle.proxy_engine.specs.EngineModel.{EngineModel, model_after_happening}
 use Rattle.proxy_engine.specs.Due.{Act, IsDueFirst}
 use Rattle.proxy_engine.specs.Acts.{ActIsDone}
 use Rattle.proxy_engine.specs.Executions.{ActIsDoneInOneWay}
-use Rattle.proxy_replay.specs.Played.{DoneAct, ActsAreDoneInOrder, effects_of_acts, HappeningIsPlayed, Scene, scene_over, ItemIsPlayed, ItemsArePlayed}
+use Rattle.proxy_replay.specs.Played.{DoneAct, ActsAreDoneInOrder, effects_of_acts, HappeningIsPlayed, PlayState, play_state_over, ItemIsPlayed, ItemsArePlayed}
 use Rattle.proxy_replay.specs.Runs.{ScriptHasOnePlay}
 use Rattle.proxy_record.specs.Records.{NotedHappening, items_of_happening, items_of_noted}
 use Rattle.proxy_record_laws.specs.PlaysOfARecord.{ThePlayGoesOn}
@@ -27,18 +27,18 @@ items_joined m (one ∷ xs) ys =
     ap (λ (is : List Item). items_of_happening m one.moment one.happening ++ is) (items_joined one.moment xs ys)
     ∙ sym (append_assoc (items_of_happening m one.moment one.happening) (items_of_noted one.moment xs) (items_of_noted (moment_behind one.moment xs) ys))
 
-abbrev PlayedInTwo : List Item → List Item → Scene → Scene → List Effect → Type 0
-PlayedInTwo xs ys a c all = (mid : Scene) × (one : List Effect) × (two : List Effect) × ItemsArePlayed a xs one mid × ItemsArePlayed mid ys two c × (all ≡ one ++ two)
+abbrev PlayedInTwo : List Item → List Item → PlayState → PlayState → List Effect → Type 0
+PlayedInTwo xs ys a c all = (mid : PlayState) × (one : List Effect) × (two : List Effect) × ItemsArePlayed a xs one mid × ItemsArePlayed mid ys two c × (all ≡ one ++ two)
 
-pub played_in_two : (xs ys : List Item) (a c : Scene) (all : List Effect) → ItemsArePlayed a (xs ++ ys) all c → PlayedInTwo xs ys a c all
+pub played_in_two : (xs ys : List Item) (a c : PlayState) (all : List Effect) → ItemsArePlayed a (xs ++ ys) all c → PlayedInTwo xs ys a c all
 played_in_two [] ys a c all h = (a, [], all, (refl, refl), h, refl)
 played_in_two (x ∷ xs) ys a c all h =
     let rest = played_in_two xs ys h.0 c h.2 h.4 in
     (rest.0, h.1 ++ rest.1, rest.2, (h.0, h.1, rest.1, h.3, rest.3, refl), rest.4, h.5 ∙ (ap (λ (es : List Effect). h.1 ++ es) rest.5 ∙ sym (append_assoc h.1 rest.1 rest.2)))
 
-pub played_joined : (xs ys : List Item) (a b c : Scene) (one two : List Effect) → ItemsArePlayed a xs one b → ItemsArePlayed b ys two c → ItemsArePlayed a (xs ++ ys) (one ++ two) c
+pub played_joined : (xs ys : List Item) (a b c : PlayState) (one two : List Effect) → ItemsArePlayed a xs one b → ItemsArePlayed b ys two c → ItemsArePlayed a (xs ++ ys) (one ++ two) c
 played_joined [] ys a b c one two h k =
-    subst (λ (es : List Effect). ItemsArePlayed a ys (es ++ two) c) (sym h.0) (subst (λ (m : Scene). ItemsArePlayed m ys two c) h.1 k)
+    subst (λ (es : List Effect). ItemsArePlayed a ys (es ++ two) c) (sym h.0) (subst (λ (m : PlayState). ItemsArePlayed m ys two c) h.1 k)
 played_joined (x ∷ xs) ys a b c one two h k =
     (h.0, h.1, h.2 ++ two, h.3, played_joined xs ys h.0 b c h.2 two h.4 k, ap (λ (es : List Effect). es ++ two) h.5 ∙ append_assoc h.1 h.2 two)
 
@@ -49,20 +49,20 @@ same_number m n is = grind (arith, nat_tests)
 abbrev items_at : Bool → ℕ → Happening → List Item
 items_at same now h = if same then Happens h ∷ [] else Moment now ∷ Happens h ∷ []
 
-abbrev IsPlayedAt : Scene → ℕ → Happening → List Effect → Scene → Type 0
+abbrev IsPlayedAt : PlayState → ℕ → Happening → List Effect → PlayState → Type 0
 IsPlayedAt b now h effects c = HappeningIsPlayed b.model now h effects c.model × (c.now ≡ now)
 
-happens_played : (b c : Scene) (now : ℕ) (h : Happening) (effects : List Effect) → now ≡ b.now → ItemsArePlayed b (Happens h ∷ []) effects c → IsPlayedAt b now h effects c
+happens_played : (b c : PlayState) (now : ℕ) (h : Happening) (effects : List Effect) → now ≡ b.now → ItemsArePlayed b (Happens h ∷ []) effects c → IsPlayedAt b now h effects c
 happens_played b c now h effects is plays =
     let item : ItemIsPlayed b (Happens h) plays.1 plays.0 = plays.3 in
     let now_is : plays.0.now ≡ now = item.moment ∙ sym is in
     let here : HappeningIsPlayed b.model now h plays.1 plays.0.model = subst (λ (n : ℕ). HappeningIsPlayed b.model n h plays.1 plays.0.model) now_is item.happened in
     let all : effects ≡ plays.1 = plays.5 ∙ (ap (λ (es : List Effect). plays.1 ++ es) plays.4.0 ∙ append-nil plays.1) in (
-      subst (λ (m : Scene). HappeningIsPlayed b.model now h effects m.model) (sym plays.4.1) (subst (λ (es : List Effect). HappeningIsPlayed b.model now h es plays.0.model) (sym all) here),
-      subst (λ (m : Scene). m.now ≡ now) (sym plays.4.1) now_is,
+      subst (λ (m : PlayState). HappeningIsPlayed b.model now h effects m.model) (sym plays.4.1) (subst (λ (es : List Effect). HappeningIsPlayed b.model now h es plays.0.model) (sym all) here),
+      subst (λ (m : PlayState). m.now ≡ now) (sym plays.4.1) now_is,
     )
 
-one_played : (same : Bool) (b c : Scene) (now : ℕ) (h : Happening) (effects : List Effect) → (same ≡ true → now ≡ b.now) → ItemsArePlayed b (items_at same now h) effects c → IsPlayedAt b now h effects c
+one_played : (same : Bool) (b c : PlayState) (now : ℕ) (h : Happening) (effects : List Effect) → (same ≡ true → now ≡ b.now) → ItemsArePlayed b (items_at same now h) effects c → IsPlayedAt b now h effects c
 one_played true b c now h effects is plays = happens_played b c now h effects (is refl) plays
 one_played false b c now h effects is plays =
     let item : ItemIsPlayed b (Moment now) plays.1 plays.0 = plays.3 in
@@ -71,11 +71,11 @@ one_played false b c now h effects is plays =
     let from : IsPlayedAt b now h plays.2 c = subst (λ (m : EngineModel). HappeningIsPlayed m now h plays.2 c.model × (c.now ≡ now)) item.happened.1 here in
     subst (λ (es : List Effect). IsPlayedAt b now h es c) (sym all) from
 
-pub play_one : (same : Bool) (b : Scene) (now : ℕ) (h : Happening) (effects : List Effect) (t : EngineModel) → (same ≡ true → now ≡ b.now) → HappeningIsPlayed b.model now h effects t → ItemsArePlayed b (items_at same now h) effects (record { model = t; now = now })
+pub play_one : (same : Bool) (b : PlayState) (now : ℕ) (h : Happening) (effects : List Effect) (t : EngineModel) → (same ≡ true → now ≡ b.now) → HappeningIsPlayed b.model now h effects t → ItemsArePlayed b (items_at same now h) effects (record { model = t; now = now })
 play_one true b now h effects t is plays =
     (record { model = t; now = now }, effects, [], record { moment = is refl; happened = plays }, (refl, refl), sym (append-nil effects))
 play_one false b now h effects t is plays =
-    let mid : Scene = record { model = b.model; now = now } in (
+    let mid : PlayState = record { model = b.model; now = now } in (
       mid,
       [],
       effects,
@@ -84,8 +84,8 @@ play_one false b now h effects t is plays =
       refl,
     )
 
-pub now_behind : (xs : List NotedHappening) (a c : Scene) (all : List Effect) → ItemsArePlayed a (items_of_noted a.now xs) all c → c.now ≡ moment_behind a.now xs
-now_behind [] a c all plays = ap (λ (m : Scene). m.now) plays.1
+pub now_behind : (xs : List NotedHappening) (a c : PlayState) (all : List Effect) → ItemsArePlayed a (items_of_noted a.now xs) all c → c.now ≡ moment_behind a.now xs
+now_behind [] a c all plays = ap (λ (m : PlayState). m.now) plays.1
 now_behind (one ∷ xs) a c all plays =
     let parts = played_in_two (items_of_happening a.now one.moment one.happening) (items_of_noted one.moment xs) a c all plays in
     let here = one_played (one.moment == a.now) a parts.0 one.moment one.happening parts.1 (same_number one.moment a.now) parts.3 in
@@ -129,10 +129,10 @@ module _ (due : (s : EngineModel) → (a b : Option Act) → IsDueFirst s a → 
 
     pub play_goes_on : ScriptHasOnePlay → ThePlayGoesOn
     play_goes_on once table held serial all_noted effects all_effects last now end (inl yet) plays =
-        let none : ItemsArePlayed (scene_over table held serial) [] all_effects end = subst (λ (ns : List NotedHappening). ItemsArePlayed (scene_over table held serial) (items_of_noted 0 ns) all_effects end) yet.0 plays in
+        let none : ItemsArePlayed (play_state_over table held serial) [] all_effects end = subst (λ (ns : List NotedHappening). ItemsArePlayed (play_state_over table held serial) (items_of_noted 0 ns) all_effects end) yet.0 plays in
         (all_effects, ap (λ (es : List Effect). es ++ all_effects) (sym yet.1), λ due_none. none.0)
     play_goes_on once table held serial all_noted effects all_effects last now end (inr so_far) plays =
-        let begin = scene_over table held serial in
+        let begin = play_state_over table held serial in
         let front = so_far.front in
         let one = so_far.one in
         let before = so_far.before in
@@ -141,7 +141,7 @@ module _ (due : (s : EngineModel) → (a b : Option Act) → IsDueFirst s a → 
         let parts = played_in_two (items_of_noted 0 front) (items_of_noted (moment_behind 0 front) (one ∷ [])) begin end all_effects both in
         let same = once begin (items_of_noted 0 front) so_far.first parts.1 before parts.0 so_far.plays parts.3 in
         let now_is : before.now ≡ moment_behind 0 front = now_behind front begin before so_far.first so_far.plays in
-        let from : ItemsArePlayed before (items_of_noted (moment_behind 0 front) (one ∷ [])) parts.2 end = subst (λ (m : Scene). ItemsArePlayed m (items_of_noted (moment_behind 0 front) (one ∷ [])) parts.2 end) (sym same.1) parts.4 in
+        let from : ItemsArePlayed before (items_of_noted (moment_behind 0 front) (one ∷ [])) parts.2 end = subst (λ (m : PlayState). ItemsArePlayed m (items_of_noted (moment_behind 0 front) (one ∷ [])) parts.2 end) (sym same.1) parts.4 in
         let at_moment : ItemsArePlayed before (items_of_noted before.now (one ∷ [])) parts.2 end = subst (λ (n : ℕ). ItemsArePlayed before (items_of_noted n (one ∷ [])) parts.2 end) (sym now_is) from in
         let alone : ItemsArePlayed before (items_of_happening before.now one.moment one.happening) parts.2 end =
         subst (λ (is : List Item). ItemsArePlayed before is parts.2 end) (append-nil (items_of_happening before.now one.moment one.happening)) at_moment in

@@ -7,7 +7,7 @@ use Rattle.proxy_script.specs.Script.{PlainItem as Item}
 use Rattle.proxy_script.specs.declared.effect_list.Effect.{Effect}
 use Rattle.proxy_engine.specs.EngineModel.{EngineModel, model_after_happening, happening_fault}
 use Rattle.proxy_engine.specs.Due.{Act, IsDueFirst}
-use Rattle.proxy_replay.specs.Played.{DoneAct, ActsAreDoneInOrder, effects_of_acts, HappeningIsPlayed, Scene, scene_over, ItemsArePlayed}
+use Rattle.proxy_replay.specs.Played.{DoneAct, ActsAreDoneInOrder, effects_of_acts, HappeningIsPlayed, PlayState, play_state_over, ItemsArePlayed}
 use Rattle.proxy_turn.specs.Turn.{ActRound}
 use Rattle.proxy_turn.specs.TurnSteps.{effects_of_rounds}
 use Rattle.proxy_turn.specs.OverSteps.{steps_of_turn_over, TurnOverStepsEmitTheirEffects}
@@ -36,7 +36,7 @@ effects_of_done (r ∷ rs) = ap (λ (es : List Effect). r.emitted ++ es) (effect
 
 -- ---- nothing is due of an engine to which nothing has happened
 
-pub nothing_due : (table : Table) (held : List Stored) (serial : ℕ) → IsDueFirst (scene_over table held serial).model None
+pub nothing_due : (table : Table) (held : List Stored) (serial : ℕ) → IsDueFirst (play_state_over table held serial).model None
 nothing_due table held serial = ((λ i few. tt_of i few), (λ i few. tt_of i few), refl, (λ i few. tt_of i few))
   where
     tt_of : {P : Type 0} (i : ℕ) → i < 0 → P
@@ -45,12 +45,12 @@ nothing_due table held serial = ((λ i few. tt_of i few), (λ i few. tt_of i few
 module _ (due : (s : EngineModel) → (a b : Option Act) → IsDueFirst s a → IsDueFirst s b → a ≡ b) where
   -- the last of what was noted was played whole
   whole : (table : Table) (held : List Stored) (serial : ℕ) (all_noted : List NotedHappening) (effects : List Effect) (s : EngineModel) (then : ℕ) (so_far : LastIsBeingPlayed table held serial all_noted effects s then) → IsDueFirst s None
-      → ItemsArePlayed (scene_over table held serial) (items_of_noted 0 all_noted) effects (record { model = s; now = so_far.one.moment })
+      → ItemsArePlayed (play_state_over table held serial) (items_of_noted 0 all_noted) effects (record { model = s; now = so_far.one.moment })
   whole table held serial all_noted effects s then so_far none =
-      let begin = scene_over table held serial in
+      let begin = play_state_over table held serial in
       let one = so_far.one in
       let before = so_far.before in
-      let last : Scene = record { model = s; now = one.moment } in
+      let last : PlayState = record { model = s; now = one.moment } in
       let played : HappeningIsPlayed before.model one.moment one.happening (effects_of_acts so_far.done_acts) s =
       record { free = so_far.free; done_acts = so_far.done_acts; settles = (so_far.works, none); emitted = refl } in
       let alone : ItemsArePlayed before (items_of_happening before.now one.moment one.happening) (effects_of_acts so_far.done_acts) last =
@@ -66,7 +66,7 @@ module _ (due : (s : EngineModel) → (a b : Option Act) → IsDueFirst s a → 
       (subst (λ (is : List Item). ItemsArePlayed begin is (so_far.first ++ effects_of_acts so_far.done_acts) last) all both)
 
   -- one more thing, behind a play of all that was noted before
-  one_more_played : (table : Table) (held : List Stored) (serial : ℕ) (all_noted : List NotedHappening) (effects : List Effect) (begun : Scene) (now : ℕ) (h : Happening) (acts : List DoneAct) (t : EngineModel) → ItemsArePlayed (scene_over table held serial) (items_of_noted 0 all_noted) effects begun
+  one_more_played : (table : Table) (held : List Stored) (serial : ℕ) (all_noted : List NotedHappening) (effects : List Effect) (begun : PlayState) (now : ℕ) (h : Happening) (acts : List DoneAct) (t : EngineModel) → ItemsArePlayed (play_state_over table held serial) (items_of_noted 0 all_noted) effects begun
       → happening_fault begun.model h ≡ None → ActsAreDoneInOrder (model_after_happening begun.model h) now acts t → IsPlayedSoFar table held serial (all_noted ++ noted_at_moment now (h ∷ [])) (effects ++ effects_of_acts acts) t now
   one_more_played table held serial all_noted effects begun now h acts t plays free works = inr (record {
     front = all_noted;
@@ -141,7 +141,7 @@ module _ (due : (s : EngineModel) → (a b : Option Act) → IsDueFirst s a → 
   plays_on table held serial all_noted effects s t then now taken later hs acts (inl yet) none same (inl no_more) =
       still_played table held serial all_noted effects s t then now hs acts (inl yet) (subst (λ (m : EngineModel). IsDueFirst m None) (sym yet.2) (nothing_due table held serial)) no_more.none no_more.works
   plays_on table held serial all_noted effects s t then now taken later hs acts (inl yet) none same (inr one) =
-      let begin = scene_over table held serial in
+      let begin = play_state_over table held serial in
       let plays : ItemsArePlayed begin (items_of_noted 0 all_noted) effects begin =
       subst (λ (es : List Effect). ItemsArePlayed begin (items_of_noted 0 all_noted) es begin) (sym yet.1)
       (subst (λ (ns : List NotedHappening). ItemsArePlayed begin (items_of_noted 0 ns) [] begin) (sym yet.0) (refl, refl)) in

@@ -10,7 +10,7 @@ use Rattle.hx_allow.specs.declared.config_faults.ConfigFault.{ConfigFault}
 use Rattle.hx_store.specs.Stored.{Stored}
 use Rattle.proxy_script.specs.Effects.{effects_text}
 use Rattle.proxy_script.specs.Happenings.{PlainHappening as Happening}
-use Rattle.proxy_script.specs.Script.{PlainItem as Item, Moment, Happens, line_of_item, block_of_item, item_spelling, ItemHasSpelling, ItemMayStandHere, IsScript, Found, item_in_front}
+use Rattle.proxy_script.specs.Script.{PlainItem as Item, Moment, Happens, line_of_item, block_of_item, item_spelling, ItemHasSpelling, ItemMayStandHere, IsScript, Found, leading_item}
 use Rattle.proxy_script.specs.Script as item
 use Rattle.proxy_script.specs.ScriptLines.{line_text}
 use Rattle.proxy_script.specs.declared.limits.TheConstants.{MOST_SCRIPT_BYTES}
@@ -20,10 +20,10 @@ use Rattle.proxy_engine.specs.Due.{Act, IsDueFirst}
 use Rattle.proxy_engine.specs.Executions.{ExecutionStep, StepsLead, effects_of_steps}
 use Rattle.proxy_engine.specs.Beginnings.{MayBeHeldAtFirst, begun_model}
 use Rattle.proxy_engine.specs.State.{EngineRepresents}
-use Rattle.proxy_replay.specs.Played.{Scene, scene_over, ItemsArePlayed}
+use Rattle.proxy_replay.specs.Played.{PlayState, play_state_over, ItemsArePlayed}
 use Rattle.proxy_replay.specs.Replay.{IsReplayedOver}
 use Rattle.proxy_turn.specs.OverSteps.{TurnOverStepsEmitTheirEffects}
-use Rattle.proxy_turn.specs.Served.{initial_model_of, EngineExecuted, TurnIsServedBehindLosses, TurnExecutesItsSteps, ExecutedEngineIsServing}
+use Rattle.proxy_turn.specs.Served.{initial_model_of, EngineExecuted, TurnIsServedAfterLosses, TurnExecutesItsSteps, ExecutedEngineIsServing}
 use Rattle.proxy_turn.specs.declared.report.Report.{Report}
 use Rattle.proxy_turn.specs.declared.report.TurnFault.{TurnFault}
 use Rattle.proxy_turn.specs.declared.report.TurnFault.TheVariants as faults
@@ -75,7 +75,7 @@ begins_with_no_step bytes table kept serial l begins =
     }
 
 -- a turn of a server, as one of an engine
-abbrev pub turn_of_engine : (s : EngineModel) (a b : ServerState) (reported : Result Report TurnFault) → ServerTurn s a b reported → TurnIsServedBehindLosses a.moment server_bounds s b.engine reported
+abbrev pub turn_of_engine : (s : EngineModel) (a b : ServerState) (reported : Result Report TurnFault) → ServerTurn s a b reported → TurnIsServedAfterLosses a.moment server_bounds s b.engine reported
 turn_of_engine s a b reported turn = record {
   lost = turn.handed_in.losses.lost;
   are_losses = turn.handed_in.losses.are_losses;
@@ -214,12 +214,12 @@ life_fine recorded [] l m same fine = ap (λ (k : ServerLife). k.server.failed) 
 life_fine recorded (reported ∷ past) l m leads fine = life_fine recorded past l leads.0 leads.1 (first_fine recorded leads.0 reported m leads.2 fine)
 
 module _ (recorded : TurnsAreRecorded) (due : (s : EngineModel) → (a b : Option Act) → IsDueFirst s a → IsDueFirst s b → a ≡ b) (in_order : RoundsAreActsInOrder) (emit : TurnOverStepsEmitTheirEffects) (goes_on : ThePlayGoesOn) where
-  module _ (one_table : (bytes : List ℕ) (r s : Result Table ConfigFault) → BytesReadAs bytes r → BytesReadAs bytes s → r ≡ s) (again : (first : Bool) (h : Item) (rest : List ℕ) → ItemHasSpelling h → ItemMayStandHere first h → item_in_front first (item_spelling h ++ rest) ≡ Found h rest)
+  module _ (one_table : (bytes : List ℕ) (r s : Result Table ConfigFault) → BytesReadAs bytes r → BytesReadAs bytes s → r ≡ s) (again : (first : Bool) (h : Item) (rest : List ℕ) → ItemHasSpelling h → ItemMayStandHere first h → leading_item first (item_spelling h ++ rest) ≡ Found h rest)
       (scripts : RecordsAreScripts) (spelled : ScriptsAreSpelled) where
     record PlaysNoted (table : Table) (kept : List Stored) (serial : ℕ) (ns : List NotedHappening) (text : List ℕ) : Type 0 where
       effects : List Effect
-      end : Scene
-      plays : ItemsArePlayed (scene_over table kept serial) (items_of_noted 0 ns) effects end
+      end : PlayState
+      plays : ItemsArePlayed (play_state_over table kept serial) (items_of_noted 0 ns) effects end
       text_is : text ≡ effects_text effects
 
     replay_plays : (table : Table) (kept : List Stored) (serial : ℕ) (bytes : List ℕ) (ns : List NotedHappening) (script text : List ℕ) → BytesReadAs bytes (Ok table) → script ≡ script_of_noted bytes ns → ItemHasSpelling (item.Table bytes) → AllByRecursion HasSpelling ns → IsReplayedOver kept serial script text → PlaysNoted table kept serial ns text
@@ -231,8 +231,8 @@ module _ (recorded : TurnsAreRecorded) (due : (s : EngineModel) → (a b : Optio
         record {
           effects = replayed.effects;
           end = replayed.last;
-          plays = subst (λ (t : Table). ItemsArePlayed (scene_over t kept serial) (items_of_noted 0 ns) replayed.effects replayed.last) (sym config)
-              (subst (λ (is : List Item). ItemsArePlayed (scene_over replayed.config kept serial) is replayed.effects replayed.last) (sym same.items_are) replayed.plays);
+          plays = subst (λ (t : Table). ItemsArePlayed (play_state_over t kept serial) (items_of_noted 0 ns) replayed.effects replayed.last) (sym config)
+              (subst (λ (is : List Item). ItemsArePlayed (play_state_over replayed.config kept serial) is replayed.effects replayed.last) (sym same.items_are) replayed.plays);
           text_is = replayed.emitted;
         }
 
@@ -304,9 +304,9 @@ module _ (recorded : TurnsAreRecorded) (due : (s : EngineModel) → (a b : Optio
         let script_is : script ≡ script_of_noted bytes of.front = held_is k.held script (script_of_noted bytes of.front) held of.held in
         let all_front : AllByRecursion HasSpelling of.front = all_in_front HasSpelling of.front of.rest (subst (AllByRecursion HasSpelling) (since.happened ∙ of.split) all) in
         let plays = replay_plays table kept serial bytes of.front script text begins.server.reads script_is (table_has_spelling bytes begins.begun begins.begins begins.unended) all_front replayed in
-        let items : ItemsArePlayed (scene_over table kept serial) (items_of_noted 0 l.happened ++ items_of_noted (moment_behind 0 l.happened) front.0) plays.effects plays.end =
-        subst (λ (is : List Item). ItemsArePlayed (scene_over table kept serial) is plays.effects plays.end) (ap (items_of_noted 0) front.1 ∙ items_joined 0 l.happened front.0) plays.plays in
-        let parts = played_in_two (items_of_noted 0 l.happened) (items_of_noted (moment_behind 0 l.happened) front.0) (scene_over table kept serial) plays.end plays.effects items in
+        let items : ItemsArePlayed (play_state_over table kept serial) (items_of_noted 0 l.happened ++ items_of_noted (moment_behind 0 l.happened) front.0) plays.effects plays.end =
+        subst (λ (is : List Item). ItemsArePlayed (play_state_over table kept serial) is plays.effects plays.end) (ap (items_of_noted 0) front.1 ∙ items_joined 0 l.happened front.0) plays.plays in
+        let parts = played_in_two (items_of_noted 0 l.happened) (items_of_noted (moment_behind 0 l.happened) front.0) (play_state_over table kept serial) plays.end plays.effects items in
         let stands = life_stands recorded due in_order emit turns table kept serial begin l begins.begun (begin_stands bytes table kept serial begin begins) leads begins.recorder first_fine_is writes in
         let on = goes_on table kept serial l.happened (effects_of_steps l.steps) parts.1 l.model l.server.moment parts.0 stands.played parts.3 in (
           on.0 ++ parts.2,

@@ -10,7 +10,7 @@ use Rattle.proxy_turn.specs.Turn.{calls_of_reads, calls_of_rounds}
 use Rattle.proxy_turn.specs.TurnSteps.{effects_of_rounds}
 use Rattle.proxy_turn.specs.Over.{ends_to_read, calls_of_accepts}
 use Rattle.proxy_turn.specs.OverSteps.{TurnOverStepsEmitTheirEffects}
-use Rattle.proxy_turn.specs.Served.{EngineExecuted, LossesAreTaken, TurnIsServedBehindLosses, steps_of_taking, TurnExecutesItsSteps}
+use Rattle.proxy_turn.specs.Served.{EngineExecuted, LossesAreTaken, TurnIsServedAfterLosses, steps_of_taking, TurnExecutesItsSteps}
 use Rattle.proxy_turn.specs.declared.report.TurnFault.TheVariants as faults
 use Rattle.proxy_turn_laws.specs.ActsOfATurn.{NothingIsLostAmid, ATurnWritesItsEffects}
 use Rattle.proxy_record.specs.Recorded.{is_recording}
@@ -27,7 +27,7 @@ no_rise : (n : ℕ) → CountRisesBy n n 0
 no_rise n = record { no_less = omega arith; exact = λ few. omega arith }
 
 -- a turn that came no further than what was lost in front of it
-abbrev lost_alone : (now : ℕ) (s : EngineModel) (e : State) → Calls → (losses : LossesAreTaken s e) → TurnIsServedBehindLosses now server_bounds s e (Err faults.NoMemory)
+abbrev lost_alone : (now : ℕ) (s : EngineModel) (e : State) → Calls → (losses : LossesAreTaken s e) → TurnIsServedAfterLosses now server_bounds s e (Err faults.NoMemory)
 lost_alone now s e counts losses = record {
   lost = losses.lost;
   are_losses = losses.are_losses;

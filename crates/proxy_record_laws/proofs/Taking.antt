@@ -20,7 +20,7 @@ use Rattle.proxy_turn.specs.TurnSteps.{step_of_happening_if_any, steps_of_reads,
 use Rattle.proxy_turn.specs.Over.{happening_of_answer, AcceptsAreTaken, calls_of_accepts}
 use Rattle.proxy_turn.specs.OverSteps.{steps_of_accepts, steps_of_turn_over}
 use Rattle.proxy_turn_laws.specs.ActsOfATurn.{EffectIsntLost, NothingIsLostAmid, done_acts_of, RoundsAreActsInOrder}
-use Rattle.proxy_record.specs.Recorded.{call_gave_something, AtMostOneThingIsTaken, NoCallFailed}
+use Rattle.proxy_record.specs.Recorded.{call_gave_something, AtMostOneThingIsTaken, NoEffectCallFailed}
 use Rattle.proxy_record.specs.RecordedTurns.{happening_as_list, happenings_of_steps}
 use Rattle.proxy_record_laws.specs.OneThing.{AtMostOneThingHappens, ATurnTakesOneThing, ATurnTakesNoSecondThing}
 
@@ -71,7 +71,7 @@ taken_in_two (c ∷ a) b taken later h =
     let rest = taken_in_two a b (cond (call_gave_something c) true taken) later h.1 in
     (rest.0, (h.0, rest.1), rest.2)
 
-pub none_failed_in_two : (a b : List Call) → NoCallFailed (a ++ b) → NoCallFailed a × NoCallFailed b
+pub none_failed_in_two : (a b : List Call) → NoEffectCallFailed (a ++ b) → NoEffectCallFailed a × NoEffectCallFailed b
 none_failed_in_two [] b h = (tt, h)
 none_failed_in_two (c ∷ a) b h = let rest = none_failed_in_two a b h.1 in ((h.0, rest.0), rest.1)
 
@@ -122,14 +122,14 @@ reads_take (r ∷ rs) taken later s t takes some =
 
 -- ---- acts
 
-fine_forward : (l : ℕ) (address : SocketAddrV4) (bytes : List ℕ) (kind : FailKind) → NoCallFailed (calls_of_failed_forward l address bytes kind) → ⊥
+fine_forward : (l : ℕ) (address : SocketAddrV4) (bytes : List ℕ) (kind : FailKind) → NoEffectCallFailed (calls_of_failed_forward l address bytes kind) → ⊥
 fine_forward l address bytes kinds.Refused h = true≢false h.0
 fine_forward l address bytes kinds.TimedOut h = true≢false h.1.0
 fine_forward l address bytes kinds.Closed h = true≢false h.1.0
 fine_forward l address bytes kinds.BadAnswer h = true≢false h.1.0
 fine_forward l address bytes kinds.TooLarge h = true≢false h.1.0
 
-fine_effect : (e : Effect) (f : EffectFate) → NoCallFailed (calls_of_effect e f) → EffectIsntLost f
+fine_effect : (e : Effect) (f : EffectFate) → NoEffectCallFailed (calls_of_effect e f) → EffectIsntLost f
 fine_effect e Carried h = tt
 fine_effect e Passed h = tt
 fine_effect (effects.Client n bytes replied) (Lost kind) h = true≢false h.0
@@ -137,7 +137,7 @@ fine_effect (effects.Close n) (Lost kind) h = true≢false h.0
 fine_effect (effects.Forward l address bytes) (Lost kind) h = fine_forward l address bytes kind h
 fine_effect (effects.Drop l) (Lost kind) h = true≢false h.0
 
-fine_effects : (es : List Effect) (fs : List EffectFate) (s : EngineModel) (gone : List End) (t : EngineModel) (more : List End) → EffectsAreCarriedOut s gone es fs t more → NoCallFailed (calls_of_effects es fs) → AllByRecursion EffectIsntLost fs
+fine_effects : (es : List Effect) (fs : List EffectFate) (s : EngineModel) (gone : List End) (t : EngineModel) (more : List End) → EffectsAreCarriedOut s gone es fs t more → NoEffectCallFailed (calls_of_effects es fs) → AllByRecursion EffectIsntLost fs
 fine_effects [] [] s gone t more out h = tt
 fine_effects [] (f ∷ fs) s gone t more out h = absurd out
 fine_effects (e ∷ es) [] s gone t more out h = absurd out
@@ -145,7 +145,7 @@ fine_effects (e ∷ es) (f ∷ fs) s gone t more out h =
     let both = none_failed_in_two (calls_of_effect e f) (calls_of_effects es fs) h in
     (fine_effect e f both.0, fine_effects es fs out.0 out.1 t more out.3 both.1)
 
-pub fine_rounds : (rs : List ActRound) (now : ℕ) (s : EngineModel) (gone : List End) (t : EngineModel) (more : List End) → ActsAreCarriedOut now s gone rs t more → NoCallFailed (calls_of_rounds rs) → NothingIsLostAmid rs
+pub fine_rounds : (rs : List ActRound) (now : ℕ) (s : EngineModel) (gone : List End) (t : EngineModel) (more : List End) → ActsAreCarriedOut now s gone rs t more → NoEffectCallFailed (calls_of_rounds rs) → NothingIsLostAmid rs
 fine_rounds [] now s gone t more works h = tt
 fine_rounds (r ∷ rs) now s gone t more works h =
     let both = none_failed_in_two (calls_of_effects r.emitted r.fates) (calls_of_rounds rs) h in

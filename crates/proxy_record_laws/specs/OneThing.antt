@@ -13,7 +13,7 @@ use Rattle.proxy_turn.specs.Over.{TurnOverAsFarAsItCame, calls_of_turn_over}
 use Rattle.proxy_turn.specs.OverSteps.{steps_of_turn_over}
 use Rattle.proxy_turn.specs.declared.bounds.TurnBounds.{TurnBounds}
 use Rattle.proxy_turn_laws.specs.ActsOfATurn.{done_acts_of}
-use Rattle.proxy_record.specs.Recorded.{AtMostOneThingIsTaken, NoCallFailed}
+use Rattle.proxy_record.specs.Recorded.{AtMostOneThingIsTaken, NoEffectCallFailed}
 use Rattle.proxy_record.specs.RecordedTurns.{happenings_of_steps}
 
 -- nothing happened, and acts were done in order
@@ -45,7 +45,7 @@ ATurnTakesOneThing =
     (now : ℕ) (bounds : TurnBounds) (s : EngineModel) (given : List End) (accepts : List AcceptOutcome)
     (reads : List EndRead) (rest : List End) (rounds : List ActRound) (t : EngineModel) (taken later : Bool)
     → TurnOverAsFarAsItCame now bounds s given accepts reads rest rounds t
-    → NoCallFailed (calls_of_turn_over s accepts reads rounds)
+    → NoEffectCallFailed (calls_of_turn_over s accepts reads rounds)
     → AtMostOneThingIsTaken taken (calls_of_turn_over s accepts reads rounds) later
     → AtMostOneThingHappens taken s now (happenings_of_steps (steps_of_turn_over now s accepts reads rounds []))
     (done_acts_of rounds) t later
@@ -57,7 +57,7 @@ ATurnTakesNoSecondThing =
     (reads : List EndRead) (rest : List End) (rounds : List ActRound) (t : EngineModel) (taken later : Bool)
     (one other : Happening) (more : List Happening)
     → TurnOverAsFarAsItCame now bounds s given accepts reads rest rounds t
-    → NoCallFailed (calls_of_turn_over s accepts reads rounds)
+    → NoEffectCallFailed (calls_of_turn_over s accepts reads rounds)
     → AtMostOneThingIsTaken taken (calls_of_turn_over s accepts reads rounds) later
     → (happenings_of_steps (steps_of_turn_over now s accepts reads rounds []) ≢ one ∷ other ∷ more)
     × (taken ≡ true → happenings_of_steps (steps_of_turn_over now s accepts reads rounds []) ≢ one ∷ more)

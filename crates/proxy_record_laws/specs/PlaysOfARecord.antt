@@ -13,21 +13,21 @@ use Rattle.proxy_engine.specs.EngineModel.{EngineModel, model_after_happening, h
 use Rattle.proxy_engine.specs.Due.{IsDueFirst}
 use Rattle.proxy_engine.specs.Executions.{ExecutionStep, Took, effects_of_steps}
 use Rattle.proxy_engine.specs.declared.work.End.{End}
-use Rattle.proxy_replay.specs.Played.{DoneAct, ActsAreDoneInOrder, effects_of_acts, Scene, scene_over}
+use Rattle.proxy_replay.specs.Played.{DoneAct, ActsAreDoneInOrder, effects_of_acts, PlayState, play_state_over}
 use Rattle.proxy_replay.specs.Played.{ItemsArePlayed}
 use Rattle.proxy_turn.specs.Calls.{AcceptOutcome}
 use Rattle.proxy_turn.specs.Turn.{EndRead, ActRound}
 use Rattle.proxy_turn.specs.Over.{TurnOverAsFarAsItCame, calls_of_turn_over}
 use Rattle.proxy_turn.specs.OverSteps.{steps_of_turn_over}
 use Rattle.proxy_turn.specs.declared.bounds.TurnBounds.{TurnBounds}
-use Rattle.proxy_record.specs.Recorded.{AtMostOneThingIsTaken, NoCallFailed}
+use Rattle.proxy_record.specs.Recorded.{AtMostOneThingIsTaken, NoEffectCallFailed}
 use Rattle.proxy_record.specs.RecordedTurns.{happenings_of_steps, noted_at_moment}
 use Rattle.proxy_record.specs.Records.{NotedHappening, items_of_noted}
 
 -- nothing was noted, and nothing done, over a store that holds these responses, from this serial on
 abbrev pub NothingIsPlayedYet : Table → List Stored → ℕ → List NotedHappening → List Effect → EngineModel → Type 0
 NothingIsPlayedYet table held serial all_noted effects last =
-    (all_noted ≡ []) × (effects ≡ []) × (last ≡ (scene_over table held serial).model)
+    (all_noted ≡ []) × (effects ≡ []) × (last ≡ (play_state_over table held serial).model)
 
 -- Of what was noted all but the last was played, each with all that was then due. The last one was taken, and acts were
 -- done behind it, at its moment. This led to the model, with these effects; and where something is still due, `now` is
@@ -37,9 +37,9 @@ pub record LastIsBeingPlayed (table : Table) (held : List Stored) (serial : ℕ)
   pub front : List NotedHappening
   pub one : NotedHappening
   pub noted_are : all_noted ≡ front ++ one ∷ []
-  pub before : Scene
+  pub before : PlayState
   pub first : List Effect
-  pub plays : ItemsArePlayed (scene_over table held serial) (items_of_noted 0 front) first before
+  pub plays : ItemsArePlayed (play_state_over table held serial) (items_of_noted 0 front) first before
   pub free : happening_fault before.model one.happening ≡ None
   pub done_acts : List DoneAct
   pub works : ActsAreDoneInOrder (model_after_happening before.model one.happening) one.moment done_acts last
@@ -62,7 +62,7 @@ ATurnPlaysOn =
     → IsPlayedSoFar table held serial all_noted (effects_of_steps steps) s before
     → (taken ≡ false → IsDueFirst s None) → (taken ≡ true → now ≡ before)
     → TurnOverAsFarAsItCame now bounds s given accepts reads rest rounds t
-    → NoCallFailed (calls_of_turn_over s accepts reads rounds)
+    → NoEffectCallFailed (calls_of_turn_over s accepts reads rounds)
     → AtMostOneThingIsTaken taken (calls_of_turn_over s accepts reads rounds) later
     → IsPlayedSoFar table held serial
     (all_noted ++ noted_at_moment now (happenings_of_steps (steps_of_turn_over now s accepts reads rounds [])))
@@ -84,7 +84,7 @@ abbrev pub ThePlayGoesOn : Type 0
 ThePlayGoesOn =
     (table : Table) (held : List Stored) (serial : ℕ) (all_noted : List NotedHappening)
     (effects all_effects : List Effect) (last : EngineModel)
-    (now : ℕ) (end : Scene)
+    (now : ℕ) (end : PlayState)
     → IsPlayedSoFar table held serial all_noted effects last now
-    → ItemsArePlayed (scene_over table held serial) (items_of_noted 0 all_noted) all_effects end
+    → ItemsArePlayed (play_state_over table held serial) (items_of_noted 0 all_noted) all_effects end
     → (rest : List Effect) × (all_effects ≡ effects ++ rest) × (IsDueFirst last None → rest ≡ [])

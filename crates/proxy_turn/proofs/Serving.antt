@@ -27,7 +27,7 @@ use Rattle.proxy_turn.specs.OverSteps.{TurnOverStepsAreExecuted}
 use Rattle.proxy_turn.specs.declared.bounds.TurnBounds.{TurnBounds}
 use Rattle.proxy_turn.specs.declared.report.Report.{Report}
 use Rattle.proxy_turn.specs.declared.report.TurnFault.{TurnFault}
-use Rattle.proxy_turn.specs.Served.{initial_model_of, EngineExecuted, steps_of_taking, IsLostEnd, TurnIsServedBehindLosses, steps_of_served_turn, NoLossIsALossList, OneLossIsTaken, LossesAreTakenTransitively, LossesAreTakenOneAfterAnother, LossesKeepOrder, EngineGoesOnByLosses, TurnIsServedByLossesAndTurn, NewEngineIsReachable, EngineGoesOnByNothing, EngineGoesOnTransitively, EngineGoesOnByHappening, EngineGoesOnByTurn, ReachableEngineStaysReachable, ReachableEngineIsServing, TurnExecutesItsSteps, ExecutedEngineIsServing, EngineKeepsItsTable}
+use Rattle.proxy_turn.specs.Served.{initial_model_of, EngineExecuted, steps_of_taking, IsLostEnd, TurnIsServedAfterLosses, steps_of_served_turn, NoLossIsALossList, OneLossIsTaken, LossesAreTakenTransitively, LossesAreTakenOneAfterAnother, LossesKeepOrder, EngineGoesOnByLosses, TurnIsServedByLossesAndTurn, NewEngineIsReachable, EngineGoesOnByNothing, EngineGoesOnTransitively, EngineGoesOnByHappening, EngineGoesOnByTurn, ReachableEngineStaysReachable, ReachableEngineIsServing, TurnExecutesItsSteps, ExecutedEngineIsServing, EngineKeepsItsTable}
 use Rattle.proxy_turn.proofs.Stepping.{executes_on}
 
 -- ---- the table and the room of the store stay
@@ -210,7 +210,7 @@ takes_go_on e new h taken s represents orderly =
 
 module _ (executed : TurnOverStepsAreExecuted) where
   -- behind what was lived before it
-  served_executes : (begin : EngineModel) (past : List ExecutionStep) (e new : State) (s : EngineModel) (now : ℕ) (bounds : TurnBounds) (emitted : Result Report TurnFault) → StepsLead begin past s → (served : TurnIsServedBehindLosses now bounds s new emitted) → StepsLead begin (steps_of_served_turn served past) served.turn.last
+  served_executes : (begin : EngineModel) (past : List ExecutionStep) (e new : State) (s : EngineModel) (now : ℕ) (bounds : TurnBounds) (emitted : Result Report TurnFault) → StepsLead begin past s → (served : TurnIsServedAfterLosses now bounds s new emitted) → StepsLead begin (steps_of_served_turn served past) served.turn.last
   served_executes begin past e new s now bounds emitted before served =
       let turn = served.turn in
       executed begin (steps_of_taking served.lost past) now bounds served.mid served.given turn.accepts turn.reads turn.rest turn.rounds turn.last (takes_live served.lost begin past s served.mid before served.takes) turn.turn

@@ -4,7 +4,7 @@
 -- EngineIsReachable: the same by some steps      EngineIsServing: they are a good run, with the headline
 -- ModelReaches, EngineGoesOn: what it lived through since
 -- steps_of_taking, IsLostEnd, LossesAreTaken, EngineTakesLosses: ends that were lost, or are to end
--- TurnIsServedBehindLosses, steps_of_served_turn: a turn behind them, and its steps
+-- TurnIsServedAfterLosses, steps_of_served_turn: a turn behind them, and its steps
 -- NewEngineIsReachable and what follows it: the laws
 use Rattle.std.specs.Prelude.{◌≡◌, ℕ, List, [], ◌∷◌, ◌++◌, Result}
 use Rattle.std.specs.List.{AllByRecursion}
@@ -112,7 +112,7 @@ EngineTakesLosses e new = (s : EngineModel) → EngineRepresents e s → LossesA
 
 -- Ends that were lost were taken as such, and then one turn was served at this moment, within these bounds and over
 -- some ends, which told this. Nothing else was taken or done.
-pub record TurnIsServedBehindLosses (now : ℕ) (bounds : TurnBounds) (s : EngineModel) (e : State)
+pub record TurnIsServedAfterLosses (now : ℕ) (bounds : TurnBounds) (s : EngineModel) (e : State)
     (reported : Result Report TurnFault) : Type 0 where
   pub lost : List PlainHappening
   pub are_losses : AllByRecursion IsLostEnd lost
@@ -127,7 +127,7 @@ pub record TurnIsServedBehindLosses (now : ℕ) (bounds : TurnBounds) (s : Engin
 -- its steps, behind those before it
 abbrev pub steps_of_served_turn : {now : ℕ} {bounds : TurnBounds} {s : EngineModel} {e : State}
     {reported : Result Report TurnFault}
-    → TurnIsServedBehindLosses now bounds s e reported → List ExecutionStep → List ExecutionStep
+    → TurnIsServedAfterLosses now bounds s e reported → List ExecutionStep → List ExecutionStep
 steps_of_served_turn {now} served past =
     steps_of_turn_over now served.mid served.turn.accepts served.turn.reads served.turn.rounds
     (steps_of_taking served.lost past)
@@ -135,7 +135,7 @@ steps_of_served_turn {now} served past =
 -- each orderly model that the engine stood for leads by such a turn to one that it stands for now
 abbrev pub EngineServesTurn : ℕ → TurnBounds → State → State → Result Report TurnFault → Type 0
 EngineServesTurn now bounds e new reported = (s : EngineModel) → EngineRepresents e s → ModelIsOrderly s
-    → TurnIsServedBehindLosses now bounds s new reported
+    → TurnIsServedAfterLosses now bounds s new reported
 
 -- ---- the laws
 
@@ -212,7 +212,7 @@ abbrev pub TurnExecutesItsSteps : Type 0
 TurnExecutesItsSteps =
     (e new : State) (held : List Stored) (first link : ℕ) (steps : List ExecutionStep) (s : EngineModel) (now : ℕ)
     (bounds : TurnBounds) (reported : Result Report TurnFault)
-    → EngineExecuted e held first link steps s → (served : TurnIsServedBehindLosses now bounds s new reported)
+    → EngineExecuted e held first link steps s → (served : TurnIsServedAfterLosses now bounds s new reported)
     → EngineExecuted new held first link (steps_of_served_turn served steps) served.turn.last
 
 -- What an engine has lived through is in order, and the steps of its core are a good run: whichever its steps are.

@@ -109,8 +109,8 @@ fn call<K: Sockets>(sockets: &mut K, effect: &Effect) -> Result<(), FailKind>
 }
 
 /// Carries out an effect, unless a call on its end has failed; answers how many calls failed. Where there is room for
-/// one more end in `failed`, it takes no memory.
-fn carry_out_one<S: Shelf, K: Sockets>(
+/// one more end in `failed`, nothing is allocated.
+fn carry_out_effect<S: Shelf, K: Sockets>(
     engine: &mut Engine<S>,
     sockets: &mut K,
     alloc: Global,
@@ -144,7 +144,7 @@ fn carry_out_one<S: Shelf, K: Sockets>(
 }
 
 /// Carries out the effects of an act, in order; answers how many calls failed. Where there is room in `failed` for
-/// their ends, it takes no memory.
+/// their ends, nothing is allocated.
 pub(crate) fn carry_out<S: Shelf, K: Sockets>(
     engine: &mut Engine<S>,
     sockets: &mut K,
@@ -165,7 +165,7 @@ pub(crate) fn carry_out<S: Shelf, K: Sockets>(
     what_ends_stays_ended();
     let mut faults = 0u64;
     for effect in effects {
-        let more = carry_out_one(engine, sockets, alloc, effect, failed)?;
+        let more = carry_out_effect(engine, sockets, alloc, effect, failed)?;
         faults = faults.saturating_add(more);
     }
     Ok(faults)

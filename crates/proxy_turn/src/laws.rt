@@ -16,7 +16,7 @@ pub use crate::turn_cases::{
 };
 use proxy_engine::laws::{effects_name_open_ends, executions_are_runs};
 
-/// A turn is lived by its own steps, behind whatever was lived before it: it takes the connections that came and what
+/// A turn is lived by its own steps, after whatever was lived before it: it takes the connections that came and what
 /// its reads gave, does its acts at its moment, and takes the ends on which a call failed. The effects of these steps
 /// are those that it carried out. So what `proxy_engine::executions_are_runs` says of whatever an engine lives through,
 /// it says of turns over sockets.
@@ -27,8 +27,8 @@ pub fn turns_are_executed()
     ensures over_reports { TurnOverStepsEmitTheirEffects }
 {}
 
-/// Ends that are lost between two turns are taken, one after another; behind them a turn is served.
-pub fn a_turn_is_served_behind_losses()
+/// Ends that are lost between two turns are taken, one after another; after them a turn is served.
+pub fn a_turn_is_served_after_losses()
     ensures none { NoLossIsALossList }
     ensures one { OneLossIsTaken }
     ensures more { LossesAreTakenTransitively }
@@ -43,7 +43,7 @@ pub fn a_turn_is_served_behind_losses()
 /// Whatever happens to an engine, and whatever its sockets do in its turns: what it has lived through goes on, and the
 /// steps of its core are a good run, by its table and with the headline, of the requests that its clients' bytes spell.
 ///
-/// Its steps behind a turn of a server are those of the turn, behind those before it. Its table and the room of its
+/// Its steps after a turn of a server are those of the turn, after those before it. Its table and the room of its
 /// store stay.
 pub fn engines_go_on()
     ensures begins { NewEngineIsReachable }

@@ -101,7 +101,7 @@ fn keep_readable<S: Shelf>(engine: &Engine<S>, ends: &mut Vec<End>)
 
 /// Reads once from an end, and takes what it gave; answers how many calls failed. Its memory is found before the read,
 /// so nothing that was read is lost.
-fn read_one<S: Shelf, K: Sockets>(
+fn read_from_end<S: Shelf, K: Sockets>(
     engine: &mut Engine<S>,
     sockets: &mut K,
     alloc: Global,
@@ -145,7 +145,7 @@ fn read_all<S: Shelf, K: Sockets>(
     what_ends_stays_ended();
     let mut faults = 0u64;
     for end in ends {
-        match read_one(engine, sockets, alloc, *end, buf) {
+        match read_from_end(engine, sockets, alloc, *end, buf) {
             Ok(more) => faults = faults.saturating_add(more),
             Err(fault) => return Err(fault),
         }

@@ -21,7 +21,7 @@ use Rattle.proxy_turn.specs.Turn.{EffectFate, Carried, Passed, Lost, EffectsAreC
 use Rattle.proxy_turn.specs.TurnSteps.{effects_of_rounds}
 use Rattle.proxy_turn.specs.Over.{TurnOverAsFarAsItCame}
 use Rattle.proxy_turn.specs.OverSteps.{steps_of_turn_over, TurnOverStepsAreExecuted}
-use Rattle.proxy_turn_laws.specs.ActsOfATurn.{EffectIsntLost, NothingIsLostAmid, done_acts_of, writes_of_effect, writes_of_effects, without_link_shuts, RoundsAreActsInOrder, ATurnDoesActsInOrder, ATurnWritesItsEffects}
+use Rattle.proxy_turn_laws.specs.ActsOfATurn.{EffectIsntLost, NothingIsLostAmid, done_acts_of, successful_calls_of_effect, writes_of_effects, without_link_shuts, RoundsAreActsInOrder, ATurnDoesActsInOrder, ATurnWritesItsEffects}
 use Rattle.proxy_turn_laws.proofs.Writing.{without_rounds}
 
 carried : (es : List Effect) (fs : List EffectFate) (s : EngineModel) (gone : List End) (t : EngineModel) (more : List End) → AllByRecursion EffectIsntLost fs → EffectsAreCarriedOut s gone es fs t more → (t ≡ s) × (more ≡ gone)
@@ -93,7 +93,7 @@ failed_below first n b (k ∷ ks) le =
 
 writes_joined : (es fs : List Effect) → writes_of_effects (es ++ fs) ≡ writes_of_effects es ++ writes_of_effects fs
 writes_joined [] fs = refl
-writes_joined (e ∷ es) fs = ap (λ (cs : List Call). writes_of_effect e ++ cs) (writes_joined es fs) ∙ sym (append_assoc (writes_of_effect e) (writes_of_effects es) (writes_of_effects fs))
+writes_joined (e ∷ es) fs = ap (λ (cs : List Call). successful_calls_of_effect e ++ cs) (writes_joined es fs) ∙ sym (append_assoc (successful_calls_of_effect e) (writes_of_effects es) (writes_of_effects fs))
 
 without_joined : (xs ys : List Call) → without_link_shuts (xs ++ ys) ≡ without_link_shuts xs ++ without_link_shuts ys
 without_joined [] ys = refl

@@ -66,7 +66,7 @@ use Rattle.proxy_engine.specs.Executions.{ExecutionStep, Took, Worked, StepLeads
 use Rattle.proxy_engine.specs.declared.endpoints.activities.Activity.{Activity}
 use Rattle.proxy_engine.specs.declared.endpoints.activities.Activity.TheVariants.{Free, Forwarded, Waiting}
 use Rattle.proxy_engine.proofs.Shown.{lost_by}
-use Rattle.proxy_turn_laws.specs.Dialogue.{Said, RequestCame, ReplyWent, ClientLeft, replies_to, final_replies_to, said_by_act, said_by_steps, Standing, Answered, Awaited, Left, StandsAt, RequestCameAs, LastRequestIsOpen, requests_in, replies_in, RepliesFollowRequests, EachRequestHasOneReply, NoRequestIsAnsweredTwice, NoReplyComesUnasked, NoRequestIsPassedOver, NothingIsSaidBehindALeave, NoActAnswersTwice}
+use Rattle.proxy_turn_laws.specs.Dialogue.{Said, RequestCame, ReplyWent, ClientLeft, replies_to, final_replies_to, said_by_act, said_by_steps, Standing, Answered, Awaited, Left, StandsAt, RequestCameAs, LastRequestIsOpen, requests_in, replies_in, RepliesFollowRequests, EachRequestHasOneReply, NoRequestIsAnsweredTwice, NoReplyComesUnasked, NoRequestIsPassedOver, NothingIsSaidAfterALeave, NoActAnswersTwice}
 
 -- ---- the replies among effects
 
@@ -707,7 +707,7 @@ none_comes_unasked standing bytes h = let no : Awaited ≡ Answered = h.1 in abs
 pub none_is_passed_over : NoRequestIsPassedOver
 none_is_passed_over standing one other past h = let no : Answered ≡ Awaited = h.1.0 in absurd (cc)
 
-pub nothing_behind_a_leave : NothingIsSaidBehindALeave
+pub nothing_behind_a_leave : NothingIsSaidAfterALeave
 nothing_behind_a_leave standing what bytes past =
     (λ h. let no : Answered ≡ Left = h.1.0 in absurd (cc), λ h. let no : Awaited ≡ Left = h.1.0 in absurd (cc))
 

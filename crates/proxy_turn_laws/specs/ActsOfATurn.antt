@@ -2,7 +2,8 @@
 -- effect to a client and each forward is written whole, once, in order.
 --
 -- EffectIsntLost, NothingIsLostAmid: acts whose calls all went well     done_acts_of: acts with their effects
--- writes_of_effect, writes_of_effects: the calls of effects              without_link_shuts: all but a link's shutting
+-- successful_calls_of_effect, writes_of_effects: the calls of effects, but for the shut of a link
+-- without_link_shuts: all calls but the shuts of links
 -- RoundsAreActsInOrder, ATurnDoesActsInOrder, ATurnWritesItsEffects: the statements
 use Rattle.std.specs.Prelude.{◌≡◌, ℕ, true, List, [], ◌∷◌, ◌++◌, None}
 use Rattle.std.specs.List.{AllByRecursion}
@@ -43,16 +44,16 @@ done_acts_of (r ∷ rounds) = record { act = r.act; effects = r.emitted } ∷ do
 
 -- To a client its bytes with what reply they are, on a new link the request, whole and once; a client is closed. Of a
 -- link that is dropped nothing is written.
-abbrev pub writes_of_effect : Effect → List Call
-writes_of_effect (effects.Client n bytes replied) = call.Write (ends.Client n) bytes replied true ∷ []
-writes_of_effect (effects.Close n) = call.Shut (ends.Client n) true ∷ []
-writes_of_effect (effects.Forward l address bytes) =
+abbrev pub successful_calls_of_effect : Effect → List Call
+successful_calls_of_effect (effects.Client n bytes replied) = call.Write (ends.Client n) bytes replied true ∷ []
+successful_calls_of_effect (effects.Close n) = call.Shut (ends.Client n) true ∷ []
+successful_calls_of_effect (effects.Forward l address bytes) =
     call.Connect l address true ∷ call.Write (ends.Link l) bytes None true ∷ []
-writes_of_effect (effects.Drop l) = []
+successful_calls_of_effect (effects.Drop l) = []
 
 abbrev pub writes_of_effects : List Effect → List Call
 writes_of_effects [] = []
-writes_of_effects (e ∷ more) = writes_of_effect e ++ writes_of_effects more
+writes_of_effects (e ∷ more) = successful_calls_of_effect e ++ writes_of_effects more
 
 -- all calls but those that shut a link, which are left out where it has failed
 abbrev pub without_link_shuts : List Call → List Call

@@ -158,8 +158,8 @@ NoRequestIsPassedOver =
     (standing : Standing) (one other : Next Request) (past : List Said)
     → StandsAt standing (RequestCame one ∷ RequestCame other ∷ past) → ⊥
 
-abbrev pub NothingIsSaidBehindALeave : Type 0
-NothingIsSaidBehindALeave =
+abbrev pub NothingIsSaidAfterALeave : Type 0
+NothingIsSaidAfterALeave =
     (standing : Standing) (what : Next Request) (bytes : List ℕ) (past : List Said)
     → (StandsAt standing (RequestCame what ∷ ClientLeft ∷ past) → ⊥)
     × (StandsAt standing (ReplyWent bytes ∷ ClientLeft ∷ past) → ⊥)

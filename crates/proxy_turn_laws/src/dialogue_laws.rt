@@ -1,7 +1,7 @@
 //! Laws on what is said on a connection: which reply answers which request.
 ghost use Rattle.proxy_turn_laws.specs.Dialogue.{RepliesFollowRequests, EachRequestHasOneReply};
 ghost use Rattle.proxy_turn_laws.specs.Dialogue.{NoRequestIsAnsweredTwice, NoReplyComesUnasked};
-ghost use Rattle.proxy_turn_laws.specs.Dialogue.{NoRequestIsPassedOver, NothingIsSaidBehindALeave, NoActAnswersTwice};
+ghost use Rattle.proxy_turn_laws.specs.Dialogue.{NoRequestIsPassedOver, NothingIsSaidAfterALeave, NoActAnswersTwice};
 
 use proxy_engine::laws::{effects_name_open_ends, what_ends_stays_ended};
 
@@ -23,7 +23,7 @@ pub fn a_dialogue_refuses_what_is_no_answer()
     ensures twice { NoRequestIsAnsweredTwice }
     ensures unasked { NoReplyComesUnasked }
     ensures passed_over { NoRequestIsPassedOver }
-    ensures behind { NothingIsSaidBehindALeave }
+    ensures behind { NothingIsSaidAfterALeave }
     ensures life { NoActAnswersTwice }
 {
     replies_follow_requests();

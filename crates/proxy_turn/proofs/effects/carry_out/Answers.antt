@@ -23,10 +23,10 @@ loop-effect-preserved g c =
       done = λ s represents there.
           let done = c.loop-effect.invariant.done s represents there in
           let here = named_later c.what_ends_stays_ended.ensures.takes s _ c.args.effects.now c.loop-effect.effect-index c.effect-item.result c.loop-effect.engine _ _ _ _ c.loop-effect.faults c.effect-item.is n there done in
-          subst (EffectsWereCarriedOut s _ _ c.carry_out_one.new.engine _ _ _ _) (sym sum)
-          (carried_more s _ c.args.effects.now c.loop-effect.effect-index c.effect-item.result c.loop-effect.engine c.carry_out_one.new.engine _ _ _ _ _ _ _ _ c.loop-effect.faults c.in_ok-more.more c.effect-item.is n done
+          subst (EffectsWereCarriedOut s _ _ c.carry_out_effect.new.engine _ _ _ _) (sym sum)
+          (carried_more s _ c.args.effects.now c.loop-effect.effect-index c.effect-item.result c.loop-effect.engine c.carry_out_effect.new.engine _ _ _ _ _ _ _ _ c.loop-effect.faults c.in_ok-more.more c.effect-item.is n done
           (c.in_ok-more.ensures.ok done.last done.represents here)
           (λ x y p q. g.met.K.Sockets.joined _ _ _ x y p q));
-      room = λ fits. let room = c.loop-effect.invariant.room fits in let kept = c.carry_out_one.ensures.room in let longer = c.carry_out_one.ensures.one in omega (arith, room, kept, longer);
+      room = λ fits. let room = c.loop-effect.invariant.room fits in let kept = c.carry_out_effect.ensures.room in let longer = c.carry_out_effect.ensures.one in omega (arith, room, kept, longer);
       few = omega (arith, few, one, sum);
     }

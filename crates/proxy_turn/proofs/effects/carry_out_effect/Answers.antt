@@ -3,7 +3,7 @@ use Rattle.proxy_engine.specs.declared.work.End.{End}
 use Rattle.proxy_turn.specs.Turn.{end_is_lost}
 use Rattle.proxy_turn.proofs.Carrying.{carried_lost}
 use Rattle.proxy_turn.proofs.Counting.{raises_failed}
-use Rattle.proxy_turn.proofs.effects.carry_out_one.Goals as goal
+use Rattle.proxy_turn.proofs.effects.carry_out_effect.Goals as goal
 
 pub returns-in-Ok-clause-ok : goal.returns-in-Ok-clause-ok
 returns-in-Ok-clause-ok g c = λ s represents there.

@@ -1,5 +1,5 @@
 use Rattle.proxy_turn.proofs.Serving.{nothing_is_lost, one_is_lost, more_are_lost, both_are_lost, losses_keep_order, losses_go_on, turns_are_served}
-use Rattle.proxy_turn.proofs.laws.a_turn_is_served_behind_losses.Goals as goal
+use Rattle.proxy_turn.proofs.laws.a_turn_is_served_after_losses.Goals as goal
 
 pub returns-clause-none : goal.returns-clause-none
 returns-clause-none c = nothing_is_lost
