@@ -5,7 +5,7 @@
 -- MayGiveWay: a client of this number whose request isn't answered, that is quiet, and of which nothing waits to be
 --     read
 use Rattle.std.specs.Prelude.{◌≡◌, ℕ, ◌-◌, Bool, true, false, not, ◌&&◌, nat_lt, length, Option, None, Some, is_some}
-use Rattle.proxy_ends.specs.Streams.{client_may_give, number_of_place}
+use Rattle.proxy_ends.specs.Streams.{client_may_have_input, number_of_place}
 use Rattle.proxy_ends.specs.declared.clients.client.Client.{Client}
 
 abbrev pub client_is_quiet : {S : Type 0} → ℕ → Client S → Bool
@@ -17,4 +17,4 @@ client_takes_nothing now client = nat_lt 0 (length client.peer.unsent.bytes) && 
 abbrev pub MayGiveWay : {S : Type 0} → ℕ → ℕ → Option (Client S) → Type 0
 MayGiveWay n now None = ⊥
 MayGiveWay n now (Some client) = (number_of_place client.place ≡ Some n) × (is_some client.asked ≡ true)
-    × (client_is_quiet now client ≡ true) × (client_may_give client ≡ false)
+    × (client_is_quiet now client ≡ true) × (client_may_have_input client ≡ false)

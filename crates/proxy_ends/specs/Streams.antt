@@ -5,7 +5,7 @@
 -- peer_of_link: of a link
 -- client_at, stream_at_number: who stands at a key, and at that of a number
 -- unsent_of_client, handed_of_client, unsent_where_changed: what is held for a client, and for all
--- client_may_give: a read of a client would give something, or may
+-- client_may_have_input: a read of a client would give something, or may
 -- ClientIsReadOn: what a read does of one that was closed
 -- ClientIsRead: what a read of a client hands in
 -- number_to_list, link_is_to_be_listed: who is to be put among the ends that are read next
@@ -106,8 +106,8 @@ client_has_rest None = false
 client_has_rest (Some rest) = not (is_nothing rest)
 
 -- a client that has taken everything has something to be read, or may
-abbrev pub client_may_give : {S : Type 0} → Client S → Bool
-client_may_give client = not (nat_lt 0 (length client.peer.unsent.bytes)) &&
+abbrev pub client_may_have_input : {S : Type 0} → Client S → Bool
+client_may_have_input client = not (nat_lt 0 (length client.peer.unsent.bytes)) &&
     (client.peer.readable || client_has_rest client.rest)
 
 abbrev pub rest_bytes : Option (List ℕ) → List ℕ
@@ -173,11 +173,11 @@ client_is_idle client = place_is_open client.place && (not client.is_begun && no
 abbrev pub number_to_list : {S : Type 0} → Option (Client S) → Option ℕ
 number_to_list None = None
 number_to_list (Some client) =
-    if client.is_listed || not (client_may_give client) then None else number_of_place client.place
+    if client.is_listed || not (client_may_have_input client) then None else number_of_place client.place
 
 -- who is to be put there is marked
 abbrev pub listed_client : {S : Type 0} → Client S → Client S
-listed_client client = record client { is_listed = client.is_listed || client_may_give client }
+listed_client client = record client { is_listed = client.is_listed || client_may_have_input client }
 
 -- it is looked at next at a moment
 abbrev pub looked_at_next : {S : Type 0} → ℕ → Client S → Client S
@@ -186,16 +186,16 @@ looked_at_next moment client = record client { look = moment }
 abbrev pub unlisted_client : {S : Type 0} → Client S → Client S
 unlisted_client client = record client { is_listed = false }
 
-abbrev pub peer_may_give : {S : Type 0} → Option (Peer S) → Bool
-peer_may_give None = false
-peer_may_give (Some peer) = peer.readable
+abbrev pub peer_may_have_input : {S : Type 0} → Option (Peer S) → Bool
+peer_may_have_input None = false
+peer_may_have_input (Some peer) = peer.readable
 
 abbrev pub link_is_to_be_listed : {S : Type 0} → Option (Link S) → Bool
 link_is_to_be_listed None = false
-link_is_to_be_listed (Some link) = not link.is_listed && peer_may_give link.peer
+link_is_to_be_listed (Some link) = not link.is_listed && peer_may_have_input link.peer
 
 abbrev pub listed_link : {S : Type 0} → Link S → Link S
-listed_link link = record link { is_listed = link.is_listed || peer_may_give link.peer }
+listed_link link = record link { is_listed = link.is_listed || peer_may_have_input link.peer }
 
 abbrev pub unlisted_link : {S : Type 0} → Link S → Link S
 unlisted_link link = record link { is_listed = false }

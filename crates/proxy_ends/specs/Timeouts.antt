@@ -9,13 +9,13 @@
 -- silence_of_link: for how long the origin of a link may send no byte
 -- link_time_may_be_over_at: the first moment of a link at which a time of it may be
 -- link_overtime: which time of a link is over
--- IsIdleSince, IsIdleNumber, IsUnmarkedClient: of who may be let go
+-- IsIdleClientSince, IsIdleClientWithNumber, IsUnmarkedClient: of who may be let go
 use Rattle.std.specs.Prelude.{◌≡◌, ℕ, ◌-◌, ◌*◌, min, max, nat_lt, nat_le, Bool, true, false, not, ◌&&◌, ◌||◌}
 use Rattle.std.specs.Prelude.{Option, None, Some, is_some, cond, if◌then◌else◌, unwrap_or, option_map}
 use Rattle.std.specs.Option.{option_and_then}
 use Rattle.proxy_figures.specs.Counts.{count_plus}
 use Rattle.proxy_streams.specs.Silence.{end_is_silent}
-use Rattle.proxy_ends.specs.Streams.{client_may_give, client_is_idle, number_of_place}
+use Rattle.proxy_ends.specs.Streams.{client_may_have_input, client_is_idle, number_of_place}
 use Rattle.proxy_ends.specs.declared.clients.client.Client.{Client}
 use Rattle.proxy_ends.specs.declared.limits.Limits.{Limits}
 use Rattle.proxy_ends.specs.declared.limits.TheConstants.{CLOSE_TIMEOUT_MILLISECONDS}
@@ -84,7 +84,7 @@ milliseconds_since now (Some since) = now - since
 -- nothing of it waits to be read, and no byte came or went for more than so many milliseconds
 abbrev pub client_is_silent : {S : Type 0} → ℕ → ℕ → Option (Client S) → Bool
 client_is_silent limit now None = true
-client_is_silent limit now (Some client) = not (client_may_give client) && nat_lt limit (now - client.peer.heard)
+client_is_silent limit now (Some client) = not (client_may_have_input client) && nat_lt limit (now - client.peer.heard)
 
 abbrev pub client_has_left_or_gone : {S : Type 0} → ℕ → ℕ → Option (Client S) → Bool
 client_has_left_or_gone limit now None = true
@@ -126,13 +126,13 @@ link_time_may_be_over_at limits link =
     count_plus (min (count_plus link.began limits.exchange_timeout) (end_of_time_of_link limits link)) 1
 
 -- a client is between two requests, since then; or under this number
-abbrev pub IsIdleSince : {S : Type 0} → ℕ → Option (Client S) → Type 0
-IsIdleSince moment None = ⊥
-IsIdleSince moment (Some client) = (client_is_idle client ≡ true) × (client.idle_since ≡ moment)
+abbrev pub IsIdleClientSince : {S : Type 0} → ℕ → Option (Client S) → Type 0
+IsIdleClientSince moment None = ⊥
+IsIdleClientSince moment (Some client) = (client_is_idle client ≡ true) × (client.idle_since ≡ moment)
 
-abbrev pub IsIdleNumber : {S : Type 0} → ℕ → Option (Client S) → Type 0
-IsIdleNumber n None = ⊥
-IsIdleNumber n (Some client) = (client_is_idle client ≡ true) × (number_of_place client.place ≡ Some n)
+abbrev pub IsIdleClientWithNumber : {S : Type 0} → ℕ → Option (Client S) → Type 0
+IsIdleClientWithNumber n None = ⊥
+IsIdleClientWithNumber n (Some client) = (client_is_idle client ≡ true) × (number_of_place client.place ≡ Some n)
 
 -- a client of this number that stands among those that have sent their end no more
 abbrev pub IsUnmarkedClient : {S : Type 0} → ℕ → Option (Client S) → Type 0

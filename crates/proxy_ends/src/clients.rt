@@ -20,7 +20,7 @@ ghost use Rattle.proxy_ends.specs.Streams.{ClientIsRead, IsDoneToClient, number_
 ghost use Rattle.proxy_ends.specs.Streams.{unlisted_client, looked_at_next};
 ghost use Rattle.proxy_ends.specs.Closing.{ClientStandsInQueue, ClientLeavesItsPlace, QueuesOrGoes};
 ghost use Rattle.proxy_ends.specs.Closing.{FirstLingeringGoes};
-ghost use Rattle.proxy_ends.specs.Timeouts.{milliseconds_since, IsIdleSince, IsUnmarkedClient};
+ghost use Rattle.proxy_ends.specs.Timeouts.{milliseconds_since, IsIdleClientSince, IsUnmarkedClient};
 ghost use Rattle.proxy_figures.specs.Counts.{counts_with_one_more};
 ghost use Rattle.proxy_figures.specs.EndingCounts.{endings_with_cut};
 ghost use Rattle.proxy_figures.specs.Unanswered.{cause_of_cut, unanswered_place};
@@ -590,7 +590,7 @@ impl<S: Stream + Drop> Clients<S> {
     /// Of the clients that are between two requests the one that is so for the longest, and since when. Marks of those
     /// that have gone on are moved or dropped on the way.
     pub fn longest_idle(&mut self) -> Option<(usize, u64)>
-        ensures { IfSome result (λ p. IsIdleSince p.1 (client_at self.new.streams p.0)) }
+        ensures { IfSome result (λ p. IsIdleClientSince p.1 (client_at self.new.streams p.0)) }
     {
         // Each mark is moved once at most.
         for _ in 0..=self.idle.len() {
@@ -604,13 +604,13 @@ impl<S: Stream + Drop> Clients<S> {
                 None => {}
             }
             self.idle.remove(mark.at, mark.id);
-            self.mark_again(key);
+            self.renew_idle_mark(key);
         }
         None
     }
 
     /// A client whose mark was dropped is marked anew, if it is between two requests.
-    fn mark_again(&mut self, key: usize) {
+    fn renew_idle_mark(&mut self, key: usize) {
         let is_idle = self.stream(key).is_some_and(Client::is_idle);
         if is_idle && !self.mark_idle(key) {
             self.cut_stream(key, CutReason::Memory);
@@ -684,7 +684,7 @@ impl<S: Stream + Drop> Clients<S> {
         ensures others { OtherSlabKeysStay key self.old.streams self.new.streams }
     {
         let client = self.streams.get_mut(key)?;
-        if client.is_listed || !client.may_give() {
+        if client.is_listed || !client.may_have_input() {
             return None;
         }
         client.is_listed = true;

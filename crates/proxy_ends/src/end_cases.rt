@@ -16,7 +16,7 @@ ghost use Rattle.proxy_ends.specs.Timeouts.{closed_time_is_over, has_lasted_long
 ghost use Rattle.proxy_ends.specs.Timeouts.{link_overtime, link_time_is_over, link_time_may_be_over_at};
 ghost use Rattle.proxy_ends.specs.Timeouts.{milliseconds_since};
 ghost use Rattle.proxy_ends.specs.Streams.{OneReadIsTold, bytes_held_of_peer, bytes_of_outcomes, client_has_rest};
-ghost use Rattle.proxy_ends.specs.Streams.{client_is_cut, client_is_idle, client_may_give, link_is_to_be_listed};
+ghost use Rattle.proxy_ends.specs.Streams.{client_is_cut, client_is_idle, client_may_have_input, link_is_to_be_listed};
 ghost use Rattle.proxy_ends.specs.Streams.{number_to_list, peer_is_broken, peer_is_lost, received_bytes};
 ghost use Rattle.proxy_ends.specs.Streams.{rest_bytes};
 ghost use Rattle.proxy_ends.specs.declared.clients.client.Place.TheVariants as place;
@@ -94,11 +94,12 @@ pub fn worked_times_of_links()
 /// Who may give something: who has taken everything, and of whom something is left to be read or to be handed in. What
 /// reads told.
 pub fn worked_streams()
-    ensures gives { (alloc : Global) → client_may_give (client_heard_at_100 alloc true [] None) ≡ true }
+    ensures gives { (alloc : Global) → client_may_have_input (client_heard_at_100 alloc true [] None) ≡ true }
     ensures gives_rest { (alloc : Global)
-        → client_may_give (client_heard_at_100 alloc false [] (Some (1 ∷ []))) ≡ true }
-    ensures gives_nothing { (alloc : Global) → client_may_give (client_heard_at_100 alloc false [] None) ≡ false }
-    ensures takes_first { (alloc : Global) → client_may_give (client_heard_at_100 alloc true (1 ∷ []) None) ≡ false }
+        → client_may_have_input (client_heard_at_100 alloc false [] (Some (1 ∷ []))) ≡ true }
+    ensures gives_nothing { (alloc : Global) → client_may_have_input (client_heard_at_100 alloc false [] None) ≡ false }
+    ensures takes_first { (alloc : Global)
+        → client_may_have_input (client_heard_at_100 alloc true (1 ∷ []) None) ≡ false }
     ensures empty_rest { client_has_rest (Some []) ≡ false }
     ensures rest { client_has_rest (Some (1 ∷ [])) ≡ true }
     ensures no_rest { client_has_rest None ≡ false }

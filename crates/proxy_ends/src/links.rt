@@ -264,11 +264,11 @@ impl<S: Stream + Drop> Links<S> {
         let Some(link) = self.items.get_mut(&number) else {
             return false;
         };
-        let may_give = match &link.peer {
+        let may_have_input = match &link.peer {
             Some(peer) => peer.readable,
             None => false,
         };
-        if link.is_listed || !may_give {
+        if link.is_listed || !may_have_input {
             return false;
         }
         link.is_listed = true;

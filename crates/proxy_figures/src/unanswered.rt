@@ -82,7 +82,7 @@ impl UnansweredCause {
     }
 
     /// Of a client whose time was over.
-    pub fn of_lateness(lateness: Lateness) -> UnansweredCause
+    pub fn of_late_client(lateness: Lateness) -> UnansweredCause
         ensures { result ≡ cause_of_lateness lateness }
     {
         match lateness {

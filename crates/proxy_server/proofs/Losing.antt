@@ -17,8 +17,8 @@ use Rattle.proxy_turn.specs.Served.{IsLostEnd, EngineTakesLosses, LossesAreTaken
 use Rattle.proxy_record.specs.Records.{Record, EachIsNoted}
 use Rattle.proxy_record.specs.Recorded.{HappeningIfAnyIsNoted, is_recording, may_be_taken_while_recording, was_recording_before, recording_had_not_failed}
 use Rattle.proxy_record.specs.RecordedTurns.{noted_at_moment}
-use Rattle.proxy_server.specs.ServerState.{ServerState, may_take_one}
-use Rattle.proxy_server.specs.Losses.{LossIsTaken, LossIsRefused, LossIfAnyIsTaken, EndIsLost, LossesAreNoted, AtMostOneLoss, LossesAreHandedIn, ServerTakesLosses}
+use Rattle.proxy_server.specs.ServerState.{ServerState, may_lose_an_end}
+use Rattle.proxy_server.specs.Losses.{LossIsTaken, LossIsRefused, LossIfAnyIsTaken, EndIsLost, LossesAreNoted, AtMostOneLoss, LossesAreTakenAndRecorded, ServerTakesLosses}
 
 -- ---- none
 
@@ -54,7 +54,7 @@ notes_one now h None new noted = noted
 notes_one now h (Some r) new noted = (noted.0, noted.1, (noted.0, noted.2, refl))
 
 abbrev may : ServerState → Type 0
-may a = may_take_one a ≡ true
+may a = may_lose_an_end a ≡ true
 
 one_on : (h : PlainHappening) (a b : ServerState) → IsLostEnd h → may a → LossIsTaken h a b → ServerTakesLosses a b
 one_on h a b loss free taken s represents =

@@ -2,7 +2,7 @@
 --
 -- LossIsTaken: the engine takes it, and it is recorded      LossIsRefused: the engine has no such end
 -- EndIsLost: an end is lost, by a failure of this kind
--- LossesAreNoted, AtMostOneLoss, LossesAreHandedIn, ServerTakesLosses: ends are lost, one after another
+-- LossesAreNoted, AtMostOneLoss, LossesAreTakenAndRecorded, ServerTakesLosses: ends are lost, one after another
 use Rattle.std.specs.Prelude.{◌≡◌, ◌⊎◌, ℕ, List, [], ◌∷◌, Bool, true, false, Option, None, Some, is_some}
 use Rattle.hx_status.specs.declared.cause.FailKind.{FailKind}
 use Rattle.proxy_engine.specs.Happenings.{PlainHappening}
@@ -52,7 +52,7 @@ AtMostOneLoss taken (h ∷ more) later = (taken ≡ false) × AtMostOneLoss true
 
 -- Clients that went away and links that failed were taken, one after another, and recorded. While a record is written,
 -- at most one was.
-pub record LossesAreHandedIn (s : EngineModel) (a b : ServerState) : Type 0 where
+pub record LossesAreTakenAndRecorded (s : EngineModel) (a b : ServerState) : Type 0 where
   pub losses : LossesAreTaken s b.engine
   pub fails : a.failed ≡ true → b.failed ≡ true
   pub notes : b.failed ≡ false → LossesAreNoted a.moment losses.lost a.recorder b.recorder
@@ -63,4 +63,4 @@ pub record LossesAreHandedIn (s : EngineModel) (a b : ServerState) : Type 0 wher
 
 -- from each model that its engine stood for
 abbrev pub ServerTakesLosses : ServerState → ServerState → Type 0
-ServerTakesLosses a b = (s : EngineModel) → EngineRepresents a.engine s → LossesAreHandedIn s a b
+ServerTakesLosses a b = (s : EngineModel) → EngineRepresents a.engine s → LossesAreTakenAndRecorded s a b

@@ -17,7 +17,7 @@ use Rattle.proxy_turn.specs.declared.report.TurnFault.{TurnFault}
 use Rattle.proxy_turn.specs.declared.report.TurnFault.TheVariants as faults
 use Rattle.proxy_ends.specs.declared.limits.TheConstants.{MOST_OPEN, MOST_ACCEPTED}
 use Rattle.proxy_server.specs.ServerState.{ServerState, turn_begun, OwnSocketsDid}
-use Rattle.proxy_server.specs.Losses.{LossesAreHandedIn}
+use Rattle.proxy_server.specs.Losses.{LossesAreTakenAndRecorded}
 use Rattle.proxy_server.specs.declared.server.Turned.{Turned}
 use Rattle.proxy_server.specs.declared.server.ServeFault.{ServeFault}
 use Rattle.proxy_server.specs.declared.server.ServeFault.TheVariants.{Socket, Clock, Record, Spent}
@@ -43,7 +43,7 @@ turn_settles (Err fault) = false
 -- server, over its own sockets, and within its bounds. It told this. Nothing else was taken or done.
 pub record ServerTurn (s : EngineModel) (a b : ServerState) (reported : Result Report TurnFault) : Type 0 where
   pub mid : ServerState
-  pub handed_in : LossesAreHandedIn s a mid
+  pub handed_in : LossesAreTakenAndRecorded s a mid
   pub given : List End
   pub left : List End
   pub turn : EngineTurnsOverWithCalls a.moment server_bounds handed_in.losses.after given b.engine left

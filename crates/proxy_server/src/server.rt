@@ -12,7 +12,7 @@ ghost use Rattle.proxy_server.specs.Losses.{EndIsLost, LossIfAnyIsTaken, ServerT
 ghost use Rattle.proxy_log.specs.Asked.{asked_words};
 ghost use Rattle.proxy_server.specs.OpenRequests.{open_request_of_end, words_of_open_request};
 ghost use Rattle.proxy_server.specs.Paces.{next_turn_must_not_wait};
-ghost use Rattle.proxy_server.specs.ServerState.{may_take_one};
+ghost use Rattle.proxy_server.specs.ServerState.{may_lose_an_end};
 ghost use Rattle.proxy_server.specs.Serving.{turn_settles, ServeTurnAnswers, ServerServesTurn};
 
 use crate::pace::{Pace, milliseconds_of_duration, moment_and_milliseconds};
@@ -28,7 +28,7 @@ use proxy_figures::Troubles;
 use proxy_log::{Lines, LoggedRequest, LoggedTarget};
 use proxy_record::{RecordFault, Recorder, Recording};
 use proxy_script::Happening;
-use proxy_turn::laws::{a_turn_is_served_behind_losses, engines_go_on};
+use proxy_turn::laws::{a_turn_is_served_after_losses, engines_go_on};
 use proxy_turn::{End, PIECE, Report, TurnBounds, TurnFault, happening_of_lost_end, turn_over};
 use std::alloc::Global;
 use std::io::{ErrorKind, Write};
@@ -158,7 +158,7 @@ fn logged_request(asked: Option<&Asked>) -> Option<LoggedRequest<'_>>
 }
 
 /// What the request of an end asks for that is open.
-fn open_request<S: Shelf + Drop>(engine: &Engine<S>, end: End) -> Option<LoggedRequest<'_>>
+fn logged_open_request<S: Shelf + Drop>(engine: &Engine<S>, end: End) -> Option<LoggedRequest<'_>>
     ensures { (s : EngineModel) → EngineRepresents engine.now s
         → option_map asked_words result ≡ option_map words_of_open_request (open_request_of_end end s) }
 {
@@ -284,7 +284,7 @@ impl<'a, S: Shelf + Drop, R: Net, W: Write + Drop> Server<'a, S, R, W> {
 
     /// Ends the server, and gives its shelf with what it holds, and the next serial if one is left: what another server
     /// may begin with, where no request is open.
-    pub fn into_store(self) -> (S, Option<u64>)
+    pub fn into_shelf_and_serial(self) -> (S, Option<u64>)
         ensures entries { S.entries result.0 ≡ self.entry.engine.core.entries }
         ensures limit { S.limit result.0 ≡ self.entry.engine.core.limit }
         ensures next { result.1 ≡ self.entry.engine.core.next }
@@ -297,7 +297,7 @@ impl<'a, S: Shelf + Drop, R: Net, W: Write + Drop> Server<'a, S, R, W> {
             ready: _,
             piece: _,
         } = self;
-        engine.into_store()
+        engine.into_shelf_and_serial()
     }
 
     /// Seconds of the clock that never goes back, at the last turn.
@@ -401,7 +401,7 @@ impl<'a, S: Shelf + Drop, R: Net, W: Write + Drop> Server<'a, S, R, W> {
         ensures { ServerServesTurn self.old self.new result }
     {
         engines_go_on();
-        a_turn_is_served_behind_losses();
+        a_turn_is_served_after_losses();
         self.hand_in();
         self.take_ready();
         let bounds = TurnBounds {
@@ -444,22 +444,22 @@ impl<'a, S: Shelf + Drop, R: Net, W: Write + Drop> Server<'a, S, R, W> {
 
     /// The engine takes that an end is lost, and that is recorded.
     fn disconnect(&mut self, end: End, kind: FailKind)
-        requires { may_take_one self.old ≡ true }
+        requires { may_lose_an_end self.old ≡ true }
         ensures loses { EndIsLost end kind self.old self.new }
         ensures on { ServerTakesLosses self.old self.new }
     {
         engines_go_on();
-        a_turn_is_served_behind_losses();
+        a_turn_is_served_after_losses();
         if let Some(happening) = happening_of_lost_end(end, kind) {
             let link = match end {
                 End::Client(n) => self.engine.link_of_client(n),
                 _ => None,
             };
-            let request = open_request(&self.engine, end);
+            let request = logged_open_request(&self.engine, end);
             self.ends.sockets.note_lost(end, link, request);
-            // It takes no memory, and the end was there.
+            // To take this allocates nothing, and the end was there.
             if self.engine.take(self.alloc, happening).is_ok() {
-                // Where that can't be recorded, the server ends behind this turn.
+                // Where that can't be recorded, the server ends after this turn.
                 self.ends.note_between(happening);
             }
         }
@@ -467,13 +467,13 @@ impl<'a, S: Shelf + Drop, R: Net, W: Write + Drop> Server<'a, S, R, W> {
 
     /// The engine takes that a client's connection is to end, and that is recorded.
     fn retire(&mut self, n: u64)
-        requires { may_take_one self.old ≡ true }
+        requires { may_lose_an_end self.old ≡ true }
         ensures retires { LossIfAnyIsTaken (Some (Retires n)) self.old self.new }
         ensures on { ServerTakesLosses self.old self.new }
     {
         engines_go_on();
-        a_turn_is_served_behind_losses();
-        // It takes no memory, and the client was there.
+        a_turn_is_served_after_losses();
+        // To take this allocates nothing, and the client was there.
         if self.engine.take(self.alloc, Happening::Retire(n)).is_ok() {
             self.ends.note_between(Happening::Retire(n));
         }
@@ -482,13 +482,13 @@ impl<'a, S: Shelf + Drop, R: Net, W: Write + Drop> Server<'a, S, R, W> {
     /// The engine takes that the request of a client has waited for the answer to another as long as it is to wait, and
     /// that is recorded.
     fn overdue(&mut self, n: u64)
-        requires { may_take_one self.old ≡ true }
+        requires { may_lose_an_end self.old ≡ true }
         ensures overdue { LossIfAnyIsTaken (Some (Overdues n)) self.old self.new }
         ensures on { ServerTakesLosses self.old self.new }
     {
         engines_go_on();
-        a_turn_is_served_behind_losses();
-        // It takes no memory, and the request waits.
+        a_turn_is_served_after_losses();
+        // To take this allocates nothing, and the request waits.
         if self.engine.take(self.alloc, Happening::Overdue(n)).is_ok() {
             self.ends.note_between(Happening::Overdue(n));
         }
@@ -499,7 +499,7 @@ impl<'a, S: Shelf + Drop, R: Net, W: Write + Drop> Server<'a, S, R, W> {
         ensures { ServerTakesLosses self.old self.new }
     {
         engines_go_on();
-        a_turn_is_served_behind_losses();
+        a_turn_is_served_after_losses();
         if let End::Client(n) = end {
             self.engine.release_room(self.alloc, n);
         }
@@ -510,7 +510,7 @@ impl<'a, S: Shelf + Drop, R: Net, W: Write + Drop> Server<'a, S, R, W> {
     fn release_rooms(&mut self)
         ensures { ServerTakesLosses self.old self.new }
     {
-        a_turn_is_served_behind_losses();
+        a_turn_is_served_after_losses();
         for _ in 0..self.ready.len() {
             let Some(end) = self.ready.pop() else {
                 return;
@@ -524,7 +524,7 @@ impl<'a, S: Shelf + Drop, R: Net, W: Write + Drop> Server<'a, S, R, W> {
     fn hand_in_lost(&mut self)
         ensures { ServerTakesLosses self.old self.new }
     {
-        a_turn_is_served_behind_losses();
+        a_turn_is_served_after_losses();
         for _ in 0..self.ends.sockets.lost_count().min(MOST_READ) {
             if !self.ends.may_happen() {
                 return;
@@ -539,7 +539,7 @@ impl<'a, S: Shelf + Drop, R: Net, W: Write + Drop> Server<'a, S, R, W> {
     fn hand_in(&mut self)
         ensures { ServerTakesLosses self.old self.new }
     {
-        a_turn_is_served_behind_losses();
+        a_turn_is_served_after_losses();
         self.release_rooms();
         self.hand_in_lost();
         self.hand_in_found(Sweep::Overdue);
@@ -573,7 +573,7 @@ impl<'a, S: Shelf + Drop, R: Net, W: Write + Drop> Server<'a, S, R, W> {
 
     /// Drops the stream of an end whose time is over: the engine takes that it is lost, a link as timed out.
     fn release(&mut self, end: End)
-        requires { may_take_one self.old ≡ true }
+        requires { may_lose_an_end self.old ≡ true }
         ensures loses { EndIsLost end FailKind.TimedOut self.old self.new }
         ensures on { ServerTakesLosses self.old self.new }
     {
@@ -584,7 +584,7 @@ impl<'a, S: Shelf + Drop, R: Net, W: Write + Drop> Server<'a, S, R, W> {
     /// The end that a sweep finds next, if it can be handed in.
     fn next_found(&mut self, sweep: Sweep) -> Option<End>
         ensures same { self.new ≡ self.old }
-        ensures may { IfSome result (λ end. may_take_one self.old ≡ true) }
+        ensures may { IfSome result (λ end. may_lose_an_end self.old ≡ true) }
     {
         if !self.ends.may_happen() {
             return None;
@@ -621,10 +621,10 @@ impl<'a, S: Shelf + Drop, R: Net, W: Write + Drop> Server<'a, S, R, W> {
 
     /// Hands in that a client's request waits no longer, if it has waited for long enough.
     fn end_wait(&mut self, end: End)
-        requires { may_take_one self.old ≡ true }
+        requires { may_lose_an_end self.old ≡ true }
         ensures { ServerTakesLosses self.old self.new }
     {
-        a_turn_is_served_behind_losses();
+        a_turn_is_served_after_losses();
         if self.has_waited(end) {
             if let End::Client(n) = end {
                 self.overdue(n);
@@ -635,10 +635,10 @@ impl<'a, S: Shelf + Drop, R: Net, W: Write + Drop> Server<'a, S, R, W> {
     /// Hands in an end whose time is over: a link as timed out, a client as gone, a request that waits for another's
     /// answer as overdue.
     fn look_at(&mut self, end: End)
-        requires { may_take_one self.old ≡ true }
+        requires { may_lose_an_end self.old ≡ true }
         ensures { ServerTakesLosses self.old self.new }
     {
-        a_turn_is_served_behind_losses();
+        a_turn_is_served_after_losses();
         self.give_seconds(end);
         if self.is_over(end) {
             self.release(end);
@@ -650,10 +650,10 @@ impl<'a, S: Shelf + Drop, R: Net, W: Write + Drop> Server<'a, S, R, W> {
 
     /// Gives up the answer of a client that has sent its end, if it waits for one.
     fn give_up(&mut self, n: u64)
-        requires { may_take_one self.old ≡ true }
+        requires { may_lose_an_end self.old ≡ true }
         ensures { ServerTakesLosses self.old self.new }
     {
-        a_turn_is_served_behind_losses();
+        a_turn_is_served_after_losses();
         if self.engine.may_read(End::Client(n)) {
             self.ends.sockets.look_later_at_departed(n);
         } else {
@@ -664,10 +664,10 @@ impl<'a, S: Shelf + Drop, R: Net, W: Write + Drop> Server<'a, S, R, W> {
     /// Closes the connection of a client whose request isn't whole. One whose request is whole waits for its answer:
     /// that one stays.
     fn cut_incomplete(&mut self, n: u64)
-        requires { may_take_one self.old ≡ true }
+        requires { may_lose_an_end self.old ≡ true }
         ensures { ServerTakesLosses self.old self.new }
     {
-        a_turn_is_served_behind_losses();
+        a_turn_is_served_after_losses();
         if self.engine.may_read(End::Client(n)) {
             self.ends.sockets.cut_off(n);
             self.disconnect(End::Client(n), FailKind::Closed);
@@ -676,7 +676,7 @@ impl<'a, S: Shelf + Drop, R: Net, W: Write + Drop> Server<'a, S, R, W> {
 
     /// Lets a client go that is between two requests.
     fn let_go(&mut self, n: u64)
-        requires { may_take_one self.old ≡ true }
+        requires { may_lose_an_end self.old ≡ true }
         ensures { ServerTakesLosses self.old self.new }
     {
         let now = self.ends.sockets.now;
@@ -686,7 +686,7 @@ impl<'a, S: Shelf + Drop, R: Net, W: Write + Drop> Server<'a, S, R, W> {
 
     /// Hands in an end that a sweep has found. A link is found by its time alone.
     fn take_found(&mut self, sweep: Sweep, end: End)
-        requires { may_take_one self.old ≡ true }
+        requires { may_lose_an_end self.old ≡ true }
         ensures { ServerTakesLosses self.old self.new }
     {
         let End::Client(n) = end else {
@@ -705,7 +705,7 @@ impl<'a, S: Shelf + Drop, R: Net, W: Write + Drop> Server<'a, S, R, W> {
     fn hand_in_found(&mut self, sweep: Sweep)
         ensures { ServerTakesLosses self.old self.new }
     {
-        a_turn_is_served_behind_losses();
+        a_turn_is_served_after_losses();
         for _ in 0..MOST_LOOKS {
             let Some(end) = self.next_found(sweep) else {
                 return;

@@ -8,7 +8,7 @@ ghost use Rattle.proxy_reads.specs.Received.{FitsTheBuffer};
 ghost use Rattle.proxy_ends.specs.Departures.{departure_of, departed_client};
 ghost use Rattle.proxy_ends.specs.Logging.{LineAboutReplyIsAdded, LineOfLoggedIsAdded, NextRequestBegins, PieceIsKept};
 ghost use Rattle.proxy_ends.specs.Logging.{logged_address};
-ghost use Rattle.proxy_ends.specs.Streams.{client_has_rest, client_may_give, rest_bytes, ClientIsRead};
+ghost use Rattle.proxy_ends.specs.Streams.{client_has_rest, client_may_have_input, rest_bytes, ClientIsRead};
 ghost use Rattle.proxy_ends.specs.Streams.{number_of_place, client_is_idle, new_client, ClientIsReadOn};
 
 use crate::clients::departures::Departure;
@@ -286,8 +286,8 @@ impl<S: Stream + Drop> Client<S> {
     }
 
     /// Whether there is something that a read would give, or may.
-    pub fn may_give(&self) -> bool
-        ensures { result ≡ client_may_give self.now }
+    pub fn may_have_input(&self) -> bool
+        ensures { result ≡ client_may_have_input self.now }
     {
         !self.peer.has_unsent() && (self.peer.readable || self.has_rest())
     }

@@ -35,7 +35,7 @@ impl<S: Stream + Drop> Clients<S> {
             return;
         }
         // What waits to be read came by now.
-        let since = if client.may_give() {
+        let since = if client.may_have_input() {
             now
         } else {
             client.peer.heard
@@ -52,7 +52,7 @@ impl<S: Stream + Drop> Clients<S> {
     {
         let client = self.streams.get_mut(key)?;
         client.begun_mark = None;
-        if client.asked.is_some() && client.is_quiet(now) && !client.may_give() {
+        if client.asked.is_some() && client.is_quiet(now) && !client.may_have_input() {
             return client.number();
         }
         None

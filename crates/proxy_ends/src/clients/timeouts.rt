@@ -1,7 +1,7 @@
 //! Whose time is over, and when each is looked at next.
 ghost use Rattle.std.specs.Prelude.{◌≡◌, ◌<◌, ◌-◌, ◌⊎◌, true, false, [], Some, None, length, IfSome, ℕ};
 ghost use Rattle.proxy_ends.specs.Timeouts.{closed_time_is_over, has_lasted_longer, incomplete_since};
-ghost use Rattle.proxy_ends.specs.Timeouts.{client_is_silent, client_has_left_or_gone, IsIdleNumber};
+ghost use Rattle.proxy_ends.specs.Timeouts.{client_is_silent, client_has_left_or_gone, IsIdleClientWithNumber};
 ghost use Rattle.proxy_ends.specs.Timeouts.{client_has_waited, end_of_wait};
 ghost use Rattle.proxy_ends.specs.OtherEntries.{OtherSlabKeysStay, ChangesOnlyAtNumber};
 ghost use Rattle.proxy_ends.specs.Streams.{stream_at_number, client_at};
@@ -116,7 +116,7 @@ impl Clients {
     /// The number of a client that is let go since no more connections are taken: it is between two requests, and has
     /// been so for the time that a first request has. Who asks again meanwhile is told that the connection closes.
     pub fn next_to_let_go(&mut self, now: u64) -> Option<u64>
-        ensures { IfSome result (λ n. (key : ℕ) × IsIdleNumber n (client_at self.new.streams key)) }
+        ensures { IfSome result (λ n. (key : ℕ) × IsIdleClientWithNumber n (client_at self.new.streams key)) }
     {
         let (key, since) = self.longest_idle()?;
         let client = self.stream(key)?;
@@ -143,7 +143,7 @@ impl Clients {
             Lateness::Client
         };
         self.endings.count_lateness(lateness);
-        UnansweredCause::of_lateness(lateness)
+        UnansweredCause::of_late_client(lateness)
     }
 
     /// Whether a client that is between two requests has been silent for too long, and nothing of it waits to be read.
@@ -155,7 +155,7 @@ impl Clients {
         match self.get(n) {
             Some(client) => {
                 let quiet = now.saturating_sub(client.peer.heard);
-                !client.may_give() && quiet > self.limits.client_timeout
+                !client.may_have_input() && quiet > self.limits.client_timeout
             }
             None => true,
         }

@@ -592,7 +592,7 @@ impl<'a, R: Net> LiveSockets<'a, R> {
         if let Some(replied) = replied {
             self.note_answered(n, bytes, replied);
         }
-        self.keep_within();
+        self.drop_one_beyond_limit();
     }
 
     /// The request of a client was answered by these bytes, which are this reply: it may be read again.
@@ -707,7 +707,7 @@ impl<'a, R: Net> Sockets for LiveSockets<'a, R> {
         if self.log.is_some() {
             read_piece(&mut self.clients, end, &received, buf);
         }
-        self.keep_within();
+        self.drop_one_beyond_limit();
         self.calls.count_failure(&received);
         received
     }

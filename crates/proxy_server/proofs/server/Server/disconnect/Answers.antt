@@ -8,7 +8,7 @@ use Rattle.proxy_server.proofs.server.Server.disconnect.Goals as goal
 
 pub invariant_of-self : goal.invariant_of-self
 invariant_of-self g c =
-    let losses = c.a_turn_is_served_behind_losses.ensures in
+    let losses = c.a_turn_is_served_after_losses.ensures in
     let loss = loss_of_end c.args.end c.args.kind c.happening_of_lost_end.result c.in-Some.happening c.in-Some.is c.happening_of_lost_end.ensures in
     let took = did_well c.take.result (sym c.is_ok.ensures.value ∙ c.if-is_ok.true) c.take.ensures.ok in
     let lost = losses.one c.self.inside.engine c.take.new.self (plain_happening c.in-Some.happening) loss took in (

@@ -8,7 +8,7 @@ loop-init g c = none_on c.args.self.now _ refl
 
 pub loop-preserved : goal.loop-preserved
 loop-preserved g c =
-    on_from c.a_turn_is_served_behind_losses.ensures.joined c.args.self.now c.loop.self c.next_found.new.self c.take_found.new.self c.next_found.ensures.same c.loop.invariant c.take_found.ensures
+    on_from c.a_turn_is_served_after_losses.ensures.joined c.args.self.now c.loop.self c.next_found.new.self c.take_found.new.self c.next_found.ensures.same c.loop.invariant c.take_found.ensures
 
 pub returns-in_default : goal.returns-in_default
 returns-in_default g c = subst (ServerTakesLosses c.args.self.now) (sym c.next_found.ensures.same) c.loop.invariant

@@ -12,6 +12,6 @@ loop-preserved g c =
     elim c.match-next_lost.branch [
       | in-Some w ↦
           subst (ServerTakesLosses c.args.self.now) (sym w.self-is)
-          (on_from c.a_turn_is_served_behind_losses.ensures.joined c.args.self.now c.loop.self _ w.disconnect.new.self c.self-in-loop.view_is c.loop.invariant w.disconnect.ensures.on)
+          (on_from c.a_turn_is_served_after_losses.ensures.joined c.args.self.now c.loop.self _ w.disconnect.new.self c.self-in-loop.view_is c.loop.invariant w.disconnect.ensures.on)
       | in_default w ↦ subst (ServerTakesLosses c.args.self.now) (sym (w.self-is ∙ c.self-in-loop.view_is)) c.loop.invariant
     ]

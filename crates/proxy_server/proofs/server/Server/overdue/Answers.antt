@@ -8,7 +8,7 @@ use Rattle.proxy_server.proofs.server.Server.overdue.Goals as goal
 
 pub invariant_of-self : goal.invariant_of-self
 invariant_of-self g c =
-    let losses = c.a_turn_is_served_behind_losses.ensures in
+    let losses = c.a_turn_is_served_after_losses.ensures in
     let took = did_well c.take.result (sym c.is_ok.ensures.value ∙ c.if-is_ok.true) c.take.ensures.ok in
     let lost = losses.one c.self.inside.engine c.take.new.self (Overdues c.args.n) tt took in (
       c.engines_go_on.ensures.executed c.self.inside.engine c.take.new.self (losses.on c.self.inside.engine c.take.new.self lost) c.self.invariant.0,

@@ -4,7 +4,7 @@ use Rattle.proxy_server.proofs.server.Server.release_room.Goals as goal
 
 pub invariant_of-self : goal.invariant_of-self
 invariant_of-self g c =
-    let losses = c.a_turn_is_served_behind_losses.ensures in
+    let losses = c.a_turn_is_served_after_losses.ensures in
     let same = engine_roomier c.self.inside.engine c.release_room.new.self c.release_room.ensures.represents in
     (c.engines_go_on.ensures.executed c.self.inside.engine c.release_room.new.self (losses.on c.self.inside.engine c.release_room.new.self same) c.self.invariant.0, c.self.invariant.1)
 

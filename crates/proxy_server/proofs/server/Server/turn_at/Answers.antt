@@ -12,7 +12,7 @@ use Rattle.proxy_server.proofs.server.Server.turn_at.Goals.{After-turn_over}
 
 turned : (g : Over) (c : After-turn_over g) → EngineGoesOn c.self.inside.engine c.turn_over.new.engine
 turned g c =
-    let losses = c.a_turn_is_served_behind_losses.ensures in
+    let losses = c.a_turn_is_served_after_losses.ensures in
     let e = c.self.inside.engine in
     c.engines_go_on.ensures.turns e c.turn_over.new.engine c.args.now server_bounds c.turn_over.result (losses.served e e c.turn_over.new.engine c.args.now server_bounds _ _ _ _ c.turn_over.result (losses.none e) (λ s represents orderly. let both = c.turn_over.ensures.turns s represents orderly in both.turns))
 
@@ -32,7 +32,7 @@ invariant_of-self g c = (
 
 pub returns : goal.returns
 returns g c =
-    let losses = c.a_turn_is_served_behind_losses.ensures in
+    let losses = c.a_turn_is_served_after_losses.ensures in
     turned_over losses.order c.args.self.now _ _ c.args.now c.requires.moment _ _ c.turn_over.result
     (subst (ServerTakesLosses c.args.self.now) (sym (c.self.view_is ∙ c.take_ready.ensures)) c.hand_in.ensures) refl
     (λ s represents orderly. let both = c.turn_over.ensures.turns s represents orderly in record {
