@@ -15,8 +15,8 @@ whole_where_few text file few (inl same) = same
 whole_where_few text file few (inr more) = absurd (omega (arith, few, more))
 
 -- what a reader gave of which no more is taken
-pub read_front : (known : Option (List ℕ)) (limit : ℕ) (before text : List ℕ) → limit ≡ 1048577 → before ≡ [] → IfSome (option_map (take limit) known) (λ xs. text ≡ before ++ xs) → IfSome known (IsWholeOrTooLong text)
-read_front None limit before text most none read = tt
-read_front (Some file) limit before text most none read =
+pub read_start : (known : Option (List ℕ)) (limit : ℕ) (before text : List ℕ) → limit ≡ 1048577 → before ≡ [] → IfSome (option_map (take limit) known) (λ xs. text ≡ before ++ xs) → IfSome known (IsWholeOrTooLong text)
+read_start None limit before text most none read = tt
+read_start (Some file) limit before text most none read =
     let whole : text ≡ take 1048577 file = read ∙ (ap (λ (xs : List ℕ). xs ++ take limit file) none ∙ ap (λ (n : ℕ). take n file) most) in
     subst (λ (t : List ℕ). IsWholeOrTooLong t file) (sym whole) (read_to_limit file)

@@ -1,5 +1,5 @@
 -- What the bounds of a table and of a server come to in memory, in bytes, as docs/LIMITS.md has it.
-use Rattle.std.specs.Prelude.{ℕ, Option, None, Some, Bool, ◌+◌, ◌-◌, ◌*◌, ◌/◌, ◌%◌, ◌^◌, ◌==◌, min, if◌then◌else◌}
+use Rattle.std.specs.Prelude.{ℕ, Option, None, Some, ◌+◌, ◌-◌, ◌*◌, ◌/◌, ◌%◌, ◌^◌, ◌==◌, min, if◌then◌else◌}
 
 -- the greatest number that is told
 abbrev pub greatest : ℕ
@@ -14,14 +14,12 @@ abbrev pub most_stored : ℕ → ℕ → Option ℕ → ℕ
 most_stored capacity max_stored None = most_by_number capacity max_stored
 most_stored capacity max_stored (Some weight) = min (most_by_number capacity max_stored) (weight + weight / 10)
 
--- contents and heads in progress, whose room grows by doubling, counted once more where a log is kept, as when a log
--- held uploads too; and 16 KiB a connection
-abbrev pub most_in_progress : ℕ → Bool → ℕ
-most_in_progress content has_log = min (content * (if has_log then 4 else 2)) greatest
+-- contents and heads in progress, whose room grows by doubling; and 16 KiB a connection
+abbrev pub most_in_progress : ℕ → ℕ
+most_in_progress content = min (content * 2) greatest
 
-abbrev pub most_held : ℕ → Bool → ℕ → ℕ
-most_held content has_log connections =
-    min (most_in_progress content has_log + min (connections * 16384) greatest) greatest
+abbrev pub most_held : ℕ → ℕ → ℕ
+most_held content connections = min (most_in_progress content + min (connections * 16384) greatest) greatest
 
 -- rounded up
 abbrev pub megabytes : ℕ → ℕ

@@ -2,7 +2,7 @@
 ghost use Rattle.std.specs.Prelude.{◌≡◌};
 ghost use Rattle.proxy_files.specs.Descriptors.{descriptors_wanted, connections_within};
 
-use crate::files::read_front;
+use crate::files::read_start;
 use std::rt::Files;
 use std::{fs, str};
 
@@ -49,6 +49,6 @@ pub fn descriptors_open<R: Files>(rt: &R) -> Option<u64> {
 
 /// The descriptors that the process may have, where the system tells.
 pub fn descriptors_allowed<R: Files + AllocGlobal>(rt: &R) -> Option<u64> {
-    let text = read_front(rt, "/proc/self/limits")?;
+    let text = read_start(rt, "/proc/self/limits")?;
     number_of(str::from_utf8(text.as_slice()).ok()?)
 }

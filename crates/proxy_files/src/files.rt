@@ -60,13 +60,13 @@ fn read_some<R: Files + AllocGlobal>(rt: &R, path: &str) -> io::Result<Vec<u8>> 
 }
 
 /// The most that is read of a file of the system.
-const MOST_FRONT_BYTES: u64 = 4096;
+const MOST_START_BYTES: u64 = 4096;
 
-/// The front of a file of the system, if it can be read.
-pub fn read_front<R: Files + AllocGlobal>(rt: &R, path: &str) -> Option<Vec<u8>> {
+/// The first bytes of a file of the system, if it can be read.
+pub fn read_start<R: Files + AllocGlobal>(rt: &R, path: &str) -> Option<Vec<u8>> {
     let mut text = Vec::new(rt.alloc());
     let file = fs::open(rt, path).ok()?;
-    file.take(MOST_FRONT_BYTES).read_to_end(&mut text).ok()?;
+    file.take(MOST_START_BYTES).read_to_end(&mut text).ok()?;
     Some(text)
 }
 

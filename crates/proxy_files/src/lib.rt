@@ -15,7 +15,7 @@ pub use crate::command_fault::{CommandFault, fault_of, print_words, system_call_
 pub use crate::descriptors::{
     connections_within, descriptors_allowed, descriptors_open, descriptors_wanted,
 };
-pub use crate::files::{no_table_is_cut, read_front, read_questions, read_table};
+pub use crate::files::{no_table_is_cut, read_questions, read_start, read_table};
 pub use crate::journal::{Journal, Target, log_file};
 pub use crate::kept_store::KeptStore;
 pub use crate::memory::{megabytes, memory_allowed, most_held, most_stored, print_store};

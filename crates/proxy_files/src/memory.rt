@@ -2,7 +2,7 @@
 ghost use Rattle.std.specs.Prelude.{◌≡◌};
 ghost use Rattle.proxy_files.specs.Memory.{most_stored, most_held, megabytes};
 
-use crate::files::read_front;
+use crate::files::read_start;
 use hx_allow::Config;
 use std::alloc::AllocError;
 use std::rt::Files;
@@ -45,12 +45,11 @@ pub fn most_stored(config: &Config) -> u64
 }
 
 /// Bytes that are held beside the store, at most: what is in progress, whose room is up to twice its size, and
-/// connections. Where a log is kept what is in progress counts twice, as when a log held uploads too.
-pub fn most_held(content: usize, has_log: bool, connections: usize) -> u64
-    ensures { result ≡ most_held content has_log connections }
+/// connections.
+pub fn most_held(content: usize, connections: usize) -> u64
+    ensures { result ≡ most_held content connections }
 {
-    let times = if has_log { 4 } else { 2 };
-    let contents = (content as u64).saturating_mul(times);
+    let contents = (content as u64).saturating_mul(2);
     contents.saturating_add((connections as u64).saturating_mul(CONNECTION))
 }
 
@@ -80,14 +79,14 @@ impl Allowed {
 
 /// The number that stands alone in a file. A cgroup without a bound has a word there.
 fn number_in<R: Files + AllocGlobal>(rt: &R, path: &str) -> Option<u64> {
-    let text = read_front(rt, path)?;
+    let text = read_start(rt, path)?;
     let text = str::from_utf8(text.as_slice()).ok()?;
     text.trim().parse::<u64>().ok()
 }
 
 /// The memory of the machine, in bytes.
 fn machine_memory<R: Files + AllocGlobal>(rt: &R) -> Option<u64> {
-    let text = read_front(rt, "/proc/meminfo")?;
+    let text = read_start(rt, "/proc/meminfo")?;
     let text = str::from_utf8(text.as_slice()).ok()?;
     for line in text.lines() {
         if let Some(rest) = line.strip_prefix("MemTotal:") {
@@ -160,7 +159,7 @@ fn bound_of_cgroups<R: Files + AllocGlobal>(
 
 /// The least bound of the cgroups of this process.
 fn cgroup_memory<R: Files + AllocGlobal>(rt: &R) -> Option<u64> {
-    let text = read_front(rt, "/proc/self/cgroup")?;
+    let text = read_start(rt, "/proc/self/cgroup")?;
     let text = str::from_utf8(text.as_slice()).ok()?;
     let mut found = None;
     for line in text.lines() {

@@ -1,7 +1,7 @@
 //! The file of figures, which is written once a second: whole under another name, and then renamed, so that nobody
 //! reads a part of one.
 
-use crate::files::read_front;
+use crate::files::read_start;
 use std::alloc::AllocError;
 use std::fs::OpenOptions;
 use std::io::Write;
@@ -45,7 +45,7 @@ pub fn warn_of_other_writer<R: Files + Clock + Eprint + AllocGlobal>(
     let (Some(path), Ok(now)) = (path, rt.since_1970()) else {
         return;
     };
-    let (Some(front), Ok(own)) = (read_front(rt, path), address.to_string(rt.alloc())) else {
+    let (Some(front), Ok(own)) = (read_start(rt, path), address.to_string(rt.alloc())) else {
         return;
     };
     let page = str::from_utf8(front.as_slice()).unwrap_or("");

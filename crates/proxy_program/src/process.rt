@@ -1,7 +1,7 @@
 //! What the system tells of the process itself (proc(5)): its memory, its time on the processor, its descriptors.
 ghost use Rattle.std.specs.Prelude.{◌≡◌, ◌*◌, ◌^◌, ◌-◌, min};
 
-use proxy_files::{descriptors_open, read_front};
+use proxy_files::{descriptors_open, read_start};
 use proxy_server::ProcessFigures;
 use std::rt::Files;
 use std::str;
@@ -29,7 +29,7 @@ fn stat_number(stat: &str, place: usize) -> Option<u64> {
 }
 
 /// The number behind a name at the front of a line.
-fn number_behind(text: &str, name: &str) -> Option<u64> {
+fn number_after(text: &str, name: &str) -> Option<u64> {
     for line in text.lines() {
         if let Some(rest) = line.strip_prefix(name) {
             return rest.split_whitespace().next()?.parse::<u64>().ok();
@@ -39,8 +39,8 @@ fn number_behind(text: &str, name: &str) -> Option<u64> {
 }
 
 /// Bytes of a line that has so many kilobytes.
-fn kilobytes_behind(text: &str, name: &str) -> Option<u64> {
-    Some(number_behind(text, name)?.saturating_mul(1024))
+fn kilobytes_after(text: &str, name: &str) -> Option<u64> {
+    Some(number_after(text, name)?.saturating_mul(1024))
 }
 
 /// Milliseconds on the processor.
@@ -55,8 +55,8 @@ fn figures_of(stat: &str, status: &str) -> ProcessFigures {
     ProcessFigures {
         processor_milliseconds: processor_milliseconds(stat),
         began: None,
-        virtual_bytes: kilobytes_behind(status, "VmSize:"),
-        resident_bytes: kilobytes_behind(status, "VmRSS:"),
+        virtual_bytes: kilobytes_after(status, "VmSize:"),
+        resident_bytes: kilobytes_after(status, "VmRSS:"),
         open_descriptors: None,
         most_descriptors: None,
     }
@@ -84,8 +84,8 @@ fn start_of(stat: &str, uptime: &str, now: u64) -> Option<u64> {
 
 /// When the process began, where the system tells, as now is this moment; both in milliseconds since 1970.
 pub(crate) fn process_start<R: Files + AllocGlobal>(rt: &R, now: u64) -> Option<u64> {
-    let stat = read_front(rt, "/proc/self/stat")?;
-    let uptime = read_front(rt, "/proc/uptime")?;
+    let stat = read_start(rt, "/proc/self/stat")?;
+    let uptime = read_start(rt, "/proc/uptime")?;
     let stat = str::from_utf8(stat.as_slice()).ok()?;
     start_of(stat, str::from_utf8(uptime.as_slice()).ok()?, now)
 }
@@ -104,8 +104,8 @@ pub(crate) fn process_figures<R: Files + AllocGlobal>(
     began: Option<u64>,
     most_descriptors: Option<u64>,
 ) -> ProcessFigures {
-    let stat = read_front(rt, "/proc/self/stat");
-    let status = read_front(rt, "/proc/self/status");
+    let stat = read_start(rt, "/proc/self/stat");
+    let status = read_start(rt, "/proc/self/status");
     let mut figures = figures_of(text_of(&stat), text_of(&status));
     figures.began = began;
     figures.open_descriptors = descriptors_open(rt);

@@ -152,7 +152,7 @@ fn warn_of_loops<R: Eprint>(rt: &R, config: &Config, address: SocketAddr) {
     }
 }
 
-/// Serves as many turns as are asked for, or until it is to end. Lines about replies are written behind each turn.
+/// Serves as many turns as are asked for, or until it is to end. Lines about replies are written after each turn.
 fn serve_turns<'a, R, S: Shelf + Drop, P: Write + Drop>(
     rt: &R,
     turns: u64,
@@ -435,7 +435,7 @@ fn keep_store<'a, R: Net + Files + Eprint + AllocGlobal, S: Shelf + Drop>(
         let _ = eprintln!(rt; "warning: the store isn't kept: {open} requests were still open");
         return Ok(());
     }
-    let (mut shelf, next) = server.into_store();
+    let (mut shelf, next) = server.into_shelf_and_serial();
     if let Some(next) = next {
         kept.write(rt, &mut shelf, next)?;
     }
@@ -470,7 +470,7 @@ fn open_doors<'n, R: Net + Files + Eprint + AllocGlobal, S: Shelf + Drop>(
     figures: &Option<Figures<'_>>,
 ) {
     if let Some(figures) = figures {
-        // Where they can't be written, as on a full disk, that is told behind the first turn.
+        // Where they can't be written, as on a full disk, that is told after the first turn.
         let _ = figures.write(rt, server, 0);
     }
     announce_memory(rt, start.stored, start.held);
@@ -538,7 +538,7 @@ pub(crate) fn serve<R: Net + Clock + Files + Print + Eprint + AllocGlobal + Rand
     let start = Start {
         address: sockets.address(),
         stored: most_stored(&config),
-        held: most_held(limits.content, service.log.is_some(), limits.connections),
+        held: most_held(limits.content, limits.connections),
         allows,
         record: name,
     };

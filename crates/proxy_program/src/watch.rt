@@ -55,7 +55,7 @@ impl<'a> Watch<'a> {
     }
 
     /// Whether the file is there that has the server end.
-    fn is_to_end<R: Files>(&self, rt: &R) -> bool {
+    fn drain_file_exists<R: Files>(&self, rt: &R) -> bool {
         match self.drain {
             Some(path) => match fs::exists(rt, path) {
                 Ok(there) => there,
@@ -88,7 +88,7 @@ impl<'a> Watch<'a> {
         }
     }
 
-    /// Looks behind a turn.
+    /// Looks after a turn, once a second, whether the server is to end, and at the file of the log.
     pub(crate) fn look<'s, R: Net + Files + Clock + Eprint, S: Shelf + Drop, P: Write + Drop>(
         &mut self,
         rt: &R,
@@ -112,7 +112,7 @@ impl<'a> Watch<'a> {
                 tell_of_other_lines(rt, path);
             }
         }
-        if self.ends.is_none() && self.is_to_end(rt) {
+        if self.ends.is_none() && self.drain_file_exists(rt) {
             self.is_early = is_first;
             self.ends = Some(now.saturating_add(self.drain_timeout));
             server.drain();
