@@ -117,13 +117,13 @@ fn push_field_line(text: &mut String, line: &Field) -> Result<(), AllocError> {
     if !text.is_empty() {
         text.push_str(" | ")?;
     }
-    push_shown(text, line.name.as_slice())?;
+    push_shown(text, line.name())?;
     text.push(':')?;
-    if line.value.is_empty() {
+    if line.value().is_empty() {
         return Ok(());
     }
     text.push(' ')?;
-    push_shown(text, line.value.as_slice())
+    push_shown(text, line.value())
 }
 
 /// Writes the field lines into an empty text, with a bar between them.

@@ -258,9 +258,9 @@ pub fn write_responses(text: &mut String, to_head: bool, stream: &[u8]) -> Resul
 fn write_lines(text: &mut String, lines: &[Field]) -> Result<(), AllocError> {
     text.push_str(" {")?;
     for line in lines {
-        push_shown(text, line.name.as_slice())?;
+        push_shown(text, line.name())?;
         text.push_str(": ")?;
-        push_shown(text, line.value.as_slice())?;
+        push_shown(text, line.value())?;
         text.push(';')?;
     }
     text.push('}')

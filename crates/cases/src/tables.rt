@@ -89,7 +89,7 @@ fn write_read(text: &mut String, config: &Config) -> Result<(), AllocError> {
 }
 
 /// Whether bytes are a table.
-fn print_line(text: &mut String, table: &[u8]) -> Result<(), AllocError> {
+fn write_whether_table(text: &mut String, table: &[u8]) -> Result<(), AllocError> {
     match Config::read(*text.allocator(), table) {
         Ok(config) => write_read(text, &config),
         Err(fault) => write_fault(text, &fault),
@@ -110,7 +110,7 @@ pub fn text_of(alloc: Global, lines: &[Line<'_>]) -> Result<Vec<u8>, Fault> {
 pub fn tables(text: &mut String, front: &[Line<'_>], case: &Case<'_>) -> Result<(), Fault> {
     let lines = lines_of(*text.allocator(), front, case)?;
     let table = text_of(*text.allocator(), lines.as_slice())?;
-    Ok(print_line(text, table.as_slice())?)
+    Ok(write_whether_table(text, table.as_slice())?)
 }
 
 /// The text of bytes in UTF-8.
@@ -147,7 +147,7 @@ fn write_changed(
     let part = as_text(line, part)?;
     let new = as_text(line, new)?;
     let changed = table_with_replaced(*text.allocator(), line, table, part, new)?;
-    Ok(print_line(text, changed.as_bytes())?)
+    Ok(write_whether_table(text, changed.as_bytes())?)
 }
 
 /// Whether the front is a table with a new text in place of a part: `PART => NEW`.

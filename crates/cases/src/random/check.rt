@@ -24,7 +24,7 @@ use super::fields::{id_of, id_of_request, last_value};
 use super::log::{Log, Occurred, Step};
 use super::past_store::{claims_past_store, shows_past_store};
 use super::replies::{
-    Reason, Source, has_successful_status, has_target, is_bad_answer, read_reply, reason_shown,
+    Reason, Source, has_status_without_error, has_target, is_bad_answer, read_reply, reason_shown,
     seconds_left,
 };
 use super::requests::{Asked, has_clients_condition};
@@ -665,7 +665,7 @@ impl<'a> Check<'a> {
             let until = self.now.saturating_add(seconds);
             self.fresh.push((*asked, until)).map_err(AllocError::from)?;
         }
-        if matches!(source, Source::Origin) && asked.is_unsafe() && has_successful_status(head) {
+        if matches!(source, Source::Origin) && asked.is_unsafe() && has_status_without_error(head) {
             self.forget_stored_target(asked);
         }
         // A 304 that nobody asked for takes away what is stored, too; an answer that can't be read doesn't.

@@ -8,7 +8,7 @@ use bstr::ByteSlice;
 use std::alloc::{AllocError, Global};
 
 /// Whether the head of an answer has a status from 200 to 399.
-pub fn has_successful_status(head: &[u8]) -> bool {
+pub fn has_status_without_error(head: &[u8]) -> bool {
     head.starts_with(b"HTTP/1.1 2") || head.starts_with(b"HTTP/1.1 3")
 }
 

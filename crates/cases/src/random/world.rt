@@ -235,7 +235,7 @@ fn happening_at_an_ended_end(
 
 /// The file of the store of a process that ends.
 fn written(alloc: Global, engine: Engine<ListShelf>) -> Result<Vec<u8>, Stopped> {
-    let (mut shelf, next) = engine.into_store();
+    let (mut shelf, next) = engine.into_shelf_and_serial();
     let Some(next) = next else {
         return Err(Stopped::NoRestart);
     };

@@ -5,7 +5,7 @@ use super::stop::Stop;
 use hx_allow::{Config, ConfigFault};
 use hx_store::IndexedShelf;
 use proxy_engine::{Engine, EngineFault, Work};
-use proxy_script::{Effect, FrontItem, Happening, Item, effects_text, read_item};
+use proxy_script::{Effect, Happening, Item, LeadingItem, effects_text, read_item};
 use std::alloc::Global;
 use std::io;
 use std::io::{Read, Write};
@@ -148,7 +148,7 @@ fn play<R: Print + AllocGlobal>(rt: &R, proxy: &mut Proxy, items: &[u8]) -> Resu
     let mut rest = items;
     // Each item has a byte at least.
     for _ in 0..items.len() {
-        let FrontItem::Found(item, more) = read_item(false, rest) else {
+        let LeadingItem::Found(item, more) = read_item(false, rest) else {
             break;
         };
         match item {
@@ -172,7 +172,7 @@ fn play<R: Print + AllocGlobal>(rt: &R, proxy: &mut Proxy, items: &[u8]) -> Resu
 pub fn run<R: Input + Print + AllocGlobal>(rt: &R) -> Result<(), Stop> {
     let script = script(rt)?;
     match read_item(true, script.as_slice()) {
-        FrontItem::Found(Item::Config(table), items) => {
+        LeadingItem::Found(Item::Config(table), items) => {
             let mut proxy = proxy(rt.alloc(), table)?;
             play(rt, &mut proxy, items)
         }

@@ -165,9 +165,7 @@ pub(super) fn read(
 fn have_same_lines(one: &Fields, other: &Fields) -> bool {
     let (one, other) = (one.as_slice(), other.as_slice());
     one.len() == other.len()
-        && one.iter().zip(other).all(|(a, b)| {
-            a.name.as_slice() == b.name.as_slice() && a.value.as_slice() == b.value.as_slice()
-        })
+        && one.iter().zip(other).all(|(a, b)| { a.name() == b.name() && a.value() == b.value() })
 }
 
 /// An entry nominates the language that was given.
