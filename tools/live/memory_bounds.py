@@ -93,7 +93,6 @@ def a_server_tells_what_its_bounds_come_to(stage):
     expect("in front of its address", [told], small.told)
     expect("an answer", 200, small.client().ask("/a").status)
     logging = stage.proxy(options=["--content-limit", "1000000", "--connections", "10", "--log", f"{stage.room.name}/log"], records=False)
-    told = "at most 16 MB are held: 12 of stored responses, 5 of what is in progress and connections"
     expect("in front of its address, with a log", [told], logging.told)
     large = stage.proxy(options=["--content-limit", "1099511627776"], capacity=65536, max_stored=1000000, records=False)
     count, owner = allowed()
