@@ -9,6 +9,7 @@ mod command_line;
 mod commit;
 mod fault;
 mod figures;
+mod heap;
 mod process;
 mod program;
 mod serving;

@@ -7,6 +7,7 @@ use crate::command_line::Service;
 use crate::commit::commit_of;
 use crate::fault::Fault;
 use crate::figures::{Figures, FixedFacts};
+use crate::heap::keep_freed_memory;
 use crate::process::process_start;
 use crate::warnings::Warnings;
 use crate::watch::{ServerState, Watch};
@@ -493,6 +494,7 @@ where
     R: Net + Clock + Files + Print + Eprint + AllocGlobal,
 {
     let mut server = server;
+    keep_freed_memory(rt.alloc());
     open_doors(rt, service, start, kept, &server, &reports.figures);
     serve_to_its_end(rt, service, &mut server, reports)?;
     keep_store(rt, kept, server)

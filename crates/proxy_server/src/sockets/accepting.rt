@@ -6,6 +6,7 @@ use mio::Poll;
 use mio::net::TcpStream;
 use proxy_ends::Holder;
 use proxy_figures::{UnansweredCause, is_out_of_descriptors};
+use proxy_listener::accept;
 use proxy_streams::{Peer, Socket};
 use std::io;
 use std::io::ErrorKind;
@@ -85,7 +86,7 @@ impl<'a, R: Net> LiveSockets<'a, R> {
     /// A stream of a connection that waits.
     fn accept_stream(&self) -> io::Result<(TcpStream, SocketAddr)> {
         match &self.listener {
-            Some(listener) if self.acceptable => listener.accept(),
+            Some(listener) if self.acceptable => accept(listener),
             _ => Err(io::Error::from(ErrorKind::WouldBlock)),
         }
     }
