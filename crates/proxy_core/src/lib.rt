@@ -2,14 +2,19 @@
 //!
 //! ```text
 //! arrive: denied -> 403 | no rule -> the stored response        no exchange opens
-//!         a rule -> FORWARDED -- answer or fail --> a reply      the id is free again
-//!         a GET, nothing held for its key, and one such is FORWARDED
-//!                -> WAITING -- the reply or end of that one --> RELEASED
-//!                           -- overdue: it waited as long as it is to --> RELEASED
-//!                           -- that one is abandoned: the first that may lead on --> RELEASED,
-//!                              and those that follow it --> WAITING, for it
-//!         RELEASED -- wake --> the stored response, or FORWARDED
-//!         abandon -> nothing                                     the id is free again
+//!         a rule applies -> FORWARDED
+//!         a GET, and one that went forward for the same reason leads -> WAITING
+//!             (the reason: nothing is held for its key or, where its line says so, what is held has expired)
+//!
+//! FORWARDED -- answer or fail --> a reply                        the id is free again
+//!           -- 304 that validates nothing held, and nothing else may be sent
+//!              --> FORWARDED, without the proxy's conditions
+//! WAITING   -- the leader was answered, or has ended --> RELEASED
+//!           -- overdue: its time to wait is over --> RELEASED
+//!           -- the leader was abandoned --> RELEASED, the first that may lead; WAITING for it, those that follow
+//! RELEASED  -- wake --> the stored response                      the id is free again
+//!                   --> FORWARDED
+//! any       -- abandon --> nothing                               the id is free again
 //! ```
 //! `specs/Outcomes.antt` says what a step gives, over the held responses and the open exchanges;
 //! `specs/State.antt` what it leaves. Nothing here reads a clock: each step is handed its moment.

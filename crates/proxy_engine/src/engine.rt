@@ -290,13 +290,6 @@ impl<S: Shelf> Engine<S> {
         self.ends.connections.next_number()
     }
 
-    /// How many connections are open: neither closed nor gone.
-    pub fn open_connections(&self) -> usize
-        ensures { (s : EngineModel) → EngineRepresents self.now s → result ≡ open_connection_count s }
-    {
-        self.ends.connections.open_count()
-    }
-
     /// Whether fewer connections than this are open. They aren't counted one by one: only those are looked at that may
     /// be gone with an open exchange.
     pub fn has_fewer_connections(&self, most: usize) -> bool

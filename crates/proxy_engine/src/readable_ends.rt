@@ -4,7 +4,7 @@ ghost use Rattle.std.specs.Prelude.{Contains, Some, is_some};
 ghost use Rattle.std.specs.Option.{option_copied};
 ghost use Rattle.std.specs.Ordering.{nat_cmp};
 ghost use Rattle.std.specs.BTreeMap.{get};
-ghost use Rattle.proxy_engine.specs.Held.{has_flag, is_kept, connection_may_send, connection_is_open, link_may_send};
+ghost use Rattle.proxy_engine.specs.Held.{has_flag, is_kept, connection_may_send, link_may_send};
 ghost use Rattle.proxy_engine.specs.Held.{link_failed};
 ghost use Rattle.proxy_engine.specs.Marked.{DiffersInRoom, RelatesAtEachPlace, NoneIsBeyond};
 ghost use Rattle.proxy_engine.specs.ReadyList.{entries_below, PlacesAscend, PlacesAreBelow};
@@ -43,19 +43,6 @@ pub(crate) fn answers(link: &Link) -> bool
     ensures { result ≡ link_may_send link.now }
 {
     link.failed.is_none() && !link.ended
-}
-
-/// How many of the connections at places below a count aren't gone.
-pub(crate) fn open_count(ends: &BTreeMap<u64, Boxed<Connection>>, count: u64) -> usize
-    ensures { result ≡ length (places_with_flag (has_flag connection_is_open) 0 (entries_below ends.now count)) }
-{
-    let mut open = 0;
-    for (i, connection) in ends {
-        if *i < count && !connection.get().gone {
-            open += 1;
-        }
-    }
-    open
 }
 
 /// How many ends are at places below a count, where none is beyond: one may be at the count, where the next will be.

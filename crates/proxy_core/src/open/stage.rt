@@ -1,4 +1,4 @@
-//! Where an open exchange stands.
+//! Where an open exchange stands. The head of `lib.rt` has a picture of how it goes from one to another.
 
 /// Whether its request is at the origin, or waits for the answer to another for its target.
 #[derive(Clone, Copy, Debug, PartialEq, Eq)]

@@ -1,4 +1,13 @@
 //! A client's stream: where it stands, what it asks for, and what a log needs of it.
+//!
+//! ```text
+//! accepted --> Open(number) -- the engine closes it: bytes are unsent --> In(Leaving) -- all are taken --+
+//!                           -- the engine closes it: all were taken -----------------------------------+ |
+//!                           -- its client is gone, its time is over, or it gives way --> dropped       | |
+//!                                                                                                      v v
+//!                              dropped <-- its end has come, or its time is over -- In(Lingering): it is shut
+//!                                                               for writing, and what comes is read and dropped
+//! ```
 ghost use Rattle.std.specs.Net.Text.{socket_text};
 ghost use Rattle.std.specs.Prelude.{◌≡◌, ◌<◌, ◌≤◌, ◌++◌, length, take, drop, false, [], Some, None, Ok, IfOk, OnOk};
 ghost use Rattle.std.specs.Prelude.{OnErr};

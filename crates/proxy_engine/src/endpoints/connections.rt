@@ -185,15 +185,6 @@ impl Connections {
         next_connection(self.ends.len())
     }
 
-    /// How many are open: neither closed nor gone.
-    pub(crate) fn open_count(&self) -> usize
-        ensures { (ss : List ConnectionModel) → RelatesLists ConnectionRepresents self.now.items ss → result
-            ≡ length (places_with_flag connection_is_open_in_model 0 ss) }
-    {
-        let open = &self.ends;
-        readable_ends::open_count(&open.ends, open.count)
-    }
-
     /// Whether fewer than this are open: of those that are kept, all but the ones that are gone, which are marked.
     pub(crate) fn are_fewer_open(&self, most: usize) -> bool
         ensures { (ss : List ConnectionModel) → RelatesLists ConnectionRepresents self.now.items ss → result

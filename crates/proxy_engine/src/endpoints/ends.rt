@@ -1,4 +1,21 @@
 //! The proxy's ends: connections of clients, and links to origins. Only those that aren't over are kept.
+//!
+//! ```text
+//! a connection:  accept --> FREE -- a request: a reply at once --> FREE
+//!                                -- a request: it goes forward --> FORWARDED(link) -- the link's answer or failure
+//!                                                                                     --> a reply, FREE
+//!                                -- a request: it waits --------> WAITING -- it is woken --> a reply, FREE
+//!                                                                                        --> FORWARDED(link)
+//! each of these: Ended      `ended`: it is served to its last whole request, then it is over
+//!                Gone       FREE: it is over at once; else `gone`: its exchange is abandoned next, then it is over
+//!                Retire     `retired`: the reply to its next request has Connection: close, then it is over
+//!                a fault in its bytes, or Connection: close: the last reply, then it is over
+//!
+//! a link:        a request goes forward --> OPEN -- its answer is whole --------> the reply, then it is dropped
+//!                                                -- `ended` before that, a fault
+//!                                                   in its bytes, or `failed` --> the exchange fails, dropped
+//!                                                -- its client is gone ---------> dropped
+//! ```
 
 use crate::endpoints::activities::Activity;
 use crate::endpoints::numbers::ConnectionPlace;
