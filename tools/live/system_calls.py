@@ -5,7 +5,7 @@ import signal
 import subprocess
 import time
 
-from live.client import PATIENCE
+from live.client import PATIENCE, request
 from live.expect import Skipped, expect, expect_answer
 from live.origin import Origin, whole
 from live.scenario import KEPT, scenario
@@ -73,3 +73,52 @@ def a_hit_takes_three_calls_of_the_system(stage):
 @scenario
 def a_miss_takes_eleven_calls_of_the_system(stage):
     expect_few(stage, "miss", [f"/{it}" for it in range(REQUESTS)])
+
+
+# So many clients that ask at once for 4 KiB each: in a turn the replies take more than the 128 KiB that the C library keeps by itself.
+BUSY, ROUNDS, BEGINNING = 64, 60, 20
+OF_MEMORY = ("brk", "mmap", "munmap", "mremap")
+
+
+def ask_together(clients):
+    """Each asks, and each is answered then."""
+    for it in clients:
+        it.send(request("/"))
+    for it in clients:
+        expect("the status of a hit", 200, it.response().status)
+
+
+@scenario
+def busy_turns_keep_the_memory_that_they_free(stage):
+    """What a turn of many replies frees the next one uses: the system isn't asked for it each time."""
+    stage.origin(Origin({"/": whole(200, KEPT, content=b"k" * 4096)}))
+    proxy = stage.proxy(records=False)
+    clients = [proxy.client() for _ in range(BUSY)]
+    expect_answer(clients[0].ask("/"), 200, "edge;fwd=uri-miss;ttl=600;stored", b"k" * 4096)
+    for _ in range(BEGINNING):
+        ask_together(clients)
+    counted = Counted(proxy.process, os.path.join(proxy.folder, "calls-busy"))
+    with counted:
+        for _ in range(ROUNDS):
+            ask_together(clients)
+    names = counted.names()
+    count = sum(names.count(it) for it in OF_MEMORY)
+    expect(f"calls for memory of {ROUNDS} rounds of {BUSY} hits, at most 6: {count}", True, count <= 6)
+
+
+OF_OPTIONS = ("ioctl", "fcntl", "setsockopt", "getsockopt", "getpeername", "getsockname")
+
+
+@scenario
+def a_client_is_accepted_by_one_call(stage):
+    """A stream comes from its listener with all its options: that it never blocks, its buffer, and that it sends at once."""
+    stage.origin(Origin({"/": whole(200, KEPT, content=b"kept")}))
+    proxy = stage.proxy(records=False)
+    expect_answer(proxy.client().ask("/"), 200, "edge;fwd=uri-miss;ttl=600;stored", b"kept")
+    counted = Counted(proxy.process, os.path.join(proxy.folder, "calls-accept"))
+    with counted:
+        for _ in range(20):
+            expect("the status of a hit", 200, proxy.client().ask("/").status)
+    names = counted.names()
+    expect("connections that were accepted", True, names.count("accept4") >= 20)
+    expect("calls for options of their streams", 0, sum(names.count(it) for it in OF_OPTIONS))
