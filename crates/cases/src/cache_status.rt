@@ -6,7 +6,7 @@ use crate::case_file::Case;
 use crate::lines::{Fault, Line};
 use crate::parts::only_line;
 use crate::text::push_shown;
-use crate::words::{fail_kind, frame_word, named, target_word};
+use crate::words::{fail_kind, frame_fault_word, named, target_fault_word};
 use hx_framing::FrameFault;
 use hx_reuse::{ErrorRule, ReuseRule};
 use hx_status::{Cause, Detail, How, Status, member, refusal};
@@ -89,7 +89,7 @@ static STORING_RULES: [(&str, StoreRule); 19] = [
 
 fn frame_fault(name: &str) -> Option<FrameFault> {
     for fault in &FRAME_FAULTS {
-        if frame_word(*fault) == name {
+        if frame_fault_word(*fault) == name {
             return Some(*fault);
         }
     }
@@ -98,7 +98,7 @@ fn frame_fault(name: &str) -> Option<FrameFault> {
 
 fn target_fault(name: &str) -> Option<TargetFault> {
     for fault in &TARGET_FAULTS {
-        if target_word(*fault) == name {
+        if target_fault_word(*fault) == name {
             return Some(*fault);
         }
     }

@@ -12,7 +12,7 @@ use hx_fields::{Bytes, END_OF_TIME};
 use hx_framing::{Response, write_request};
 use hx_hop::{Answered, Asked, Conditions, answered, forward_request, strip};
 use hx_policy::Policy;
-use hx_reuse::keeps_conditions;
+use hx_reuse::withholds_conditions;
 use std::alloc::{AllocError, Global};
 
 /// The lines without those of one connection.
@@ -55,7 +55,7 @@ fn write_sent(
     conditions: Option<&Conditions>,
     policy: Policy,
 ) -> Result<(), AllocError> {
-    let keeps = keeps_conditions(policy, asked);
+    let keeps = withholds_conditions(policy, asked);
     let forwarded = forward_request(*text.allocator(), asked, b"edge", conditions, keeps)?;
     let sent = write_request(*text.allocator(), &forwarded)?;
     push_shown(text, sent.as_slice())

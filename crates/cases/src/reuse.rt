@@ -45,7 +45,7 @@ pub fn before_purge(text: &str) -> Option<(&str, Option<u64>)> {
 /// The times of a response that a purge expired at a moment, if any did.
 pub fn purged(times: Times, purged_at: Option<u64>) -> Times {
     match purged_at {
-        Some(moment) => times.expired_at(moment),
+        Some(moment) => times.times_once_purged_at(moment),
         None => times,
     }
 }

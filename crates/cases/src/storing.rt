@@ -10,7 +10,7 @@ use hx_directives::Directives;
 use hx_fields::Fields;
 use hx_hop::{Answered, Asked};
 use hx_policy::Policy;
-use hx_reuse::lifetime_under;
+use hx_reuse::lifetime_under_policy;
 use hx_storable::{StoreRule, StoringFacts, first_rule_against};
 use hx_validate::has_validator;
 use hx_vary::{Nominated, Nomination};
@@ -27,7 +27,7 @@ pub fn answered_of(alloc: Global, part: &Part<'_>) -> Result<Answered, Fault> {
     })
 }
 
-fn is_star(alloc: Global, asked: &Asked, fields: &Fields) -> Result<bool, AllocError> {
+fn vary_is_star(alloc: Global, asked: &Asked, fields: &Fields) -> Result<bool, AllocError> {
     match Nominated::of(alloc, fields, &asked.fields)? {
         Nomination::Star => Ok(true),
         Nomination::Names(_) => Ok(false),
@@ -38,7 +38,7 @@ fn is_star(alloc: Global, asked: &Asked, fields: &Fields) -> Result<bool, AllocE
 fn facts_of(alloc: Global, asked: &Asked, fields: &Fields) -> Result<StoringFacts, AllocError> {
     Ok(StoringFacts {
         policy: Policy::plain(true),
-        vary_star: is_star(alloc, asked, fields)?,
+        vary_star: vary_is_star(alloc, asked, fields)?,
         listed: false,
         explicit: false,
         validator: has_validator(fields),
@@ -79,7 +79,12 @@ fn rule_against(
     for part in known {
         facts = with_part(facts, part)?;
     }
-    let lifetime = lifetime_under(facts.policy, answered.status, &answered.fields, &directives);
+    let lifetime = lifetime_under_policy(
+        facts.policy,
+        answered.status,
+        &answered.fields,
+        &directives,
+    );
     facts.explicit = lifetime.explicit;
     Ok(first_rule_against(asked, &asked_directives, answered, &directives, facts))
 }

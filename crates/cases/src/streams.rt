@@ -6,7 +6,7 @@
 //! and isn't written again.
 
 use crate::text::push_shown;
-use crate::words::{frame_word, push_shown_in_brackets};
+use crate::words::{frame_fault_word, push_shown_in_brackets};
 use hx_fields::{Bytes, Field};
 use hx_framing::{FrameFault, Next, Request, RequestReader, Response, ResponseReader};
 use std::alloc::{AllocError, Global};
@@ -112,7 +112,7 @@ fn write_then(text: &mut String, word: &str, turn: Turn) -> Result<Turn, AllocEr
 
 fn write_fault(text: &mut String, fault: FrameFault) -> Result<Turn, AllocError> {
     write_word(text, "refused")?;
-    write_then(text, frame_word(fault), Turn::Stop)
+    write_then(text, frame_fault_word(fault), Turn::Stop)
 }
 
 fn write_word(text: &mut String, word: &str) -> Result<(), AllocError> {

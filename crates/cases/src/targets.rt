@@ -6,7 +6,7 @@ use crate::case_file::Case;
 use crate::lines::{Fault, Line, bytes_spelled};
 use crate::parts::{only_line, write_word_answer};
 use crate::text::push_shown;
-use crate::words::target_word;
+use crate::words::target_fault_word;
 use hx_fields::{Bytes, Fields};
 use hx_target::{
     Target, TargetFault, has_bad_escape, has_dot_segment, names_a_dot_segment, read_target,
@@ -37,7 +37,7 @@ fn write_target(text: &mut String, target: &Target) -> Result<(), AllocError> {
 /// A refused target as an answer.
 pub fn write_refused(text: &mut String, fault: TargetFault) -> Result<(), AllocError> {
     text.push_str("refused ")?;
-    text.push_str(target_word(fault))
+    text.push_str(target_fault_word(fault))
 }
 
 /// What is read of a target.

@@ -10,8 +10,8 @@ use hx_fields::{Bytes, Fields};
 use hx_hop::{Answered, Conditions};
 use hx_store::Entry;
 use hx_validate::{
-    answer_not_modified, answers, client_has_answer, client_wants_304, conditions, freshened,
-    has_validator, not_modified,
+    answer_not_modified, answers, client_wants_304, client_wants_304_for_answer, conditions,
+    freshened, has_validator, not_modified,
 };
 use hx_vary::FieldNames;
 use std::alloc::{AllocError, Global};
@@ -140,7 +140,7 @@ pub fn client_conditions(
     };
     let asked = asked_by(*text.allocator(), request)?;
     let is_304 = match status_of_answer(stored) {
-        Some(status) => client_has_answer(&asked, status, &stored.fields),
+        Some(status) => client_wants_304_for_answer(&asked, status, &stored.fields),
         None => {
             let entry = stored_of(*text.allocator(), stored)?;
             client_wants_304(&asked, &entry)

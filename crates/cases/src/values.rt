@@ -7,7 +7,7 @@ use crate::requests::asked_of;
 use hx_directives::capped_seconds;
 use hx_fields::{Fields, is_token};
 use hx_hop::lists_cache_field;
-use hx_target::{is_host, short_number};
+use hx_target::{is_host, number_of_few_digits};
 use hx_validate::{strong_eq, weak_eq};
 use std::alloc::{AllocError, Global};
 
@@ -80,7 +80,7 @@ fn write_value(
         "a token?" => write_word_answer(text, either(is_token(value), "yes", "no")),
         "a host?" => write_word_answer(text, either(is_host(value), "yes", "no")),
         "seconds" => number(text, capped_seconds(value)),
-        "a short number" => number(text, short_number(value)),
+        "a short number" => number(text, number_of_few_digits(value)),
         "two entity tags" => tags(text, line),
         "what Connection names" => naming(text, value),
         "Connection of HTTP/1.0" => closing(text, line, "GET / HTTP/1.0", value),

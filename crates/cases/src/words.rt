@@ -17,7 +17,7 @@ pub fn named<T: Copy>(table: &[(&str, T)], name: &str) -> Option<T> {
 }
 
 /// The name of a fault of a stream.
-pub fn frame_word(fault: FrameFault) -> &'static str {
+pub fn frame_fault_word(fault: FrameFault) -> &'static str {
     match fault {
         FrameFault::Head => "head",
         FrameFault::Version => "version",
@@ -33,7 +33,7 @@ pub fn frame_word(fault: FrameFault) -> &'static str {
 }
 
 /// The name of a fault of a target.
-pub fn target_word(fault: TargetFault) -> &'static str {
+pub fn target_fault_word(fault: TargetFault) -> &'static str {
     match fault {
         TargetFault::Form => "form",
         TargetFault::Scheme => "scheme",

@@ -15,8 +15,8 @@ age_value_of fields =
     unwrap_or (option_map capped (option_and_then seconds_of (slice_get (members_of fields (codes "Age")) 0))) 0
 
 -- the moments of a message; without one valid Date, its date is 0
-abbrev pub times_of : List Field → ℕ → ℕ → Times
-times_of fields request_time response_time =
+abbrev pub times_of_message : List Field → ℕ → ℕ → Times
+times_of_message fields request_time response_time =
     record {
       date = unwrap_or (date_of fields) 0;
       age_value = age_value_of fields;
@@ -27,8 +27,8 @@ times_of fields request_time response_time =
 
 -- The same once a purge ended its lifetime at a moment. A response ends but once: an earlier purge counts.
 -- own: "A purge that expires"
-abbrev pub expired_times : Times → ℕ → Times
-expired_times times now = record times { expired = Some (unwrap_or times.expired now) }
+abbrev pub times_once_purged : Times → ℕ → Times
+times_once_purged times now = record times { expired = Some (unwrap_or times.expired now) }
 
 -- apparent_age = max(0, response_time - date_value)
 abbrev pub apparent_age : Times → ℕ
@@ -43,14 +43,14 @@ abbrev pub age_of : Times → ℕ → ℕ
 age_of times now = capped (max (apparent_age times) (corrected_age_value times) + (now - times.response_time))
 
 -- a lifetime that ends by this moment at the latest: with the age that the response has then
-abbrev pub lifetime_until : Option ℕ → Times → Lifetime → Lifetime
-lifetime_until None times lifetime = lifetime
-lifetime_until (Some moment) times lifetime =
+abbrev pub lifetime_ended_at : Option ℕ → Times → Lifetime → Lifetime
+lifetime_ended_at None times lifetime = lifetime
+lifetime_ended_at (Some moment) times lifetime =
     record { explicit = lifetime.explicit; seconds = min lifetime.seconds (age_of times moment) }
 
 -- what a purge leaves of a lifetime
-abbrev pub lifetime_until_expired : Times → Lifetime → Lifetime
-lifetime_until_expired times lifetime = lifetime_until times.expired times lifetime
+abbrev pub lifetime_ended_by_purge : Times → Lifetime → Lifetime
+lifetime_ended_by_purge times lifetime = lifetime_ended_at times.expired times lifetime
 
 -- response_is_fresh = (freshness_lifetime > current_age)
 abbrev pub is_fresh_of : Lifetime → ℕ → Bool

@@ -16,8 +16,8 @@ fields_with_age value = line (codes "Date") (codes "Thu, 01 Jan 1970 00:00:00 GM
 abbrev pub fields_with_expires : List ℕ → List Field
 fields_with_expires value = line (codes "Date") (codes "Thu, 01 Jan 1970 00:01:41 GMT") ∷ line (codes "Expires") value ∷ []
 
-abbrev pub times_at : ℕ → ℕ → ℕ → ℕ → Times
-times_at date age_value request_time response_time =
+abbrev pub times_from_parts : ℕ → ℕ → ℕ → ℕ → Times
+times_from_parts date age_value request_time response_time =
     record {
       date = date;
       age_value = age_value;
@@ -28,7 +28,7 @@ times_at date age_value request_time response_time =
 
 -- received at 100 as it was made, and expired by a purge at this moment
 abbrev pub purged_at : ℕ → Times
-purged_at moment = record (times_at 100 0 100 100) { expired = Some moment }
+purged_at moment = record (times_from_parts 100 0 100 100) { expired = Some moment }
 
 -- a message with two lines of Date, both of the beginning of 1970
 abbrev pub fields_with_two_dates : List Field

@@ -3,9 +3,9 @@
 ghost use Rattle.std.specs.Prelude.{◌≡◌};
 ghost use Rattle.hx_directives.specs.Seconds.{capped};
 ghost use Rattle.hx_directives.specs.Occurrences.{occurrences_of};
-ghost use Rattle.hx_age.specs.Lifetime.{explicit_lifetime, stated_seconds, until_expires, lifetime_of};
+ghost use Rattle.hx_age.specs.Lifetime.{explicit_lifetime, seconds_or_zero, seconds_from_date_to_expires, lifetime_of};
 
-use crate::dates::single_date;
+use crate::dates::single_valid_date;
 use hx_directives::{Directive, Directives, MOST_SECONDS, Seconds};
 use hx_fields::Fields;
 
@@ -25,11 +25,11 @@ impl Lifetime {
         ensures { result ≡ lifetime_of fields.now }
     {
         if directives.has(Directive::SMaxage) {
-            Lifetime::explicit_of(stated_seconds(directives.seconds(Directive::SMaxage)))
+            Lifetime::explicit_of(seconds_or_zero(directives.seconds(Directive::SMaxage)))
         } else if directives.has(Directive::MaxAge) {
-            Lifetime::explicit_of(stated_seconds(directives.seconds(Directive::MaxAge)))
+            Lifetime::explicit_of(seconds_or_zero(directives.seconds(Directive::MaxAge)))
         } else if fields.has(b"Expires") {
-            Lifetime::explicit_of(until_expires(fields))
+            Lifetime::explicit_of(seconds_from_date_to_expires(fields))
         } else {
             Lifetime {
                 explicit: false,
@@ -49,8 +49,8 @@ impl Lifetime {
 }
 
 /// Seconds that can't be read, or stand twice, are 0.
-fn stated_seconds(seconds: Seconds) -> u64
-    ensures { result ≡ stated_seconds seconds }
+fn seconds_or_zero(seconds: Seconds) -> u64
+    ensures { result ≡ seconds_or_zero seconds }
 {
     match seconds {
         Seconds::Value(n) => u64::from(n),
@@ -58,11 +58,11 @@ fn stated_seconds(seconds: Seconds) -> u64
     }
 }
 
-fn until_expires(fields: &Fields) -> u64
-    ensures { result ≡ until_expires fields.now }
+fn seconds_from_date_to_expires(fields: &Fields) -> u64
+    ensures { result ≡ seconds_from_date_to_expires fields.now }
 {
-    let expires = single_date(fields, b"Expires").unwrap_or(0);
-    let date = single_date(fields, b"Date").unwrap_or(0);
+    let expires = single_valid_date(fields, b"Expires").unwrap_or(0);
+    let date = single_valid_date(fields, b"Date").unwrap_or(0);
     expires.saturating_sub(date)
 }
 

@@ -1,9 +1,9 @@
 //! The moments from which an age is counted.
 
 ghost use Rattle.std.specs.Prelude.{◌≡◌};
-ghost use Rattle.hx_age.specs.Age.{age_value_of, expired_times, times_of};
+ghost use Rattle.hx_age.specs.Age.{age_value_of, times_once_purged, times_of_message};
 
-use crate::dates::single_date;
+use crate::dates::single_valid_date;
 use hx_directives::capped_seconds;
 use hx_fields::Fields;
 
@@ -25,10 +25,10 @@ pub struct Times {
 impl Times {
     /// The times of a response, which the caller has given a valid Date.
     pub fn of(fields: &Fields, request_time: u64, response_time: u64) -> Times
-        ensures { result ≡ times_of fields.now request_time response_time }
+        ensures { result ≡ times_of_message fields.now request_time response_time }
     {
         Times {
-            date: single_date(fields, b"Date").unwrap_or(0),
+            date: single_valid_date(fields, b"Date").unwrap_or(0),
             age_value: age_value(fields),
             request_time,
             response_time,
@@ -38,8 +38,8 @@ impl Times {
 
     /// The times of the same response, once a purge ended its lifetime at a moment. Where an earlier purge did, that
     /// one counts.
-    pub fn expired_at(self, now: u64) -> Times
-        ensures { result ≡ expired_times self now }
+    pub fn times_once_purged_at(self, now: u64) -> Times
+        ensures { result ≡ times_once_purged self now }
     {
         Times {
             expired: Some(self.expired.unwrap_or(now)),

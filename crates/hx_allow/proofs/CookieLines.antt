@@ -13,25 +13,25 @@ use Rattle.hx_fields.specs.FieldLines.{is_named, values_of}
 use Rattle.hx_fields.specs.Names.{is_blank, is_nonempty, trimmed}
 use Rattle.hx_fields.specs.Tokens.{is_token_byte, is_token}
 use Rattle.hx_target.specs.declared.targets.Target.{Target}
-use Rattle.hx_allow.specs.Cookies.{semicolon, equals_sign, cookie_parts, before_equals_sign, cookie_name_of, is_cookie_of, line_has_cookie_of, has_cookie_of, CookiePair, cookie_pair_text, is_cookie_pair, cookie_line_text}
-use Rattle.hx_allow.specs.Matching.{matches_line, over_line, verdict_from, verdict_of, session_cookies_of, goes_past_store, verdict_on_cookies}
+use Rattle.hx_allow.specs.Cookies.{semicolon, equals_sign, cookie_pairs_of_line, text_before_equals_sign, cookie_name_of, is_cookie_among, line_has_cookie_among, has_cookie_among, CookiePair, cookie_pair_text, is_cookie_pair, cookie_line_text}
+use Rattle.hx_allow.specs.Matching.{matches_line, route_over, verdict_from, verdict_of, session_cookies_of, has_session_cookie_of_line, verdict_after_cookie_check}
 use Rattle.hx_allow.specs.TableLines.{Line}
-use Rattle.hx_allow.specs.declared.verdicts.Route.{Route}
+use Rattle.hx_allow.specs.declared.verdicts.RequestRoute.{RequestRoute}
 use Rattle.hx_allow.specs.declared.verdicts.Verdict.{Verdict}
 use Rattle.hx_allow.specs.declared.verdicts.Verdict.TheVariants.{Allowed, DeniedBy, NoLine, Looped, Purged}
 use Rattle.hx_allow.proofs.ViaWritten.{run_len, run_taken, other_byte, all_of_kind}
 
 -- ---- no names
 
-no_part : (parts : List (List ℕ)) → list_any (is_cookie_of []) parts ≡ false
+no_part : (parts : List (List ℕ)) → list_any (is_cookie_among []) parts ≡ false
 no_part [] = refl
 no_part (part ∷ parts) = no_part parts
 
-no_line : (values : List (List ℕ)) → list_any (line_has_cookie_of []) values ≡ false
+no_line : (values : List (List ℕ)) → list_any (line_has_cookie_among []) values ≡ false
 no_line [] = refl
-no_line (value ∷ values) = rw (no_part (cookie_parts value)) (no_line values)
+no_line (value ∷ values) = rw (no_part (cookie_pairs_of_line value)) (no_line values)
 
-pub without_names : (fields : List Field) → has_cookie_of [] fields ≡ false
+pub without_names : (fields : List Field) → has_cookie_among [] fields ≡ false
 without_names fields = no_line (values_of fields (codes "Cookie"))
 
 pub none_are_empty : (names : List (List ℕ)) → (length names == 0) ≡ true → names ≡ []
@@ -39,31 +39,31 @@ none_are_empty [] e = refl
 none_are_empty (name ∷ names) e = absurd (false≢true (sym (ne_eqb (length (name ∷ names)) 0 (λ q. absurd (omega (arith, q)))) ∙ e))
 
 -- a verdict on method and target alone sends nothing past the store
-goes_over : (n : ℕ) (lines : List Line) (method : List ℕ) (target : Target) (route : Route) → verdict_from n lines method target ≡ Allowed route → route ≡ over_line route.number
+goes_over : (n : ℕ) (lines : List Line) (method : List ℕ) (target : Target) (route : RequestRoute) → verdict_from n lines method target ≡ Allowed route → route ≡ route_over route.number
 goes_over n [] method target route e = cc
 goes_over n (line ∷ lines) method target route e = by_tests (matches_line line method target) (is_some line.origin) (goes_over (n + 1) lines method target route) e
   where
-    is_over : (r : Route) → Allowed (over_line n) ≡ Allowed r → r ≡ over_line r.number
-    is_over r e = let same : over_line n ≡ r = cc in subst (λ (q : Route). q ≡ over_line q.number) same refl
+    is_over : (r : RequestRoute) → Allowed (route_over n) ≡ Allowed r → r ≡ route_over r.number
+    is_over r e = let same : route_over n ≡ r = cc in subst (λ (q : RequestRoute). q ≡ route_over q.number) same refl
 
-    by_tests : (matches allows : Bool) → (verdict_from (n + 1) lines method target ≡ Allowed route → route ≡ over_line route.number) →
-        cond matches (cond allows (Allowed (over_line n)) (DeniedBy n)) (verdict_from (n + 1) lines method target) ≡ Allowed route → route ≡ over_line route.number
+    by_tests : (matches allows : Bool) → (verdict_from (n + 1) lines method target ≡ Allowed route → route ≡ route_over route.number) →
+        cond matches (cond allows (Allowed (route_over n)) (DeniedBy n)) (verdict_from (n + 1) lines method target) ≡ Allowed route → route ≡ route_over route.number
     by_tests true true later e = is_over route e
     by_tests true false later e = cc
     by_tests false allows later e = later e
 
-pub over_its_line : (lines : List Line) (method : List ℕ) (target : Target) (route : Route) → verdict_of lines method target ≡ Allowed route → route ≡ over_line route.number
+pub over_its_line : (lines : List Line) (method : List ℕ) (target : Target) (route : RequestRoute) → verdict_of lines method target ≡ Allowed route → route ≡ route_over route.number
 unfolding verdict_of
 over_its_line lines method target route e = goes_over 1 lines method target route e
 
 -- where a line names none of the cookies of a request it goes as its method and target say
 pub none_past : (lines : List Line) (method : List ℕ) (target : Target) (fields : List Field) → ((n : ℕ) → session_cookies_of lines n ≡ []) →
-    verdict_on_cookies lines fields (verdict_of lines method target) ≡ verdict_of lines method target
+    verdict_after_cookie_check lines fields (verdict_of lines method target) ≡ verdict_of lines method target
 none_past lines method target fields none = by_verdict (verdict_of lines method target) refl
   where
-    by_verdict : (v : Verdict) → verdict_of lines method target ≡ v → verdict_on_cookies lines fields v ≡ v
+    by_verdict : (v : Verdict) → verdict_of lines method target ≡ v → verdict_after_cookie_check lines fields v ≡ v
     by_verdict (Allowed route) e =
-        let stays : goes_past_store lines route.number fields ≡ false = ap (λ names. has_cookie_of names fields) (none route.number) ∙ without_names fields in
+        let stays : has_session_cookie_of_line lines route.number fields ≡ false = ap (λ names. has_cookie_among names fields) (none route.number) ∙ without_names fields in
         ap (λ past. Allowed (record { number = route.number; past_store = past })) stays ∙ ap Allowed (sym (over_its_line lines method target route e))
     by_verdict (DeniedBy n) e = refl
     by_verdict NoLine e = refl
@@ -72,11 +72,11 @@ none_past lines method target fields none = by_verdict (verdict_of lines method 
 
 -- ---- lines count together
 
-pub lines_together : (names : List (List ℕ)) (fields more : List Field) → has_cookie_of names (fields ++ more) ≡ (has_cookie_of names fields || has_cookie_of names more)
+pub lines_together : (names : List (List ℕ)) (fields more : List Field) → has_cookie_among names (fields ++ more) ≡ (has_cookie_among names fields || has_cookie_among names more)
 lines_together names fields more =
-    ap (λ (fs : List Field). list_any (line_has_cookie_of names) (Rattle.std.specs.Prelude.map (λ (f : Field). f.value) fs)) (filter-append (is_named (codes "Cookie")) fields more)
-    ∙ ap (list_any (line_has_cookie_of names)) (map-append (λ (f : Field). f.value) (Rattle.std.specs.Prelude.filter (is_named (codes "Cookie")) fields) (Rattle.std.specs.Prelude.filter (is_named (codes "Cookie")) more))
-    ∙ list_any-append (line_has_cookie_of names) (values_of fields (codes "Cookie")) (values_of more (codes "Cookie"))
+    ap (λ (fs : List Field). list_any (line_has_cookie_among names) (Rattle.std.specs.Prelude.map (λ (f : Field). f.value) fs)) (filter-append (is_named (codes "Cookie")) fields more)
+    ∙ ap (list_any (line_has_cookie_among names)) (map-append (λ (f : Field). f.value) (Rattle.std.specs.Prelude.filter (is_named (codes "Cookie")) fields) (Rattle.std.specs.Prelude.filter (is_named (codes "Cookie")) more))
+    ∙ list_any-append (line_has_cookie_among names) (values_of fields (codes "Cookie")) (values_of more (codes "Cookie"))
 
 -- ---- a line as it is written
 
@@ -132,8 +132,8 @@ front_and_name k no_blank no_token front name blanks token =
 
 name_is_read : (front : List ℕ) (pair : CookiePair) → list_all is_blank front ≡ true → is_token pair.name ≡ true → cookie_name_of (front ++ cookie_pair_text pair) ≡ pair.name
 name_is_read front pair blanks is =
-    let before : before_equals_sign (front ++ cookie_pair_text pair) ≡ front ++ pair.name =
-    ap before_equals_sign (sym (append_assoc front pair.name (equals_sign ∷ pair.value)))
+    let before : text_before_equals_sign (front ++ cookie_pair_text pair) ≡ front ++ pair.name =
+    ap text_before_equals_sign (sym (append_assoc front pair.name (equals_sign ∷ pair.value)))
     ∙ run_taken (is_other equals_sign) (front ++ pair.name) (equals_sign ∷ pair.value) (front_and_name equals_sign refl refl front pair.name blanks (token_bytes pair.name is)) refl in
     ap trimmed before ∙ token_is_trimmed front pair.name blanks is
 
@@ -165,9 +165,9 @@ module _ (names : List (List ℕ)) where
   names_pair pair = list_any (λ name. bytes_eq name pair.name) names
 
   abbrev found : List ℕ → Bool
-  found value = list_any (is_cookie_of names) (slice_split (λ b. b == semicolon) value)
+  found value = list_any (is_cookie_among names) (slice_split (λ b. b == semicolon) value)
 
-  part_is_found : (front : List ℕ) (pair : CookiePair) → list_all is_blank front ≡ true → is_cookie_pair pair ≡ true → is_cookie_of names (front ++ cookie_pair_text pair) ≡ names_pair pair
+  part_is_found : (front : List ℕ) (pair : CookiePair) → list_all is_blank front ≡ true → is_cookie_pair pair ≡ true → is_cookie_among names (front ++ cookie_pair_text pair) ≡ names_pair pair
   part_is_found front pair blanks is =
       ap (λ own. list_any (λ name. bytes_eq name own) names) (name_is_read front pair blanks (and_parts (is_token pair.name) (list_all (is_other semicolon) pair.value) is).0)
 
@@ -175,7 +175,7 @@ module _ (names : List (List ℕ)) where
       found (front ++ cookie_line_text pair more) ≡ list_any names_pair (pair ∷ more)
   line_is_read front pair [] blanks all =
       let is = (and_parts (is_cookie_pair pair) true all).0 in
-      ap (list_any (is_cookie_of names)) (slice_split_none (λ b. b == semicolon) (front ++ cookie_pair_text pair) (part_is_whole front pair blanks is))
+      ap (list_any (is_cookie_among names)) (slice_split_none (λ b. b == semicolon) (front ++ cookie_pair_text pair) (part_is_whole front pair blanks is))
       ∙ ap (λ t. t || false) (part_is_found front pair blanks is)
   line_is_read front pair (next ∷ more) blanks all =
       let parts = and_parts (is_cookie_pair pair) (list_all is_cookie_pair (next ∷ more)) all in
@@ -183,12 +183,12 @@ module _ (names : List (List ℕ)) where
       let rest = (32 ∷ []) ++ cookie_line_text next more in
       ap found (sym (append_assoc front (cookie_pair_text pair) (semicolon ∷ rest)))
       ∙ (
-      ap (list_any (is_cookie_of names)) (slice_split_at (λ b. b == semicolon) text semicolon rest (part_is_whole front pair blanks parts.0) refl)
+      ap (list_any (is_cookie_among names)) (slice_split_at (λ b. b == semicolon) text semicolon rest (part_is_whole front pair blanks parts.0) refl)
       ∙ (
       ap (λ t. t || found rest) (part_is_found front pair blanks parts.0)
       ∙ ap (λ t. names_pair pair || t) (line_is_read (32 ∷ []) next more refl parts.1)
       )
       )
 
-  pub read_as_written : (pair : CookiePair) (more : List CookiePair) → list_all is_cookie_pair (pair ∷ more) ≡ true → line_has_cookie_of names (cookie_line_text pair more) ≡ list_any names_pair (pair ∷ more)
+  pub read_as_written : (pair : CookiePair) (more : List CookiePair) → list_all is_cookie_pair (pair ∷ more) ≡ true → line_has_cookie_among names (cookie_line_text pair more) ≡ list_any names_pair (pair ∷ more)
   read_as_written pair more all = line_is_read [] pair more refl all

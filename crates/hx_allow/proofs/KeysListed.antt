@@ -6,17 +6,17 @@ use Rattle.std.specs.List.{All, list_all, list_any}
 use Rattle.std.proofs.lemmas.Bool.{and_parts}
 use Rattle.std.proofs.lemmas.List.Elements.{All-nil, All-cons}
 use Rattle.toml.specs.Data.{Members, get_member}
-use Rattle.hx_policy.specs.Policies.{plain_with_tags}
-use Rattle.hx_allow.specs.LineTables.{is_good, first_bad_key}
-use Rattle.hx_allow.specs.LineWords.{key_has_text, word_of_error_lifetime, line_takes_words, removes_cookies, gives_lifetimes_to_set_cookie, gives_lifetimes_to_cookies, leaves_conditions_to_origin, leaves_ranges_to_origin, fills_ranges, policy_of_line_table}
-use Rattle.hx_allow.specs.Keys.{word_key}
+use Rattle.hx_policy.specs.Policies.{default_policy_with_hidden_tags}
+use Rattle.hx_allow.specs.LineTables.{line_key_has_good_value, first_bad_key}
+use Rattle.hx_allow.specs.LineWords.{key_has_text, key_word_of_error_lifetime, line_caches, removes_cookies, gives_lifetimes_to_set_cookie, gives_lifetimes_to_cookies, forwards_conditions_of_line, forwards_ranges_of_line, fills_ranges, policy_of_line_table}
+use Rattle.hx_allow.specs.Keys.{key_of_line_option}
 use Rattle.hx_allow.specs.Rows.{line_keys, word_row, has_keys_of}
-use Rattle.hx_allow.specs.Versions.{LineHasNoCachingWord}
-use Rattle.hx_allow.specs.declared.config_faults.LineWord.TheVariants.{Lifetime, ErrorLifetime, LifetimeMost, StaleIfError, SetCookie, Cookies, SessionCookies, Errors, RequestDirectives, Wait, Explain, Conditions, Loops, StaleWhileRevalidate, Vary, OriginTimeout, PurgeKey, Ranges, WaitTimeout}
+use Rattle.hx_allow.specs.Versions.{LineHasNoCachingKey}
+use Rattle.hx_allow.specs.declared.config_faults.LineOption.TheVariants.{Lifetime, ErrorLifetime, LifetimeMost, StaleIfError, SetCookie, Cookies, SessionCookies, Errors, RequestDirectives, Wait, Explain, Conditions, Loops, StaleWhileRevalidate, Vary, OriginTimeout, PurgeKey, Ranges, WaitTimeout}
 use Rattle.hx_allow.specs.declared.rows.LineKey.{LineKey}
 use Rattle.hx_allow.specs.declared.rows.LineKey.TheVariants.{Host, Methods, Path, Origin, Cache, Word}
 use Rattle.hx_allow.specs.declared.values.TableVersion.{TableVersion}
-use Rattle.hx_allow.specs.declared.rows.Place.TheVariants.{CachingLine}
+use Rattle.hx_allow.specs.declared.rows.KeyPlace.TheVariants.{CachingLine}
 use Rattle.hx_allow.specs.declared.values.TableVersion.TheVariants.{One, Two, Three, Four}
 use Rattle.hx_allow.proofs.LinesRead.{none_applies}
 
@@ -49,7 +49,7 @@ listed P all (Word WaitTimeout) = all 23 Host (omega arith)
 
 -- where no word on caching stands, the policy is that of the versions before the third, in a version before the fourth,
 -- or where the line takes none
-error_lifetime_is_of_caching : (version : TableVersion) → (word_row (word_of_error_lifetime version)).place ≡ CachingLine
+error_lifetime_is_of_caching : (version : TableVersion) → (word_row (key_word_of_error_lifetime version)).place ≡ CachingLine
 error_lifetime_is_of_caching One = refl
 error_lifetime_is_of_caching Two = refl
 error_lifetime_is_of_caching Three = refl
@@ -59,9 +59,9 @@ and_false : (b : Bool) → (b && false) ≡ false
 and_false true = refl
 and_false false = refl
 
-pub plain_policy : (version : TableVersion) (ms : Members) → LineHasNoCachingWord ms → (has_keys_of version Four && line_takes_words ms) ≡ false → policy_of_line_table version ms ≡ plain_with_tags (has_keys_of version Four) (not (key_has_text (codes "cache") (codes "off") ms))
+pub plain_policy : (version : TableVersion) (ms : Members) → LineHasNoCachingKey ms → (has_keys_of version Four && line_caches ms) ≡ false → policy_of_line_table version ms ≡ default_policy_with_hidden_tags (has_keys_of version Four) (not (key_has_text (codes "cache") (codes "off") ms))
 plain_policy version ms none older =
-    let error_lifetime : get_member (word_key (word_of_error_lifetime version)) ms ≡ None = none (word_of_error_lifetime version) (error_lifetime_is_of_caching version) in
+    let error_lifetime : get_member (key_of_line_option (key_word_of_error_lifetime version)) ms ≡ None = none (key_word_of_error_lifetime version) (error_lifetime_is_of_caching version) in
     let lifetime : get_member (codes "lifetime") ms ≡ None = none Lifetime refl in
     let lifetime_most : get_member (codes "lifetime-most") ms ≡ None = none LifetimeMost refl in
     let stale_if_error : get_member (codes "stale-if-error") ms ≡ None = none StaleIfError refl in
@@ -72,10 +72,10 @@ plain_policy version ms none older =
     let wait : get_member (codes "wait") ms ≡ None = none Wait refl in
     let explain : get_member (codes "explain") ms ≡ None = none Explain refl in
     let cookies : gives_lifetimes_to_cookies version ms ≡ true = rw older refl in
-    let conditions : leaves_conditions_to_origin version ms ≡ true = rw older refl in
+    let conditions : forwards_conditions_of_line version ms ≡ true = rw older refl in
     let removed : removes_cookies version ms ≡ false = rw set_cookie (and_false (has_keys_of version Four)) in
     let given : gives_lifetimes_to_set_cookie version ms ≡ true = rw older refl in
-    let ranges : leaves_ranges_to_origin version ms ≡ true = rw older refl in
+    let ranges : forwards_ranges_of_line version ms ≡ true = rw older refl in
     let ranges_word : get_member (codes "ranges") ms ≡ None = none Ranges refl in
     let filled : fills_ranges version ms ≡ false = rw ranges_word (and_false (has_keys_of version Four)) in
     rw filled (rw cookies (rw conditions (rw ranges (rw removed (rw given (rw error_lifetime (rw lifetime (rw lifetime_most (rw stale_if_error (rw stale_while_revalidate (rw set_cookie (rw errors (rw request_directives (rw wait (rw explain refl)))))))))))))))
@@ -110,16 +110,16 @@ module _ {A : Type 0} (p : A → Bool) where
 pub each_key : (p : LineKey → Bool) → list_all p line_keys ≡ true → (key : LineKey) → p key ≡ true
 each_key p e = listed (λ key. p key ≡ true) (all_pass p line_keys e)
 
-pub each_good : (version : TableVersion) (ms : Members) → first_bad_key version ms ≡ None → (key : LineKey) → is_good version ms key ≡ true
-each_good version ms none = listed (λ key. is_good version ms key ≡ true) (none_fails (is_good version ms) line_keys none)
+pub each_good : (version : TableVersion) (ms : Members) → first_bad_key version ms ≡ None → (key : LineKey) → line_key_has_good_value version ms key ≡ true
+each_good version ms none = listed (λ key. line_key_has_good_value version ms key ≡ true) (none_fails (line_key_has_good_value version ms) line_keys none)
 
 find_alike : (p q : LineKey → Bool) (keys : List LineKey) → ((key : LineKey) → p key ≡ q key) → find (λ key. not (p key)) keys ≡ find (λ key. not (q key)) keys
 find_alike p q [] same = refl
 find_alike p q (key ∷ keys) same = rw (same key) (rw (find_alike p q keys same) refl)
 
 -- where each key is good in both of two versions or in none, the first that isn't is one
-pub same_bad_key : (version other : TableVersion) (ms : Members) → ((key : LineKey) → is_good version ms key ≡ is_good other ms key) → first_bad_key version ms ≡ first_bad_key other ms
-same_bad_key version other ms same = find_alike (is_good version ms) (is_good other ms) line_keys same
+pub same_bad_key : (version other : TableVersion) (ms : Members) → ((key : LineKey) → line_key_has_good_value version ms key ≡ line_key_has_good_value other ms key) → first_bad_key version ms ≡ first_bad_key other ms
+same_bad_key version other ms same = find_alike (line_key_has_good_value version ms) (line_key_has_good_value other ms) line_keys same
 
 pub any_alike : (p q : LineKey → Bool) (keys : List LineKey) → ((key : LineKey) → p key ≡ q key) → list_any p keys ≡ list_any q keys
 any_alike p q [] same = refl

@@ -8,8 +8,8 @@ use Rattle.std.proofs.lemmas.List.{drop_more, drop_all, take_rest}
 use Rattle.std.proofs.lemmas.Bool.Decides.{nat_tests}
 use Rattle.std.proofs.lemmas.Slice.Eq.{bytes_eq-Decides}
 use Rattle.std.proofs.lemmas.List.Folds.{list_any-append}
-use Rattle.hx_allow.specs.Index.{hosts_above}
-use Rattle.hx_allow.specs.LineHosts.{with_byte, labels_of, ends_of, are_same_labels, is_below_host}
+use Rattle.hx_allow.specs.Index.{parent_domains_of}
+use Rattle.hx_allow.specs.LineHosts.{labels_with_first_byte, labels_of, label_suffixes_of, are_same_labels, is_below_host}
 
 -- ---- labels spell one host
 
@@ -17,7 +17,7 @@ abbrev is_filled : List (List ℕ) → Bool
 is_filled [] = false
 is_filled (label ∷ labels) = true
 
-filled_with : (b : ℕ) (labels : List (List ℕ)) → is_filled (with_byte b labels) ≡ true
+filled_with : (b : ℕ) (labels : List (List ℕ)) → is_filled (labels_with_first_byte b labels) ≡ true
 filled_with b [] = refl
 filled_with b (label ∷ labels) = refl
 
@@ -25,7 +25,7 @@ filled : (text : List ℕ) → is_filled (labels_of text) ≡ true
 filled [] = refl
 filled (b ∷ text) = by_dot (b == 46)
   where
-    by_dot : (dot : Bool) → is_filled (cond dot ([] ∷ labels_of text) (with_byte b (labels_of text))) ≡ true
+    by_dot : (dot : Bool) → is_filled (cond dot ([] ∷ labels_of text) (labels_with_first_byte b (labels_of text))) ≡ true
     by_dot true = refl
     by_dot false = filled_with b (labels_of text)
 
@@ -37,11 +37,11 @@ same_as_none : (labels : List (List ℕ)) → is_filled labels ≡ true → are_
 same_as_none [] e = absurd cc
 same_as_none (label ∷ labels) e = refl
 
-empty_in_front : (b : ℕ) (labels others : List (List ℕ)) → are_same_labels ([] ∷ others) (with_byte b labels) ≡ false
+empty_in_front : (b : ℕ) (labels others : List (List ℕ)) → are_same_labels ([] ∷ others) (labels_with_first_byte b labels) ≡ false
 empty_in_front b [] others = refl
 empty_in_front b (label ∷ labels) others = refl
 
-empty_behind : (b : ℕ) (labels others : List (List ℕ)) → are_same_labels (with_byte b labels) ([] ∷ others) ≡ false
+empty_behind : (b : ℕ) (labels others : List (List ℕ)) → are_same_labels (labels_with_first_byte b labels) ([] ∷ others) ≡ false
 empty_behind b [] others = refl
 empty_behind b (label ∷ labels) others = refl
 
@@ -50,7 +50,7 @@ and_assoc true b c = refl
 and_assoc false b c = refl
 
 both_with : (a b : ℕ) (labels others : List (List ℕ)) → is_filled labels ≡ true → is_filled others ≡ true →
-    are_same_labels (with_byte a labels) (with_byte b others) ≡ ((a == b) && are_same_labels labels others)
+    are_same_labels (labels_with_first_byte a labels) (labels_with_first_byte b others) ≡ ((a == b) && are_same_labels labels others)
 both_with a b [] others e f = absurd cc
 both_with a b (label ∷ labels) [] e f = absurd cc
 both_with a b (label ∷ labels) (other ∷ others) e f = and_assoc (a == b) (bytes_eq label other) (are_same_labels labels others)
@@ -69,18 +69,18 @@ pub same_text : (host asked : List ℕ) → are_same_labels (labels_of host) (la
 same_text [] [] = refl
 same_text [] (b ∷ asked) = by_dot (b == 46)
   where
-    by_dot : (dot : Bool) → are_same_labels ([] ∷ []) (cond dot ([] ∷ labels_of asked) (with_byte b (labels_of asked))) ≡ false
+    by_dot : (dot : Bool) → are_same_labels ([] ∷ []) (cond dot ([] ∷ labels_of asked) (labels_with_first_byte b (labels_of asked))) ≡ false
     by_dot true = none_is_same (labels_of asked) (filled asked)
     by_dot false = empty_in_front b (labels_of asked) []
 same_text (a ∷ host) [] = by_dot (a == 46)
   where
-    by_dot : (dot : Bool) → are_same_labels (cond dot ([] ∷ labels_of host) (with_byte a (labels_of host))) ([] ∷ []) ≡ false
+    by_dot : (dot : Bool) → are_same_labels (cond dot ([] ∷ labels_of host) (labels_with_first_byte a (labels_of host))) ([] ∷ []) ≡ false
     by_dot true = same_as_none (labels_of host) (filled host)
     by_dot false = empty_behind a (labels_of host) []
 same_text (a ∷ host) (b ∷ asked) = by_dots (a == 46) (b == 46) refl refl (same_text host asked)
   where
     by_dots : (s t : Bool) → (a == 46) ≡ s → (b == 46) ≡ t → are_same_labels (labels_of host) (labels_of asked) ≡ bytes_eq host asked →
-        are_same_labels (cond s ([] ∷ labels_of host) (with_byte a (labels_of host))) (cond t ([] ∷ labels_of asked) (with_byte b (labels_of asked))) ≡ ((a == b) && bytes_eq host asked)
+        are_same_labels (cond s ([] ∷ labels_of host) (labels_with_first_byte a (labels_of host))) (cond t ([] ∷ labels_of asked) (labels_with_first_byte b (labels_of asked))) ≡ ((a == b) && bytes_eq host asked)
     by_dots true true e f rest = rest ∙ sym (ap (λ t. t && bytes_eq host asked) (both_dots a b e f))
     by_dots true false e f rest = empty_in_front b (labels_of asked) (labels_of host) ∙ sym (ap (λ t. t && bytes_eq host asked) (dots_differ a b e f))
     by_dots false true e f rest = empty_behind a (labels_of host) (labels_of asked) ∙ sym (ap (λ t. t && bytes_eq host asked) (differ_from_dot a b e f))
@@ -88,33 +88,33 @@ same_text (a ∷ host) (b ∷ asked) = by_dots (a == 46) (b == 46) refl refl (sa
 
 -- ---- what a host is below stands behind its dots
 
-ends_with_byte : (b : ℕ) (labels : List (List ℕ)) → is_filled labels ≡ true → ends_of (with_byte b labels) ≡ ends_of labels
+ends_with_byte : (b : ℕ) (labels : List (List ℕ)) → is_filled labels ≡ true → label_suffixes_of (labels_with_first_byte b labels) ≡ label_suffixes_of labels
 ends_with_byte b [] e = absurd cc
 ends_with_byte b (label ∷ labels) e = refl
 
-pub below_by_dots : (host asked : List ℕ) → is_below_host host asked ≡ list_any (bytes_eq host) (hosts_above asked)
+pub below_by_dots : (host asked : List ℕ) → is_below_host host asked ≡ list_any (bytes_eq host) (parent_domains_of asked)
 below_by_dots host [] = ap (λ t. t || false) (same_as_none (labels_of host) (filled host))
 below_by_dots host (b ∷ asked) = by_dot (b == 46) (below_by_dots host asked)
   where
-    by_dot : (dot : Bool) → is_below_host host asked ≡ list_any (bytes_eq host) (hosts_above asked) →
-        list_any (are_same_labels (labels_of host)) (ends_of (cond dot ([] ∷ labels_of asked) (with_byte b (labels_of asked)))) ≡ list_any (bytes_eq host) (cond dot (asked ∷ hosts_above asked) (hosts_above asked))
+    by_dot : (dot : Bool) → is_below_host host asked ≡ list_any (bytes_eq host) (parent_domains_of asked) →
+        list_any (are_same_labels (labels_of host)) (label_suffixes_of (cond dot ([] ∷ labels_of asked) (labels_with_first_byte b (labels_of asked)))) ≡ list_any (bytes_eq host) (cond dot (asked ∷ parent_domains_of asked) (parent_domains_of asked))
     by_dot true rest = ap (λ t. t || is_below_host host asked) (same_text host asked) ∙ ap (λ t. bytes_eq host asked || t) rest
     by_dot false rest = ap (list_any (are_same_labels (labels_of host))) (ends_with_byte b (labels_of asked) (filled asked)) ∙ rest
 
 -- ---- byte by byte
 
-pub above_dot : (asked : List ℕ) (i : ℕ) → i < length asked → get_or asked i 0 ≡ 46 → hosts_above (drop i asked) ≡ drop (i + 1) asked ∷ hosts_above (drop (i + 1) asked)
+pub above_dot : (asked : List ℕ) (i : ℕ) → i < length asked → get_or asked i 0 ≡ 46 → parent_domains_of (drop i asked) ≡ drop (i + 1) asked ∷ parent_domains_of (drop (i + 1) asked)
 above_dot asked i within dot =
-    ap hosts_above (drop_more asked i 0 within)
-    ∙ ap (λ t. cond t (drop (i + 1) asked ∷ hosts_above (drop (i + 1) asked)) (hosts_above (drop (i + 1) asked))) (is_dot (get_or asked i 0) dot)
+    ap parent_domains_of (drop_more asked i 0 within)
+    ∙ ap (λ t. cond t (drop (i + 1) asked ∷ parent_domains_of (drop (i + 1) asked)) (parent_domains_of (drop (i + 1) asked))) (is_dot (get_or asked i 0) dot)
   where
     is_dot : (b : ℕ) → b ≡ 46 → (b == 46) ≡ true
     is_dot b e = grind (arith, nat_tests)
 
-pub above_other : (asked : List ℕ) (i : ℕ) → i < length asked → (get_or asked i 0 ≡ 46 → ⊥) → hosts_above (drop i asked) ≡ hosts_above (drop (i + 1) asked)
+pub above_other : (asked : List ℕ) (i : ℕ) → i < length asked → (get_or asked i 0 ≡ 46 → ⊥) → parent_domains_of (drop i asked) ≡ parent_domains_of (drop (i + 1) asked)
 above_other asked i within other =
-    ap hosts_above (drop_more asked i 0 within)
-    ∙ ap (λ t. cond t (drop (i + 1) asked ∷ hosts_above (drop (i + 1) asked)) (hosts_above (drop (i + 1) asked))) (is_other (get_or asked i 0) other)
+    ap parent_domains_of (drop_more asked i 0 within)
+    ∙ ap (λ t. cond t (drop (i + 1) asked ∷ parent_domains_of (drop (i + 1) asked)) (parent_domains_of (drop (i + 1) asked))) (is_other (get_or asked i 0) other)
   where
     is_other : (b : ℕ) → (b ≡ 46 → ⊥) → (b == 46) ≡ false
     is_other b e = by_test (b == 46) refl
@@ -128,24 +128,24 @@ same_slice host asked i = ap (λ t. bytes_eq t host) (take_rest asked (i + 1)) �
 
 -- the host stands behind the dot at a place
 pub found_at_dot : (host asked : List ℕ) (i : ℕ) (r : Bool) → i < length asked → get_or asked i 0 ≡ 46 → r ≡ bytes_eq (take (length asked - (i + 1)) (drop (i + 1) asked)) host → r ≡ true →
-    list_any (bytes_eq host) (hosts_above (drop i asked)) ≡ list_any (bytes_eq host) (hosts_above asked) → true ≡ is_below_host host asked
+    list_any (bytes_eq host) (parent_domains_of (drop i asked)) ≡ list_any (bytes_eq host) (parent_domains_of asked) → true ≡ is_below_host host asked
 found_at_dot host asked i r within dot r_is is so_far =
     let same : bytes_eq host (drop (i + 1) asked) ≡ true = sym (same_slice host asked i) ∙ sym r_is ∙ is in
-    sym (below_by_dots host asked ∙ sym so_far ∙ ap (list_any (bytes_eq host)) (above_dot asked i within dot) ∙ ap (λ t. t || list_any (bytes_eq host) (hosts_above (drop (i + 1) asked))) same)
+    sym (below_by_dots host asked ∙ sym so_far ∙ ap (list_any (bytes_eq host)) (above_dot asked i within dot) ∙ ap (λ t. t || list_any (bytes_eq host) (parent_domains_of (drop (i + 1) asked))) same)
 
 -- another host does
 pub passed_dot : (host asked : List ℕ) (i : ℕ) (r : Bool) → i < length asked → get_or asked i 0 ≡ 46 → r ≡ bytes_eq (take (length asked - (i + 1)) (drop (i + 1) asked)) host → r ≡ false →
-    list_any (bytes_eq host) (hosts_above (drop i asked)) ≡ list_any (bytes_eq host) (hosts_above asked) → list_any (bytes_eq host) (hosts_above (drop (i + 1) asked)) ≡ list_any (bytes_eq host) (hosts_above asked)
+    list_any (bytes_eq host) (parent_domains_of (drop i asked)) ≡ list_any (bytes_eq host) (parent_domains_of asked) → list_any (bytes_eq host) (parent_domains_of (drop (i + 1) asked)) ≡ list_any (bytes_eq host) (parent_domains_of asked)
 passed_dot host asked i r within dot r_is is so_far =
     let other : bytes_eq host (drop (i + 1) asked) ≡ false = sym (same_slice host asked i) ∙ sym r_is ∙ is in
-    sym (ap (list_any (bytes_eq host)) (above_dot asked i within dot) ∙ ap (λ t. t || list_any (bytes_eq host) (hosts_above (drop (i + 1) asked))) other) ∙ so_far
+    sym (ap (list_any (bytes_eq host)) (above_dot asked i within dot) ∙ ap (λ t. t || list_any (bytes_eq host) (parent_domains_of (drop (i + 1) asked))) other) ∙ so_far
 
 pub passed_other : (host asked : List ℕ) (i : ℕ) → i < length asked → (get_or asked i 0 ≡ 46 → ⊥) →
-    list_any (bytes_eq host) (hosts_above (drop i asked)) ≡ list_any (bytes_eq host) (hosts_above asked) → list_any (bytes_eq host) (hosts_above (drop (i + 1) asked)) ≡ list_any (bytes_eq host) (hosts_above asked)
+    list_any (bytes_eq host) (parent_domains_of (drop i asked)) ≡ list_any (bytes_eq host) (parent_domains_of asked) → list_any (bytes_eq host) (parent_domains_of (drop (i + 1) asked)) ≡ list_any (bytes_eq host) (parent_domains_of asked)
 passed_other host asked i within other so_far = sym (ap (list_any (bytes_eq host)) (above_other asked i within other)) ∙ so_far
 
-pub nowhere : (host asked : List ℕ) (i : ℕ) → length asked ≤ i → list_any (bytes_eq host) (hosts_above (drop i asked)) ≡ list_any (bytes_eq host) (hosts_above asked) → false ≡ is_below_host host asked
-nowhere host asked i past so_far = sym (ap (λ rest. list_any (bytes_eq host) (hosts_above rest)) (drop_all i asked past)) ∙ so_far ∙ sym (below_by_dots host asked)
+pub nowhere : (host asked : List ℕ) (i : ℕ) → length asked ≤ i → list_any (bytes_eq host) (parent_domains_of (drop i asked)) ≡ list_any (bytes_eq host) (parent_domains_of asked) → false ≡ is_below_host host asked
+nowhere host asked i past so_far = sym (ap (λ rest. list_any (bytes_eq host) (parent_domains_of rest)) (drop_all i asked past)) ∙ so_far ∙ sym (below_by_dots host asked)
 
 or_right : (a b : Bool) → b ≡ true → a || b ≡ true
 or_right true b h = refl
@@ -157,18 +157,18 @@ one_of false b h = inr h
 
 -- ---- a host below one that is below a third is below that
 
-above_of_above : (host later asked : List ℕ) → list_any (bytes_eq host) (hosts_above later) ≡ true → list_any (bytes_eq later) (hosts_above asked) ≡ true → list_any (bytes_eq host) (hosts_above asked) ≡ true
+above_of_above : (host later asked : List ℕ) → list_any (bytes_eq host) (parent_domains_of later) ≡ true → list_any (bytes_eq later) (parent_domains_of asked) ≡ true → list_any (bytes_eq host) (parent_domains_of asked) ≡ true
 above_of_above host later [] first second = absurd cc
 above_of_above host later (b ∷ asked) first second = by_dot (b == 46) second (above_of_above host later asked first)
   where
-    by_dot : (dot : Bool) → list_any (bytes_eq later) (cond dot (asked ∷ hosts_above asked) (hosts_above asked)) ≡ true →
-        (list_any (bytes_eq later) (hosts_above asked) ≡ true → list_any (bytes_eq host) (hosts_above asked) ≡ true) →
-        list_any (bytes_eq host) (cond dot (asked ∷ hosts_above asked) (hosts_above asked)) ≡ true
+    by_dot : (dot : Bool) → list_any (bytes_eq later) (cond dot (asked ∷ parent_domains_of asked) (parent_domains_of asked)) ≡ true →
+        (list_any (bytes_eq later) (parent_domains_of asked) ≡ true → list_any (bytes_eq host) (parent_domains_of asked) ≡ true) →
+        list_any (bytes_eq host) (cond dot (asked ∷ parent_domains_of asked) (parent_domains_of asked)) ≡ true
     by_dot false second on = on second
-    by_dot true second on = or_right (bytes_eq host asked) (list_any (bytes_eq host) (hosts_above asked)) (by_first (one_of (bytes_eq later asked) (list_any (bytes_eq later) (hosts_above asked)) second))
+    by_dot true second on = or_right (bytes_eq host asked) (list_any (bytes_eq host) (parent_domains_of asked)) (by_first (one_of (bytes_eq later asked) (list_any (bytes_eq later) (parent_domains_of asked)) second))
       where
-        by_first : (bytes_eq later asked ≡ true) ⊎ (list_any (bytes_eq later) (hosts_above asked) ≡ true) → list_any (bytes_eq host) (hosts_above asked) ≡ true
-        by_first (inl is) = let same : later ≡ asked = (bytes_eq-Decides later asked).0 is in subst (λ t. list_any (bytes_eq host) (hosts_above t) ≡ true) same first
+        by_first : (bytes_eq later asked ≡ true) ⊎ (list_any (bytes_eq later) (parent_domains_of asked) ≡ true) → list_any (bytes_eq host) (parent_domains_of asked) ≡ true
+        by_first (inl is) = let same : later ≡ asked = (bytes_eq-Decides later asked).0 is in subst (λ t. list_any (bytes_eq host) (parent_domains_of t) ≡ true) same first
         by_first (inr more) = on more
 
 pub below_below : (host later asked : List ℕ) → is_below_host host later ≡ true → is_below_host later asked ≡ true → is_below_host host asked ≡ true
@@ -184,19 +184,19 @@ dot_is b e = grind (arith, nat_tests)
 abbrev EndsWithDotAnd : List ℕ → List ℕ → Type 0
 EndsWithDotAnd host asked = (front : List ℕ) × (asked ≡ front ++ 46 ∷ host)
 
-dot_in_front : (host asked : List ℕ) → list_any (bytes_eq host) (hosts_above asked) ≡ true → EndsWithDotAnd host asked
+dot_in_front : (host asked : List ℕ) → list_any (bytes_eq host) (parent_domains_of asked) ≡ true → EndsWithDotAnd host asked
 dot_in_front host [] is = absurd cc
 dot_in_front host (b ∷ asked) is = by_dot (b == 46) refl is (dot_in_front host asked)
   where
     one_more : EndsWithDotAnd host asked → EndsWithDotAnd host (b ∷ asked)
     one_more (front, e) = (b ∷ front, ap (λ rest. b ∷ rest) e)
 
-    by_dot : (dot : Bool) → (b == 46) ≡ dot → list_any (bytes_eq host) (cond dot (asked ∷ hosts_above asked) (hosts_above asked)) ≡ true →
-        (list_any (bytes_eq host) (hosts_above asked) ≡ true → EndsWithDotAnd host asked) → EndsWithDotAnd host (b ∷ asked)
+    by_dot : (dot : Bool) → (b == 46) ≡ dot → list_any (bytes_eq host) (cond dot (asked ∷ parent_domains_of asked) (parent_domains_of asked)) ≡ true →
+        (list_any (bytes_eq host) (parent_domains_of asked) ≡ true → EndsWithDotAnd host asked) → EndsWithDotAnd host (b ∷ asked)
     by_dot false e is further = one_more (further is)
-    by_dot true e is further = by_first (one_of (bytes_eq host asked) (list_any (bytes_eq host) (hosts_above asked)) is)
+    by_dot true e is further = by_first (one_of (bytes_eq host asked) (list_any (bytes_eq host) (parent_domains_of asked)) is)
       where
-        by_first : (bytes_eq host asked ≡ true) ⊎ (list_any (bytes_eq host) (hosts_above asked) ≡ true) → EndsWithDotAnd host (b ∷ asked)
+        by_first : (bytes_eq host asked ≡ true) ⊎ (list_any (bytes_eq host) (parent_domains_of asked) ≡ true) → EndsWithDotAnd host (b ∷ asked)
         by_first (inl same) =
             let is : host ≡ asked = (bytes_eq-Decides host asked).0 same in
             let dot : b ≡ 46 = dot_is b e in
@@ -209,12 +209,12 @@ ends_with_dot_and host asked is = dot_in_front host asked (sym (below_by_dots ho
 same_itself : (host : List ℕ) → bytes_eq host host ≡ true
 same_itself host = (bytes_eq-Decides host host).1 refl
 
-behind_front : (front host : List ℕ) → list_any (bytes_eq host) (hosts_above (front ++ 46 ∷ host)) ≡ true
-behind_front [] host = ap (λ t. t || list_any (bytes_eq host) (hosts_above host)) (same_itself host)
+behind_front : (front host : List ℕ) → list_any (bytes_eq host) (parent_domains_of (front ++ 46 ∷ host)) ≡ true
+behind_front [] host = ap (λ t. t || list_any (bytes_eq host) (parent_domains_of host)) (same_itself host)
 behind_front (b ∷ front) host = by_dot (b == 46) (behind_front front host)
   where
-    by_dot : (dot : Bool) → list_any (bytes_eq host) (hosts_above (front ++ 46 ∷ host)) ≡ true → list_any (bytes_eq host) (cond dot ((front ++ 46 ∷ host) ∷ hosts_above (front ++ 46 ∷ host)) (hosts_above (front ++ 46 ∷ host))) ≡ true
-    by_dot true rest = or_right (bytes_eq host (front ++ 46 ∷ host)) (list_any (bytes_eq host) (hosts_above (front ++ 46 ∷ host))) rest
+    by_dot : (dot : Bool) → list_any (bytes_eq host) (parent_domains_of (front ++ 46 ∷ host)) ≡ true → list_any (bytes_eq host) (cond dot ((front ++ 46 ∷ host) ∷ parent_domains_of (front ++ 46 ∷ host)) (parent_domains_of (front ++ 46 ∷ host))) ≡ true
+    by_dot true rest = or_right (bytes_eq host (front ++ 46 ∷ host)) (list_any (bytes_eq host) (parent_domains_of (front ++ 46 ∷ host))) rest
     by_dot false rest = rest
 
 pub below_where_it_ends : (front host : List ℕ) → is_below_host host (front ++ 46 ∷ host) ≡ true

@@ -7,9 +7,9 @@ use Rattle.std.proofs.lemmas.Bool.Decides.{nat_tests}
 use Rattle.std.proofs.lemmas.Slice.Eq.{bytes_eq-Decides}
 use Rattle.hx_target.specs.declared.targets.Target.{Target}
 use Rattle.hx_allow.specs.TableLines.{Line}
-use Rattle.hx_allow.specs.LineHosts.{is_below_host, matches_host, any_host_matches}
-use Rattle.hx_allow.specs.Matching.{is_star_or_same, is_below_path, is_never_allowed, line_number, matches_line, matches_method, matches_path, any_path_matches, line_of_number, verdict_of}
-use Rattle.hx_allow.specs.NeverReached.{first_line_taking, takes_host, takes_each_host_of, takes_each_request_of, takes_each_method_of, takes_path, takes_each_path_of}
+use Rattle.hx_allow.specs.LineHosts.{is_below_host, line_host_matches, any_host_matches}
+use Rattle.hx_allow.specs.Matching.{is_star_or_same, is_below_path, is_never_allowed, deciding_line_number, matches_line, matches_method, matches_path, any_path_matches, line_of_number, verdict_of}
+use Rattle.hx_allow.specs.NeverReached.{first_covering_line, line_host_covers_line_host, hosts_cover_hosts, line_covers_line, methods_cover_methods, path_covers_path, paths_cover_paths}
 use Rattle.hx_allow.specs.declared.line_hosts.LineHost.{LineHost}
 use Rattle.hx_allow.specs.declared.line_hosts.LineHost.TheVariants.{Every, One, Below}
 use Rattle.hx_allow.proofs.LineHosts.{below_below}
@@ -36,7 +36,7 @@ or_right false b h = h
 
 -- ---- hosts and methods
 
-host_taken : (host later : LineHost) (asked : List ℕ) → takes_host host later ≡ true → matches_host later asked ≡ true → matches_host host asked ≡ true
+host_taken : (host later : LineHost) (asked : List ℕ) → line_host_covers_line_host host later ≡ true → line_host_matches later asked ≡ true → line_host_matches host asked ≡ true
 host_taken Every later asked takes matches = refl
 host_taken (One host) Every asked takes matches = absurd cc
 host_taken (One host) (Below later) asked takes matches = absurd cc
@@ -53,21 +53,21 @@ host_taken (Below host) (Below later) asked takes matches = by_first (one_of (by
     by_first (inl is) = let same : host ≡ later = same_bytes host later is in ap (λ h. is_below_host h asked) same ∙ matches
     by_first (inr below) = below_below host later asked below matches
 
-any_host_taken : (hosts : List LineHost) (later : LineHost) (asked : List ℕ) → list_any (λ first. takes_host first later) hosts ≡ true → matches_host later asked ≡ true → any_host_matches hosts asked ≡ true
+any_host_taken : (hosts : List LineHost) (later : LineHost) (asked : List ℕ) → list_any (λ first. line_host_covers_line_host first later) hosts ≡ true → line_host_matches later asked ≡ true → any_host_matches hosts asked ≡ true
 any_host_taken [] later asked any matches = absurd cc
-any_host_taken (host ∷ hosts) later asked any matches = by_first (λ more. any_host_taken hosts later asked more matches) (one_of (takes_host host later) (list_any (λ first. takes_host first later) hosts) any)
+any_host_taken (host ∷ hosts) later asked any matches = by_first (λ more. any_host_taken hosts later asked more matches) (one_of (line_host_covers_line_host host later) (list_any (λ first. line_host_covers_line_host first later) hosts) any)
   where
-    by_first : (list_any (λ first. takes_host first later) hosts ≡ true → any_host_matches hosts asked ≡ true) → (takes_host host later ≡ true) ⊎ (list_any (λ first. takes_host first later) hosts ≡ true) → matches_host host asked || any_host_matches hosts asked ≡ true
-    by_first on (inl here) = or_left (matches_host host asked) (any_host_matches hosts asked) (host_taken host later asked here matches)
-    by_first on (inr more) = or_right (matches_host host asked) (any_host_matches hosts asked) (on more)
+    by_first : (list_any (λ first. line_host_covers_line_host first later) hosts ≡ true → any_host_matches hosts asked ≡ true) → (line_host_covers_line_host host later ≡ true) ⊎ (list_any (λ first. line_host_covers_line_host first later) hosts ≡ true) → line_host_matches host asked || any_host_matches hosts asked ≡ true
+    by_first on (inl here) = or_left (line_host_matches host asked) (any_host_matches hosts asked) (host_taken host later asked here matches)
+    by_first on (inr more) = or_right (line_host_matches host asked) (any_host_matches hosts asked) (on more)
 
-each_host_taken : (hosts later : List LineHost) (asked : List ℕ) → takes_each_host_of hosts later ≡ true → any_host_matches later asked ≡ true → any_host_matches hosts asked ≡ true
+each_host_taken : (hosts later : List LineHost) (asked : List ℕ) → hosts_cover_hosts hosts later ≡ true → any_host_matches later asked ≡ true → any_host_matches hosts asked ≡ true
 each_host_taken hosts [] asked takes any = absurd cc
 each_host_taken hosts (host ∷ later) asked takes any =
-    let parts = and_parts (list_any (λ first. takes_host first host) hosts) (takes_each_host_of hosts later) takes in
-    by_first parts.0 (each_host_taken hosts later asked parts.1) (one_of (matches_host host asked) (any_host_matches later asked) any)
+    let parts = and_parts (list_any (λ first. line_host_covers_line_host first host) hosts) (hosts_cover_hosts hosts later) takes in
+    by_first parts.0 (each_host_taken hosts later asked parts.1) (one_of (line_host_matches host asked) (any_host_matches later asked) any)
   where
-    by_first : list_any (λ first. takes_host first host) hosts ≡ true → (any_host_matches later asked ≡ true → any_host_matches hosts asked ≡ true) → (matches_host host asked ≡ true) ⊎ (any_host_matches later asked ≡ true) → any_host_matches hosts asked ≡ true
+    by_first : list_any (λ first. line_host_covers_line_host first host) hosts ≡ true → (any_host_matches later asked ≡ true → any_host_matches hosts asked ≡ true) → (line_host_matches host asked ≡ true) ⊎ (any_host_matches later asked ≡ true) → any_host_matches hosts asked ≡ true
     by_first here on (inl is) = any_host_taken hosts host asked here is
     by_first here on (inr more) = on more
 
@@ -88,10 +88,10 @@ any_taken (a ∷ methods) b method any second = by_first (λ later. any_taken me
     by_first on (inl here) = or_left (is_star_or_same method a) (list_any (is_star_or_same method) methods) (text_taken a b method here second)
     by_first on (inr later) = or_right (is_star_or_same method a) (list_any (is_star_or_same method) methods) (on later)
 
-each_taken : (methods later : List (List ℕ)) (method : List ℕ) → takes_each_method_of methods later ≡ true → list_any (is_star_or_same method) later ≡ true → list_any (is_star_or_same method) methods ≡ true
+each_taken : (methods later : List (List ℕ)) (method : List ℕ) → methods_cover_methods methods later ≡ true → list_any (is_star_or_same method) later ≡ true → list_any (is_star_or_same method) methods ≡ true
 each_taken methods [] method takes any = absurd cc
 each_taken methods (b ∷ later) method takes any =
-    let parts = and_parts (list_any (is_star_or_same b) methods) (takes_each_method_of methods later) takes in
+    let parts = and_parts (list_any (is_star_or_same b) methods) (methods_cover_methods methods later) takes in
     by_first parts.0 (each_taken methods later method parts.1) (one_of (is_star_or_same method b) (list_any (is_star_or_same method) later) any)
   where
     by_first : list_any (is_star_or_same b) methods ≡ true → (list_any (is_star_or_same method) later ≡ true → list_any (is_star_or_same method) methods ≡ true)
@@ -99,7 +99,7 @@ each_taken methods (b ∷ later) method takes any =
     by_first here on (inl is) = any_taken methods b method here is
     by_first here on (inr more) = on more
 
-method_taken : (methods later : List (List ℕ)) (method : List ℕ) → takes_each_method_of methods later ≡ true → matches_method later method ≡ true → matches_method methods method ≡ true
+method_taken : (methods later : List (List ℕ)) (method : List ℕ) → methods_cover_methods methods later ≡ true → matches_method later method ≡ true → matches_method methods method ≡ true
 method_taken methods later method takes matches =
     let parts = and_parts (not (is_never_allowed method)) (list_any (is_star_or_same method) later) matches in
     rw parts.0 (each_taken methods later method takes parts.1)
@@ -132,7 +132,7 @@ continued_on a b asked first second =
     let slash : slice_index asked (length a) ≡ slice_index b (length a) = sym (index_take (length a) (length b) asked short) ∙ ap (λ l. slice_index l (length a)) begins in
     rw (length_is, start, one_more.1, slash) one.1
 
-path_taken : (path later asked : List ℕ) → takes_path path later ≡ true → matches_path later asked ≡ true → matches_path path asked ≡ true
+path_taken : (path later asked : List ℕ) → path_covers_path path later ≡ true → matches_path later asked ≡ true → matches_path path asked ≡ true
 path_taken path later asked takes matches = by_first (one_of (bytes_eq path (codes "/") || bytes_eq path later) (not (bytes_eq later (codes "/")) && is_below_path path later) takes)
   where
     root : bytes_eq path (codes "/") ≡ true → matches_path path asked ≡ true
@@ -165,31 +165,31 @@ path_taken path later asked takes matches = by_first (one_of (bytes_eq path (cod
         let parts = and_parts (not (bytes_eq later (codes "/"))) (is_below_path path later) further in
         beyond parts.0 parts.1 (one_of (bytes_eq later (codes "/") || bytes_eq later asked) (is_below_path later asked) matches)
 
-any_path_taken : (paths : List (List ℕ)) (later asked : List ℕ) → list_any (λ first. takes_path first later) paths ≡ true → matches_path later asked ≡ true → any_path_matches paths asked ≡ true
+any_path_taken : (paths : List (List ℕ)) (later asked : List ℕ) → list_any (λ first. path_covers_path first later) paths ≡ true → matches_path later asked ≡ true → any_path_matches paths asked ≡ true
 any_path_taken [] later asked any matches = absurd cc
-any_path_taken (path ∷ paths) later asked any matches = by_first (λ more. any_path_taken paths later asked more matches) (one_of (takes_path path later) (list_any (λ first. takes_path first later) paths) any)
+any_path_taken (path ∷ paths) later asked any matches = by_first (λ more. any_path_taken paths later asked more matches) (one_of (path_covers_path path later) (list_any (λ first. path_covers_path first later) paths) any)
   where
-    by_first : (list_any (λ first. takes_path first later) paths ≡ true → any_path_matches paths asked ≡ true) → (takes_path path later ≡ true) ⊎ (list_any (λ first. takes_path first later) paths ≡ true) → matches_path path asked || any_path_matches paths asked ≡ true
+    by_first : (list_any (λ first. path_covers_path first later) paths ≡ true → any_path_matches paths asked ≡ true) → (path_covers_path path later ≡ true) ⊎ (list_any (λ first. path_covers_path first later) paths ≡ true) → matches_path path asked || any_path_matches paths asked ≡ true
     by_first on (inl here) = or_left (matches_path path asked) (any_path_matches paths asked) (path_taken path later asked here matches)
     by_first on (inr more) = or_right (matches_path path asked) (any_path_matches paths asked) (on more)
 
-each_path_taken : (paths later : List (List ℕ)) (asked : List ℕ) → takes_each_path_of paths later ≡ true → any_path_matches later asked ≡ true → any_path_matches paths asked ≡ true
+each_path_taken : (paths later : List (List ℕ)) (asked : List ℕ) → paths_cover_paths paths later ≡ true → any_path_matches later asked ≡ true → any_path_matches paths asked ≡ true
 each_path_taken paths [] asked takes any = absurd cc
 each_path_taken paths (path ∷ later) asked takes any =
-    let parts = and_parts (list_any (λ first. takes_path first path) paths) (takes_each_path_of paths later) takes in
+    let parts = and_parts (list_any (λ first. path_covers_path first path) paths) (paths_cover_paths paths later) takes in
     by_first parts.0 (each_path_taken paths later asked parts.1) (one_of (matches_path path asked) (any_path_matches later asked) any)
   where
-    by_first : list_any (λ first. takes_path first path) paths ≡ true → (any_path_matches later asked ≡ true → any_path_matches paths asked ≡ true) → (matches_path path asked ≡ true) ⊎ (any_path_matches later asked ≡ true) → any_path_matches paths asked ≡ true
+    by_first : list_any (λ first. path_covers_path first path) paths ≡ true → (any_path_matches later asked ≡ true → any_path_matches paths asked ≡ true) → (matches_path path asked ≡ true) ⊎ (any_path_matches later asked ≡ true) → any_path_matches paths asked ≡ true
     by_first here on (inl is) = any_path_taken paths path asked here is
     by_first here on (inr more) = on more
 
 -- ---- lines
 
-pub line_taken : (first later : Line) (method : List ℕ) (target : Target) → takes_each_request_of first later ≡ true → matches_line later method target ≡ true → matches_line first method target ≡ true
-unfolding takes_each_request_of matches_line
+pub line_taken : (first later : Line) (method : List ℕ) (target : Target) → line_covers_line first later ≡ true → matches_line later method target ≡ true → matches_line first method target ≡ true
+unfolding line_covers_line matches_line
 line_taken first later method target takes matches =
-    let t = and_parts (takes_each_host_of first.hosts later.hosts && takes_each_method_of first.methods later.methods) (takes_each_path_of first.paths later.paths) takes in
-    let u = and_parts (takes_each_host_of first.hosts later.hosts) (takes_each_method_of first.methods later.methods) t.0 in
+    let t = and_parts (hosts_cover_hosts first.hosts later.hosts && methods_cover_methods first.methods later.methods) (paths_cover_paths first.paths later.paths) takes in
+    let u = and_parts (hosts_cover_hosts first.hosts later.hosts) (methods_cover_methods first.methods later.methods) t.0 in
     let m = and_parts (any_host_matches later.hosts target.key.host && matches_method later.methods method) (any_path_matches later.paths target.table_path) matches in
     let n = and_parts (any_host_matches later.hosts target.key.host) (matches_method later.methods method) m.0 in
     rw (each_host_taken first.hosts later.hosts target.key.host u.0 n.0, method_taken first.methods later.methods method u.1 n.1)
@@ -232,7 +232,7 @@ module _ (method : List ℕ) (target : Target) where
       by_match on false h = let n_is : c + suc e ≡ c + 1 + e = omega arith in on (h ∙ ap (λ n. Some n) n_is)
 
   -- none in front of it takes it
-  none_takes : (c d k n : ℕ) (lines : List Line) (later : Line) → decides later ≡ true → position_from decides c lines ≡ Some (c + d) → position_from (λ first. takes_each_request_of first later) k (take d lines) ≡ Some n → ⊥
+  none_takes : (c d k n : ℕ) (lines : List Line) (later : Line) → decides later ≡ true → position_from decides c lines ≡ Some (c + d) → position_from (λ first. line_covers_line first later) k (take d lines) ≡ Some n → ⊥
   none_takes c zero k n lines later matches found taken = never_some n taken
   none_takes c (suc e) k n [] later matches found taken = never_some n taken
   none_takes c (suc e) k n (x ∷ xs) later matches found taken = by_match (none_takes (c + 1) e (k + 1) n xs later matches) (decides x) refl found
@@ -240,17 +240,17 @@ module _ (method : List ℕ) (target : Target) where
       n_is : c + suc e ≡ c + 1 + e
       n_is = omega arith
 
-      by_taking : (position_from (λ first. takes_each_request_of first later) (k + 1) (take e xs) ≡ Some n → ⊥) → decides x ≡ false → (b : Bool) → takes_each_request_of x later ≡ b
-          → cond b (Some k) (position_from (λ first. takes_each_request_of first later) (k + 1) (take e xs)) ≡ Some n → ⊥
+      by_taking : (position_from (λ first. line_covers_line first later) (k + 1) (take e xs) ≡ Some n → ⊥) → decides x ≡ false → (b : Bool) → line_covers_line x later ≡ b
+          → cond b (Some k) (position_from (λ first. line_covers_line first later) (k + 1) (take e xs)) ≡ Some n → ⊥
       by_taking on is true t u =
           let bad : false ≡ true = sym is ∙ line_taken x later method target t matches in
           cc
       by_taking on is false t u = on u
 
-      by_match : (position_from decides (c + 1) xs ≡ Some (c + 1 + e) → position_from (λ first. takes_each_request_of first later) (k + 1) (take e xs) ≡ Some n → ⊥) → (b : Bool) → decides x ≡ b
+      by_match : (position_from decides (c + 1) xs ≡ Some (c + 1 + e) → position_from (λ first. line_covers_line first later) (k + 1) (take e xs) ≡ Some n → ⊥) → (b : Bool) → decides x ≡ b
           → cond b (Some c) (position_from decides (c + 1) xs) ≡ Some (c + suc e) → ⊥
       by_match on true is h = let bad : c ≡ c + suc e = same_some c (c + suc e) h in omega (arith, bad)
-      by_match on false is h = by_taking (on (h ∙ ap (λ m. Some m) n_is)) is (takes_each_request_of x later) refl taken
+      by_match on false is h = by_taking (on (h ∙ ap (λ m. Some m) n_is)) is (line_covers_line x later) refl taken
 
 numbered_next : (lines : List Line) (d : ℕ) → line_of_number lines (suc d) ≡ slice_get lines d
 numbered_next lines d =
@@ -260,9 +260,9 @@ numbered_next lines d =
 
 -- the first of so many lines that takes this one
 abbrev taking : List Line → ℕ → Option Line → Option ℕ
-taking lines m o = option_and_then (λ later. position_from (λ first. takes_each_request_of first later) 1 (take m lines)) o
+taking lines m o = option_and_then (λ later. position_from (λ first. line_covers_line first later) 1 (take m lines)) o
 
-pub never_decides : (lines : List Line) (method : List ℕ) (target : Target) (n k : ℕ) → first_line_taking lines n ≡ Some k → line_number (verdict_of lines method target) ≡ Some n → ⊥
+pub never_decides : (lines : List Line) (method : List ℕ) (target : Target) (n k : ℕ) → first_covering_line lines n ≡ Some k → deciding_line_number (verdict_of lines method target) ≡ Some n → ⊥
 never_decides lines method target zero k taken decided = absurd cc
 never_decides lines method target (suc d) k taken decided = by_line (slice_get lines d) refl here
   where

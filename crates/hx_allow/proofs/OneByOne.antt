@@ -6,10 +6,10 @@ use Rattle.std.specs.List.{list_any}
 use Rattle.std.proofs.lemmas.List.Folds.{list_any-append}
 use Rattle.hx_target.specs.declared.targets.Target.{Target}
 use Rattle.hx_allow.specs.TableLines.{Line}
-use Rattle.hx_allow.specs.LineHosts.{matches_host, any_host_matches}
+use Rattle.hx_allow.specs.LineHosts.{line_host_matches, any_host_matches}
 use Rattle.hx_allow.specs.Matching.{matches_method, matches_path, any_path_matches, matches_line}
 use Rattle.hx_allow.specs.Deciding.{deciding_line}
-use Rattle.hx_allow.specs.OneByOne.{line_with_host_and_path, lines_of_hosts, one_by_one, all_one_by_one, said_by}
+use Rattle.hx_allow.specs.OneByOne.{line_with_host_and_path, lines_of_hosts, line_split_by_host_and_path, lines_split_by_host_and_path, origin_and_policy_of_line}
 use Rattle.hx_allow.specs.declared.line_hosts.LineHost.{LineHost}
 use Rattle.hx_allow.proofs.Deciding.{first_decides}
 
@@ -18,9 +18,9 @@ module _ (method : List ℕ) (target : Target) where
   decides line = matches_line line method target
 
   -- a line of one host and one path
-  one_matches : (line : Line) (host : LineHost) (path : List ℕ) → decides (line_with_host_and_path line host path) ≡ (matches_host host target.key.host && matches_method line.methods method && matches_path path target.table_path)
+  one_matches : (line : Line) (host : LineHost) (path : List ℕ) → decides (line_with_host_and_path line host path) ≡ (line_host_matches host target.key.host && matches_method line.methods method && matches_path path target.table_path)
   unfolding matches_line
-  one_matches line host path = by_tests (matches_host host target.key.host) (matches_method line.methods method) (matches_path path target.table_path)
+  one_matches line host path = by_tests (line_host_matches host target.key.host) (matches_method line.methods method) (matches_path path target.table_path)
     where
       by_tests : (a b c : Bool) → ((a || false) && b && (c || false)) ≡ (a && b && c)
       by_tests true true true = refl
@@ -29,16 +29,16 @@ module _ (method : List ℕ) (target : Target) where
       by_tests false b c = refl
 
   -- a host with each of some paths
-  paths_match : (line : Line) (host : LineHost) (paths : List (List ℕ)) → list_any decides (map (line_with_host_and_path line host) paths) ≡ (matches_host host target.key.host && matches_method line.methods method && any_path_matches paths target.table_path)
-  paths_match line host [] = sym (none (matches_host host target.key.host && matches_method line.methods method))
+  paths_match : (line : Line) (host : LineHost) (paths : List (List ℕ)) → list_any decides (map (line_with_host_and_path line host) paths) ≡ (line_host_matches host target.key.host && matches_method line.methods method && any_path_matches paths target.table_path)
+  paths_match line host [] = sym (none (line_host_matches host target.key.host && matches_method line.methods method))
     where
       none : (a : Bool) → (a && false) ≡ false
       none true = refl
       none false = refl
   paths_match line host (path ∷ paths) =
       ap (λ t. t || list_any decides (map (line_with_host_and_path line host) paths)) (one_matches line host path)
-      ∙ ap (λ t. (matches_host host target.key.host && matches_method line.methods method && matches_path path target.table_path) || t) (paths_match line host paths)
-      ∙ by_test (matches_host host target.key.host && matches_method line.methods method) (matches_path path target.table_path) (any_path_matches paths target.table_path)
+      ∙ ap (λ t. (line_host_matches host target.key.host && matches_method line.methods method && matches_path path target.table_path) || t) (paths_match line host paths)
+      ∙ by_test (line_host_matches host target.key.host && matches_method line.methods method) (matches_path path target.table_path) (any_path_matches paths target.table_path)
     where
       by_test : (a b c : Bool) → ((a && b) || (a && c)) ≡ (a && (b || c))
       by_test true b c = refl
@@ -49,8 +49,8 @@ module _ (method : List ℕ) (target : Target) where
   hosts_match line (host ∷ hosts) =
       list_any-append decides (map (line_with_host_and_path line host) line.paths) (lines_of_hosts line hosts)
       ∙ ap (λ t. t || list_any decides (lines_of_hosts line hosts)) (paths_match line host line.paths)
-      ∙ ap (λ t. (matches_host host target.key.host && matches_method line.methods method && any_path_matches line.paths target.table_path) || t) (hosts_match line hosts)
-      ∙ by_test (matches_host host target.key.host) (any_host_matches hosts target.key.host) (matches_method line.methods method) (any_path_matches line.paths target.table_path)
+      ∙ ap (λ t. (line_host_matches host target.key.host && matches_method line.methods method && any_path_matches line.paths target.table_path) || t) (hosts_match line hosts)
+      ∙ by_test (line_host_matches host target.key.host) (any_host_matches hosts target.key.host) (matches_method line.methods method) (any_path_matches line.paths target.table_path)
     where
       by_test : (a b c d : Bool) → ((a && c && d) || (b && c && d)) ≡ ((a || b) && c && d)
       by_test true true true true = refl
@@ -61,7 +61,7 @@ module _ (method : List ℕ) (target : Target) where
       by_test true false false d = refl
       by_test false b c d = refl
 
-  line_matches : (line : Line) → decides line ≡ list_any decides (one_by_one line)
+  line_matches : (line : Line) → decides line ≡ list_any decides (line_split_by_host_and_path line)
   unfolding matches_line
   line_matches line = sym (hosts_match line line.hosts)
 
@@ -90,36 +90,36 @@ module _ (method : List ℕ) (target : Target) where
       by_test true false e rest = absurd cc
       by_test false b e rest = rest b e
 
-  all_found : (lines : List Line) → find decides (all_one_by_one lines) ≡ option_and_then (λ line. find decides (one_by_one line)) (find decides lines)
+  all_found : (lines : List Line) → find decides (lines_split_by_host_and_path lines) ≡ option_and_then (λ line. find decides (line_split_by_host_and_path line)) (find decides lines)
   all_found [] = refl
-  all_found (line ∷ lines) = find_append (one_by_one line) (all_one_by_one lines) ∙ by_test (decides line) (line_matches line) (all_found lines)
+  all_found (line ∷ lines) = find_append (line_split_by_host_and_path line) (lines_split_by_host_and_path lines) ∙ by_test (decides line) (line_matches line) (all_found lines)
     where
-      by_test : (b : Bool) → b ≡ list_any decides (one_by_one line) → find decides (all_one_by_one lines) ≡ option_and_then (λ line. find decides (one_by_one line)) (find decides lines) →
-          or_first (find decides (one_by_one line)) (find decides (all_one_by_one lines)) ≡ option_and_then (λ line. find decides (one_by_one line)) (cond b (Some line) (find decides lines))
+      by_test : (b : Bool) → b ≡ list_any decides (line_split_by_host_and_path line) → find decides (lines_split_by_host_and_path lines) ≡ option_and_then (λ line. find decides (line_split_by_host_and_path line)) (find decides lines) →
+          or_first (find decides (line_split_by_host_and_path line)) (find decides (lines_split_by_host_and_path lines)) ≡ option_and_then (λ line. find decides (line_split_by_host_and_path line)) (cond b (Some line) (find decides lines))
       by_test true e rest =
-          let at = found_where_any (one_by_one line) true (sym e) in
-          ap (λ (o : Option Line). or_first o (find decides (all_one_by_one lines))) at.1 ∙ sym at.1
-      by_test false e rest = ap (λ (o : Option Line). or_first o (find decides (all_one_by_one lines))) (found_where_any (one_by_one line) false (sym e)) ∙ rest
+          let at = found_where_any (line_split_by_host_and_path line) true (sym e) in
+          ap (λ (o : Option Line). or_first o (find decides (lines_split_by_host_and_path lines))) at.1 ∙ sym at.1
+      by_test false e rest = ap (λ (o : Option Line). or_first o (find decides (lines_split_by_host_and_path lines))) (found_where_any (line_split_by_host_and_path line) false (sym e)) ∙ rest
 
-pub matches_one_by_one : (line : Line) (method : List ℕ) (target : Target) → matches_line line method target ≡ list_any (λ one. matches_line one method target) (one_by_one line)
+pub matches_one_by_one : (line : Line) (method : List ℕ) (target : Target) → matches_line line method target ≡ list_any (λ one. matches_line one method target) (line_split_by_host_and_path line)
 matches_one_by_one line method target = line_matches method target line
 
-pub decides_one_by_one : (lines : List Line) (method : List ℕ) (target : Target) → deciding_line (all_one_by_one lines) method target ≡ option_and_then (λ line. deciding_line (one_by_one line) method target) (deciding_line lines method target)
+pub decides_one_by_one : (lines : List Line) (method : List ℕ) (target : Target) → deciding_line (lines_split_by_host_and_path lines) method target ≡ option_and_then (λ line. deciding_line (line_split_by_host_and_path line) method target) (deciding_line lines method target)
 decides_one_by_one lines method target =
-    first_decides (all_one_by_one lines) method target
+    first_decides (lines_split_by_host_and_path lines) method target
     ∙ all_found method target lines
-    ∙ ap (option_and_then (λ line. find (λ one. matches_line one method target) (one_by_one line))) (sym (first_decides lines method target))
+    ∙ ap (option_and_then (λ line. find (λ one. matches_line one method target) (line_split_by_host_and_path line))) (sym (first_decides lines method target))
     ∙ each_alike (deciding_line lines method target)
   where
-    each_alike : (o : Option Line) → option_and_then (λ line. find (λ one. matches_line one method target) (one_by_one line)) o ≡ option_and_then (λ line. deciding_line (one_by_one line) method target) o
+    each_alike : (o : Option Line) → option_and_then (λ line. find (λ one. matches_line one method target) (line_split_by_host_and_path line)) o ≡ option_and_then (λ line. deciding_line (line_split_by_host_and_path line) method target) o
     each_alike None = refl
-    each_alike (Some line) = sym (first_decides (one_by_one line) method target)
+    each_alike (Some line) = sym (first_decides (line_split_by_host_and_path line) method target)
 
 -- ---- what it says
 
 module _ (line : Line) (P : Line → Bool) where
   abbrev Says : Option Line → Type 0
-  Says o = (o ≡ None) ⊎ (option_map said_by o ≡ Some (said_by line))
+  Says o = (o ≡ None) ⊎ (option_map origin_and_policy_of_line o ≡ Some (origin_and_policy_of_line line))
 
   said_of_paths : (host : LineHost) (paths : List (List ℕ)) (rest : List Line) → Says (find P rest) → Says (find P (map (line_with_host_and_path line host) paths ++ rest))
   said_of_paths host [] rest says = says
@@ -133,27 +133,27 @@ module _ (line : Line) (P : Line → Bool) where
   said_of_hosts [] = inl refl
   said_of_hosts (host ∷ hosts) = said_of_paths host line.paths (lines_of_hosts line hosts) (said_of_hosts hosts)
 
-pub says_the_same : (lines : List Line) (method : List ℕ) (target : Target) → option_map said_by (deciding_line (all_one_by_one lines) method target) ≡ option_map said_by (deciding_line lines method target)
+pub says_the_same : (lines : List Line) (method : List ℕ) (target : Target) → option_map origin_and_policy_of_line (deciding_line (lines_split_by_host_and_path lines) method target) ≡ option_map origin_and_policy_of_line (deciding_line lines method target)
 says_the_same lines method target =
-    ap (option_map said_by) (first_decides (all_one_by_one lines) method target)
-    ∙ (in_all lines ∙ sym (ap (option_map said_by) (first_decides lines method target)))
+    ap (option_map origin_and_policy_of_line) (first_decides (lines_split_by_host_and_path lines) method target)
+    ∙ (in_all lines ∙ sym (ap (option_map origin_and_policy_of_line) (first_decides lines method target)))
   where
     test : Line → Bool
     test line = matches_line line method target
 
-    same_said : (line : Line) (o : Option Line) → Says line test o → (one : Line) → o ≡ Some one → option_map said_by o ≡ Some (said_by line)
+    same_said : (line : Line) (o : Option Line) → Says line test o → (one : Line) → o ≡ Some one → option_map origin_and_policy_of_line o ≡ Some (origin_and_policy_of_line line)
     same_said line o (inl none) one is = absurd cc
     same_said line o (inr says) one is = says
 
-    in_all : (lines : List Line) → option_map said_by (find test (all_one_by_one lines)) ≡ option_map said_by (find test lines)
+    in_all : (lines : List Line) → option_map origin_and_policy_of_line (find test (lines_split_by_host_and_path lines)) ≡ option_map origin_and_policy_of_line (find test lines)
     in_all [] = refl
-    in_all (line ∷ lines) = ap (option_map said_by) (find_append method target (one_by_one line) (all_one_by_one lines)) ∙ by_test (test line) (line_matches method target line) (in_all lines)
+    in_all (line ∷ lines) = ap (option_map origin_and_policy_of_line) (find_append method target (line_split_by_host_and_path line) (lines_split_by_host_and_path lines)) ∙ by_test (test line) (line_matches method target line) (in_all lines)
       where
-        by_test : (b : Bool) → b ≡ list_any test (one_by_one line) → option_map said_by (find test (all_one_by_one lines)) ≡ option_map said_by (find test lines) →
-            option_map said_by (or_first method target (find test (one_by_one line)) (find test (all_one_by_one lines))) ≡ option_map said_by (cond b (Some line) (find test lines))
+        by_test : (b : Bool) → b ≡ list_any test (line_split_by_host_and_path line) → option_map origin_and_policy_of_line (find test (lines_split_by_host_and_path lines)) ≡ option_map origin_and_policy_of_line (find test lines) →
+            option_map origin_and_policy_of_line (or_first method target (find test (line_split_by_host_and_path line)) (find test (lines_split_by_host_and_path lines))) ≡ option_map origin_and_policy_of_line (cond b (Some line) (find test lines))
         by_test true e rest =
-            let at = found_where_any method target (one_by_one line) true (sym e) in
-            ap (λ (o : Option Line). option_map said_by (or_first method target o (find test (all_one_by_one lines)))) at.1
-            ∙ sym (ap (option_map said_by) at.1)
-            ∙ same_said line (find test (one_by_one line)) (said_of_hosts line test line.hosts) at.0 at.1
-        by_test false e rest = ap (λ (o : Option Line). option_map said_by (or_first method target o (find test (all_one_by_one lines)))) (found_where_any method target (one_by_one line) false (sym e)) ∙ rest
+            let at = found_where_any method target (line_split_by_host_and_path line) true (sym e) in
+            ap (λ (o : Option Line). option_map origin_and_policy_of_line (or_first method target o (find test (lines_split_by_host_and_path lines)))) at.1
+            ∙ sym (ap (option_map origin_and_policy_of_line) at.1)
+            ∙ same_said line (find test (line_split_by_host_and_path line)) (said_of_hosts line test line.hosts) at.0 at.1
+        by_test false e rest = ap (λ (o : Option Line). option_map origin_and_policy_of_line (or_first method target o (find test (lines_split_by_host_and_path lines)))) (found_where_any method target (line_split_by_host_and_path line) false (sym e)) ∙ rest

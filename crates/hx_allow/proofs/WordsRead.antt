@@ -6,34 +6,34 @@ use Rattle.std.specs.List.{All}
 use Rattle.toml.specs.Data.{Data, Members, get_member}
 use Rattle.hx_allow.specs.Addresses.{is_address, address_text}
 use Rattle.hx_allow.specs.TableLines.{Table}
-use Rattle.hx_allow.specs.LineWords.{is_one_of_two, key_has_text, line_has_no_origin, line_takes_words}
-use Rattle.hx_allow.specs.Rows.{Row, word_row, fault_of_line_key, has_keys_of}
-use Rattle.hx_allow.specs.LineTables.{is_line_origin, is_of_kind, is_good_at, first_bad_key, first_fault_or_later, spelling_fault, line_fault, line_read}
-use Rattle.hx_allow.specs.Tables.{version_of, judge_table}
-use Rattle.hx_allow.specs.Values.{first_unknown, text_at, is_some_and}
-use Rattle.hx_allow.specs.Versions.{LineHasNoCachingWord, LineTakesItsWords}
+use Rattle.hx_allow.specs.LineWords.{is_one_of_two, key_has_text, line_has_no_origin, line_caches}
+use Rattle.hx_allow.specs.Rows.{KeyDefinition, word_row, fault_of_line_key, has_keys_of}
+use Rattle.hx_allow.specs.LineTables.{is_line_origin, value_is_of_kind, value_is_good_for_key_row, first_bad_key, first_fault_or_later, spelling_fault, line_fault, line_of_members}
+use Rattle.hx_allow.specs.Tables.{table_version_of, judge_table}
+use Rattle.hx_allow.specs.Values.{first_unknown, text_of_key, is_some_and}
+use Rattle.hx_allow.specs.Versions.{LineHasNoCachingKey, LineWithCachingKeysCaches}
 use Rattle.hx_allow.specs.declared.config_faults.ConfigFault.TheVariants.{UnknownKey}
 use Rattle.hx_allow.specs.declared.rows.LineKey.{LineKey}
 use Rattle.hx_allow.specs.declared.rows.LineKey.TheVariants.{Origin, Word}
-use Rattle.hx_allow.specs.declared.rows.Place.{Place}
-use Rattle.hx_allow.specs.declared.rows.Place.TheVariants.{Needed, Optional, AllowingLine, CachingLine, PurgingLine}
+use Rattle.hx_allow.specs.declared.rows.KeyPlace.{KeyPlace}
+use Rattle.hx_allow.specs.declared.rows.KeyPlace.TheVariants.{Needed, Optional, AllowingLine, CachingLine, PurgingLine}
 use Rattle.hx_allow.specs.declared.values.Scope.TheVariants.{Line}
 use Rattle.hx_allow.specs.declared.values.TableVersion.{TableVersion}
 use Rattle.hx_allow.specs.declared.values.TableVersion.TheVariants.{Four}
 use Rattle.hx_allow.proofs.KeysListed.{each_good, plain_policy}
 use Rattle.hx_allow.proofs.LinesRead.{none_mapped, or_later_none, each_line_read}
 
-abbrev is_of_caching : Place → Bool
+abbrev is_of_caching : KeyPlace → Bool
 is_of_caching CachingLine = true
 is_of_caching _ = false
 
 -- a line that takes no words on caching has none
-absent : (version : TableVersion) (place : Place) (row : Row) (ms : Members) → is_of_caching place ≡ true → line_takes_words ms ≡ false → is_good_at version place row ms ≡ true → get_member row.key ms ≡ None
+absent : (version : TableVersion) (place : KeyPlace) (row : KeyDefinition) (ms : Members) → is_of_caching place ≡ true → line_caches ms ≡ false → value_is_good_for_key_row version place row ms ≡ true → get_member row.key ms ≡ None
 absent version Needed row ms caching untaken good = cc
 absent version Optional row ms caching untaken good = cc
 absent version AllowingLine row ms caching untaken good = cc
 absent version PurgingLine row ms caching untaken good = cc
-absent version CachingLine row ms caching untaken good = by_value (get_member row.key ms) (is_of_kind version row.kind row.key ms) (line_takes_words ms) untaken good
+absent version CachingLine row ms caching untaken good = by_value (get_member row.key ms) (value_is_of_kind version row.kind row.key ms) (line_caches ms) untaken good
   where
     by_value : (o : Option Data) (value takes : Bool) → takes ≡ false → is_none o || (value && takes) ≡ true → o ≡ None
     by_value None value takes untaken good = refl
@@ -41,7 +41,7 @@ absent version CachingLine row ms caching untaken good = by_value (get_member ro
     by_value (Some d) true false untaken good = cc
     by_value (Some d) false takes untaken good = cc
 
-no_words : (version : TableVersion) (ms : Members) → line_takes_words ms ≡ false → first_bad_key version ms ≡ None → LineHasNoCachingWord ms
+no_words : (version : TableVersion) (ms : Members) → line_caches ms ≡ false → first_bad_key version ms ≡ None → LineHasNoCachingKey ms
 no_words version ms untaken none = λ word of_caching.
     absent version (word_row word).place (word_row word) ms (ap is_of_caching of_caching) untaken (each_good version ms none (Word word))
 
@@ -74,22 +74,22 @@ and_none : {b : Bool} (a : Bool) → b ≡ false → (a && b) ≡ false
 and_none true e = e
 and_none false e = refl
 
-takes_them : (version : TableVersion) (n : ℕ) (ms : Members) → line_fault version n ms ≡ None → LineTakesItsWords (line_read version ms)
-unfolding line_fault line_read
+takes_them : (version : TableVersion) (n : ℕ) (ms : Members) → line_fault version n ms ≡ None → LineWithCachingKeysCaches (line_of_members version ms)
+unfolding line_fault line_of_members
 takes_them version n ms none = by_keys (first_unknown (Line version) ms) refl
   where
-    parts : (takes : Bool) → line_takes_words ms ≡ takes → first_bad_key version ms ≡ None → LineTakesItsWords (line_read version ms)
+    parts : (takes : Bool) → line_caches ms ≡ takes → first_bad_key version ms ≡ None → LineWithCachingKeysCaches (line_of_members version ms)
     parts true is good =
         let both = both_hold (line_has_no_origin ms) (key_has_text (codes "cache") (codes "off") ms) is in
-        let origin : is_some_and (is_line_origin version) (text_at (codes "origin") ms) ≡ true = each_good version ms good Origin in
-        inr (has_origin version (text_at (codes "origin") ms) origin both.0, ap not both.1)
+        let origin : is_some_and (is_line_origin version) (text_of_key (codes "origin") ms) ≡ true = each_good version ms good Origin in
+        inr (has_origin version (text_of_key (codes "origin") ms) origin both.0, ap not both.1)
     parts false is good = inl (plain_policy version ms (no_words version ms is good) (and_none (has_keys_of version Four) is))
 
-    by_keys : (o : Option (List ℕ)) → first_unknown (Line version) ms ≡ o → LineTakesItsWords (line_read version ms)
+    by_keys : (o : Option (List ℕ)) → first_unknown (Line version) ms ≡ o → LineWithCachingKeysCaches (line_of_members version ms)
     by_keys (Some key) e = let bad : line_fault version n ms ≡ Some (UnknownKey key) = rw e refl in cc
     by_keys None e =
         let is : line_fault version n ms ≡ first_fault_or_later (option_map (fault_of_line_key n) (first_bad_key version ms)) (spelling_fault version n ms) = rw e refl in
-        parts (line_takes_words ms) refl (none_mapped (fault_of_line_key n) (first_bad_key version ms) (or_later_none (option_map (fault_of_line_key n) (first_bad_key version ms)) (spelling_fault version n ms) (sym is ∙ none)).0)
+        parts (line_caches ms) refl (none_mapped (fault_of_line_key n) (first_bad_key version ms) (or_later_none (option_map (fault_of_line_key n) (first_bad_key version ms)) (spelling_fault version n ms) (sym is ∙ none)).0)
 
-pub each_takes_them : (t : Members) (table : Table) → judge_table t ≡ Ok table → All LineTakesItsWords table.lines
-each_takes_them t table e = each_line_read LineTakesItsWords t table (takes_them (version_of t)) (sym e)
+pub each_takes_them : (t : Members) (table : Table) → judge_table t ≡ Ok table → All LineWithCachingKeysCaches table.lines
+each_takes_them t table e = each_line_read LineWithCachingKeysCaches t table (takes_them (table_version_of t)) (sym e)

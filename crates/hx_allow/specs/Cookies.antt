@@ -3,8 +3,8 @@
 --     cookie-string = cookie-pair *( ";" SP cookie-pair )
 --     cookie-pair   = cookie-name "=" cookie-value
 --
--- cookie_parts: what stands between the semicolons of a line     cookie_name_of: the name in one of them
--- has_cookie_of: a request has a cookie with one of some names
+-- cookie_pairs_of_line: what stands between the semicolons of a line     cookie_name_of: the name in one of them
+-- has_cookie_among: a request has a cookie with one of some names
 -- CookiePair: a line as it is written, for the law that it is read so
 use Rattle.std.specs.Prelude.{ℕ, ◌==◌, Bool, not, ◌&&◌, List, [], ◌∷◌, ◌++◌, codes, bytes_eq, take}
 use Rattle.std.specs.List.{list_any, list_all, prefix_len, slice_split}
@@ -19,28 +19,28 @@ semicolon = 59
 abbrev pub equals_sign : ℕ
 equals_sign = 61
 
-abbrev pub cookie_parts : List ℕ → List (List ℕ)
-cookie_parts value = slice_split (λ b. b == semicolon) value
+abbrev pub cookie_pairs_of_line : List ℕ → List (List ℕ)
+cookie_pairs_of_line value = slice_split (λ b. b == semicolon) value
 
-abbrev pub before_equals_sign : List ℕ → List ℕ
-before_equals_sign part = take (prefix_len (λ b. not (b == equals_sign)) part) part
+abbrev pub text_before_equals_sign : List ℕ → List ℕ
+text_before_equals_sign part = take (prefix_len (λ b. not (b == equals_sign)) part) part
 
 -- what stands in front of the first `=`, without the blanks round it
 -- own: a part without `=` is no cookie-pair, and counts by the whole of it: many origins take it for a cookie without a
 -- value, and going past the store can't give a page to the wrong one
 abbrev pub cookie_name_of : List ℕ → List ℕ
-cookie_name_of part = trimmed (before_equals_sign part)
+cookie_name_of part = trimmed (text_before_equals_sign part)
 
 -- names compare as they stand (RFC 6265, section 5.4)
-abbrev pub is_cookie_of : List (List ℕ) → List ℕ → Bool
-is_cookie_of names part = list_any (λ name. bytes_eq name (cookie_name_of part)) names
+abbrev pub is_cookie_among : List (List ℕ) → List ℕ → Bool
+is_cookie_among names part = list_any (λ name. bytes_eq name (cookie_name_of part)) names
 
-abbrev pub line_has_cookie_of : List (List ℕ) → List ℕ → Bool
-line_has_cookie_of names value = list_any (is_cookie_of names) (cookie_parts value)
+abbrev pub line_has_cookie_among : List (List ℕ) → List ℕ → Bool
+line_has_cookie_among names value = list_any (is_cookie_among names) (cookie_pairs_of_line value)
 
 -- own: of a request that has several lines of Cookie each counts (RFC 6265, section 5.4, asks clients for one)
-abbrev pub has_cookie_of : List (List ℕ) → List Field → Bool
-has_cookie_of names fields = list_any (line_has_cookie_of names) (values_of fields (codes "Cookie"))
+abbrev pub has_cookie_among : List (List ℕ) → List Field → Bool
+has_cookie_among names fields = list_any (line_has_cookie_among names) (values_of fields (codes "Cookie"))
 
 -- ---- a line as it is written
 

@@ -11,11 +11,11 @@ use Rattle.hx_allow.specs.declared.line_hosts.LineHost.{LineHost}
 use Rattle.hx_allow.specs.declared.line_hosts.LineHost.TheVariants.{Every, One, Below}
 
 -- a key and its value
-abbrev pub KeyAndValue : Type 0
-KeyAndValue = List ℕ × Data
+abbrev pub KeyAndTomlValue : Type 0
+KeyAndTomlValue = List ℕ × Data
 
 -- the table of these keys, which ascend
-abbrev pub table_of_pairs : List KeyAndValue → Members
+abbrev pub table_of_pairs : List KeyAndTomlValue → Members
 table_of_pairs [] = no_members
 table_of_pairs (p ∷ ps) = member p.0 p.1 (table_of_pairs ps)
 
@@ -35,14 +35,14 @@ repeated_byte zero b = []
 repeated_byte (suc n) b = b ∷ repeated_byte n b
 
 -- a key with a text, and one with a number
-abbrev pub key_with_text : List ℕ → List ℕ → KeyAndValue
+abbrev pub key_with_text : List ℕ → List ℕ → KeyAndTomlValue
 key_with_text key value = (key, string value)
 
-abbrev pub key_with_number : List ℕ → ℕ → KeyAndValue
+abbrev pub key_with_number : List ℕ → ℕ → KeyAndTomlValue
 key_with_number key n = (key, integer (pos n))
 
 -- the methods of a line, one of them
-abbrev pub key_with_method : List ℕ → KeyAndValue
+abbrev pub key_with_method : List ℕ → KeyAndTomlValue
 key_with_method name = (codes "methods", array (array_of_values (string name ∷ [])))
 
 -- a line of these four keys
@@ -52,39 +52,39 @@ line_table host name path origin =
     ∷ key_with_text (codes "path") path ∷ [])
 
 -- a line for every host with these keys besides, which come before `host`
-abbrev pub line_table_with_keys : List KeyAndValue → Members
+abbrev pub line_table_with_keys : List KeyAndTomlValue → Members
 line_table_with_keys pairs = table_of_pairs (pairs ++ key_with_text (codes "host") (codes "*") ∷ key_with_method (codes "GET")
     ∷ key_with_text (codes "origin") (codes "127.0.0.1:8081") ∷ key_with_text (codes "path") (codes "/") ∷ [])
 
 -- such a line, which denies
-abbrev pub denying_line_table_with : List KeyAndValue → Members
+abbrev pub denying_line_table_with : List KeyAndTomlValue → Members
 denying_line_table_with pairs = table_of_pairs (pairs ++ key_with_text (codes "host") (codes "*") ∷ key_with_method
     (codes "GET")
     ∷ key_with_text (codes "origin") (codes "deny") ∷ key_with_text (codes "path") (codes "/") ∷ [])
 
 -- such a line, which purges
-abbrev pub purging_line_table_with : List KeyAndValue → Members
+abbrev pub purging_line_table_with : List KeyAndTomlValue → Members
 purging_line_table_with pairs = table_of_pairs (pairs ++ key_with_text (codes "host") (codes "*") ∷ key_with_method
     (codes "PURGE")
     ∷ key_with_text (codes "origin") (codes "purge") ∷ key_with_text (codes "path") (codes "/") ∷ [])
 
 -- a table of the first run's name and limits with these lines, where its version and capacity are these
-abbrev pub top_table : ℕ → ℕ → Items → Members
-top_table version capacity lines =
+abbrev pub table_with_lines : ℕ → ℕ → Items → Members
+table_with_lines version capacity lines =
     table_of_pairs (key_with_number (codes "capacity") capacity ∷ (codes "line", array lines) ∷ key_with_number
     (codes "max_body") 1000 ∷ key_with_number (codes "max_stored") 1000
     ∷ key_with_text (codes "name") (codes "edge") ∷ key_with_number (codes "version") version ∷ [])
 
 -- the same with two entries, where its version, the bound of a content and that of the store are these
-abbrev pub bounded_table : ℕ → ℕ → Data → Items → Members
-bounded_table version max_stored max_store lines =
+abbrev pub table_with_bounds : ℕ → ℕ → Data → Items → Members
+table_with_bounds version max_stored max_store lines =
     table_of_pairs (key_with_number (codes "capacity") 2 ∷ (codes "line", array lines) ∷ key_with_number
     (codes "max_body") 1000 ∷ (codes "max_store", max_store) ∷ key_with_number (codes "max_stored") max_stored
     ∷ key_with_text (codes "name") (codes "edge") ∷ key_with_number (codes "version") version ∷ [])
 
 -- a request for a path, of this host
-abbrev pub key_at : List ℕ → ℕ → List ℕ → Key
-key_at host port path_query = record { host = host; port = port; path_query = path_query }
+abbrev pub key_of_host_and_path : List ℕ → ℕ → List ℕ → Key
+key_of_host_and_path host port path_query = record { host = host; port = port; path_query = path_query }
 
 abbrev pub target_for_path : List ℕ → List ℕ → Target
 target_for_path host path = record {
@@ -94,14 +94,14 @@ target_for_path host path = record {
 }
 
 -- the one host, where there is one
-abbrev pub host_or_every : Option (List ℕ) → LineHost
-host_or_every None = Every
-host_or_every (Some host) = One host
+abbrev pub line_host_or_every : Option (List ℕ) → LineHost
+line_host_or_every None = Every
+line_host_or_every (Some host) = One host
 
 -- a line that is read, with one method
 abbrev pub line_with_method : Option (List ℕ) → List ℕ → List ℕ → Option (List ℕ) → Line
 line_with_method host name path origin = record {
-  hosts = host_or_every host ∷ [];
+  hosts = line_host_or_every host ∷ [];
   methods = name ∷ [];
   paths = path ∷ [];
   origin = origin;
@@ -115,8 +115,8 @@ line_with_method host name path origin = record {
 }
 
 -- one for each method, with these hosts and paths
-abbrev pub line_with_lists : List LineHost → List (List ℕ) → Option (List ℕ) → Line
-line_with_lists hosts paths origin = record {
+abbrev pub line_with_hosts_and_paths : List LineHost → List (List ℕ) → Option (List ℕ) → Line
+line_with_hosts_and_paths hosts paths origin = record {
   hosts = hosts;
   methods = codes "*" ∷ [];
   paths = paths;
@@ -132,8 +132,8 @@ line_with_lists hosts paths origin = record {
 
 -- what a line without words says in a table of version 4: requests with a cookie and responses with Set-Cookie are
 -- given no lifetime, the conditions of clients stay with the proxy, and so do the tags of answers
-abbrev pub plain_of_four : Policy
-plain_of_four =
+abbrev pub policy_of_version_four : Policy
+policy_of_version_four =
     record (plain true) {
       gives_to_set_cookie = false;
       gives_to_cookies = false;
@@ -147,9 +147,9 @@ abbrev pub origin_8081 : Option (List ℕ)
 origin_8081 = Some (codes "127.0.0.1:8081")
 
 -- a line without words of version 4, over which requests that loop are refused
-abbrev pub line_of_four : Line
-line_of_four = record (line_with_method None (codes "GET") (codes "/") origin_8081) {
-  policy = plain_of_four;
+abbrev pub line_of_version_four : Line
+line_of_version_four = record (line_with_method None (codes "GET") (codes "/") origin_8081) {
+  policy = policy_of_version_four;
   refuses_loops = true;
   wait_timeout = Some 5;
 }
@@ -172,8 +172,8 @@ indexed_lines =
     ∷ line_with_method (Some (codes "x")) (codes "POST") (codes "/") origin_8081 ∷ []
 
 -- the same in a table of this name, but that the second refuses requests that loop
-abbrev pub looping_table : Table
-looping_table = record {
+abbrev pub loop_refusing_table : Table
+loop_refusing_table = record {
   name = codes "edge";
   capacity = 2;
   max_body = 1000;
@@ -185,8 +185,8 @@ looping_table = record {
 }
 
 -- a table of this name whose first line names two cookies and refuses loops, and whose second does neither
-abbrev pub session_table : Table
-session_table = record looping_table {
+abbrev pub session_cookie_table : Table
+session_cookie_table = record loop_refusing_table {
   lines = record (line_with_method None (codes "GET") (codes "/shop") origin_8081) {
     refuses_loops = true;
     session_cookies = codes "sid" ∷ codes "login" ∷ [];
@@ -195,24 +195,24 @@ session_table = record looping_table {
 }
 
 -- a line whose origin is given 5 seconds, one that says nothing of it, and one that gives 7
-abbrev pub lines_with_timeouts : List Line
-lines_with_timeouts =
-    record line_of_four { origin_timeout = Some 5 } ∷ line_of_four
-    ∷ record line_of_four { origin_timeout = Some 7 } ∷ []
+abbrev pub lines_with_origin_timeouts : List Line
+lines_with_origin_timeouts =
+    record line_of_version_four { origin_timeout = Some 5 } ∷ line_of_version_four
+    ∷ record line_of_version_four { origin_timeout = Some 7 } ∷ []
 
 -- a line over which requests wait for 5 seconds, one that says nothing of it, and one over which they wait for 7
-abbrev pub lines_with_waits : List Line
-lines_with_waits =
-    record line_of_four { wait_timeout = Some 5 } ∷ record line_of_four { wait_timeout = None }
-    ∷ record line_of_four { wait_timeout = Some 7 } ∷ []
+abbrev pub lines_with_wait_timeouts : List Line
+lines_with_wait_timeouts =
+    record line_of_version_four { wait_timeout = Some 5 } ∷ record line_of_version_four { wait_timeout = None }
+    ∷ record line_of_version_four { wait_timeout = Some 7 } ∷ []
 
 -- a key of 16 letters and digits
 abbrev pub purge_key : List ℕ
 purge_key = codes "0123456789abcXYZ"
 
 -- a table whose first line purges by that key, and whose second by another
-abbrev pub purging_table : Table
-purging_table = record looping_table {
+abbrev pub table_with_purging_line : Table
+table_with_purging_line = record loop_refusing_table {
   lines = record (line_with_method None (codes "PURGE") (codes "/a") None) { purge_key = Some purge_key }
       ∷ record (line_with_method None (codes "PURGE") (codes "/p") None) {
         purge_key = Some (codes "0123456789abcXYz");
@@ -221,19 +221,19 @@ purging_table = record looping_table {
 }
 
 -- as many names as `session-cookies` has
-abbrev pub sixteen_names : List (List ℕ)
-sixteen_names =
+abbrev pub sixteen_cookie_names : List (List ℕ)
+sixteen_cookie_names =
     codes "a" ∷ codes "b" ∷ codes "c" ∷ codes "d" ∷ codes "e" ∷ codes "f" ∷ codes "g" ∷ codes "h" ∷ codes "i" ∷ codes "j"
     ∷ codes "k" ∷ codes "l" ∷ codes "m" ∷ codes "n" ∷ codes "o" ∷ codes "p" ∷ []
 
 -- as many as `vary` has
-abbrev pub eight_names : List (List ℕ)
-eight_names =
+abbrev pub eight_vary_names : List (List ℕ)
+eight_vary_names =
     codes "a" ∷ codes "b" ∷ codes "c" ∷ codes "d" ∷ codes "e" ∷ codes "f" ∷ codes "g" ∷ codes "X-Forwarded-Proto" ∷ []
 
 -- a table whose first line names two fields, and whose second names none
-abbrev pub varying_table : Table
-varying_table = record looping_table {
+abbrev pub table_with_vary_lines : Table
+table_with_vary_lines = record loop_refusing_table {
   lines = record (line_with_method None (codes "GET") (codes "/shop") origin_8081) {
     vary = codes "X-Forwarded-Proto" ∷ codes "X-Device" ∷ [];
   }
@@ -241,11 +241,11 @@ varying_table = record looping_table {
 }
 
 -- a line that denies two paths of two hosts and of those below one, one for the hosts below it, and one for every host
-abbrev pub lines_with_lists : List Line
-lines_with_lists =
-    line_with_lists (One (codes "a") ∷ One (codes "b") ∷ Below (codes "c") ∷ []) (codes "/p" ∷ codes "/q" ∷ []) None
-    ∷ line_with_lists (Below (codes "c") ∷ []) (codes "/" ∷ []) origin_8081
-    ∷ line_with_lists (Every ∷ []) (codes "/" ∷ []) (Some (codes "127.0.0.1:8082")) ∷ []
+abbrev pub lines_with_several_hosts : List Line
+lines_with_several_hosts =
+    line_with_hosts_and_paths (One (codes "a") ∷ One (codes "b") ∷ Below (codes "c") ∷ []) (codes "/p" ∷ codes "/q" ∷ []) None
+    ∷ line_with_hosts_and_paths (Below (codes "c") ∷ []) (codes "/" ∷ []) origin_8081
+    ∷ line_with_hosts_and_paths (Every ∷ []) (codes "/" ∷ []) (Some (codes "127.0.0.1:8082")) ∷ []
 
 -- a line with these values of `host` and `path`
 abbrev pub line_table_of : Data → Data → Members

@@ -3,7 +3,7 @@
 -- labels_of: the labels of a host
 -- is_below_host: a host has the labels of another one behind some of its own
 -- line_host_of: what a text of the table names
--- matches_host: a host of a line matches the asked one
+-- line_host_matches: a host of a line matches the asked one
 use Rattle.std.specs.Prelude.{ℕ, ◌==◌, Bool, true, false, ◌&&◌, List, [], ◌∷◌, take, drop, codes, bytes_eq}
 use Rattle.std.specs.Prelude.{if◌then◌else◌}
 use Rattle.std.specs.List.{list_any}
@@ -11,19 +11,19 @@ use Rattle.hx_allow.specs.declared.line_hosts.LineHost.{LineHost}
 use Rattle.hx_allow.specs.declared.line_hosts.LineHost.TheVariants.{Every, One, Below}
 
 -- a byte in front of the first label
-abbrev pub with_byte : ℕ → List (List ℕ) → List (List ℕ)
-with_byte b [] = (b ∷ []) ∷ []
-with_byte b (label ∷ labels) = (b ∷ label) ∷ labels
+abbrev pub labels_with_first_byte : ℕ → List (List ℕ) → List (List ℕ)
+labels_with_first_byte b [] = (b ∷ []) ∷ []
+labels_with_first_byte b (label ∷ labels) = (b ∷ label) ∷ labels
 
 -- the labels of a host, which dots join (RFC 1034, section 3.1)
 abbrev pub labels_of : List ℕ → List (List ℕ)
 labels_of [] = [] ∷ []
-labels_of (b ∷ bytes) = if b == 46 then [] ∷ labels_of bytes else with_byte b (labels_of bytes)
+labels_of (b ∷ bytes) = if b == 46 then [] ∷ labels_of bytes else labels_with_first_byte b (labels_of bytes)
 
 -- what is left of some labels without the first, the first two, and so on
-abbrev pub ends_of : List (List ℕ) → List (List (List ℕ))
-ends_of [] = []
-ends_of (label ∷ labels) = labels ∷ ends_of labels
+abbrev pub label_suffixes_of : List (List ℕ) → List (List (List ℕ))
+label_suffixes_of [] = []
+label_suffixes_of (label ∷ labels) = labels ∷ label_suffixes_of labels
 
 -- label by label; both hosts are in lower case, the line's and the target's
 abbrev pub are_same_labels : List (List ℕ) → List (List ℕ) → Bool
@@ -34,7 +34,7 @@ are_same_labels _ _ = false
 -- the asked host has the labels of the other behind one or more of its own, so it is contained in that
 -- domain (RFC 1034, section 3.1)
 abbrev pub is_below_host : List ℕ → List ℕ → Bool
-is_below_host host asked = list_any (are_same_labels (labels_of host)) (ends_of (labels_of asked))
+is_below_host host asked = list_any (are_same_labels (labels_of host)) (label_suffixes_of (labels_of asked))
 
 -- `*.`, which a host follows
 abbrev pub begins_with_star_dot : List ℕ → Bool
@@ -48,16 +48,16 @@ line_host_of text =
     else One text
 
 -- ports aren't compared
-abbrev pub matches_host : LineHost → List ℕ → Bool
-matches_host Every asked = true
-matches_host (One host) asked = bytes_eq host asked
-matches_host (Below host) asked = is_below_host host asked
+abbrev pub line_host_matches : LineHost → List ℕ → Bool
+line_host_matches Every asked = true
+line_host_matches (One host) asked = bytes_eq host asked
+line_host_matches (Below host) asked = is_below_host host asked
 
 -- one of some hosts matches
 abbrev pub any_host_matches : List LineHost → List ℕ → Bool
-any_host_matches hosts asked = list_any (λ host. matches_host host asked) hosts
+any_host_matches hosts asked = list_any (λ host. line_host_matches host asked) hosts
 
 -- the hosts below one are named
-abbrev pub is_for_hosts_below : LineHost → Bool
-is_for_hosts_below (Below host) = true
-is_for_hosts_below _ = false
+abbrev pub is_host_wildcard : LineHost → Bool
+is_host_wildcard (Below host) = true
+is_host_wildcard _ = false

@@ -13,28 +13,30 @@ use Rattle.hx_target.specs.Paths.{has_bad_escape, has_dot_segment, table_path_of
 use Rattle.hx_allow.specs.Addresses.{is_address, address_text}
 use Rattle.hx_allow.specs.LineHosts.{begins_with_star_dot, line_host_of}
 use Rattle.hx_allow.specs.TableLines.{Line as PlainLine}
-use Rattle.hx_allow.specs.LineWords.{key_has_one_of_two, key_has_text, line_has_no_origin, line_takes_words}
+use Rattle.hx_allow.specs.LineWords.{key_has_one_of_two_texts, key_has_text, line_has_no_origin, line_caches}
 use Rattle.hx_allow.specs.LineWords.{line_purges}
-use Rattle.hx_allow.specs.LineWords.{policy_of_line_table, refuses_loops, seconds_for_origin, seconds_to_wait}
+use Rattle.hx_allow.specs.LineWords.{policy_of_line_table, refuses_loops, origin_timeout_seconds, wait_timeout_seconds}
 use Rattle.hx_allow.specs.Matching.{is_never_allowed}
 use Rattle.hx_allow.specs.Purges.{is_purge_key}
-use Rattle.hx_allow.specs.Rows.{Kind, a_number, some_seconds, one_of, a_host, some_methods, a_path, an_origin, Row}
+use Rattle.hx_allow.specs.Rows.{ValueKind, a_number, some_seconds, one_of, a_host, some_methods, a_path, an_origin}
+use Rattle.hx_allow.specs.Rows.{KeyDefinition}
 use Rattle.hx_allow.specs.Rows.{some_names, one_of_in_four, one_of_three, a_purge_key, word_row}
-use Rattle.hx_allow.specs.Rows.{line_row, has_keys_of}
+use Rattle.hx_allow.specs.Rows.{row_of_line_key, has_keys_of}
 use Rattle.hx_allow.specs.Rows.{line_keys, fault_of_line_key}
-use Rattle.hx_allow.specs.Values.{first_unknown, text_at, number_between, is_some_and, count_is_from_1_to, all_items}
-use Rattle.hx_allow.specs.Values.{texts_of, texts_at, items_at}
+use Rattle.hx_allow.specs.Values.{first_unknown, text_of_key, number_between, is_some_and, count_is_from_1_to}
+use Rattle.hx_allow.specs.Values.{all_items}
+use Rattle.hx_allow.specs.Values.{texts_of_items, texts_of_key, items_of_key}
 use Rattle.hx_allow.specs.declared.values.Scope.TheVariants.{Line}
 use Rattle.hx_allow.specs.declared.values.TableVersion.{TableVersion}
 use Rattle.hx_allow.specs.declared.values.TableVersion.TheVariants.{Four}
 use Rattle.hx_allow.specs.declared.config_faults.ConfigFault.{ConfigFault}
-use Rattle.hx_allow.specs.declared.config_faults.LineWord.TheVariants.{PurgeKey}
+use Rattle.hx_allow.specs.declared.config_faults.LineOption.TheVariants.{PurgeKey}
 use Rattle.hx_allow.specs.declared.config_faults.FoundFault.{FoundFault}
 use Rattle.hx_allow.specs.declared.config_faults.FoundFault.TheVariants as found
 use Rattle.hx_allow.specs.declared.config_faults.ConfigFault.TheVariants.{UnknownKey, MethodInLowerCase, StarInPath}
 use Rattle.hx_allow.specs.declared.rows.LineKey.{LineKey}
-use Rattle.hx_allow.specs.declared.rows.Place.{Place}
-use Rattle.hx_allow.specs.declared.rows.Place.TheVariants.{Needed, Optional, AllowingLine, CachingLine, PurgingLine}
+use Rattle.hx_allow.specs.declared.rows.KeyPlace.{KeyPlace}
+use Rattle.hx_allow.specs.declared.rows.KeyPlace.TheVariants.{Needed, Optional, AllowingLine, CachingLine, PurgingLine}
 
 -- a host in lower case
 abbrev pub is_host_in_lower_case : List ℕ → Bool
@@ -42,8 +44,8 @@ is_host_in_lower_case text = is_host text && not (list_any is_ascii_uppercase te
 
 -- own: `*.` and a name in lower case that has a letter, so that no address is below it: an address has no labels
 -- (RFC 3986, section 3.2.2)
-abbrev pub names_hosts_below : List ℕ → Bool
-names_hosts_below text =
+abbrev pub is_host_wildcard_text : List ℕ → Bool
+is_host_wildcard_text text =
     begins_with_star_dot text && is_host_in_lower_case (drop 2 text)
     && not (slice_index (drop 2 text) 0 == left_bracket)
     && list_any is_ascii_lowercase (drop 2 text)
@@ -51,7 +53,7 @@ names_hosts_below text =
 -- `*`, a host in lower case, or in the fourth version `*.` and a name
 unfoldable pub is_line_host : TableVersion → List ℕ → Bool
 is_line_host version text =
-    bytes_eq text (codes "*") || is_host_in_lower_case text || (has_keys_of version Four && names_hosts_below text)
+    bytes_eq text (codes "*") || is_host_in_lower_case text || (has_keys_of version Four && is_host_wildcard_text text)
 
 -- `*`, or a token of at most 15 bytes that a line may name
 unfoldable pub is_line_method : List ℕ → Bool
@@ -79,99 +81,104 @@ is_line_origin version text =
 
 -- a token
 -- own: no `*` alone, which an operator could take for every name
-abbrev pub is_listed_name : List ℕ → Bool
-is_listed_name text = is_token text && not (bytes_eq text (codes "*"))
+abbrev pub is_token_but_not_star : List ℕ → Bool
+is_token_but_not_star text = is_token text && not (bytes_eq text (codes "*"))
 
 -- a text is one of these, in a table of this version
-abbrev pub is_text_of : TableVersion → Kind → List ℕ → Bool
+abbrev pub is_text_of : TableVersion → ValueKind → List ℕ → Bool
 is_text_of version a_host text = is_line_host version text
 is_text_of version some_methods text = is_line_method text
 is_text_of version a_path text = is_line_path text
 is_text_of version an_origin text = is_line_origin version text
 is_text_of version a_purge_key text = is_purge_key text
-is_text_of version (some_names most) text = is_listed_name text
+is_text_of version (some_names most) text = is_token_but_not_star text
 is_text_of version _ text = false
 
 -- the most texts of a list
-abbrev pub most_texts : Kind → ℕ
-most_texts (some_names most) = most
-most_texts _ = 32
+abbrev pub most_list_texts : ValueKind → ℕ
+most_list_texts (some_names most) = most
+most_list_texts _ = 32
 
 -- 1 to so many of these
-abbrev pub are_texts_of : TableVersion → Kind → Items → Bool
-are_texts_of version kind ds =
-    count_is_from_1_to (most_texts kind) ds && all_items (λ d. is_some_and (is_text_of version kind) (as_str d)) ds
+abbrev pub are_texts_of_kind : TableVersion → ValueKind → Items → Bool
+are_texts_of_kind version kind ds =
+    count_is_from_1_to (most_list_texts kind) ds && all_items (λ d. is_some_and (is_text_of version kind) (as_str d)) ds
 
 -- one of these, or in the fourth version a list of 1 to 32
-abbrev pub is_text_or_list : TableVersion → Kind → List ℕ → Members → Bool
-is_text_or_list version kind key ms =
-    is_some_and (is_text_of version kind) (text_at key ms)
-    || (has_keys_of version Four && is_some_and (are_texts_of version kind) (items_at key ms))
+abbrev pub is_text_or_list_of_kind : TableVersion → ValueKind → List ℕ → Members → Bool
+is_text_or_list_of_kind version kind key ms =
+    is_some_and (is_text_of version kind) (text_of_key key ms)
+    || (has_keys_of version Four && is_some_and (are_texts_of_kind version kind) (items_of_key key ms))
 
 -- the value of a key is of this kind, of those that stand in a line of a table of this version
-abbrev pub is_of_kind : TableVersion → Kind → List ℕ → Members → Bool
-is_of_kind version (a_number low high) key ms = is_some (number_between low high (get_member key ms))
-is_of_kind version (some_seconds low high) key ms = is_some (number_between low high (get_member key ms))
-is_of_kind version (one_of first second) key ms = key_has_one_of_two key first second ms
-is_of_kind version (one_of_in_four first second third) key ms =
-    key_has_one_of_two key first second ms || (has_keys_of version Four && key_has_text key third ms)
-is_of_kind version (one_of_three first second third) key ms =
-    key_has_one_of_two key first second ms || key_has_text key third ms
-is_of_kind version a_host key ms = is_text_or_list version a_host key ms
-is_of_kind version some_methods key ms = is_some_and (are_texts_of version some_methods) (items_at key ms)
-is_of_kind version a_path key ms = is_text_or_list version a_path key ms
-is_of_kind version an_origin key ms = is_some_and (is_line_origin version) (text_at key ms)
-is_of_kind version a_purge_key key ms = is_some_and is_purge_key (text_at key ms)
-is_of_kind version (some_names most) key ms = is_some_and (are_texts_of version (some_names most)) (items_at key ms)
-is_of_kind version _ key ms = false
+abbrev pub value_is_of_kind : TableVersion → ValueKind → List ℕ → Members → Bool
+value_is_of_kind version (a_number low high) key ms = is_some (number_between low high (get_member key ms))
+value_is_of_kind version (some_seconds low high) key ms = is_some (number_between low high (get_member key ms))
+value_is_of_kind version (one_of first second) key ms = key_has_one_of_two_texts key first second ms
+value_is_of_kind version (one_of_in_four first second third) key ms =
+    key_has_one_of_two_texts key first second ms || (has_keys_of version Four && key_has_text key third ms)
+value_is_of_kind version (one_of_three first second third) key ms =
+    key_has_one_of_two_texts key first second ms || key_has_text key third ms
+value_is_of_kind version a_host key ms = is_text_or_list_of_kind version a_host key ms
+value_is_of_kind version some_methods key ms =
+    is_some_and (are_texts_of_kind version some_methods) (items_of_key key ms)
+value_is_of_kind version a_path key ms = is_text_or_list_of_kind version a_path key ms
+value_is_of_kind version an_origin key ms = is_some_and (is_line_origin version) (text_of_key key ms)
+value_is_of_kind version a_purge_key key ms = is_some_and is_purge_key (text_of_key key ms)
+value_is_of_kind version (some_names most) key ms =
+    is_some_and (are_texts_of_kind version (some_names most)) (items_of_key key ms)
+value_is_of_kind version _ key ms = false
 
 -- a row's key has a good value in a line that takes it, or needn't stand and doesn't; that of a line that purges has to
 -- stand there, and nowhere else
-abbrev pub is_good_at : TableVersion → Place → Row → Members → Bool
-is_good_at version Needed row ms = is_of_kind version row.kind row.key ms
-is_good_at version Optional row ms = is_none (get_member row.key ms) || is_of_kind version row.kind row.key ms
-is_good_at version AllowingLine row ms =
-    is_none (get_member row.key ms) || (is_of_kind version row.kind row.key ms && not (line_has_no_origin ms))
-is_good_at version CachingLine row ms =
-    is_none (get_member row.key ms) || (is_of_kind version row.kind row.key ms && line_takes_words ms)
-is_good_at version PurgingLine row ms =
-    if line_purges version ms then is_of_kind version row.kind row.key ms else is_none (get_member row.key ms)
+abbrev pub value_is_good_for_key_row : TableVersion → KeyPlace → KeyDefinition → Members → Bool
+value_is_good_for_key_row version Needed row ms = value_is_of_kind version row.kind row.key ms
+value_is_good_for_key_row version Optional row ms = is_none (get_member row.key ms)
+    || value_is_of_kind version row.kind row.key ms
+value_is_good_for_key_row version AllowingLine row ms =
+    is_none (get_member row.key ms) || (value_is_of_kind version row.kind row.key ms && not (line_has_no_origin ms))
+value_is_good_for_key_row version CachingLine row ms =
+    is_none (get_member row.key ms) || (value_is_of_kind version row.kind row.key ms && line_caches ms)
+value_is_good_for_key_row version PurgingLine row ms =
+    if line_purges version ms then value_is_of_kind version row.kind row.key ms else is_none (get_member row.key ms)
 
-abbrev pub is_good : TableVersion → Members → LineKey → Bool
-is_good version ms key = is_good_at version (line_row key).place (line_row key) ms
+abbrev pub line_key_has_good_value : TableVersion → Members → LineKey → Bool
+line_key_has_good_value version ms key =
+    value_is_good_for_key_row version (row_of_line_key key).place (row_of_line_key key) ms
 
 -- the first key that isn't good, in the order in which they are looked at
 abbrev pub first_bad_key : TableVersion → Members → Option LineKey
-first_bad_key version ms = find (λ key. not (is_good version ms key)) line_keys
+first_bad_key version ms = find (λ key. not (line_key_has_good_value version ms key)) line_keys
 
 abbrev pub first_fault_or_later : Option ConfigFault → Option ConfigFault → Option ConfigFault
 first_fault_or_later None later = later
 first_fault_or_later (Some fault) later = Some fault
 
 -- a method with a letter in lower case; methods compare with their case (RFC 9110, section 9.1)
-abbrev pub has_small_letter : Data → Bool
-has_small_letter d = is_some_and (list_any is_ascii_lowercase) (as_str d)
+abbrev pub has_lowercase_letter : Data → Bool
+has_lowercase_letter d = is_some_and (list_any is_ascii_lowercase) (as_str d)
 
-abbrev pub names_small_method : Members → Bool
-names_small_method ms = is_some_and (λ ds. not (all_items (λ d. not (has_small_letter d)) ds)) (items_at (codes "methods") ms)
+abbrev pub line_has_lowercase_method : Members → Bool
+line_has_lowercase_method ms =
+    is_some_and (λ ds. not (all_items (λ d. not (has_lowercase_letter d)) ds)) (items_of_key (codes "methods") ms)
 
 -- a `*` in a path, which is that character alone and no pattern
-abbrev pub has_star : List ℕ → Bool
-has_star text = list_any (λ b. b == 42) text
+abbrev pub text_has_star : List ℕ → Bool
+text_has_star text = list_any (λ b. b == 42) text
 
 abbrev pub is_text_with_star : Data → Bool
-is_text_with_star d = is_some_and has_star (as_str d)
+is_text_with_star d = is_some_and text_has_star (as_str d)
 
-abbrev pub names_path_with_star : Members → Bool
-names_path_with_star ms =
-    is_some_and has_star (text_at (codes "path") ms)
-    || is_some_and (λ ds. not (all_items (λ d. not (is_text_with_star d)) ds)) (items_at (codes "path") ms)
+abbrev pub line_has_path_with_star : Members → Bool
+line_has_path_with_star ms =
+    is_some_and text_has_star (text_of_key (codes "path") ms)
+    || is_some_and (λ ds. not (all_items (λ d. not (is_text_with_star d)) ds)) (items_of_key (codes "path") ms)
 
 -- own: what version 4 refuses of a line whose keys are good, since it is most often meant otherwise
 abbrev pub spelling_fault : TableVersion → ℕ → Members → Option ConfigFault
 spelling_fault Four n ms =
-    if names_small_method ms then Some (MethodInLowerCase n)
-    else if names_path_with_star ms then Some (StarInPath n)
+    if line_has_lowercase_method ms then Some (MethodInLowerCase n)
+    else if line_has_path_with_star ms then Some (StarInPath n)
     else None
 spelling_fault _ n ms = None
 
@@ -185,44 +192,44 @@ line_fault version n ms = after_keys (first_unknown (Line version) ms)
         first_fault_or_later (option_map (fault_of_line_key n) (first_bad_key version ms)) (spelling_fault version n ms)
 
 -- the line, where it has no fault, in a table of this version; a text alone is a list of one
-unfoldable pub line_read : TableVersion → Members → PlainLine
-line_read version ms = record {
-  hosts = map line_host_of (texts_at (codes "host") ms);
-  methods = texts_of (unwrap_or (items_at (codes "methods") ms) no_items);
-  paths = map table_path_of (texts_at (codes "path") ms);
-  origin = option_and_then address_text (text_at (codes "origin") ms);
+unfoldable pub line_of_members : TableVersion → Members → PlainLine
+line_of_members version ms = record {
+  hosts = map line_host_of (texts_of_key (codes "host") ms);
+  methods = texts_of_items (unwrap_or (items_of_key (codes "methods") ms) no_items);
+  paths = map table_path_of (texts_of_key (codes "path") ms);
+  origin = option_and_then address_text (text_of_key (codes "origin") ms);
   policy = policy_of_line_table version ms;
   refuses_loops = refuses_loops version ms;
-  session_cookies = texts_of (unwrap_or (items_at (codes "session-cookies") ms) no_items);
-  vary = texts_of (unwrap_or (items_at (codes "vary") ms) no_items);
-  origin_timeout = seconds_for_origin ms;
-  purge_key = text_at (word_row PurgeKey).key ms;
-  wait_timeout = seconds_to_wait version ms;
+  session_cookies = texts_of_items (unwrap_or (items_of_key (codes "session-cookies") ms) no_items);
+  vary = texts_of_items (unwrap_or (items_of_key (codes "vary") ms) no_items);
+  origin_timeout = origin_timeout_seconds ms;
+  purge_key = text_of_key (word_row PurgeKey).key ms;
+  wait_timeout = wait_timeout_seconds version ms;
 }
 
-abbrev pub fault_of_line_item : TableVersion → ℕ → Option Members → Option ConfigFault
-fault_of_line_item version n None = None
-fault_of_line_item version n (Some ms) = line_fault version n ms
+abbrev pub fault_of_line_if_table : TableVersion → ℕ → Option Members → Option ConfigFault
+fault_of_line_if_table version n None = None
+fault_of_line_if_table version n (Some ms) = line_fault version n ms
 
 -- the first fault among lines of which the first has this number, in a table of this version
-abbrev pub lines_fault : TableVersion → ℕ → Items → Option ConfigFault
-lines_fault version n no_items = None
-lines_fault version n (item d ds) = first_fault_or_later (fault_of_line_item version n (as_table d))
-    (lines_fault version (n + 1) ds)
+abbrev pub first_fault_of_lines : TableVersion → ℕ → Items → Option ConfigFault
+first_fault_of_lines version n no_items = None
+first_fault_of_lines version n (item d ds) = first_fault_or_later (fault_of_line_if_table version n (as_table d))
+    (first_fault_of_lines version (n + 1) ds)
 
 -- the items of an array of these tables
 abbrev pub array_of_tables : List Members → Items
 array_of_tables [] = no_items
 array_of_tables (ms ∷ more) = item (table ms) (array_of_tables more)
 
-abbrev pub lines_with : TableVersion → Option Members → List PlainLine → List PlainLine
-lines_with version None lines = lines
-lines_with version (Some ms) lines = line_read version ms ∷ lines
+abbrev pub lines_with_line_if_table : TableVersion → Option Members → List PlainLine → List PlainLine
+lines_with_line_if_table version None lines = lines
+lines_with_line_if_table version (Some ms) lines = line_of_members version ms ∷ lines
 
 -- what the lines say, where they have no fault, in a table of this version
-abbrev pub lines_read : TableVersion → Items → List PlainLine
-lines_read version no_items = []
-lines_read version (item d ds) = lines_with version (as_table d) (lines_read version ds)
+abbrev pub lines_of_tables : TableVersion → Items → List PlainLine
+lines_of_tables version no_items = []
+lines_of_tables version (item d ds) = lines_with_line_if_table version (as_table d) (lines_of_tables version ds)
 
 -- the fault that was found
 abbrev pub config_fault_found : FoundFault → ConfigFault

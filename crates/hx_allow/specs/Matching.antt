@@ -15,15 +15,15 @@ use Rattle.std.specs.declared.net.socket_addr.SocketAddrV4.{SocketAddrV4}
 use Rattle.hx_fields.specs.Line.{Field}
 use Rattle.hx_target.specs.declared.targets.Target.{Target}
 use Rattle.hx_policy.specs.declared.words.Policy.{Policy}
-use Rattle.hx_policy.specs.Policies.{plain, plain_with_tags}
+use Rattle.hx_policy.specs.Policies.{plain, default_policy_with_hidden_tags}
 use Rattle.hx_allow.specs.Addresses.{address_of}
 use Rattle.hx_allow.specs.LineHosts.{any_host_matches}
-use Rattle.hx_allow.specs.Cookies.{has_cookie_of}
+use Rattle.hx_allow.specs.Cookies.{has_cookie_among}
 use Rattle.hx_allow.specs.Purges.{asks_to_purge}
 use Rattle.hx_allow.specs.TableLines.{Line, Table}
-use Rattle.hx_allow.specs.declared.verdicts.Route.{Route}
+use Rattle.hx_allow.specs.declared.verdicts.RequestRoute.{RequestRoute}
 use Rattle.hx_allow.specs.Values.{is_some_and}
-use Rattle.hx_allow.specs.Via.{times_named, request_loops}
+use Rattle.hx_allow.specs.Via.{times_in_via, via_names_proxy_twice}
 use Rattle.hx_allow.specs.declared.verdicts.Verdict.{Verdict}
 use Rattle.hx_allow.specs.declared.verdicts.Verdict.TheVariants.{Allowed, DeniedBy, NoLine, Looped, Purged}
 
@@ -58,12 +58,12 @@ matches_line line method target =
     && any_path_matches line.paths target.table_path
 
 -- the way over the line of a number for a request that doesn't go past the store
-abbrev pub over_line : ℕ → Route
-over_line n = record { number = n; past_store = false }
+abbrev pub route_over : ℕ → RequestRoute
+route_over n = record { number = n; past_store = false }
 
 -- what a line of this number says where it decides
 abbrev pub verdict_of_line : ℕ → Line → Verdict
-verdict_of_line n line = if is_some line.origin then Allowed (over_line n) else DeniedBy n
+verdict_of_line n line = if is_some line.origin then Allowed (route_over n) else DeniedBy n
 
 -- the first line that matches, where the first of the list has this number
 abbrev pub verdict_from : ℕ → List Line → List ℕ → Target → Verdict
@@ -93,30 +93,30 @@ line_policy lines n = unwrap_or (option_map (λ (line : Line). line.policy) (lin
 
 -- what counts for a request that goes this way; past the store it is what a line without cache says, and whether tags
 -- are hidden is as over the line
-unfoldable pub policy_of : List Line → Route → Policy
+unfoldable pub policy_of : List Line → RequestRoute → Policy
 policy_of lines route =
-    if route.past_store then plain_with_tags (line_policy lines route.number).hides_tags false
+    if route.past_store then default_policy_with_hidden_tags (line_policy lines route.number).hides_tags false
     else line_policy lines route.number
 
 -- a line of this number stands and has an origin
-abbrev pub LineAllows : List Line → ℕ → Type 0
-LineAllows lines n = (1 ≤ n) × IsSome (origin_of lines n)
+abbrev pub LineHasOrigin : List Line → ℕ → Type 0
+LineHasOrigin lines n = (1 ≤ n) × IsSome (origin_of lines n)
 
 -- where the verdict allows, its line stands and has an origin
 abbrev pub VerdictNamesAnOrigin : List Line → Verdict → Type 0
-VerdictNamesAnOrigin lines (Allowed route) = LineAllows lines route.number
+VerdictNamesAnOrigin lines (Allowed route) = LineHasOrigin lines route.number
 VerdictNamesAnOrigin lines (DeniedBy n) = Unit {0}
 VerdictNamesAnOrigin lines NoLine = Unit {0}
 VerdictNamesAnOrigin lines (Looped n) = Unit {0}
 VerdictNamesAnOrigin lines (Purged n) = Unit {0}
 
 -- the number of the line that decided
-abbrev pub line_number : Verdict → Option ℕ
-line_number (Allowed route) = Some route.number
-line_number (DeniedBy n) = Some n
-line_number NoLine = None
-line_number (Looped n) = Some n
-line_number (Purged n) = Some n
+abbrev pub deciding_line_number : Verdict → Option ℕ
+deciding_line_number (Allowed route) = Some route.number
+deciding_line_number (DeniedBy n) = Some n
+deciding_line_number NoLine = None
+deciding_line_number (Looped n) = Some n
+deciding_line_number (Purged n) = Some n
 
 -- the line of this number refuses requests that loop
 abbrev pub line_refuses_loops : List Line → ℕ → Bool
@@ -124,26 +124,26 @@ line_refuses_loops lines n =
     unwrap_or (option_map (λ (line : Line). line.refuses_loops) (line_of_number lines n)) false
 
 -- over a line that refuses loops a request was here before
-abbrev pub request_came_back : Table → Route → List Field → Bool
-request_came_back table route fields =
-    line_refuses_loops table.lines route.number && nat_le 1 (times_named table.name fields)
+abbrev pub request_is_refused_as_loop : Table → RequestRoute → List Field → Bool
+request_is_refused_as_loop table route fields =
+    line_refuses_loops table.lines route.number && nat_le 1 (times_in_via table.name fields)
 
 -- what is said of a request that a line allows, by whether it loops
-abbrev pub verdict_on_loops : List Line → Bool → Verdict → Verdict
-verdict_on_loops lines loops (Allowed route) =
+abbrev pub verdict_after_loop_check : List Line → Bool → Verdict → Verdict
+verdict_after_loop_check lines loops (Allowed route) =
     if line_refuses_loops lines route.number && loops then Looped route.number else Allowed route
-verdict_on_loops lines loops (DeniedBy n) = DeniedBy n
-verdict_on_loops lines loops NoLine = NoLine
-verdict_on_loops lines loops (Looped n) = Looped n
-verdict_on_loops lines loops (Purged n) = Purged n
+verdict_after_loop_check lines loops (DeniedBy n) = DeniedBy n
+verdict_after_loop_check lines loops NoLine = NoLine
+verdict_after_loop_check lines loops (Looped n) = Looped n
+verdict_after_loop_check lines loops (Purged n) = Purged n
 
 -- the names of the cookies whose requests go past the store, over the line of this number
 abbrev pub session_cookies_of : List Line → ℕ → List (List ℕ)
 session_cookies_of lines n = unwrap_or (option_map (λ (line : Line). line.session_cookies) (line_of_number lines n)) []
 
 -- the fields that count as if the Vary of an answer named them, over the line of this number
-abbrev pub vary_of : List Line → ℕ → List (List ℕ)
-vary_of lines n = unwrap_or (option_map (λ (line : Line). line.vary) (line_of_number lines n)) []
+abbrev pub vary_names_of_line : List Line → ℕ → List (List ℕ)
+vary_names_of_line lines n = unwrap_or (option_map (λ (line : Line). line.vary) (line_of_number lines n)) []
 
 -- for how many seconds without a byte its origin is waited for, where the line of this number says so
 abbrev pub origin_timeout_of : List Line → ℕ → Option ℕ
@@ -155,39 +155,40 @@ abbrev pub wait_timeout_of : List Line → ℕ → Option ℕ
 wait_timeout_of lines n = option_and_then (λ (line : Line). line.wait_timeout) (line_of_number lines n)
 
 -- over this line a request goes past the store, since it has such a cookie
-abbrev pub goes_past_store : List Line → ℕ → List Field → Bool
-goes_past_store lines n fields = has_cookie_of (session_cookies_of lines n) fields
+abbrev pub has_session_cookie_of_line : List Line → ℕ → List Field → Bool
+has_session_cookie_of_line lines n fields = has_cookie_among (session_cookies_of lines n) fields
 
 -- by which way a request goes that is allowed
-abbrev pub verdict_on_cookies : List Line → List Field → Verdict → Verdict
-verdict_on_cookies lines fields (Allowed route) =
-    Allowed (record { number = route.number; past_store = goes_past_store lines route.number fields })
-verdict_on_cookies lines fields (DeniedBy n) = DeniedBy n
-verdict_on_cookies lines fields NoLine = NoLine
-verdict_on_cookies lines fields (Looped n) = Looped n
-verdict_on_cookies lines fields (Purged n) = Purged n
+abbrev pub verdict_after_cookie_check : List Line → List Field → Verdict → Verdict
+verdict_after_cookie_check lines fields (Allowed route) =
+    Allowed (record { number = route.number; past_store = has_session_cookie_of_line lines route.number fields })
+verdict_after_cookie_check lines fields (DeniedBy n) = DeniedBy n
+verdict_after_cookie_check lines fields NoLine = NoLine
+verdict_after_cookie_check lines fields (Looped n) = Looped n
+verdict_after_cookie_check lines fields (Purged n) = Purged n
 
 -- the key of the line of this number, where it purges
 abbrev pub purge_key_of : List Line → ℕ → Option (List ℕ)
 purge_key_of lines n = option_and_then (λ (line : Line). line.purge_key) (line_of_number lines n)
 
 -- the line of this number purges for a request with these fields
-abbrev pub line_purges_for : List Line → ℕ → List Field → Bool
-line_purges_for lines n fields = is_some_and (λ key. asks_to_purge key fields) (purge_key_of lines n)
+abbrev pub request_purges_over_line : List Line → ℕ → List Field → Bool
+request_purges_over_line lines n fields = is_some_and (λ key. asks_to_purge key fields) (purge_key_of lines n)
 
 -- a line that purges denies each request but those that show its key and ask for nothing that isn't known
-abbrev pub verdict_on_purges : List Line → List Field → Verdict → Verdict
-verdict_on_purges lines fields (Allowed route) = Allowed route
-verdict_on_purges lines fields (DeniedBy n) = if line_purges_for lines n fields then Purged n else DeniedBy n
-verdict_on_purges lines fields NoLine = NoLine
-verdict_on_purges lines fields (Looped n) = Looped n
-verdict_on_purges lines fields (Purged n) = Purged n
+abbrev pub verdict_after_purge : List Line → List Field → Verdict → Verdict
+verdict_after_purge lines fields (Allowed route) = Allowed route
+verdict_after_purge lines fields (DeniedBy n) = if request_purges_over_line lines n fields then Purged n else DeniedBy n
+verdict_after_purge lines fields NoLine = NoLine
+verdict_after_purge lines fields (Looped n) = Looped n
+verdict_after_purge lines fields (Purged n) = Purged n
 
 -- What the table says of a request, of which it knows method, target and fields: what the first line says that matches,
 -- but that one which refuses loops doesn't allow a request that was here twice already, that a request goes past the
 -- store where it has one of the cookies that the line names, and that a line which purges takes one that shows its key.
 unfoldable pub verdict_of_request : Table → List ℕ → Target → List Field → Verdict
 verdict_of_request table method target fields =
-    verdict_on_purges table.lines fields
-    (verdict_on_cookies table.lines fields
-    (verdict_on_loops table.lines (request_loops table.name fields) (verdict_of table.lines method target)))
+    verdict_after_purge table.lines fields
+    (verdict_after_cookie_check table.lines fields
+    (verdict_after_loop_check table.lines (via_names_proxy_twice table.name fields)
+    (verdict_of table.lines method target)))

@@ -1,10 +1,10 @@
 //! Addresses of origins: four decimal numbers and a port.
 ghost use Rattle.std.specs.Prelude.{◌≡◌, ◌≤◌, IfSome};
 ghost use Rattle.std.specs.Option.{option_map};
-ghost use Rattle.hx_allow.specs.Addresses.{has_leading_zero, decimal_within, octet_before, address_of};
+ghost use Rattle.hx_allow.specs.Addresses.{has_leading_zero, decimal_value_within, octet_before_separator, address_of};
 
-use hx_fields::cut_at;
-use hx_target::short_number;
+use hx_fields::split_at_first_byte;
+use hx_target::number_of_few_digits;
 use std::net::{Ipv4Addr, SocketAddrV4};
 
 fn has_leading_zero(text: &[u8]) -> bool
@@ -14,25 +14,25 @@ fn has_leading_zero(text: &[u8]) -> bool
 }
 
 /// A decimal number within bounds, without leading zeros.
-fn decimal_within(low: u32, high: u32, text: &[u8]) -> Option<u32>
-    ensures number { result ≡ decimal_within low high text.now }
+fn decimal_value_within(low: u32, high: u32, text: &[u8]) -> Option<u32>
+    ensures number { result ≡ decimal_value_within low high text.now }
     ensures within { IfSome result (λ n. n ≤ high) }
 {
     if has_leading_zero(text) {
         return None;
     }
-    match short_number(text) {
+    match number_of_few_digits(text) {
         Some(n) if low <= n && n <= high => Some(n),
         _ => None,
     }
 }
 
 /// A number from 0 to 255 in front of a byte, and what follows the byte.
-fn octet_before(separator: u8, text: &[u8]) -> Option<(u8, &[u8])>
-    ensures { option_map (λ p. (p.0, p.1.now)) result ≡ octet_before separator text.now }
+fn octet_before_separator(separator: u8, text: &[u8]) -> Option<(u8, &[u8])>
+    ensures { option_map (λ p. (p.0, p.1.now)) result ≡ octet_before_separator separator text.now }
 {
-    let (digits, rest) = cut_at(separator, text)?;
-    let octet = decimal_within(0, 255, digits)?;
+    let (digits, rest) = split_at_first_byte(separator, text)?;
+    let octet = decimal_value_within(0, 255, digits)?;
     Some((octet as u8, rest))
 }
 
@@ -41,10 +41,10 @@ fn octet_before(separator: u8, text: &[u8]) -> Option<(u8, &[u8])>
 pub fn address_of(text: &[u8]) -> Option<SocketAddrV4>
     ensures { result ≡ address_of text.now }
 {
-    let (a, rest) = octet_before(b'.', text)?;
-    let (b, rest) = octet_before(b'.', rest)?;
-    let (c, rest) = octet_before(b'.', rest)?;
-    let (d, rest) = octet_before(b':', rest)?;
-    let port = decimal_within(1, 65_535, rest)?;
+    let (a, rest) = octet_before_separator(b'.', text)?;
+    let (b, rest) = octet_before_separator(b'.', rest)?;
+    let (c, rest) = octet_before_separator(b'.', rest)?;
+    let (d, rest) = octet_before_separator(b':', rest)?;
+    let port = decimal_value_within(1, 65_535, rest)?;
     Some(SocketAddrV4::new(Ipv4Addr::new(a, b, c, d), port as u16))
 }

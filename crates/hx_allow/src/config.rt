@@ -3,22 +3,23 @@ ghost use Rattle.std.specs.Prelude.{◌≡◌, ◌≤◌, [], length, Err, IfSom
 ghost use Rattle.std.specs.Option.{option_copied, option_map};
 ghost use Rattle.std.specs.Net.Text.{socket_v4_text};
 ghost use Rattle.hx_allow.specs.Matching.{verdict_of, verdict_of_request, origin_of, origin_address_of, line_policy};
-ghost use Rattle.hx_allow.specs.Matching.{line_refuses_loops, request_came_back, VerdictNamesAnOrigin};
-ghost use Rattle.hx_allow.specs.Matching.{policy_of, session_cookies_of, goes_past_store, vary_of};
-ghost use Rattle.hx_allow.specs.Matching.{origin_timeout_of, purge_key_of, line_purges_for};
+ghost use Rattle.hx_allow.specs.Matching.{line_refuses_loops, request_is_refused_as_loop, VerdictNamesAnOrigin};
+ghost use Rattle.hx_allow.specs.Matching.{policy_of, session_cookies_of, has_session_cookie_of_line};
+ghost use Rattle.hx_allow.specs.Matching.{vary_names_of_line};
+ghost use Rattle.hx_allow.specs.Matching.{origin_timeout_of, purge_key_of, request_purges_over_line};
 ghost use Rattle.hx_allow.specs.Matching.{wait_timeout_of};
-ghost use Rattle.hx_allow.specs.NeverReached.{first_line_taking};
-ghost use Rattle.hx_allow.specs.Tables.{BytesReadAs, TableWasRead};
+ghost use Rattle.hx_allow.specs.NeverReached.{first_covering_line};
+ghost use Rattle.hx_allow.specs.Tables.{BytesReadAsTable, TableWasRead};
 
-use crate::cookies::has_cookie_of;
+use crate::cookies::has_cookie_among;
 use crate::host_index::HostIndex;
 use crate::lines::{Line, is_never_allowed};
-use crate::matching::{line_at, line_refuses_loops, verdict_for_host};
+use crate::matching::{line_at, line_refuses_loops, verdict_by_host_index};
 use crate::origins::Origin;
 use crate::purges::asks_to_purge;
-use crate::shadows::first_taking;
-use crate::via::{request_loops, was_here};
-use crate::{ConfigFault, Route, Verdict, config_reading};
+use crate::shadows::first_line_covering;
+use crate::via::{via_names_proxy, via_names_proxy_twice};
+use crate::{ConfigFault, RequestRoute, Verdict, config_reading};
 use http::Method;
 use hx_fields::{Bytes, Fields};
 use hx_policy::Policy;
@@ -58,7 +59,7 @@ impl Drop for Config {
 impl Model for Config {
     ghost use Rattle.std.specs.Prelude.{string_bytes, length, ◌≤◌, ◌≡◌, IfSome};
     ghost use Rattle.hx_allow.specs.TableLines.{Table};
-    ghost use Rattle.hx_allow.specs.Index.{IsHostIndexOf};
+    ghost use Rattle.hx_allow.specs.Index.{IsHostIndexOfLines};
     ghost use Rattle.hx_allow.specs.Tables.{TableWasRead};
 
     ghost Value = { Table };
@@ -72,7 +73,7 @@ impl Model for Config {
       lines = c.lines.items;
     } };
 
-    ghost invariant = { λ c. (length c.lines.items ≤ 4096) × IsHostIndexOf c.lines.items c.by_host
+    ghost invariant = { λ c. (length c.lines.items ≤ 4096) × IsHostIndexOfLines c.lines.items c.by_host
         × TableWasRead (record {
           name = string_bytes c.name;
           capacity = c.capacity;
@@ -88,7 +89,7 @@ impl Config {
     /// Reads a table of version 1, 2, 3 or 4. The first fault in the order of looking is answered;
     /// out of memory is told in its place where the text or a key couldn't be copied.
     pub fn read(alloc: Global, bytes: &[u8]) -> Result<Config, ConfigFault>
-        ensures table { ¬ (result ≡ Err ConfigFault.OutOfMemory) → BytesReadAs bytes.now result }
+        ensures table { ¬ (result ≡ Err ConfigFault.OutOfMemory) → BytesReadAsTable bytes.now result }
         // That a text is too long is told without memory. Any other fault may be hidden: the text
         // is read as TOML, which takes memory, before the first of them is looked for. In a table
         // that was read, out of memory hides only a key that isn't known, whose bytes are copied.
@@ -120,12 +121,12 @@ impl Config {
             Verdict::Allowed(route) => {
                 let line = route.number;
                 let name = self.name.as_bytes();
-                if self.refuses_loops(line) && request_loops(name, fields.as_slice()) {
+                if self.refuses_loops(line) && via_names_proxy_twice(name, fields.as_slice()) {
                     return Verdict::Looped(line);
                 }
-                Verdict::Allowed(Route {
+                Verdict::Allowed(RequestRoute {
                     number: line,
-                    past_store: self.goes_past_store(line, fields),
+                    past_store: self.has_session_cookie_of_line(line, fields),
                 })
             }
             Verdict::DeniedBy(line) if self.purges_for(line, fields) => Verdict::Purged(line),
@@ -144,7 +145,7 @@ impl Config {
             return Verdict::NoLine;
         }
         let (host, path) = (target.key.host.as_slice(), target.table_path.as_slice());
-        verdict_for_host(&self.lines, &self.by_host, host, method, path)
+        verdict_by_host_index(&self.lines, &self.by_host, host, method, path)
     }
 
     fn origin_at(&self, line: u16) -> Option<&Origin>
@@ -188,7 +189,7 @@ impl Config {
     /// What counts for a request that goes this way: past the store it is what a line without cache says, but that tags
     /// are hidden as over the line.
     #[tactic(auto, unfolding(crate::specs::Matching::policy_of))]
-    pub fn policy(&self, route: Route) -> Policy
+    pub fn policy(&self, route: RequestRoute) -> Policy
         ensures { result ≡ policy_of self.now.lines route }
     {
         let policy = self.line_policy(route.number);
@@ -216,7 +217,7 @@ impl Config {
     /// The fields that count as if the Vary of each answer over a line, counted from 1, named them (RFC 9111, section
     /// 4.1). There are none where the line doesn't say so.
     pub fn vary(&self, line: u16) -> &[Bytes]
-        ensures { result.now ≡ vary_of self.now.lines line }
+        ensures { result.now ≡ vary_names_of_line self.now.lines line }
     {
         match line_at(&self.lines, line) {
             Some(line) => line.vary.as_slice(),
@@ -241,7 +242,7 @@ impl Config {
     }
 
     fn purges_for(&self, line: u16, fields: &Fields) -> bool
-        ensures { result ≡ line_purges_for self.now.lines line fields.now }
+        ensures { result ≡ request_purges_over_line self.now.lines line fields.now }
     {
         match self.purge_key_at(line) {
             Some(key) => asks_to_purge(key.as_slice(), fields),
@@ -249,10 +250,10 @@ impl Config {
         }
     }
 
-    fn goes_past_store(&self, line: u16, fields: &Fields) -> bool
-        ensures { result ≡ goes_past_store self.now.lines line fields.now }
+    fn has_session_cookie_of_line(&self, line: u16, fields: &Fields) -> bool
+        ensures { result ≡ has_session_cookie_of_line self.now.lines line fields.now }
     {
-        has_cookie_of(self.session_cookies(line), fields.as_slice())
+        has_cookie_among(self.session_cookies(line), fields.as_slice())
     }
 
     /// The seconds for which the origin of a line, counted from 1, may send no byte, 1 to 86,400, where the line says
@@ -279,19 +280,19 @@ impl Config {
     }
 
     /// Whether the Via of a request names this proxy, over a line that refuses loops.
-    pub fn came_back(&self, route: Route, fields: &Fields) -> bool
-        ensures { result ≡ request_came_back self.now route fields.now }
+    pub fn came_back(&self, route: RequestRoute, fields: &Fields) -> bool
+        ensures { result ≡ request_is_refused_as_loop self.now route fields.now }
     {
-        self.refuses_loops(route.number) && was_here(self.name.as_bytes(), fields.as_slice())
+        self.refuses_loops(route.number) && via_names_proxy(self.name.as_bytes(), fields.as_slice())
     }
 
     /// The first line in front of one, both counted from 1, that takes all that this could match,
     /// so that it never decides on a request.
-    pub fn taken_by(&self, line: u16) -> Option<u16>
-        ensures { result ≡ first_line_taking self.now.lines line }
+    pub fn first_line_that_covers(&self, line: u16) -> Option<u16>
+        ensures { result ≡ first_covering_line self.now.lines line }
     {
         let later = line_at(&self.lines, line)?;
-        first_taking(&self.lines[..usize::from(line) - 1], later)
+        first_line_covering(&self.lines[..usize::from(line) - 1], later)
     }
 
     /// The proxy's name, as it stands in Via and Cache-Status.

@@ -1,7 +1,7 @@
 //! Why an operator's table is refused.
 ghost use Rattle.std.specs.Prelude.{◌≡◌};
 ghost use Rattle.hx_allow.specs.declared.config_faults.ConfigFault.TheVariants.{OutOfMemory};
-ghost use Rattle.hx_allow.specs.Keys.{fault_number, key_text, word_key};
+ghost use Rattle.hx_allow.specs.Keys.{config_fault_number, key_text, key_of_line_option};
 
 use hx_fields::Bytes;
 use std::alloc::AllocError;
@@ -34,7 +34,7 @@ impl NumberKey {
 /// A key of a line of version 3 or 4 that says more of caching, of loops, of time-outs, or of purges, in the table's
 /// order.
 #[derive(Clone, Copy, Debug, PartialEq, Eq, Hash)]
-pub enum LineWord {
+pub enum LineOption {
     /// The lifetime of what states none, 1 to 2,147,483,648 seconds (RFC 9111, section 4.2.2). In
     /// version 4 an error has none by it.
     Lifetime,
@@ -82,10 +82,10 @@ pub enum LineWord {
     WaitTimeout,
 }
 
-impl LineWord {
+impl LineOption {
     /// The key as it stands in the table.
     pub fn as_str(self) -> &'static str
-        ensures { result.now ≡ word_key self }
+        ensures { result.now ≡ key_of_line_option self }
     {
         self.row().key
     }
@@ -121,7 +121,7 @@ pub enum ConfigFault {
     BadCache(u16),
     /// This key of this line has a value that it can't have, or stands in a line that doesn't take it; or a line that
     /// purges has no key.
-    BadWord(u16, LineWord),
+    BadWord(u16, LineOption),
     /// A method of this line of a table of version 4 has a letter in lower case.
     MethodInLowerCase(u16),
     /// A path of this line of a table of version 4 has a `*`.
@@ -131,7 +131,7 @@ pub enum ConfigFault {
 impl ConfigFault {
     /// The fault's number, 1 to 14.
     pub fn number(&self) -> u8
-        ensures { result ≡ fault_number self.now }
+        ensures { result ≡ config_fault_number self.now }
     {
         match self {
             ConfigFault::NotToml => 1,

@@ -4,33 +4,33 @@ ghost use Rattle.std.specs.Prelude.{◌≡◌, ◌||◌, ◌++◌, ◌∷◌, Li
 ghost use Rattle.std.specs.List.{list_any, list_all};
 ghost use Rattle.hx_fields.specs.Line.{Field};
 ghost use Rattle.hx_target.specs.declared.targets.Target.{Target};
-ghost use Rattle.hx_allow.specs.Cookies.{has_cookie_of, line_has_cookie_of, CookiePair, is_cookie_pair};
+ghost use Rattle.hx_allow.specs.Cookies.{has_cookie_among, line_has_cookie_among, CookiePair, is_cookie_pair};
 ghost use Rattle.hx_allow.specs.Cookies.{cookie_line_text};
 ghost use Rattle.hx_allow.specs.TableLines.{Table};
-ghost use Rattle.hx_allow.specs.Matching.{session_cookies_of, over_line, verdict_of, verdict_of_request};
-ghost use Rattle.hx_allow.specs.declared.verdicts.Route.{Route};
+ghost use Rattle.hx_allow.specs.Matching.{session_cookies_of, route_over, verdict_of, verdict_of_request};
+ghost use Rattle.hx_allow.specs.declared.verdicts.RequestRoute.{RequestRoute};
 ghost use Rattle.hx_allow.specs.declared.verdicts.Verdict.TheVariants.{Allowed};
 
 /// A line of Cookie that is written as RFC 6265, section 4.2.1 says is read so: it has a cookie of some names exactly
 /// where one of its pairs has one of them, byte by byte. Several lines count together, and no names are none of them.
 pub fn a_line_of_cookie_is_read_as_it_is_written()
     ensures written { (names : List (List ℕ)) (pair : CookiePair) (more : List CookiePair)
-        → list_all is_cookie_pair (pair ∷ more) ≡ true → line_has_cookie_of names (cookie_line_text pair more)
+        → list_all is_cookie_pair (pair ∷ more) ≡ true → line_has_cookie_among names (cookie_line_text pair more)
         ≡ list_any (λ (p : CookiePair). list_any (λ name. bytes_eq name p.name) names) (pair ∷ more) }
-    ensures together { (names : List (List ℕ)) (fields more : List Field) → has_cookie_of names (fields ++ more)
-        ≡ (has_cookie_of names fields || has_cookie_of names more) }
+    ensures together { (names : List (List ℕ)) (fields more : List Field) → has_cookie_among names (fields ++ more)
+        ≡ (has_cookie_among names fields || has_cookie_among names more) }
 {}
 
 /// A request that is allowed goes over the line that its method and its target say, and past the store exactly where it
 /// has one of the cookies that the line names. Over a line that names none each goes as before.
 pub fn a_request_goes_past_the_store_by_its_cookies()
-    ensures exactly { (table : Table) (method : List ℕ) (target : Target) (fields : List Field) (route : Route)
+    ensures exactly { (table : Table) (method : List ℕ) (target : Target) (fields : List Field) (route : RequestRoute)
         → verdict_of_request table method target fields ≡ Allowed route
-        → route.past_store ≡ has_cookie_of (session_cookies_of table.lines route.number) fields }
-    ensures line { (table : Table) (method : List ℕ) (target : Target) (fields : List Field) (route : Route)
+        → route.past_store ≡ has_cookie_among (session_cookies_of table.lines route.number) fields }
+    ensures line { (table : Table) (method : List ℕ) (target : Target) (fields : List Field) (route : RequestRoute)
         → verdict_of_request table method target fields ≡ Allowed route
-        → verdict_of table.lines method target ≡ Allowed (over_line route.number) }
-    ensures without { (table : Table) (method : List ℕ) (target : Target) (fields : List Field) (route : Route)
+        → verdict_of table.lines method target ≡ Allowed (route_over route.number) }
+    ensures without { (table : Table) (method : List ℕ) (target : Target) (fields : List Field) (route : RequestRoute)
         → session_cookies_of table.lines route.number ≡ []
-        → verdict_of_request table method target fields ≡ Allowed route → route ≡ over_line route.number }
+        → verdict_of_request table method target fields ≡ Allowed route → route ≡ route_over route.number }
 {}

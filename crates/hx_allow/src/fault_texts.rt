@@ -1,16 +1,18 @@
 //! What is wrong with a table and what may stand there, in words for the operator. No text takes memory.
 ghost use Rattle.std.specs.Prelude.{◌≡◌, None, Some, option_map};
-ghost use Rattle.hx_allow.specs.FaultTexts.{line_at_fault, row_at_fault, words_without_row};
-ghost use Rattle.hx_allow.specs.Rows.{plain_row};
+ghost use Rattle.hx_allow.specs.FaultTexts.{line_number_of_fault, key_row_at_fault, requirement_without_row};
+ghost use Rattle.hx_allow.specs.Rows.{row_of_source};
 
 use crate::config_faults::ConfigFault;
-use crate::rows::{Kind, LineKey, Place, Row, TopKey, WORDS_OF_UNKNOWN_KEY};
+use crate::rows::{
+    KeyDefinition, KeyPlace, LineKey, REQUIREMENT_OF_UNKNOWN_KEY, TopKey, ValueKind,
+};
 use std::fmt;
 use std::fmt::Formatter;
 
 /// The line at fault, counted from 1.
-fn line_at_fault(fault: &ConfigFault) -> Option<u16>
-    ensures { result ≡ line_at_fault fault.now }
+fn line_number_of_fault(fault: &ConfigFault) -> Option<u16>
+    ensures { result ≡ line_number_of_fault fault.now }
 {
     match fault {
         ConfigFault::BadHost(line) => Some(*line),
@@ -26,8 +28,8 @@ fn line_at_fault(fault: &ConfigFault) -> Option<u16>
 }
 
 /// The row of the key at fault.
-fn row_at_fault(fault: &ConfigFault) -> Option<Row>
-    ensures { option_map plain_row result ≡ row_at_fault fault.now }
+fn key_row_at_fault(fault: &ConfigFault) -> Option<KeyDefinition>
+    ensures { option_map row_of_source result ≡ key_row_at_fault fault.now }
 {
     match fault {
         ConfigFault::BadName => Some(TopKey::Name.row()),
@@ -43,13 +45,13 @@ fn row_at_fault(fault: &ConfigFault) -> Option<Row>
 }
 
 /// What has to stand there, of a fault without a row.
-fn words_without_row(fault: &ConfigFault) -> &'static str
-    ensures { result.now ≡ words_without_row fault.now }
+fn requirement_without_row(fault: &ConfigFault) -> &'static str
+    ensures { result.now ≡ requirement_without_row fault.now }
 {
     match fault {
         ConfigFault::NotToml =>
             "the table is no TOML, has a key twice, or has more than 1048576 bytes; look for a quote or bracket that is missing",
-        ConfigFault::UnknownKey(_) => WORDS_OF_UNKNOWN_KEY,
+        ConfigFault::UnknownKey(_) => REQUIREMENT_OF_UNKNOWN_KEY,
         ConfigFault::NoLines =>
             "a table has 1 to 256 lines, or 1 to 4096 in version 4, each of which begins with [[line]]",
         ConfigFault::OutOfMemory => "no memory is left for the table",
@@ -61,88 +63,88 @@ fn words_without_row(fault: &ConfigFault) -> &'static str
     }
 }
 
-impl fmt::Display for Kind {
+impl fmt::Display for ValueKind {
     ghost use Rattle.std.specs.Prelude.{Some};
-    ghost use Rattle.hx_allow.specs.FaultTexts.{words_of_kind};
-    ghost use Rattle.hx_allow.specs.Rows.{plain_kind};
+    ghost use Rattle.hx_allow.specs.FaultTexts.{requirement_of_kind};
+    ghost use Rattle.hx_allow.specs.Rows.{kind_of_source};
 
-    ghost output = { λ kind. Some (words_of_kind (plain_kind kind)) };
+    ghost output = { λ kind. Some (requirement_of_kind (kind_of_source kind)) };
 
     fn fmt<W: fmt::Write>(&self, f: &mut Formatter<W>) -> fmt::Result {
         match self {
-            Kind::Number(low, high) => write!(
+            ValueKind::Number(low, high) => write!(
                 f,
                 "be a whole number from {low} to {high}, without quotes"
             ),
-            Kind::Seconds(low, high) => write!(
+            ValueKind::Seconds(low, high) => write!(
                 f,
                 "be a whole number of seconds from {low} to {high}, without quotes"
             ),
-            Kind::StoreBound(low, high) => write!(
+            ValueKind::StoreBound(low, high) => write!(
                 f,
                 "be a whole number from {low} to {high}, without quotes, and no less than max_stored"
             ),
-            Kind::Version => f.write_str("be 1, 2, 3 or 4, without quotes"),
-            Kind::OneOf(first, second) => write!(f, "be \"{first}\" or \"{second}\""),
-            Kind::OneOfInFour(first, second, third) => write!(
+            ValueKind::Version => f.write_str("be 1, 2, 3 or 4, without quotes"),
+            ValueKind::OneOf(first, second) => write!(f, "be \"{first}\" or \"{second}\""),
+            ValueKind::OneOfInFour(first, second, third) => write!(
                 f,
                 "be \"{first}\" or \"{second}\", in version 4 also \"{third}\""
             ),
-            Kind::OneOfThree(first, second, third) => {
+            ValueKind::OneOfThree(first, second, third) => {
                 write!(f, "be \"{first}\", \"{second}\" or \"{third}\"")
             }
-            Kind::Names(most) => write!(
+            ValueKind::Names(most) => write!(
                 f,
                 "be a list of 1 to {most} names, each of letters, digits and !#$%&'*+-.^_`|~, but not \"*\""
             ),
-            Kind::Name => f.write_str(
+            ValueKind::Name => f.write_str(
                 "be a lower-case letter and at most 31 of a-z, 0-9 and -, in quotes",
             ),
-            Kind::Lines => Ok(()),
-            Kind::Host => f.write_str(
+            ValueKind::Lines => Ok(()),
+            ValueKind::Host => f.write_str(
                 "be \"*\" or one host in lower case, without a port, an IPv6 address in brackets; in version 4 also \"*.\" and a name for the hosts below it, or a list of 1 to 32 of these",
             ),
-            Kind::Methods => f.write_str(
+            ValueKind::Methods => f.write_str(
                 "be a list of 1 to 32, each \"*\" or a method of at most 15 bytes, but not CONNECT, TRACE or OPTIONS",
             ),
-            Kind::Path => f.write_str(
+            ValueKind::Path => f.write_str(
                 "begin with / and not to end with it, but for / itself; no ?, #, blank, byte above 7E, segment . or .., or % without two hexadecimal digits behind it; in version 4 also a list of 1 to 32 of these",
             ),
-            Kind::Origin => f.write_str(
+            ValueKind::Origin => f.write_str(
                 "be \"deny\" or an IPv4 address and a port, as in \"127.0.0.1:8081\"; in version 4 also \"purge\"",
             ),
-            Kind::PurgeKey => f.write_str("be 16 to 64 letters and digits, in quotes"),
+            ValueKind::PurgeKey => f.write_str("be 16 to 64 letters and digits, in quotes"),
         }
     }
 }
 
-impl fmt::Display for Place {
+impl fmt::Display for KeyPlace {
     ghost use Rattle.std.specs.Prelude.{Some};
-    ghost use Rattle.hx_allow.specs.FaultTexts.{words_of_place};
+    ghost use Rattle.hx_allow.specs.FaultTexts.{requirement_of_place};
 
-    ghost output = { λ place. Some (words_of_place place) };
+    ghost output = { λ place. Some (requirement_of_place place) };
 
     fn fmt<W: fmt::Write>(&self, f: &mut Formatter<W>) -> fmt::Result {
         match self {
-            Place::Needed => Ok(()),
-            Place::Optional => Ok(()),
-            Place::AllowingLine => f.write_str(
+            KeyPlace::Needed => Ok(()),
+            KeyPlace::Optional => Ok(()),
+            KeyPlace::AllowingLine => f.write_str(
                 ", and not to stand in a line that denies or purges",
             ),
-            Place::CachingLine => f.write_str(", in a line that has an origin and its cache on"),
-            Place::PurgingLine => {
+            KeyPlace::CachingLine => f.write_str(", in a line that has an origin and its cache on"),
+            KeyPlace::PurgingLine => {
                 f.write_str(", in a line with origin = \"purge\" and in no other")
             }
         }
     }
 }
 
-impl fmt::Display for Row {
+impl fmt::Display for KeyDefinition {
     ghost use Rattle.std.specs.Prelude.{Some};
-    ghost use Rattle.hx_allow.specs.FaultTexts.{words_of_row};
-    ghost use Rattle.hx_allow.specs.Rows.{plain_row};
+    ghost use Rattle.hx_allow.specs.FaultTexts.{requirement_of_row};
+    ghost use Rattle.hx_allow.specs.Rows.{row_of_source};
 
-    ghost output = { λ row. Some (words_of_row (plain_row row)) };
+    ghost output = { λ row. Some (requirement_of_row (row_of_source row)) };
 
     fn fmt<W: fmt::Write>(&self, f: &mut Formatter<W>) -> fmt::Result {
         write!(f, "{} has to {}{}", self.key, self.kind, self.place)
@@ -155,14 +157,14 @@ struct Words<'a>(&'a ConfigFault);
 
 impl fmt::Display for Words<'_> {
     ghost use Rattle.std.specs.Prelude.{Some};
-    ghost use Rattle.hx_allow.specs.FaultTexts.{expected_words};
+    ghost use Rattle.hx_allow.specs.FaultTexts.{requirement_of_fault};
 
-    ghost output = { λ words. Some (expected_words words.0.now) };
+    ghost output = { λ words. Some (requirement_of_fault words.0.now) };
 
     fn fmt<W: fmt::Write>(&self, f: &mut Formatter<W>) -> fmt::Result {
-        match row_at_fault(self.0) {
+        match key_row_at_fault(self.0) {
             Some(row) => write!(f, "{row}"),
-            None => f.write_str(words_without_row(self.0)),
+            None => f.write_str(requirement_without_row(self.0)),
         }
     }
 }
@@ -174,7 +176,7 @@ impl fmt::Display for ConfigFault {
     ghost output = { λ fault. Some (fault_text fault) };
 
     fn fmt<W: fmt::Write>(&self, f: &mut Formatter<W>) -> fmt::Result {
-        if let Some(line) = line_at_fault(self) {
+        if let Some(line) = line_number_of_fault(self) {
             write!(f, "in [[line]] number {line} ")?;
         }
         write!(f, "{}", Words(self))

@@ -5,7 +5,8 @@
 //! of its dots where that is no longer than the longest host below which a line names hosts, so a host
 //! of many labels costs no more than that length.
 ghost use Rattle.std.specs.Prelude.{◌≡◌, ◌≤◌, ◌∷◌, [], length, IfOk, OnOk};
-ghost use Rattle.hx_allow.specs.Index.{numbers_for, IsHostIndexOf, AreNoted, IsEntered};
+ghost use Rattle.hx_allow.specs.Index.{line_numbers_for, IsHostIndexOfLines, LineHostsAreIndexed};
+ghost use Rattle.hx_allow.specs.Index.{LineNumberIsIndexedForHost};
 
 use crate::line_hosts::LineHost;
 use crate::lines::Line;
@@ -40,7 +41,7 @@ impl HostIndex {
     /// The index of at most 4,096 lines. Fails only where memory runs out.
     pub(crate) fn of(alloc: Global, lines: &[Line]) -> Result<HostIndex, AllocError>
         requires { length lines.now ≤ 4096 }
-        ensures { IfOk result (IsHostIndexOf lines.now) }
+        ensures { IfOk result (IsHostIndexOfLines lines.now) }
     {
         let mut index = HostIndex {
             named: BTreeMap::new(alloc),
@@ -58,7 +59,7 @@ impl HostIndex {
 
     /// Puts the number of a line behind those of one of its hosts.
     fn note(&mut self, alloc: Global, host: &LineHost, number: u16) -> Result<(), AllocError>
-        ensures { OnOk result (AreNoted (host.now ∷ []) number self.old self.new) }
+        ensures { OnOk result (LineHostsAreIndexed (host.now ∷ []) number self.old self.new) }
     {
         match host {
             LineHost::One(host) => enter(alloc, &mut self.named, host.as_slice(), number)?,
@@ -73,7 +74,7 @@ impl HostIndex {
 
     /// The numbers of the lines that name a host, ascending.
     pub(crate) fn naming(&self, host: &[u8]) -> &[u16]
-        ensures { result.now ≡ numbers_for self.now.named host.now }
+        ensures { result.now ≡ line_numbers_for self.now.named host.now }
     {
         match self.named.get(host) {
             Some(numbers) => numbers.as_slice(),
@@ -83,7 +84,7 @@ impl HostIndex {
 
     /// The numbers of the lines for the hosts below one, ascending.
     pub(crate) fn for_hosts_below(&self, host: &[u8]) -> &[u16]
-        ensures { result.now ≡ numbers_for self.now.below host.now }
+        ensures { result.now ≡ line_numbers_for self.now.below host.now }
     {
         match self.below.get(host) {
             Some(numbers) => numbers.as_slice(),
@@ -113,7 +114,7 @@ fn note_hosts(
     hosts: &[LineHost],
     number: u16,
 ) -> Result<(), AllocError>
-    ensures { OnOk result (AreNoted hosts.now number index.old index.new) }
+    ensures { OnOk result (LineHostsAreIndexed hosts.now number index.old index.new) }
 {
     for host in hosts {
         index.note(alloc, host, number)?;
@@ -128,7 +129,7 @@ fn enter(
     host: &[u8],
     number: u16,
 ) -> Result<(), AllocError>
-    ensures { OnOk result (IsEntered host.now number kept.old kept.new) }
+    ensures { OnOk result (LineNumberIsIndexedForHost host.now number kept.old kept.new) }
 {
     let mut numbers = match kept.remove(host) {
         Some(numbers) => numbers,

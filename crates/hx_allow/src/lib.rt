@@ -51,9 +51,9 @@ mod wait_cases;
 mod worked_cases;
 
 pub use config::Config;
-pub use config_faults::{ConfigFault, LineWord, NumberKey};
+pub use config_faults::{ConfigFault, LineOption, NumberKey};
 pub use limits::{MOST_LINES, MOST_TABLE_BYTES};
-pub use purge_modes::{PurgeMode, mode_to_purge};
-pub use purges::{PurgeScope, scope_to_purge};
-pub use tags::{names_tag, tag_to_purge};
-pub use verdicts::{Route, Verdict};
+pub use purge_modes::{PurgeMode, purge_mode_or_remove};
+pub use purges::{PurgeScope, purge_scope_or_target};
+pub use tags::{purge_tag_or_none, response_names_tag};
+pub use verdicts::{RequestRoute, Verdict};

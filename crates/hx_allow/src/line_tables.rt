@@ -8,36 +8,41 @@ ghost use Rattle.std.specs.Char.{is_ascii_uppercase, is_ascii_lowercase};
 ghost use Rattle.toml.specs.View.{table_view, array_view, items_view, view};
 ghost use Rattle.hx_allow.specs.Addresses.{address_text};
 ghost use Rattle.hx_allow.specs.LineHosts.{line_host_of};
-ghost use Rattle.hx_allow.specs.Values.{is_some_and, items_at, texts_at, texts_of, number_between, all_items};
-ghost use Rattle.hx_allow.specs.LineTables.{is_host_in_lower_case, names_hosts_below, is_line_host, is_line_method};
-ghost use Rattle.hx_allow.specs.LineTables.{is_listed_name};
-ghost use Rattle.hx_allow.specs.LineTables.{is_text_of, most_texts, are_texts_of, is_text_or_list, is_path_byte};
+ghost use Rattle.hx_allow.specs.Values.{is_some_and, items_of_key, texts_of_key, texts_of_items, number_between};
+ghost use Rattle.hx_allow.specs.Values.{all_items};
+ghost use Rattle.hx_allow.specs.LineTables.{is_host_in_lower_case, is_host_wildcard_text, is_line_host, is_line_method};
+ghost use Rattle.hx_allow.specs.LineTables.{is_token_but_not_star};
+ghost use Rattle.hx_allow.specs.LineTables.{is_text_of, most_list_texts, are_texts_of_kind, is_text_or_list_of_kind};
+ghost use Rattle.hx_allow.specs.LineTables.{is_path_byte};
 ghost use Rattle.hx_allow.specs.LineTables.{does_not_end_with_slash};
-ghost use Rattle.hx_allow.specs.LineTables.{is_line_path, is_line_origin, is_of_kind, is_good_at, first_bad_key};
-ghost use Rattle.hx_allow.specs.Rows.{plain_kind, plain_row};
-ghost use Rattle.hx_allow.specs.LineTables.{line_fault, line_read, lines_fault, lines_read, fault_of_line_item};
-ghost use Rattle.hx_allow.specs.LineTables.{has_small_letter, names_small_method, has_star, is_text_with_star};
-ghost use Rattle.hx_allow.specs.LineTables.{names_path_with_star};
+ghost use Rattle.hx_allow.specs.LineTables.{is_line_path, is_line_origin, value_is_of_kind, value_is_good_for_key_row};
+ghost use Rattle.hx_allow.specs.LineTables.{first_bad_key};
+ghost use Rattle.hx_allow.specs.Rows.{kind_of_source, row_of_source};
+ghost use Rattle.hx_allow.specs.LineTables.{line_fault, line_of_members, first_fault_of_lines, lines_of_tables};
+ghost use Rattle.hx_allow.specs.LineTables.{fault_of_line_if_table};
+ghost use Rattle.hx_allow.specs.LineTables.{has_lowercase_letter, line_has_lowercase_method, text_has_star};
+ghost use Rattle.hx_allow.specs.LineTables.{is_text_with_star};
+ghost use Rattle.hx_allow.specs.LineTables.{line_has_path_with_star};
 ghost use Rattle.hx_allow.specs.LineTables.{spelling_fault};
 ghost use Rattle.hx_allow.specs.LineTables.{config_fault_found};
 
 use crate::ConfigFault;
 use crate::addresses::address_of;
-use crate::config_faults::{FoundFault, LineWord};
+use crate::config_faults::{FoundFault, LineOption};
 use crate::line_hosts::LineHost;
 use crate::line_paths::LinePath;
 use crate::line_words::{
-    key_has_one_of_two, key_has_text, line_has_no_origin, line_purges, line_takes_words,
-    policy_of_line_table, refuses_loops, seconds_for_origin, seconds_to_wait,
+    key_has_one_of_two_texts, key_has_text, line_caches, line_has_no_origin, line_purges,
+    origin_timeout_seconds, policy_of_line_table, refuses_loops, wait_timeout_seconds,
 };
 use crate::lines::{Line, is_never_allowed};
 use crate::origins::Origin;
 use crate::purges::is_purge_key;
-use crate::rows::{Kind, LINE_KEYS, LineKey, Place, Row};
+use crate::rows::{KeyDefinition, KeyPlace, LINE_KEYS, LineKey, ValueKind};
 use crate::values::TableVersion::Four;
 use crate::values::{
-    Scope, TableVersion, array_at, count_is_from_1_to, first_unknown, number_between, text_at,
-    value_at,
+    Scope, TableVersion, array_of_key, count_is_from_1_to, first_unknown, number_between,
+    text_of_key, value_of_key,
 };
 use hx_fields::{Bytes, is_token};
 use hx_target::{has_bad_escape, is_host, names_a_dot_segment};
@@ -58,8 +63,8 @@ fn is_host_in_lower_case(text: &[u8]) -> bool
 }
 
 /// Whether a text is `*.` and a name in lower case that has a letter.
-fn names_hosts_below(text: &[u8]) -> bool
-    ensures { result ≡ names_hosts_below text.now }
+fn is_host_wildcard_text(text: &[u8]) -> bool
+    ensures { result ≡ is_host_wildcard_text text.now }
 {
     match text.strip_prefix(b"*.".as_slice()) {
         Some(host) => {
@@ -76,7 +81,7 @@ fn is_line_host(version: TableVersion, text: &[u8]) -> bool
 {
     text == b"*".as_slice()
         || is_host_in_lower_case(text)
-        || (version.has_keys_of(Four) && names_hosts_below(text))
+        || (version.has_keys_of(Four) && is_host_wildcard_text(text))
 }
 
 #[tactic(auto, unfolding(crate::specs::LineTables::is_line_method))]
@@ -124,29 +129,29 @@ fn is_line_origin(version: TableVersion, text: &[u8]) -> bool
 }
 
 /// Whether a text may stand in a list of names.
-fn is_listed_name(text: &[u8]) -> bool
-    ensures { result ≡ is_listed_name text.now }
+fn is_token_but_not_star(text: &[u8]) -> bool
+    ensures { result ≡ is_token_but_not_star text.now }
 {
     is_token(text) && text != b"*".as_slice()
 }
 
 /// Whether a text is one of a kind, in a table of a version.
-fn is_text_of(version: TableVersion, kind: Kind, text: &[u8]) -> bool
-    ensures { result ≡ is_text_of version (plain_kind kind) text.now }
+fn is_text_of(version: TableVersion, kind: ValueKind, text: &[u8]) -> bool
+    ensures { result ≡ is_text_of version (kind_of_source kind) text.now }
 {
     match kind {
-        Kind::Host => is_line_host(version, text),
-        Kind::Methods => is_line_method(text),
-        Kind::Path => is_line_path(text),
-        Kind::Origin => is_line_origin(version, text),
-        Kind::PurgeKey => is_purge_key(text),
-        Kind::Names(_) => is_listed_name(text),
+        ValueKind::Host => is_line_host(version, text),
+        ValueKind::Methods => is_line_method(text),
+        ValueKind::Path => is_line_path(text),
+        ValueKind::Origin => is_line_origin(version, text),
+        ValueKind::PurgeKey => is_purge_key(text),
+        ValueKind::Names(_) => is_token_but_not_star(text),
         _ => false,
     }
 }
 
-fn is_good_text(version: TableVersion, kind: Kind, text: Option<&str>) -> bool
-    ensures { result ≡ is_some_and (is_text_of version (plain_kind kind)) (option_copied text.entry) }
+fn is_good_text(version: TableVersion, kind: ValueKind, text: Option<&str>) -> bool
+    ensures { result ≡ is_some_and (is_text_of version (kind_of_source kind)) (option_copied text.entry) }
 {
     match text {
         Some(text) => is_text_of(version, kind, text.as_bytes()),
@@ -155,20 +160,20 @@ fn is_good_text(version: TableVersion, kind: Kind, text: Option<&str>) -> bool
 }
 
 /// The most texts of a list.
-fn most_texts(kind: Kind) -> usize
-    ensures { result ≡ most_texts (plain_kind kind) }
+fn most_list_texts(kind: ValueKind) -> usize
+    ensures { result ≡ most_list_texts (kind_of_source kind) }
 {
     match kind {
-        Kind::Names(most) => usize::from(most),
+        ValueKind::Names(most) => usize::from(most),
         _ => 32,
     }
 }
 
 /// Whether there are 1 to as many texts of a kind as a list has, and nothing else.
-fn are_texts_of(version: TableVersion, kind: Kind, values: &[Value]) -> bool
-    ensures { result ≡ are_texts_of version (plain_kind kind) (items_view values.now) }
+fn are_texts_of_kind(version: TableVersion, kind: ValueKind, values: &[Value]) -> bool
+    ensures { result ≡ are_texts_of_kind version (kind_of_source kind) (items_view values.now) }
 {
-    if !count_is_from_1_to(most_texts(kind), values) {
+    if !count_is_from_1_to(most_list_texts(kind), values) {
         return false;
     }
     for value in values {
@@ -179,22 +184,22 @@ fn are_texts_of(version: TableVersion, kind: Kind, values: &[Value]) -> bool
     true
 }
 
-fn is_good_list(version: TableVersion, kind: Kind, values: Option<&Array>) -> bool
-    ensures { result ≡ is_some_and (are_texts_of version (plain_kind kind))
+fn is_good_list(version: TableVersion, kind: ValueKind, values: Option<&Array>) -> bool
+    ensures { result ≡ is_some_and (are_texts_of_kind version (kind_of_source kind))
         (option_map (λ a. array_view a.now) values.entry) }
 {
     match values {
-        Some(values) => are_texts_of(version, kind, values),
+        Some(values) => are_texts_of_kind(version, kind, values),
         None => false,
     }
 }
 
 /// Whether a key has a text of a kind, or in the fourth version a list of them.
-fn is_text_or_list(version: TableVersion, kind: Kind, key: &str, table: &Table) -> bool
-    ensures { result ≡ is_text_or_list version (plain_kind kind) key.now (table_view table.now) }
+fn is_text_or_list_of_kind(version: TableVersion, kind: ValueKind, key: &str, table: &Table) -> bool
+    ensures { result ≡ is_text_or_list_of_kind version (kind_of_source kind) key.now (table_view table.now) }
 {
-    is_good_text(version, kind, text_at(table, key))
-        || (version.has_keys_of(Four) && is_good_list(version, kind, array_at(table, key)))
+    is_good_text(version, kind, text_of_key(table, key))
+        || (version.has_keys_of(Four) && is_good_list(version, kind, array_of_key(table, key)))
 }
 
 fn is_number_between(table: &Table, key: &str, low: u32, high: u32) -> bool
@@ -204,48 +209,49 @@ fn is_number_between(table: &Table, key: &str, low: u32, high: u32) -> bool
 }
 
 /// Whether the value of a key is of a kind, of those that stand in a line of a table of a version.
-fn is_of_kind(version: TableVersion, kind: Kind, key: &str, table: &Table) -> bool
-    ensures { result ≡ is_of_kind version (plain_kind kind) key.now (table_view table.now) }
+fn value_is_of_kind(version: TableVersion, kind: ValueKind, key: &str, table: &Table) -> bool
+    ensures { result ≡ value_is_of_kind version (kind_of_source kind) key.now (table_view table.now) }
 {
     match kind {
-        Kind::Number(low, high) => is_number_between(table, key, low, high),
-        Kind::Seconds(low, high) => is_number_between(table, key, low, high),
-        Kind::OneOf(first, second) => key_has_one_of_two(table, key, first, second),
-        Kind::OneOfInFour(first, second, third) => {
-            key_has_one_of_two(table, key, first, second)
+        ValueKind::Number(low, high) => is_number_between(table, key, low, high),
+        ValueKind::Seconds(low, high) => is_number_between(table, key, low, high),
+        ValueKind::OneOf(first, second) => key_has_one_of_two_texts(table, key, first, second),
+        ValueKind::OneOfInFour(first, second, third) => {
+            key_has_one_of_two_texts(table, key, first, second)
                 || (version.has_keys_of(Four) && key_has_text(table, key, third))
         }
-        Kind::OneOfThree(first, second, third) => {
-            key_has_one_of_two(table, key, first, second) || key_has_text(table, key, third)
+        ValueKind::OneOfThree(first, second, third) => {
+            key_has_one_of_two_texts(table, key, first, second) || key_has_text(table, key, third)
         }
-        Kind::Host => is_text_or_list(version, kind, key, table),
-        Kind::Methods => is_good_list(version, kind, array_at(table, key)),
-        Kind::Path => is_text_or_list(version, kind, key, table),
-        Kind::Origin => is_good_text(version, kind, text_at(table, key)),
-        Kind::PurgeKey => is_good_text(version, kind, text_at(table, key)),
-        Kind::Names(_) => is_good_list(version, kind, array_at(table, key)),
+        ValueKind::Host => is_text_or_list_of_kind(version, kind, key, table),
+        ValueKind::Methods => is_good_list(version, kind, array_of_key(table, key)),
+        ValueKind::Path => is_text_or_list_of_kind(version, kind, key, table),
+        ValueKind::Origin => is_good_text(version, kind, text_of_key(table, key)),
+        ValueKind::PurgeKey => is_good_text(version, kind, text_of_key(table, key)),
+        ValueKind::Names(_) => is_good_list(version, kind, array_of_key(table, key)),
         _ => false,
     }
 }
 
 /// Whether a row's key has a good value in a line that takes it, or needn't stand and doesn't.
-fn is_good(version: TableVersion, row: Row, table: &Table) -> bool
-    ensures { result ≡ is_good_at version row.place (plain_row row) (table_view table.now) }
+fn line_key_has_good_value(version: TableVersion, row: KeyDefinition, table: &Table) -> bool
+    ensures { result ≡ value_is_good_for_key_row version row.place (row_of_source row) (table_view table.now) }
 {
     match row.place {
-        Place::Needed => is_of_kind(version, row.kind, row.key, table),
-        Place::Optional => {
-            value_at(table, row.key).is_none() || is_of_kind(version, row.kind, row.key, table)
+        KeyPlace::Needed => value_is_of_kind(version, row.kind, row.key, table),
+        KeyPlace::Optional => {
+            value_of_key(table, row.key).is_none()
+                || value_is_of_kind(version, row.kind, row.key, table)
         }
-        Place::AllowingLine => value_at(table, row.key).is_none()
-            || (is_of_kind(version, row.kind, row.key, table) && !line_has_no_origin(table)),
-        Place::CachingLine => value_at(table, row.key).is_none()
-            || (is_of_kind(version, row.kind, row.key, table) && line_takes_words(table)),
-        Place::PurgingLine => {
+        KeyPlace::AllowingLine => value_of_key(table, row.key).is_none()
+            || (value_is_of_kind(version, row.kind, row.key, table) && !line_has_no_origin(table)),
+        KeyPlace::CachingLine => value_of_key(table, row.key).is_none()
+            || (value_is_of_kind(version, row.kind, row.key, table) && line_caches(table)),
+        KeyPlace::PurgingLine => {
             if line_purges(version, table) {
-                is_of_kind(version, row.kind, row.key, table)
+                value_is_of_kind(version, row.kind, row.key, table)
             } else {
-                value_at(table, row.key).is_none()
+                value_of_key(table, row.key).is_none()
             }
         }
     }
@@ -258,7 +264,7 @@ fn first_bad_key(version: TableVersion, table: &Table) -> Option<LineKey>
     LINE_KEYS
         .iter()
         .copied()
-        .find(|key| !is_good(version, key.row(), table))
+        .find(|key| !line_key_has_good_value(version, key.row(), table))
 }
 
 fn has_lowercase(text: &[u8]) -> bool
@@ -267,14 +273,14 @@ fn has_lowercase(text: &[u8]) -> bool
     text.iter().any(|b| b.is_ascii_lowercase())
 }
 
-fn has_star(text: &[u8]) -> bool
-    ensures { result ≡ has_star text.now }
+fn text_has_star(text: &[u8]) -> bool
+    ensures { result ≡ text_has_star text.now }
 {
     text.iter().any(|b| *b == b'*')
 }
 
-fn has_small_letter(value: &Value) -> bool
-    ensures { result ≡ has_small_letter (view value.now) }
+fn has_lowercase_letter(value: &Value) -> bool
+    ensures { result ≡ has_lowercase_letter (view value.now) }
 {
     match value.as_str() {
         Some(text) => has_lowercase(text.as_bytes()),
@@ -283,10 +289,10 @@ fn has_small_letter(value: &Value) -> bool
 }
 
 fn have_no_small_letter(values: &[Value]) -> bool
-    ensures { result ≡ all_items (λ d. not (has_small_letter d)) (items_view values.now) }
+    ensures { result ≡ all_items (λ d. not (has_lowercase_letter d)) (items_view values.now) }
 {
     for value in values {
-        if has_small_letter(value) {
+        if has_lowercase_letter(value) {
             return false;
         }
     }
@@ -294,10 +300,10 @@ fn have_no_small_letter(values: &[Value]) -> bool
 }
 
 /// Whether a method has a letter in lower case.
-fn names_small_method(table: &Table) -> bool
-    ensures { result ≡ names_small_method (table_view table.now) }
+fn line_has_lowercase_method(table: &Table) -> bool
+    ensures { result ≡ line_has_lowercase_method (table_view table.now) }
 {
-    match array_at(table, "methods") {
+    match array_of_key(table, "methods") {
         Some(values) => !have_no_small_letter(values),
         None => false,
     }
@@ -307,7 +313,7 @@ fn is_text_with_star(value: &Value) -> bool
     ensures { result ≡ is_text_with_star (view value.now) }
 {
     match value.as_str() {
-        Some(text) => has_star(text.as_bytes()),
+        Some(text) => text_has_star(text.as_bytes()),
         None => false,
     }
 }
@@ -324,15 +330,15 @@ fn have_no_star(values: &[Value]) -> bool
 }
 
 /// Whether a path has a `*`.
-fn names_path_with_star(table: &Table) -> bool
-    ensures { result ≡ names_path_with_star (table_view table.now) }
+fn line_has_path_with_star(table: &Table) -> bool
+    ensures { result ≡ line_has_path_with_star (table_view table.now) }
 {
-    if let Some(text) = text_at(table, "path") {
-        if has_star(text.as_bytes()) {
+    if let Some(text) = text_of_key(table, "path") {
+        if text_has_star(text.as_bytes()) {
             return true;
         }
     }
-    match array_at(table, "path") {
+    match array_of_key(table, "path") {
         Some(values) => !have_no_star(values),
         None => false,
     }
@@ -346,10 +352,10 @@ fn spelling_fault(version: TableVersion, number: u16, table: &Table) -> Option<C
     if version != TableVersion::Four {
         return None;
     }
-    if names_small_method(table) {
+    if line_has_lowercase_method(table) {
         return Some(ConfigFault::MethodInLowerCase(number));
     }
-    if names_path_with_star(table) {
+    if line_has_path_with_star(table) {
         return Some(ConfigFault::StarInPath(number));
     }
     None
@@ -391,7 +397,7 @@ fn copy_of_text(alloc: Global, text: Option<&str>) -> Result<Option<Bytes>, Allo
 }
 
 fn copy_texts(alloc: Global, values: &[Value]) -> Result<Vec<Bytes>, AllocError>
-    ensures { IfOk result (λ texts. texts.items ≡ texts_of (items_view values.now)) }
+    ensures { IfOk result (λ texts. texts.items ≡ texts_of_items (items_view values.now)) }
 {
     let mut texts = Vec::new(alloc);
     for value in values {
@@ -405,24 +411,24 @@ fn copy_texts(alloc: Global, values: &[Value]) -> Result<Vec<Bytes>, AllocError>
 /// The texts of a list, where the key has one.
 fn texts_in_list(alloc: Global, table: &Table, key: &str) -> Result<Vec<Bytes>, AllocError>
     ensures { IfOk result (λ texts. texts.items
-        ≡ texts_of (unwrap_or (items_at key.now (table_view table.now)) no_items)) }
+        ≡ texts_of_items (unwrap_or (items_of_key key.now (table_view table.now)) no_items)) }
 {
-    match array_at(table, key) {
+    match array_of_key(table, key) {
         Some(values) => copy_texts(alloc, values),
         None => Ok(Vec::new(alloc)),
     }
 }
 
 /// The text of a key, or those of its list.
-fn texts_at(alloc: Global, table: &Table, key: &str) -> Result<Vec<Bytes>, AllocError>
-    ensures { IfOk result (λ texts. texts.items ≡ texts_at key.now (table_view table.now)) }
+fn texts_of_key(alloc: Global, table: &Table, key: &str) -> Result<Vec<Bytes>, AllocError>
+    ensures { IfOk result (λ texts. texts.items ≡ texts_of_key key.now (table_view table.now)) }
 {
-    if let Some(text) = text_at(table, key) {
+    if let Some(text) = text_of_key(table, key) {
         let mut texts = Vec::new(alloc);
         texts.push(Bytes::copy_of(alloc, text.as_bytes())?)?;
         return Ok(texts);
     }
-    match array_at(table, key) {
+    match array_of_key(table, key) {
         Some(values) => copy_texts(alloc, values),
         None => Ok(Vec::new(alloc)),
     }
@@ -449,29 +455,33 @@ fn paths_of(alloc: Global, texts: &[Bytes]) -> Result<Vec<LinePath>, AllocError>
 }
 
 /// What a line without fault says, in a table of a version.
-#[tactic(auto, unfolding(crate::specs::LineTables::line_read))]
-fn line_read(alloc: Global, version: TableVersion, table: &Table) -> Result<Line, AllocError>
-    ensures { IfOk result (λ line. line ≡ line_read version (table_view table.now)) }
+#[tactic(auto, unfolding(crate::specs::LineTables::line_of_members))]
+fn line_of_members(alloc: Global, version: TableVersion, table: &Table) -> Result<Line, AllocError>
+    ensures { IfOk result (λ line. line ≡ line_of_members version (table_view table.now)) }
 {
-    let hosts = texts_at(alloc, table, "host")?;
-    let paths = texts_at(alloc, table, "path")?;
+    let hosts = texts_of_key(alloc, table, "host")?;
+    let paths = texts_of_key(alloc, table, "path")?;
     Ok(Line {
         hosts: hosts_of(alloc, &hosts)?,
         methods: texts_in_list(alloc, table, "methods")?,
         paths: paths_of(alloc, &paths)?,
-        origin: origin_rule(alloc, text_at(table, "origin"))?,
+        origin: origin_rule(alloc, text_of_key(table, "origin"))?,
         policy: policy_of_line_table(version, table),
         refuses_loops: refuses_loops(version, table),
         session_cookies: texts_in_list(alloc, table, "session-cookies")?,
         vary: texts_in_list(alloc, table, "vary")?,
-        origin_timeout: seconds_for_origin(table),
-        purge_key: copy_of_text(alloc, text_at(table, LineWord::PurgeKey.row().key))?,
-        wait_timeout: seconds_to_wait(version, table),
+        origin_timeout: origin_timeout_seconds(table),
+        purge_key: copy_of_text(alloc, text_of_key(table, LineOption::PurgeKey.row().key))?,
+        wait_timeout: wait_timeout_seconds(version, table),
     })
 }
 
-fn fault_of_line_item(version: TableVersion, number: u16, value: &Value) -> Option<FoundFault<'_>>
-    ensures first { option_map config_fault_found result ≡ fault_of_line_item version number
+fn fault_of_line_if_table(
+    version: TableVersion,
+    number: u16,
+    value: &Value,
+) -> Option<FoundFault<'_>>
+    ensures first { option_map config_fault_found result ≡ fault_of_line_if_table version number
         (as_table (view value.now)) }
     ensures found_fault { ¬ (result ≡ Some (FoundFault.Other ConfigFault.OutOfMemory)) }
 {
@@ -482,14 +492,14 @@ fn fault_of_line_item(version: TableVersion, number: u16, value: &Value) -> Opti
 }
 
 /// The first fault among at most 4,096 lines, which are counted from 1.
-pub fn lines_fault(version: TableVersion, values: &[Value]) -> Option<FoundFault<'_>>
+pub fn first_fault_of_lines(version: TableVersion, values: &[Value]) -> Option<FoundFault<'_>>
     requires { length values.now ≤ 4096 }
-    ensures first { option_map config_fault_found result ≡ lines_fault version 1 (items_view values.now) }
+    ensures first { option_map config_fault_found result ≡ first_fault_of_lines version 1 (items_view values.now) }
     ensures found_fault { ¬ (result ≡ Some (FoundFault.Other ConfigFault.OutOfMemory)) }
 {
     let mut number = 1u16;
     for value in values {
-        if let Some(fault) = fault_of_line_item(version, number, value) {
+        if let Some(fault) = fault_of_line_if_table(version, number, value) {
             return Some(fault);
         }
         number += 1;
@@ -498,18 +508,18 @@ pub fn lines_fault(version: TableVersion, values: &[Value]) -> Option<FoundFault
 }
 
 /// What lines without fault say, in a table of a version.
-pub fn lines_read(
+pub fn lines_of_tables(
     alloc: Global,
     version: TableVersion,
     values: &[Value],
 ) -> Result<Vec<Line>, AllocError>
-    ensures said { IfOk result (λ lines. lines.items ≡ lines_read version (items_view values.now)) }
+    ensures said { IfOk result (λ lines. lines.items ≡ lines_of_tables version (items_view values.now)) }
     ensures few { IfOk result (λ lines. length lines.items ≤ length values.now) }
 {
     let mut lines = Vec::new(alloc);
     for value in values {
         if let Some(table) = value.as_table() {
-            lines.push(line_read(alloc, version, table)?)?;
+            lines.push(line_of_members(alloc, version, table)?)?;
         }
     }
     Ok(lines)

@@ -3,72 +3,73 @@
 ghost use Rattle.std.specs.Prelude.{◌≡◌, ◌∷◌, [], Some, None, Ok, true, false, codes, option_map, negsuc};
 ghost use Rattle.toml.specs.Data.{boolean, integer};
 ghost use Rattle.toml.specs.Parse.{parse_document};
-ghost use Rattle.hx_policy.specs.Policies.{plain, plain_with_tags};
+ghost use Rattle.hx_policy.specs.Policies.{plain, default_policy_with_hidden_tags};
 ghost use Rattle.hx_allow.specs.Examples.{denying_line_table_with, key_with_number, line_with_method, origin_8081};
-ghost use Rattle.hx_allow.specs.Examples.{key_with_text, line_table_with_keys, line_of_four, plain_of_four};
-ghost use Rattle.hx_allow.specs.Keys.{word_key};
-ghost use Rattle.hx_allow.specs.LineTables.{line_fault, line_read};
+ghost use Rattle.hx_allow.specs.Examples.{key_with_text, line_table_with_keys, line_of_version_four};
+ghost use Rattle.hx_allow.specs.Examples.{policy_of_version_four};
+ghost use Rattle.hx_allow.specs.Keys.{key_of_line_option};
+ghost use Rattle.hx_allow.specs.LineTables.{line_fault, line_of_members};
 ghost use Rattle.hx_allow.specs.Tables.{judge_table};
-ghost use Rattle.hx_allow.specs.Values.{is_known};
+ghost use Rattle.hx_allow.specs.Values.{is_known_key};
 ghost use Rattle.hx_allow.specs.declared.config_faults.ConfigFault.TheVariants.{BadCache, BadWord, UnknownKey};
-ghost use Rattle.hx_allow.specs.declared.config_faults.LineWord.TheVariants.{Lifetime, ErrorLifetime, StaleIfError};
-ghost use Rattle.hx_allow.specs.declared.config_faults.LineWord.TheVariants.{SetCookie, Errors, RequestDirectives};
-ghost use Rattle.hx_allow.specs.declared.config_faults.LineWord.TheVariants.{Wait, Explain, Conditions};
-ghost use Rattle.hx_allow.specs.declared.config_faults.LineWord.TheVariants.{LifetimeMost, Cookies};
-ghost use Rattle.hx_allow.specs.declared.config_faults.LineWord.TheVariants.{StaleWhileRevalidate};
+ghost use Rattle.hx_allow.specs.declared.config_faults.LineOption.TheVariants.{Lifetime, ErrorLifetime, StaleIfError};
+ghost use Rattle.hx_allow.specs.declared.config_faults.LineOption.TheVariants.{SetCookie, Errors, RequestDirectives};
+ghost use Rattle.hx_allow.specs.declared.config_faults.LineOption.TheVariants.{Wait, Explain, Conditions};
+ghost use Rattle.hx_allow.specs.declared.config_faults.LineOption.TheVariants.{LifetimeMost, Cookies};
+ghost use Rattle.hx_allow.specs.declared.config_faults.LineOption.TheVariants.{StaleWhileRevalidate};
 ghost use Rattle.hx_allow.specs.declared.values.Scope.TheVariants.{Top, Line};
 ghost use Rattle.hx_allow.specs.declared.values.TableVersion.TheVariants.{One, Two, Three, Four};
 
 /// The keys of the words, which lines have from the third version on, and the top never has.
 pub fn worked_keys_of_words()
-    ensures lifetime { is_known (Line Three) (word_key Lifetime) ≡ true }
-    ensures stale_if_error { is_known (Line Three) (word_key StaleIfError) ≡ true }
-    ensures set_cookie { is_known (Line Three) (word_key SetCookie) ≡ true }
-    ensures errors { is_known (Line Three) (word_key Errors) ≡ true }
-    ensures request_directives { is_known (Line Three) (word_key RequestDirectives) ≡ true }
-    ensures wait { is_known (Line Three) (word_key Wait) ≡ true }
-    ensures explain { is_known (Line Three) (word_key Explain) ≡ true }
-    ensures cache { is_known (Line Three) (codes "cache") ≡ true }
-    ensures host { is_known (Line Three) (codes "host") ≡ true }
-    ensures underscore { is_known (Line Three) (codes "stale_if_error") ≡ false }
-    ensures of_two { is_known (Line Two) (codes "lifetime") ≡ false }
-    ensures of_one { is_known (Line One) (codes "set-cookie") ≡ false }
-    ensures at_the_top { is_known (Top Four) (codes "lifetime") ≡ false }
-    ensures text_of_lifetime { word_key Lifetime ≡ codes "lifetime" }
-    ensures text_of_stale_if_error { word_key StaleIfError ≡ codes "stale-if-error" }
-    ensures text_of_set_cookie { word_key SetCookie ≡ codes "set-cookie" }
-    ensures text_of_errors { word_key Errors ≡ codes "errors" }
-    ensures text_of_request_directives { word_key RequestDirectives ≡ codes "request-directives" }
-    ensures text_of_wait { word_key Wait ≡ codes "wait" }
-    ensures wait_of_two { is_known (Line Two) (codes "wait") ≡ false }
-    ensures error_lifetime { is_known (Line Four) (word_key ErrorLifetime) ≡ true }
-    ensures lifetime_of_four { is_known (Line Four) (word_key Lifetime) ≡ true }
-    ensures error_lifetime_of_three { is_known (Line Three) (codes "error-lifetime") ≡ false }
-    ensures error_lifetime_of_two { is_known (Line Two) (codes "error-lifetime") ≡ false }
-    ensures error_lifetime_of_one { is_known (Line One) (codes "error-lifetime") ≡ false }
-    ensures error_lifetime_at_the_top { is_known (Top Four) (codes "error-lifetime") ≡ false }
-    ensures text_of_error_lifetime { word_key ErrorLifetime ≡ codes "error-lifetime" }
-    ensures text_of_explain { word_key Explain ≡ codes "explain" }
-    ensures conditions { is_known (Line Four) (word_key Conditions) ≡ true }
-    ensures conditions_of_three { is_known (Line Three) (codes "conditions") ≡ false }
-    ensures conditions_at_the_top { is_known (Top Four) (codes "conditions") ≡ false }
-    ensures text_of_conditions { word_key Conditions ≡ codes "conditions" }
-    ensures lifetime_most { is_known (Line Four) (word_key LifetimeMost) ≡ true }
-    ensures lifetime_most_of_three { is_known (Line Three) (codes "lifetime-most") ≡ false }
-    ensures lifetime_most_at_the_top { is_known (Top Four) (codes "lifetime-most") ≡ false }
-    ensures text_of_lifetime_most { word_key LifetimeMost ≡ codes "lifetime-most" }
-    ensures cookies { is_known (Line Four) (word_key Cookies) ≡ true }
-    ensures cookies_of_three { is_known (Line Three) (codes "cookies") ≡ false }
-    ensures cookies_at_the_top { is_known (Top Four) (codes "cookies") ≡ false }
-    ensures text_of_cookies { word_key Cookies ≡ codes "cookies" }
-    ensures stale_while_revalidate { is_known (Line Four) (word_key StaleWhileRevalidate) ≡ true }
-    ensures stale_while_revalidate_of_three { is_known (Line Three) (codes "stale-while-revalidate") ≡ false }
-    ensures stale_while_revalidate_at_the_top { is_known (Top Four) (codes "stale-while-revalidate") ≡ false }
-    ensures text_of_stale_while_revalidate { word_key StaleWhileRevalidate ≡ codes "stale-while-revalidate" }
+    ensures lifetime { is_known_key (Line Three) (key_of_line_option Lifetime) ≡ true }
+    ensures stale_if_error { is_known_key (Line Three) (key_of_line_option StaleIfError) ≡ true }
+    ensures set_cookie { is_known_key (Line Three) (key_of_line_option SetCookie) ≡ true }
+    ensures errors { is_known_key (Line Three) (key_of_line_option Errors) ≡ true }
+    ensures request_directives { is_known_key (Line Three) (key_of_line_option RequestDirectives) ≡ true }
+    ensures wait { is_known_key (Line Three) (key_of_line_option Wait) ≡ true }
+    ensures explain { is_known_key (Line Three) (key_of_line_option Explain) ≡ true }
+    ensures cache { is_known_key (Line Three) (codes "cache") ≡ true }
+    ensures host { is_known_key (Line Three) (codes "host") ≡ true }
+    ensures underscore { is_known_key (Line Three) (codes "stale_if_error") ≡ false }
+    ensures of_two { is_known_key (Line Two) (codes "lifetime") ≡ false }
+    ensures of_one { is_known_key (Line One) (codes "set-cookie") ≡ false }
+    ensures at_the_top { is_known_key (Top Four) (codes "lifetime") ≡ false }
+    ensures text_of_lifetime { key_of_line_option Lifetime ≡ codes "lifetime" }
+    ensures text_of_stale_if_error { key_of_line_option StaleIfError ≡ codes "stale-if-error" }
+    ensures text_of_set_cookie { key_of_line_option SetCookie ≡ codes "set-cookie" }
+    ensures text_of_errors { key_of_line_option Errors ≡ codes "errors" }
+    ensures text_of_request_directives { key_of_line_option RequestDirectives ≡ codes "request-directives" }
+    ensures text_of_wait { key_of_line_option Wait ≡ codes "wait" }
+    ensures wait_of_two { is_known_key (Line Two) (codes "wait") ≡ false }
+    ensures error_lifetime { is_known_key (Line Four) (key_of_line_option ErrorLifetime) ≡ true }
+    ensures lifetime_of_four { is_known_key (Line Four) (key_of_line_option Lifetime) ≡ true }
+    ensures error_lifetime_of_three { is_known_key (Line Three) (codes "error-lifetime") ≡ false }
+    ensures error_lifetime_of_two { is_known_key (Line Two) (codes "error-lifetime") ≡ false }
+    ensures error_lifetime_of_one { is_known_key (Line One) (codes "error-lifetime") ≡ false }
+    ensures error_lifetime_at_the_top { is_known_key (Top Four) (codes "error-lifetime") ≡ false }
+    ensures text_of_error_lifetime { key_of_line_option ErrorLifetime ≡ codes "error-lifetime" }
+    ensures text_of_explain { key_of_line_option Explain ≡ codes "explain" }
+    ensures conditions { is_known_key (Line Four) (key_of_line_option Conditions) ≡ true }
+    ensures conditions_of_three { is_known_key (Line Three) (codes "conditions") ≡ false }
+    ensures conditions_at_the_top { is_known_key (Top Four) (codes "conditions") ≡ false }
+    ensures text_of_conditions { key_of_line_option Conditions ≡ codes "conditions" }
+    ensures lifetime_most { is_known_key (Line Four) (key_of_line_option LifetimeMost) ≡ true }
+    ensures lifetime_most_of_three { is_known_key (Line Three) (codes "lifetime-most") ≡ false }
+    ensures lifetime_most_at_the_top { is_known_key (Top Four) (codes "lifetime-most") ≡ false }
+    ensures text_of_lifetime_most { key_of_line_option LifetimeMost ≡ codes "lifetime-most" }
+    ensures cookies { is_known_key (Line Four) (key_of_line_option Cookies) ≡ true }
+    ensures cookies_of_three { is_known_key (Line Three) (codes "cookies") ≡ false }
+    ensures cookies_at_the_top { is_known_key (Top Four) (codes "cookies") ≡ false }
+    ensures text_of_cookies { key_of_line_option Cookies ≡ codes "cookies" }
+    ensures stale_while_revalidate { is_known_key (Line Four) (key_of_line_option StaleWhileRevalidate) ≡ true }
+    ensures stale_while_revalidate_of_three { is_known_key (Line Three) (codes "stale-while-revalidate") ≡ false }
+    ensures stale_while_revalidate_at_the_top { is_known_key (Top Four) (codes "stale-while-revalidate") ≡ false }
+    ensures text_of_stale_while_revalidate { key_of_line_option StaleWhileRevalidate ≡ codes "stale-while-revalidate" }
 {}
 
 /// Seconds of a line: whole numbers within their bounds, and no text.
-#[tactic(auto, unfolding(crate::specs::LineTables::line_fault, crate::specs::LineTables::is_line_host, crate::specs::LineTables::is_line_method, crate::specs::LineTables::is_line_path, crate::specs::Addresses::address_of, hx_target::specs::Hosts::is_host, hx_target::specs::Hosts::short_number, hx_target::specs::Paths::has_dot_segment))]
+#[tactic(auto, unfolding(crate::specs::LineTables::line_fault, crate::specs::LineTables::is_line_host, crate::specs::LineTables::is_line_method, crate::specs::LineTables::is_line_path, crate::specs::Addresses::address_of, hx_target::specs::Hosts::is_host, hx_target::specs::Hosts::number_of_few_digits, hx_target::specs::Paths::has_dot_segment))]
 pub fn worked_seconds_of_a_line()
     ensures least { line_fault Three 1 (line_table_with_keys (key_with_number (codes "lifetime") 1 ∷ [])) ≡ None }
     ensures most { line_fault Three 1 (line_table_with_keys (key_with_number (codes "lifetime") 2147483648 ∷ [])) ≡ None }
@@ -127,7 +128,7 @@ pub fn worked_seconds_of_a_line()
 {}
 
 /// Texts of a line: two words each, in lower case.
-#[tactic(auto, unfolding(crate::specs::LineTables::line_fault, crate::specs::LineTables::is_line_host, crate::specs::LineTables::is_line_method, crate::specs::LineTables::is_line_path, crate::specs::Addresses::address_of, hx_target::specs::Hosts::is_host, hx_target::specs::Hosts::short_number, hx_target::specs::Paths::has_dot_segment))]
+#[tactic(auto, unfolding(crate::specs::LineTables::line_fault, crate::specs::LineTables::is_line_host, crate::specs::LineTables::is_line_method, crate::specs::LineTables::is_line_path, crate::specs::Addresses::address_of, hx_target::specs::Hosts::is_host, hx_target::specs::Hosts::number_of_few_digits, hx_target::specs::Paths::has_dot_segment))]
 pub fn worked_texts_of_a_line()
     ensures cookies_stored { line_fault Three 1
         (line_table_with_keys (key_with_text (codes "set-cookie") (codes "stored") ∷ [])) ≡ None }
@@ -192,7 +193,7 @@ pub fn worked_texts_of_a_line()
 {}
 
 /// A line that denies or has its cache off takes no word. The words are looked at in the table's order, after `cache`.
-#[tactic(auto, unfolding(crate::specs::LineTables::line_fault, crate::specs::LineTables::is_line_host, crate::specs::LineTables::is_line_method, crate::specs::LineTables::is_line_path, crate::specs::Addresses::address_of, hx_target::specs::Hosts::is_host, hx_target::specs::Hosts::short_number, hx_target::specs::Paths::has_dot_segment))]
+#[tactic(auto, unfolding(crate::specs::LineTables::line_fault, crate::specs::LineTables::is_line_host, crate::specs::LineTables::is_line_method, crate::specs::LineTables::is_line_path, crate::specs::Addresses::address_of, hx_target::specs::Hosts::is_host, hx_target::specs::Hosts::number_of_few_digits, hx_target::specs::Paths::has_dot_segment))]
 pub fn worked_places_of_words()
     ensures denying { line_fault Three 2 (denying_line_table_with (key_with_number (codes "lifetime") 60 ∷ [])) ≡ Some
         (BadWord 2 Lifetime) }
@@ -266,139 +267,144 @@ pub fn worked_places_of_words()
 {}
 
 /// What lines say by their words; each that doesn't stand is as in the versions before.
-#[tactic(auto, unfolding(crate::specs::LineTables::line_read))]
+#[tactic(auto, unfolding(crate::specs::LineTables::line_of_members))]
 pub fn worked_policies_of_words()
-    ensures none { (line_read Three (line_table_with_keys [])).policy ≡ plain true }
-    ensures off { (line_read Three (line_table_with_keys (key_with_text (codes "cache") (codes "off") ∷ []))).policy
+    ensures none { (line_of_members Three (line_table_with_keys [])).policy ≡ plain true }
+    ensures off { (line_of_members Three (line_table_with_keys (key_with_text (codes "cache") (codes "off") ∷ []))).policy
         ≡ plain false }
-    ensures lifetime { (line_read Three (line_table_with_keys (key_with_number (codes "lifetime") 60 ∷ []))).policy
+    ensures lifetime { (line_of_members Three (line_table_with_keys (key_with_number (codes "lifetime") 60 ∷ []))).policy
         ≡ record (plain true) { lifetime = Some 60; error_lifetime = Some 60 } }
-    ensures stale_if_error { (line_read Three (line_table_with_keys (key_with_number (codes "stale-if-error") 600 ∷ []))).policy
+    ensures stale_if_error { (line_of_members Three (line_table_with_keys (key_with_number (codes "stale-if-error") 600 ∷ []))).policy
         ≡ record (plain true) { stale_if_error = Some 600 } }
-    ensures cookies { (line_read Three (line_table_with_keys (key_with_text (codes "set-cookie") (codes "not-stored") ∷ []))).policy
+    ensures cookies { (line_of_members Three (line_table_with_keys (key_with_text (codes "set-cookie") (codes "not-stored") ∷ []))).policy
         ≡ record (plain true) { stores_cookies = false } }
-    ensures cookies_stored { (line_read Three (line_table_with_keys (key_with_text (codes "set-cookie") (codes "stored")
+    ensures cookies_stored { (line_of_members Three (line_table_with_keys (key_with_text (codes "set-cookie") (codes "stored")
         ∷ []))).policy ≡ plain true }
-    ensures errors { (line_read Three (line_table_with_keys (key_with_text (codes "errors") (codes "not-stored") ∷ []))).policy
+    ensures errors { (line_of_members Three (line_table_with_keys (key_with_text (codes "errors") (codes "not-stored") ∷ []))).policy
         ≡ record (plain true) { stores_errors = false } }
-    ensures errors_stored { (line_read Three (line_table_with_keys (key_with_text (codes "errors") (codes "stored")
+    ensures errors_stored { (line_of_members Three (line_table_with_keys (key_with_text (codes "errors") (codes "stored")
         ∷ []))).policy ≡ plain true }
-    ensures directives { (line_read Three (line_table_with_keys (key_with_text (codes "request-directives") (codes "ignored") ∷ []))).policy
+    ensures directives { (line_of_members Three
+        (line_table_with_keys (key_with_text (codes "request-directives") (codes "ignored") ∷ []))).policy
         ≡ record (plain true) { heeds_requests = false } }
-    ensures wait { (line_read Three (line_table_with_keys (key_with_text (codes "wait") (codes "missing-or-stale") ∷ []))).policy
+    ensures wait { (line_of_members Three (line_table_with_keys (key_with_text (codes "wait") (codes "missing-or-stale") ∷ []))).policy
         ≡ record (plain true) { waits_for_stale = true } }
-    ensures wait_missing { (line_read Three (line_table_with_keys (key_with_text (codes "wait") (codes "missing")
+    ensures wait_missing { (line_of_members Three (line_table_with_keys (key_with_text (codes "wait") (codes "missing")
         ∷ []))).policy ≡ plain true }
-    ensures explain { (line_read Three (line_table_with_keys (key_with_text (codes "explain") (codes "storing") ∷ []))).policy
+    ensures explain { (line_of_members Three (line_table_with_keys (key_with_text (codes "explain") (codes "storing") ∷ []))).policy
         ≡ record (plain true) { explains_storing = true } }
-    ensures explain_reuse { (line_read Three (line_table_with_keys (key_with_text (codes "explain") (codes "reuse")
+    ensures explain_reuse { (line_of_members Three (line_table_with_keys (key_with_text (codes "explain") (codes "reuse")
         ∷ []))).policy ≡ plain true }
-    ensures directives_heeded { (line_read Three (line_table_with_keys (key_with_text (codes "request-directives")
+    ensures directives_heeded { (line_of_members Three (line_table_with_keys (key_with_text (codes "request-directives")
         (codes "heeded") ∷ []))).policy ≡ plain true }
 {}
 
 /// In the fourth version errors have a lifetime of their own, or none; in the third they have that of all others.
-#[tactic(auto, unfolding(crate::specs::LineTables::line_read))]
+#[tactic(auto, unfolding(crate::specs::LineTables::line_of_members))]
 pub fn worked_error_lifetimes_by_version()
-    ensures none { (line_read Four (line_table_with_keys [])).policy ≡ plain_of_four }
-    ensures lifetime { (line_read Four (line_table_with_keys (key_with_number (codes "lifetime") 60 ∷ []))).policy
-        ≡ record plain_of_four { lifetime = Some 60 } }
-    ensures of_errors { (line_read Four (line_table_with_keys (key_with_number (codes "error-lifetime") 5 ∷ []))).policy
-        ≡ record plain_of_four { error_lifetime = Some 5 } }
-    ensures both { (line_read Four (line_table_with_keys (key_with_number (codes "error-lifetime") 5
+    ensures none { (line_of_members Four (line_table_with_keys [])).policy ≡ policy_of_version_four }
+    ensures lifetime { (line_of_members Four (line_table_with_keys (key_with_number (codes "lifetime") 60 ∷ []))).policy
+        ≡ record policy_of_version_four { lifetime = Some 60 } }
+    ensures of_errors { (line_of_members Four (line_table_with_keys (key_with_number (codes "error-lifetime") 5 ∷ []))).policy
+        ≡ record policy_of_version_four { error_lifetime = Some 5 } }
+    ensures both { (line_of_members Four (line_table_with_keys (key_with_number (codes "error-lifetime") 5
         ∷ key_with_number (codes "lifetime") 60 ∷ []))).policy
-        ≡ record plain_of_four { lifetime = Some 60; error_lifetime = Some 5 } }
-    ensures of_three { (line_read Three (line_table_with_keys (key_with_number (codes "lifetime") 60 ∷ []))).policy
+        ≡ record policy_of_version_four { lifetime = Some 60; error_lifetime = Some 5 } }
+    ensures of_three { (line_of_members Three (line_table_with_keys (key_with_number (codes "lifetime") 60 ∷ []))).policy
         ≡ record (plain true) { lifetime = Some 60; error_lifetime = Some 60 } }
-    ensures most { (line_read Four (line_table_with_keys (key_with_number (codes "lifetime-most") 600 ∷ []))).policy
-        ≡ record plain_of_four { lifetime_most = Some 600 } }
-    ensures most_beside { (line_read Four (line_table_with_keys (key_with_number (codes "lifetime-most") 600
+    ensures most { (line_of_members Four (line_table_with_keys (key_with_number (codes "lifetime-most") 600 ∷ []))).policy
+        ≡ record policy_of_version_four { lifetime_most = Some 600 } }
+    ensures most_beside { (line_of_members Four (line_table_with_keys (key_with_number (codes "lifetime-most") 600
         ∷ key_with_number (codes "lifetime") 3600 ∷ []))).policy
-        ≡ record plain_of_four { lifetime = Some 3600; lifetime_most = Some 600 } }
-    ensures others { (line_read Four (line_table_with_keys (key_with_text (codes "errors") (codes "not-stored")
-        ∷ []))).policy ≡ record plain_of_four { stores_errors = false } }
+        ≡ record policy_of_version_four { lifetime = Some 3600; lifetime_most = Some 600 } }
+    ensures others { (line_of_members Four (line_table_with_keys (key_with_text (codes "errors") (codes "not-stored")
+        ∷ []))).policy ≡ record policy_of_version_four { stores_errors = false } }
 {}
 
 /// In the fourth version the conditions of clients stay with the proxy, unless the line says else, denies or has its
 /// cache off; in the third they are the origin's.
-#[tactic(auto, unfolding(crate::specs::LineTables::line_read))]
+#[tactic(auto, unfolding(crate::specs::LineTables::line_of_members))]
 pub fn worked_conditions_by_version()
-    ensures of_three { (line_read Three (line_table_with_keys [])).policy.forwards_conditions ≡ true }
-    ensures of_four { (line_read Four (line_table_with_keys [])).policy.forwards_conditions ≡ false }
-    ensures answered { (line_read Four (line_table_with_keys (key_with_text (codes "conditions") (codes "answered") ∷ []))).policy
-        ≡ plain_of_four }
-    ensures forwarded { (line_read Four (line_table_with_keys (key_with_text (codes "conditions") (codes "forwarded") ∷ []))).policy
-        ≡ record plain_of_four { forwards_conditions = true } }
-    ensures off { (line_read Four (line_table_with_keys (key_with_text (codes "cache") (codes "off") ∷ []))).policy
-        ≡ plain_with_tags true false }
-    ensures denying { (line_read Four (denying_line_table_with [])).policy ≡ plain_with_tags true true }
+    ensures of_three { (line_of_members Three (line_table_with_keys [])).policy.forwards_conditions ≡ true }
+    ensures of_four { (line_of_members Four (line_table_with_keys [])).policy.forwards_conditions ≡ false }
+    ensures answered { (line_of_members Four (line_table_with_keys (key_with_text (codes "conditions") (codes "answered") ∷ []))).policy
+        ≡ policy_of_version_four }
+    ensures forwarded { (line_of_members Four (line_table_with_keys (key_with_text (codes "conditions") (codes "forwarded") ∷ []))).policy
+        ≡ record policy_of_version_four { forwards_conditions = true } }
+    ensures off { (line_of_members Four (line_table_with_keys (key_with_text (codes "cache") (codes "off") ∷ []))).policy
+        ≡ default_policy_with_hidden_tags true false }
+    ensures denying { (line_of_members Four (denying_line_table_with [])).policy
+        ≡ default_policy_with_hidden_tags true true }
 {}
 
 /// In the fourth version a line gives its lifetimes to no request with a cookie, unless it says else, denies or has its
 /// cache off; in the third it gives them to each.
-#[tactic(auto, unfolding(crate::specs::LineTables::line_read))]
+#[tactic(auto, unfolding(crate::specs::LineTables::line_of_members))]
 pub fn worked_cookies_by_version()
-    ensures of_three { (line_read Three
+    ensures of_three { (line_of_members Three
         (line_table_with_keys (key_with_number (codes "lifetime") 60 ∷ []))).policy.gives_to_cookies ≡ true }
-    ensures of_four { (line_read Four
+    ensures of_four { (line_of_members Four
         (line_table_with_keys (key_with_number (codes "lifetime") 60 ∷ []))).policy.gives_to_cookies ≡ false }
-    ensures private { (line_read Four (line_table_with_keys (key_with_text (codes "cookies") (codes "private") ∷ []))).policy
-        ≡ plain_of_four }
-    ensures shared { (line_read Four (line_table_with_keys (key_with_text (codes "cookies") (codes "shared") ∷ []))).policy
-        ≡ record plain_of_four { gives_to_cookies = true } }
-    ensures off { (line_read Four (line_table_with_keys (key_with_text (codes "cache") (codes "off") ∷ []))).policy
-        ≡ plain_with_tags true false }
-    ensures denying { (line_read Four (denying_line_table_with [])).policy ≡ plain_with_tags true true }
+    ensures private { (line_of_members Four (line_table_with_keys (key_with_text (codes "cookies") (codes "private") ∷ []))).policy
+        ≡ policy_of_version_four }
+    ensures shared { (line_of_members Four (line_table_with_keys (key_with_text (codes "cookies") (codes "shared") ∷ []))).policy
+        ≡ record policy_of_version_four { gives_to_cookies = true } }
+    ensures off { (line_of_members Four (line_table_with_keys (key_with_text (codes "cache") (codes "off") ∷ []))).policy
+        ≡ default_policy_with_hidden_tags true false }
+    ensures denying { (line_of_members Four (denying_line_table_with [])).policy
+        ≡ default_policy_with_hidden_tags true true }
 {}
 
 /// In the fourth version a line gives its lifetimes to no response with Set-Cookie, unless it says what becomes of
 /// those, denies or has its cache off; in the third it gives them to each. Only the fourth has `removed`.
-#[tactic(auto, unfolding(crate::specs::LineTables::line_read))]
+#[tactic(auto, unfolding(crate::specs::LineTables::line_of_members))]
 pub fn worked_cookies_of_responses_by_version()
-    ensures of_three { (line_read Three
+    ensures of_three { (line_of_members Three
         (line_table_with_keys (key_with_number (codes "lifetime") 60 ∷ []))).policy.gives_to_set_cookie ≡ true }
-    ensures of_four { (line_read Four
+    ensures of_four { (line_of_members Four
         (line_table_with_keys (key_with_number (codes "lifetime") 60 ∷ []))).policy.gives_to_set_cookie ≡ false }
-    ensures stored { (line_read Four (line_table_with_keys (key_with_text (codes "set-cookie") (codes "stored") ∷ []))).policy
-        ≡ record plain_of_four { gives_to_set_cookie = true } }
-    ensures not_stored { (line_read Four (line_table_with_keys (key_with_text (codes "set-cookie") (codes "not-stored")
-        ∷ []))).policy ≡ record plain_of_four { stores_cookies = false; gives_to_set_cookie = true } }
-    ensures removed { (line_read Four (line_table_with_keys (key_with_text (codes "set-cookie") (codes "removed") ∷ []))).policy
-        ≡ record plain_of_four { removes_cookies = true; gives_to_set_cookie = true } }
-    ensures removed_in_three { (line_read Three
+    ensures stored { (line_of_members Four (line_table_with_keys (key_with_text (codes "set-cookie") (codes "stored") ∷ []))).policy
+        ≡ record policy_of_version_four { gives_to_set_cookie = true } }
+    ensures not_stored { (line_of_members Four (line_table_with_keys (key_with_text (codes "set-cookie") (codes "not-stored")
+        ∷ []))).policy ≡ record policy_of_version_four { stores_cookies = false; gives_to_set_cookie = true } }
+    ensures removed { (line_of_members Four (line_table_with_keys (key_with_text (codes "set-cookie") (codes "removed") ∷ []))).policy
+        ≡ record policy_of_version_four { removes_cookies = true; gives_to_set_cookie = true } }
+    ensures removed_in_three { (line_of_members Three
         (line_table_with_keys (key_with_text (codes "set-cookie") (codes "removed") ∷ []))).policy ≡ plain true }
-    ensures off { (line_read Four (line_table_with_keys (key_with_text (codes "cache") (codes "off") ∷ []))).policy
-        ≡ plain_with_tags true false }
-    ensures denying { (line_read Four (denying_line_table_with [])).policy ≡ plain_with_tags true true }
+    ensures off { (line_of_members Four (line_table_with_keys (key_with_text (codes "cache") (codes "off") ∷ []))).policy
+        ≡ default_policy_with_hidden_tags true false }
+    ensures denying { (line_of_members Four (denying_line_table_with [])).policy
+        ≡ default_policy_with_hidden_tags true true }
 {}
 
 /// In the fourth version a line that lets others wait for what is stale sends it while it is validated, for as long as
 /// it or the line says; in the third it doesn't.
-#[tactic(auto, unfolding(crate::specs::LineTables::line_read))]
+#[tactic(auto, unfolding(crate::specs::LineTables::line_of_members))]
 pub fn worked_stale_while_revalidate_by_version()
-    ensures of_three { (line_read Three (line_table_with_keys (key_with_text (codes "wait") (codes "missing-or-stale")
+    ensures of_three { (line_of_members Three (line_table_with_keys (key_with_text (codes "wait") (codes "missing-or-stale")
         ∷ []))).policy.sends_while_revalidating ≡ false }
-    ensures of_four { (line_read Four (line_table_with_keys (key_with_text (codes "wait") (codes "missing-or-stale") ∷ []))).policy
-        ≡ record plain_of_four { waits_for_stale = true; sends_while_revalidating = true } }
-    ensures with_the_word { (line_read Four (line_table_with_keys (key_with_text (codes "wait") (codes "missing-or-stale")
+    ensures of_four { (line_of_members Four (line_table_with_keys (key_with_text (codes "wait") (codes "missing-or-stale") ∷ []))).policy
+        ≡ record policy_of_version_four { waits_for_stale = true; sends_while_revalidating = true } }
+    ensures with_the_word { (line_of_members Four (line_table_with_keys (key_with_text (codes "wait") (codes "missing-or-stale")
         ∷ key_with_number (codes "stale-while-revalidate") 60 ∷ []))).policy
-        ≡ record plain_of_four {
+        ≡ record policy_of_version_four {
           waits_for_stale = true;
           sends_while_revalidating = true;
           stale_while_revalidate = Some 60;
         } }
-    ensures the_word_alone { (line_read Four (line_table_with_keys (key_with_number (codes "stale-while-revalidate") 60
-        ∷ []))).policy ≡ record plain_of_four { stale_while_revalidate = Some 60 } }
-    ensures where_missing { (line_read Four (line_table_with_keys (key_with_text (codes "wait") (codes "missing") ∷ []))).policy
-        ≡ plain_of_four }
-    ensures beside_stale_if_error { (line_read Four (line_table_with_keys (key_with_number (codes "stale-if-error") 600
+    ensures the_word_alone { (line_of_members Four (line_table_with_keys (key_with_number (codes "stale-while-revalidate") 60
+        ∷ []))).policy ≡ record policy_of_version_four { stale_while_revalidate = Some 60 } }
+    ensures where_missing { (line_of_members Four (line_table_with_keys (key_with_text (codes "wait") (codes "missing")
+        ∷ []))).policy
+        ≡ policy_of_version_four }
+    ensures beside_stale_if_error { (line_of_members Four (line_table_with_keys (key_with_number (codes "stale-if-error") 600
         ∷ key_with_number (codes "stale-while-revalidate") 60 ∷ []))).policy
-        ≡ record plain_of_four { stale_if_error = Some 600; stale_while_revalidate = Some 60 } }
+        ≡ record policy_of_version_four { stale_if_error = Some 600; stale_while_revalidate = Some 60 } }
 {}
 
 /// A whole table of version 3.
-#[tactic(auto, unfolding(toml::proofs::OnLiterals::toml_on_literals, crate::specs::Tables::judge_table, crate::specs::Tables::table_fault, crate::specs::Tables::table_read, crate::specs::Tables::is_name, crate::specs::LineTables::line_fault, crate::specs::LineTables::line_read, crate::specs::LineTables::is_line_host, crate::specs::LineTables::is_line_method, crate::specs::LineTables::is_line_path, crate::specs::Addresses::address_of, hx_target::specs::Hosts::is_host, hx_target::specs::Hosts::short_number, hx_target::specs::Paths::has_dot_segment))]
-pub fn a_table_with_words_is_read()
+#[tactic(auto, unfolding(toml::proofs::OnLiterals::toml_on_literals, crate::specs::Tables::judge_table, crate::specs::Tables::table_fault, crate::specs::Tables::table_of_members, crate::specs::Tables::is_name, crate::specs::LineTables::line_fault, crate::specs::LineTables::line_of_members, crate::specs::LineTables::is_line_host, crate::specs::LineTables::is_line_method, crate::specs::LineTables::is_line_path, crate::specs::Addresses::address_of, hx_target::specs::Hosts::is_host, hx_target::specs::Hosts::number_of_few_digits, hx_target::specs::Paths::has_dot_segment))]
+pub fn worked_table_of_version_three()
     ensures { option_map judge_table (parse_document (codes "version = 3\nname = \"edge\"\ncapacity = 2\nmax_body = 1000\nmax_stored = 1000\n\n[[line]]\nhost = \"*\"\nmethods = [\"GET\"]\npath = \"/\"\norigin = \"127.0.0.1:8081\"\nlifetime = 60\nstale-if-error = 600\nset-cookie = \"not-stored\"\nerrors = \"not-stored\"\nrequest-directives = \"ignored\"\nwait = \"missing-or-stale\"\nexplain = \"storing\"\n")) ≡ Some (Ok (record {
       name = codes "edge";
       capacity = 2;
@@ -432,16 +438,16 @@ pub fn a_table_with_words_is_read()
 {}
 
 /// A whole table of version 4.
-#[tactic(auto, unfolding(toml::proofs::OnLiterals::toml_on_literals, crate::specs::Tables::judge_table, crate::specs::Tables::table_fault, crate::specs::Tables::table_read, crate::specs::Tables::is_name, crate::specs::LineTables::line_fault, crate::specs::LineTables::line_read, crate::specs::LineTables::is_line_host, crate::specs::LineTables::is_line_method, crate::specs::LineTables::is_line_path, crate::specs::Addresses::address_of, hx_target::specs::Hosts::is_host, hx_target::specs::Hosts::short_number, hx_target::specs::Paths::has_dot_segment))]
-pub fn a_table_with_a_lifetime_of_errors_is_read()
+#[tactic(auto, unfolding(toml::proofs::OnLiterals::toml_on_literals, crate::specs::Tables::judge_table, crate::specs::Tables::table_fault, crate::specs::Tables::table_of_members, crate::specs::Tables::is_name, crate::specs::LineTables::line_fault, crate::specs::LineTables::line_of_members, crate::specs::LineTables::is_line_host, crate::specs::LineTables::is_line_method, crate::specs::LineTables::is_line_path, crate::specs::Addresses::address_of, hx_target::specs::Hosts::is_host, hx_target::specs::Hosts::number_of_few_digits, hx_target::specs::Paths::has_dot_segment))]
+pub fn worked_table_of_version_four()
     ensures { option_map judge_table (parse_document (codes "version = 4\nname = \"edge\"\ncapacity = 2\nmax_body = 1000\nmax_stored = 1000\n\n[[line]]\nhost = \"*\"\nmethods = [\"GET\"]\npath = \"/\"\norigin = \"127.0.0.1:8081\"\nlifetime = 60\nerror-lifetime = 5\n")) ≡ Some (Ok (record {
       name = codes "edge";
       capacity = 2;
       max_body = 1000;
       max_stored = 1000;
       max_store = None;
-      lines = record line_of_four {
-        policy = record plain_of_four { lifetime = Some 60; error_lifetime = Some 5 };
+      lines = record line_of_version_four {
+        policy = record policy_of_version_four { lifetime = Some 60; error_lifetime = Some 5 };
       } ∷ [];
     })) }
 {}

@@ -1,30 +1,30 @@
 //! What a line says of caching, and which lines may say it.
 ghost use Rattle.std.specs.Prelude.{◌≡◌};
 ghost use Rattle.toml.specs.View.{table_view};
-ghost use Rattle.hx_allow.specs.LineWords.{key_has_one_of_two, key_has_text, line_has_no_origin, line_takes_words};
-ghost use Rattle.hx_allow.specs.LineWords.{says_second, says_third, word_of_error_lifetime};
+ghost use Rattle.hx_allow.specs.LineWords.{key_has_one_of_two_texts, key_has_text, line_has_no_origin, line_caches};
+ghost use Rattle.hx_allow.specs.LineWords.{says_second_text, says_third_text_of_key, key_word_of_error_lifetime};
 ghost use Rattle.hx_allow.specs.LineWords.{removes_cookies, gives_lifetimes_to_set_cookie};
-ghost use Rattle.hx_allow.specs.LineWords.{gives_lifetimes_to_cookies, leaves_conditions_to_origin};
-ghost use Rattle.hx_allow.specs.LineWords.{leaves_ranges_to_origin, fills_ranges, says_last};
+ghost use Rattle.hx_allow.specs.LineWords.{gives_lifetimes_to_cookies, forwards_conditions_of_line};
+ghost use Rattle.hx_allow.specs.LineWords.{forwards_ranges_of_line, fills_ranges, says_last_text};
 ghost use Rattle.hx_allow.specs.LineWords.{refuses_loops, sends_while_revalidating, policy_of_line_table};
-ghost use Rattle.hx_allow.specs.LineWords.{seconds_for_origin, seconds_to_wait, line_purges};
-ghost use Rattle.hx_allow.specs.Rows.{plain_row, word_row};
+ghost use Rattle.hx_allow.specs.LineWords.{origin_timeout_seconds, wait_timeout_seconds, line_purges};
+ghost use Rattle.hx_allow.specs.Rows.{row_of_source, word_row};
 ghost use Rattle.hx_allow.specs.Values.{number_in};
-ghost use Rattle.hx_allow.specs.declared.config_faults.LineWord.TheVariants.{Lifetime, LifetimeMost, StaleIfError};
-ghost use Rattle.hx_allow.specs.declared.config_faults.LineWord.TheVariants.{StaleWhileRevalidate};
+ghost use Rattle.hx_allow.specs.declared.config_faults.LineOption.TheVariants.{Lifetime, LifetimeMost, StaleIfError};
+ghost use Rattle.hx_allow.specs.declared.config_faults.LineOption.TheVariants.{StaleWhileRevalidate};
 
-use crate::config_faults::LineWord;
-use crate::rows::{Kind, LineKey, Row};
+use crate::config_faults::LineOption;
+use crate::rows::{KeyDefinition, LineKey, ValueKind};
 use crate::values::TableVersion::Four;
-use crate::values::{TableVersion, seconds_in, text_at, value_at};
+use crate::values::{TableVersion, seconds_of_row, text_of_key, value_of_key};
 use hx_policy::Policy;
 use toml::Table;
 
 /// Whether the text of a key is one of two.
-pub fn key_has_one_of_two(table: &Table, key: &str, first: &str, second: &str) -> bool
-    ensures { result ≡ key_has_one_of_two key.now first.now second.now (table_view table.now) }
+pub fn key_has_one_of_two_texts(table: &Table, key: &str, first: &str, second: &str) -> bool
+    ensures { result ≡ key_has_one_of_two_texts key.now first.now second.now (table_view table.now) }
 {
-    match text_at(table, key) {
+    match text_of_key(table, key) {
         Some(text) => text == first || text == second,
         None => false,
     }
@@ -34,7 +34,7 @@ pub fn key_has_one_of_two(table: &Table, key: &str, first: &str, second: &str) -
 pub fn key_has_text(table: &Table, key: &str, word: &str) -> bool
     ensures { result ≡ key_has_text key.now word.now (table_view table.now) }
 {
-    match text_at(table, key) {
+    match text_of_key(table, key) {
         Some(text) => text == word,
         None => false,
     }
@@ -51,34 +51,34 @@ pub fn line_purges(version: TableVersion, table: &Table) -> bool
 pub fn line_has_no_origin(table: &Table) -> bool
     ensures { result ≡ line_has_no_origin (table_view table.now) }
 {
-    key_has_one_of_two(table, "origin", "deny", "purge")
+    key_has_one_of_two_texts(table, "origin", "deny", "purge")
 }
 
 /// Whether a line has an origin and its cache on.
-pub fn line_takes_words(table: &Table) -> bool
-    ensures { result ≡ line_takes_words (table_view table.now) }
+pub fn line_caches(table: &Table) -> bool
+    ensures { result ≡ line_caches (table_view table.now) }
 {
     !line_has_no_origin(table) && !key_has_text(table, "cache", "off")
 }
 
 /// Whether a key says the second of its texts.
-fn says_second(row: Row, table: &Table) -> bool
-    ensures { result ≡ says_second (plain_row row) (table_view table.now) }
+fn says_second_text(row: KeyDefinition, table: &Table) -> bool
+    ensures { result ≡ says_second_text (row_of_source row) (table_view table.now) }
 {
     match row.kind {
-        Kind::OneOf(_, second) => key_has_text(table, row.key, second),
-        Kind::OneOfInFour(_, second, _) => key_has_text(table, row.key, second),
-        Kind::OneOfThree(_, second, _) => key_has_text(table, row.key, second),
+        ValueKind::OneOf(_, second) => key_has_text(table, row.key, second),
+        ValueKind::OneOfInFour(_, second, _) => key_has_text(table, row.key, second),
+        ValueKind::OneOfThree(_, second, _) => key_has_text(table, row.key, second),
         _ => false,
     }
 }
 
 /// Whether a key says the third of its texts, in a table of a version that has it.
-fn says_third(version: TableVersion, row: Row, table: &Table) -> bool
-    ensures { result ≡ says_third version (plain_row row) (table_view table.now) }
+fn says_third_text_of_key(version: TableVersion, row: KeyDefinition, table: &Table) -> bool
+    ensures { result ≡ says_third_text_of_key version (row_of_source row) (table_view table.now) }
 {
     match row.kind {
-        Kind::OneOfInFour(_, _, third) => {
+        ValueKind::OneOfInFour(_, _, third) => {
             version.has_keys_of(Four) && key_has_text(table, row.key, third)
         }
         _ => false,
@@ -86,23 +86,23 @@ fn says_third(version: TableVersion, row: Row, table: &Table) -> bool
 }
 
 /// Whether a key says the last of three texts.
-fn says_last(row: Row, table: &Table) -> bool
-    ensures { result ≡ says_last (plain_row row) (table_view table.now) }
+fn says_last_text(row: KeyDefinition, table: &Table) -> bool
+    ensures { result ≡ says_last_text (row_of_source row) (table_view table.now) }
 {
     match row.kind {
-        Kind::OneOfThree(_, _, third) => key_has_text(table, row.key, third),
+        ValueKind::OneOfThree(_, _, third) => key_has_text(table, row.key, third),
         _ => false,
     }
 }
 
 /// The word that gives errors their lifetime, which is that of all others in a version without a word of its own.
-fn word_of_error_lifetime(version: TableVersion) -> LineWord
-    ensures { result ≡ word_of_error_lifetime version }
+fn key_word_of_error_lifetime(version: TableVersion) -> LineOption
+    ensures { result ≡ key_word_of_error_lifetime version }
 {
-    if LineWord::ErrorLifetime.row().is_known_in(version) {
-        LineWord::ErrorLifetime
+    if LineOption::ErrorLifetime.row().is_known_in(version) {
+        LineOption::ErrorLifetime
     } else {
-        LineWord::Lifetime
+        LineOption::Lifetime
     }
 }
 
@@ -110,71 +110,71 @@ fn word_of_error_lifetime(version: TableVersion) -> LineWord
 fn removes_cookies(version: TableVersion, table: &Table) -> bool
     ensures { result ≡ removes_cookies version (table_view table.now) }
 {
-    says_third(version, LineWord::SetCookie.row(), table)
+    says_third_text_of_key(version, LineOption::SetCookie.row(), table)
 }
 
 /// Whether a line gives its lifetimes to a response with Set-Cookie, too.
 fn gives_lifetimes_to_set_cookie(version: TableVersion, table: &Table) -> bool
     ensures { result ≡ gives_lifetimes_to_set_cookie version (table_view table.now) }
 {
-    let row = LineWord::SetCookie.row();
-    !(version.has_keys_of(Four) && line_takes_words(table)) || value_at(table, row.key).is_some()
+    let row = LineOption::SetCookie.row();
+    !(version.has_keys_of(Four) && line_caches(table)) || value_of_key(table, row.key).is_some()
 }
 
 /// Whether a line gives its lifetimes to the response to a request with a cookie, too.
 fn gives_lifetimes_to_cookies(version: TableVersion, table: &Table) -> bool
     ensures { result ≡ gives_lifetimes_to_cookies version (table_view table.now) }
 {
-    let row = LineWord::Cookies.row();
-    !(row.is_known_in(version) && line_takes_words(table)) || says_second(row, table)
+    let row = LineOption::Cookies.row();
+    !(row.is_known_in(version) && line_caches(table)) || says_second_text(row, table)
 }
 
 /// Whether the conditions of clients are the origin's to judge.
-fn leaves_conditions_to_origin(version: TableVersion, table: &Table) -> bool
-    ensures { result ≡ leaves_conditions_to_origin version (table_view table.now) }
+fn forwards_conditions_of_line(version: TableVersion, table: &Table) -> bool
+    ensures { result ≡ forwards_conditions_of_line version (table_view table.now) }
 {
-    let row = LineWord::Conditions.row();
-    !(row.is_known_in(version) && line_takes_words(table)) || says_second(row, table)
+    let row = LineOption::Conditions.row();
+    !(row.is_known_in(version) && line_caches(table)) || says_second_text(row, table)
 }
 
 /// Whether requests for a range are the origin's to answer.
-fn leaves_ranges_to_origin(version: TableVersion, table: &Table) -> bool
-    ensures { result ≡ leaves_ranges_to_origin version (table_view table.now) }
+fn forwards_ranges_of_line(version: TableVersion, table: &Table) -> bool
+    ensures { result ≡ forwards_ranges_of_line version (table_view table.now) }
 {
-    let row = LineWord::Ranges.row();
-    !(row.is_known_in(version) && line_takes_words(table)) || says_second(row, table)
+    let row = LineOption::Ranges.row();
+    !(row.is_known_in(version) && line_caches(table)) || says_second_text(row, table)
 }
 
 /// Whether the whole is asked for where a range can't be cut from what is stored.
 fn fills_ranges(version: TableVersion, table: &Table) -> bool
     ensures { result ≡ fills_ranges version (table_view table.now) }
 {
-    let row = LineWord::Ranges.row();
-    row.is_known_in(version) && says_last(row, table)
+    let row = LineOption::Ranges.row();
+    row.is_known_in(version) && says_last_text(row, table)
 }
 
 /// Whether requests that loop are refused.
 pub fn refuses_loops(version: TableVersion, table: &Table) -> bool
     ensures { result ≡ refuses_loops version (table_view table.now) }
 {
-    let row = LineWord::Loops.row();
-    row.is_known_in(version) && !says_second(row, table)
+    let row = LineOption::Loops.row();
+    row.is_known_in(version) && !says_second_text(row, table)
 }
 
 /// For how many seconds the origin may send no byte, where a line without fault says so.
-pub fn seconds_for_origin(table: &Table) -> Option<u32>
-    ensures { result ≡ seconds_for_origin (table_view table.now) }
+pub fn origin_timeout_seconds(table: &Table) -> Option<u32>
+    ensures { result ≡ origin_timeout_seconds (table_view table.now) }
 {
-    seconds_in(LineWord::OriginTimeout.row(), table)
+    seconds_of_row(LineOption::OriginTimeout.row(), table)
 }
 
 /// After how many seconds a request waits no longer for the answer to another, over a line without fault.
-pub fn seconds_to_wait(version: TableVersion, table: &Table) -> Option<u32>
-    ensures { result ≡ seconds_to_wait version (table_view table.now) }
+pub fn wait_timeout_seconds(version: TableVersion, table: &Table) -> Option<u32>
+    ensures { result ≡ wait_timeout_seconds version (table_view table.now) }
 {
-    let row = LineWord::WaitTimeout.row();
-    if row.is_known_in(version) && line_takes_words(table) {
-        Some(seconds_in(row, table).unwrap_or(5))
+    let row = LineOption::WaitTimeout.row();
+    if row.is_known_in(version) && line_caches(table) {
+        Some(seconds_of_row(row, table).unwrap_or(5))
     } else {
         None
     }
@@ -184,26 +184,26 @@ pub fn seconds_to_wait(version: TableVersion, table: &Table) -> Option<u32>
 fn sends_while_revalidating(version: TableVersion, table: &Table) -> bool
     ensures { result ≡ sends_while_revalidating version (table_view table.now) }
 {
-    says_second(LineWord::Wait.row(), table)
-        && LineWord::StaleWhileRevalidate.row().is_known_in(version)
+    says_second_text(LineOption::Wait.row(), table)
+        && LineOption::StaleWhileRevalidate.row().is_known_in(version)
 }
 
 /// The same policy with the seconds that a line has.
 fn with_seconds_of_line(policy: Policy, version: TableVersion, table: &Table) -> Policy
     ensures { result ≡ record policy {
       lifetime = number_in (word_row Lifetime) (table_view table.now);
-      error_lifetime = number_in (word_row (word_of_error_lifetime version)) (table_view table.now);
+      error_lifetime = number_in (word_row (key_word_of_error_lifetime version)) (table_view table.now);
       lifetime_most = number_in (word_row LifetimeMost) (table_view table.now);
       stale_if_error = number_in (word_row StaleIfError) (table_view table.now);
       stale_while_revalidate = number_in (word_row StaleWhileRevalidate) (table_view table.now);
     } }
 {
     Policy {
-        lifetime: seconds_in(LineWord::Lifetime.row(), table),
-        error_lifetime: seconds_in(word_of_error_lifetime(version).row(), table),
-        lifetime_most: seconds_in(LineWord::LifetimeMost.row(), table),
-        stale_if_error: seconds_in(LineWord::StaleIfError.row(), table),
-        stale_while_revalidate: seconds_in(LineWord::StaleWhileRevalidate.row(), table),
+        lifetime: seconds_of_row(LineOption::Lifetime.row(), table),
+        error_lifetime: seconds_of_row(key_word_of_error_lifetime(version).row(), table),
+        lifetime_most: seconds_of_row(LineOption::LifetimeMost.row(), table),
+        stale_if_error: seconds_of_row(LineOption::StaleIfError.row(), table),
+        stale_while_revalidate: seconds_of_row(LineOption::StaleWhileRevalidate.row(), table),
         ..policy
     }
 }
@@ -213,23 +213,23 @@ pub fn policy_of_line_table(version: TableVersion, table: &Table) -> Policy
     ensures { result ≡ policy_of_line_table version (table_view table.now) }
 {
     let words = Policy {
-        caches: !says_second(LineKey::Cache.row(), table),
+        caches: !says_second_text(LineKey::Cache.row(), table),
         lifetime: None,
         error_lifetime: None,
         lifetime_most: None,
         stale_if_error: None,
         stale_while_revalidate: None,
-        stores_cookies: !says_second(LineWord::SetCookie.row(), table),
+        stores_cookies: !says_second_text(LineOption::SetCookie.row(), table),
         removes_cookies: removes_cookies(version, table),
         gives_to_set_cookie: gives_lifetimes_to_set_cookie(version, table),
         gives_to_cookies: gives_lifetimes_to_cookies(version, table),
-        stores_errors: !says_second(LineWord::Errors.row(), table),
-        heeds_requests: !says_second(LineWord::RequestDirectives.row(), table),
-        waits_for_stale: says_second(LineWord::Wait.row(), table),
+        stores_errors: !says_second_text(LineOption::Errors.row(), table),
+        heeds_requests: !says_second_text(LineOption::RequestDirectives.row(), table),
+        waits_for_stale: says_second_text(LineOption::Wait.row(), table),
         sends_while_revalidating: sends_while_revalidating(version, table),
-        explains_storing: says_second(LineWord::Explain.row(), table),
-        forwards_conditions: leaves_conditions_to_origin(version, table),
-        forwards_ranges: leaves_ranges_to_origin(version, table),
+        explains_storing: says_second_text(LineOption::Explain.row(), table),
+        forwards_conditions: forwards_conditions_of_line(version, table),
+        forwards_ranges: forwards_ranges_of_line(version, table),
         fills_ranges: fills_ranges(version, table),
         hides_tags: version.has_keys_of(Four),
     };

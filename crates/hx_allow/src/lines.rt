@@ -2,7 +2,7 @@
 ghost use Rattle.std.specs.Prelude.{◌≡◌};
 ghost use Rattle.std.specs.List.{list_any};
 ghost use Rattle.hx_allow.specs.Matching.{is_never_allowed, is_star_or_same, any_path_matches};
-ghost use Rattle.hx_allow.specs.Index.{matches_beside_host};
+ghost use Rattle.hx_allow.specs.Index.{line_matches_method_and_path};
 
 use crate::line_hosts::LineHost;
 use crate::line_paths::LinePath;
@@ -73,7 +73,7 @@ fn is_star_or_same(text: &[u8], method: &[u8]) -> bool
     text == b"*".as_slice() || text == method
 }
 
-pub(crate) fn has_any_or_same(methods: &[Bytes], method: &[u8]) -> bool
+pub(crate) fn has_star_or_method(methods: &[Bytes], method: &[u8]) -> bool
     ensures { result ≡ list_any (is_star_or_same method.now) methods.now }
 {
     methods
@@ -90,8 +90,8 @@ fn any_path_matches(paths: &[LinePath], asked: &[u8]) -> bool
 impl Line {
     /// Whether one of the line's paths and a method match, of a method that a line may allow.
     pub fn matches(&self, method: &[u8], path: &[u8]) -> bool
-        ensures { result ≡ matches_beside_host self.now method.now path.now }
+        ensures { result ≡ line_matches_method_and_path self.now method.now path.now }
     {
-        any_path_matches(&self.paths, path) && has_any_or_same(self.methods.as_slice(), method)
+        any_path_matches(&self.paths, path) && has_star_or_method(self.methods.as_slice(), method)
     }
 }

@@ -3,15 +3,17 @@
 ghost use Rattle.std.specs.Prelude.{◌≡◌, ◌∷◌, ◌++◌, [], Some, None, Ok, true, false, codes, option_map, pos};
 ghost use Rattle.toml.specs.Data.{array, integer, string, no_items};
 ghost use Rattle.toml.specs.Parse.{parse_document};
-ghost use Rattle.hx_policy.specs.Policies.{plain_with_tags};
-ghost use Rattle.hx_allow.specs.Examples.{line_table_of, list_of_texts, lines_with_lists, line_with_lists};
+ghost use Rattle.hx_policy.specs.Policies.{default_policy_with_hidden_tags};
+ghost use Rattle.hx_allow.specs.Examples.{line_table_of, list_of_texts, lines_with_several_hosts};
+ghost use Rattle.hx_allow.specs.Examples.{line_with_hosts_and_paths};
 ghost use Rattle.hx_allow.specs.Examples.{line_with_method, origin_8081};
 ghost use Rattle.hx_allow.specs.Examples.{repeated_value, array_of_values, target_for_path};
-ghost use Rattle.hx_allow.specs.Index.{hosts_above, names_exact_host, is_below, is_every, line_numbers_of};
-ghost use Rattle.hx_allow.specs.LineHosts.{line_host_of, matches_host};
-ghost use Rattle.hx_allow.specs.LineTables.{is_line_host, line_fault, line_read};
-ghost use Rattle.hx_allow.specs.Matching.{verdict_of, over_line};
-ghost use Rattle.hx_allow.specs.NeverReached.{takes_each_request_of, first_line_taking};
+ghost use Rattle.hx_allow.specs.Index.{parent_domains_of, is_exactly_host, is_wildcard_of, is_for_every_host};
+ghost use Rattle.hx_allow.specs.Index.{line_numbers_with};
+ghost use Rattle.hx_allow.specs.LineHosts.{line_host_of, line_host_matches};
+ghost use Rattle.hx_allow.specs.LineTables.{is_line_host, line_fault, line_of_members};
+ghost use Rattle.hx_allow.specs.Matching.{verdict_of, route_over};
+ghost use Rattle.hx_allow.specs.NeverReached.{line_covers_line, first_covering_line};
 ghost use Rattle.hx_allow.specs.Tables.{judge_table};
 ghost use Rattle.hx_allow.specs.declared.config_faults.ConfigFault.TheVariants.{BadHost, BadPath};
 ghost use Rattle.hx_allow.specs.declared.config_faults.ConfigFault.TheVariants.{BadMethod, StarInPath};
@@ -21,7 +23,7 @@ ghost use Rattle.hx_allow.specs.declared.verdicts.Verdict.TheVariants.{Allowed, 
 
 /// What may stand as a host in the fourth version, and what before.
 #[tactic(auto, unfolding(crate::specs::LineTables::is_line_host, hx_target::specs::Hosts::is_host))]
-pub fn hosts_of_each_version()
+pub fn worked_hosts_by_version()
     ensures below { is_line_host Four (codes "*.example") ≡ true }
     ensures below_two_labels { is_line_host Four (codes "*.b.example") ≡ true }
     ensures final_dot { is_line_host Four (codes "*.example.") ≡ true }
@@ -49,17 +51,17 @@ pub fn worked_texts_of_hosts()
     ensures every { line_host_of (codes "*") ≡ Every }
     ensures one { line_host_of (codes "example") ≡ OneHost (codes "example") }
     ensures below { line_host_of (codes "*.example") ≡ Below (codes "example") }
-    ensures matches_below { matches_host (Below (codes "example")) (codes "a.b.example") ≡ true }
-    ensures not_itself { matches_host (Below (codes "example")) (codes "example") ≡ false }
-    ensures looked_up { hosts_above (codes "a.b.example") ≡ codes "b.example" ∷ codes "example" ∷ [] }
-    ensures looked_up_at_dots { hosts_above (codes ".x..") ≡ codes "x.." ∷ codes "." ∷ [] ∷ [] }
-    ensures none_above { hosts_above (codes "example") ≡ [] }
+    ensures matches_below { line_host_matches (Below (codes "example")) (codes "a.b.example") ≡ true }
+    ensures not_itself { line_host_matches (Below (codes "example")) (codes "example") ≡ false }
+    ensures looked_up { parent_domains_of (codes "a.b.example") ≡ codes "b.example" ∷ codes "example" ∷ [] }
+    ensures looked_up_at_dots { parent_domains_of (codes ".x..") ≡ codes "x.." ∷ codes "." ∷ [] ∷ [] }
+    ensures none_above { parent_domains_of (codes "example") ≡ [] }
 {}
 
 /// Faults of lists: in the fourth version alone they stand, of 1 to 32 texts, and each entry has the fault
 /// of its key, in the order of the keys.
-#[tactic(auto, unfolding(crate::specs::LineTables::line_fault, crate::specs::LineTables::is_line_host, crate::specs::LineTables::is_line_method, crate::specs::LineTables::is_line_path, crate::specs::Addresses::address_of, hx_target::specs::Hosts::is_host, hx_target::specs::Hosts::short_number, hx_target::specs::Paths::has_dot_segment))]
-pub fn faults_of_lists()
+#[tactic(auto, unfolding(crate::specs::LineTables::line_fault, crate::specs::LineTables::is_line_host, crate::specs::LineTables::is_line_method, crate::specs::LineTables::is_line_path, crate::specs::Addresses::address_of, hx_target::specs::Hosts::is_host, hx_target::specs::Hosts::number_of_few_digits, hx_target::specs::Paths::has_dot_segment))]
+pub fn worked_faults_of_lists()
     ensures none { line_fault Four 3 (line_table_of (list_of_texts (codes "a" ∷ codes "*.a" ∷ codes "*" ∷ []))
         (list_of_texts (codes "/a" ∷ codes "/" ∷ [])))
         ≡ None }
@@ -104,16 +106,16 @@ pub fn faults_of_lists()
 {}
 
 /// What lines with lists say.
-#[tactic(auto, unfolding(crate::specs::LineTables::line_read, crate::specs::Addresses::address_of, hx_target::specs::Hosts::short_number))]
+#[tactic(auto, unfolding(crate::specs::LineTables::line_of_members, crate::specs::Addresses::address_of, hx_target::specs::Hosts::number_of_few_digits))]
 pub fn worked_lines_with_lists()
-    ensures lists { line_read Four (line_table_of (list_of_texts (codes "a" ∷ codes "*.a" ∷ codes "*" ∷ []))
+    ensures lists { line_of_members Four (line_table_of (list_of_texts (codes "a" ∷ codes "*.a" ∷ codes "*" ∷ []))
         (list_of_texts (codes "/%61" ∷ codes "/" ∷ [])))
         ≡ record {
           hosts = OneHost (codes "a") ∷ Below (codes "a") ∷ Every ∷ [];
           methods = codes "GET" ∷ [];
           paths = codes "/a" ∷ codes "/" ∷ [];
           origin = None;
-          policy = plain_with_tags true true;
+          policy = default_policy_with_hidden_tags true true;
           refuses_loops = true;
           session_cookies = [];
           vary = [];
@@ -121,70 +123,74 @@ pub fn worked_lines_with_lists()
           purge_key = None;
           wait_timeout = None;
         } }
-    ensures alone { line_read Four (line_table_of (string (codes "a")) (string (codes "/")))
+    ensures alone { line_of_members Four (line_table_of (string (codes "a")) (string (codes "/")))
         ≡ record (line_with_method (Some (codes "a")) (codes "GET") (codes "/") None) {
-          policy = plain_with_tags true true;
+          policy = default_policy_with_hidden_tags true true;
           refuses_loops = true;
         } }
-    ensures of_one { line_read Four (line_table_of (list_of_texts (codes "a" ∷ [])) (list_of_texts (codes "/" ∷ [])))
+    ensures of_one { line_of_members Four (line_table_of (list_of_texts (codes "a" ∷ [])) (list_of_texts (codes "/"
+        ∷ [])))
         ≡ record (line_with_method (Some (codes "a")) (codes "GET") (codes "/") None) {
-          policy = plain_with_tags true true;
+          policy = default_policy_with_hidden_tags true true;
           refuses_loops = true;
         } }
 {}
 
 /// A line decides where one of its hosts and one of its paths match, and the first such line does.
 #[tactic(auto, unfolding(crate::specs::Matching::verdict_of, crate::specs::Matching::matches_line))]
-pub fn lines_with_lists_decide()
-    ensures first { verdict_of lines_with_lists (codes "GET") (target_for_path (codes "a") (codes "/p")) ≡ DeniedBy 1 }
-    ensures second { verdict_of lines_with_lists (codes "GET") (target_for_path (codes "b") (codes "/q/x"))
+pub fn worked_verdicts_of_lines_with_lists()
+    ensures first { verdict_of lines_with_several_hosts (codes "GET") (target_for_path (codes "a") (codes "/p"))
         ≡ DeniedBy 1 }
-    ensures below { verdict_of lines_with_lists (codes "GET") (target_for_path (codes "x.c") (codes "/q"))
+    ensures second { verdict_of lines_with_several_hosts (codes "GET") (target_for_path (codes "b") (codes "/q/x"))
         ≡ DeniedBy 1 }
-    ensures further_below { verdict_of lines_with_lists (codes "GET") (target_for_path (codes "y.x.c") (codes "/"))
-        ≡ Allowed (over_line 2) }
-    ensures not_itself { verdict_of lines_with_lists (codes "GET") (target_for_path (codes "c") (codes "/p"))
-        ≡ Allowed (over_line 3) }
-    ensures other_path { verdict_of lines_with_lists (codes "GET") (target_for_path (codes "a") (codes "/r"))
-        ≡ Allowed (over_line 3) }
-    ensures other_host { verdict_of lines_with_lists (codes "GET") (target_for_path (codes "d") (codes "/p"))
-        ≡ Allowed (over_line 3) }
-    ensures connect { verdict_of lines_with_lists (codes "CONNECT") (target_for_path (codes "a") (codes "/p"))
+    ensures below { verdict_of lines_with_several_hosts (codes "GET") (target_for_path (codes "x.c") (codes "/q"))
+        ≡ DeniedBy 1 }
+    ensures further_below { verdict_of lines_with_several_hosts (codes "GET") (target_for_path (codes "y.x.c") (codes "/"))
+        ≡ Allowed (route_over 2) }
+    ensures not_itself { verdict_of lines_with_several_hosts (codes "GET") (target_for_path (codes "c") (codes "/p"))
+        ≡ Allowed (route_over 3) }
+    ensures other_path { verdict_of lines_with_several_hosts (codes "GET") (target_for_path (codes "a") (codes "/r"))
+        ≡ Allowed (route_over 3) }
+    ensures other_host { verdict_of lines_with_several_hosts (codes "GET") (target_for_path (codes "d") (codes "/p"))
+        ≡ Allowed (route_over 3) }
+    ensures connect { verdict_of lines_with_several_hosts (codes "CONNECT") (target_for_path (codes "a") (codes "/p"))
         ≡ NoLine }
-    ensures named { line_numbers_of (names_exact_host (codes "b")) lines_with_lists ≡ 1 ∷ [] }
-    ensures named_below { line_numbers_of (is_below (codes "c")) lines_with_lists ≡ 1 ∷ 2 ∷ [] }
-    ensures every { line_numbers_of is_every lines_with_lists ≡ 3 ∷ [] }
-    ensures twice { line_numbers_of (names_exact_host (codes "a"))
-        (line_with_lists (OneHost (codes "a") ∷ OneHost (codes "a") ∷ []) (codes "/" ∷ []) None ∷ [])
+    ensures named { line_numbers_with (is_exactly_host (codes "b")) lines_with_several_hosts ≡ 1 ∷ [] }
+    ensures named_below { line_numbers_with (is_wildcard_of (codes "c")) lines_with_several_hosts ≡ 1 ∷ 2 ∷ [] }
+    ensures every { line_numbers_with is_for_every_host lines_with_several_hosts ≡ 3 ∷ [] }
+    ensures twice { line_numbers_with (is_exactly_host (codes "a"))
+        (line_with_hosts_and_paths (OneHost (codes "a") ∷ OneHost (codes "a") ∷ []) (codes "/" ∷ []) None ∷ [])
         ≡ 1 ∷ 1 ∷ [] }
 {}
 
 /// A line in front takes another where each host of that is one of its hosts, and each path one that its
 /// paths take.
-#[tactic(auto, unfolding(crate::specs::NeverReached::takes_each_request_of))]
+#[tactic(auto, unfolding(crate::specs::NeverReached::line_covers_line))]
 pub fn worked_lists_never_reached()
-    ensures fewer { takes_each_request_of
-        (line_with_lists (OneHost (codes "a") ∷ OneHost (codes "b") ∷ []) (codes "/p" ∷ codes "/q" ∷ []) None)
-        (line_with_lists (OneHost (codes "b") ∷ []) (codes "/q/x" ∷ []) None) ≡ true }
-    ensures more_hosts { takes_each_request_of (line_with_lists (OneHost (codes "a") ∷ []) (codes "/" ∷ []) None)
-        (line_with_lists (OneHost (codes "a") ∷ OneHost (codes "b") ∷ []) (codes "/" ∷ []) None) ≡ false }
-    ensures more_paths { takes_each_request_of (line_with_lists (OneHost (codes "a") ∷ []) (codes "/p" ∷ []) None)
-        (line_with_lists (OneHost (codes "a") ∷ []) (codes "/p" ∷ codes "/q" ∷ []) None) ≡ false }
-    ensures one_below { takes_each_request_of (line_with_lists (Below (codes "c") ∷ []) (codes "/" ∷ []) None)
-        (line_with_lists (OneHost (codes "x.c") ∷ []) (codes "/" ∷ []) None) ≡ true }
-    ensures not_itself { takes_each_request_of (line_with_lists (Below (codes "c") ∷ []) (codes "/" ∷ []) None)
-        (line_with_lists (OneHost (codes "c") ∷ []) (codes "/" ∷ []) None) ≡ false }
-    ensures same_below { takes_each_request_of (line_with_lists (Below (codes "c") ∷ []) (codes "/" ∷ []) None)
-        (line_with_lists (Below (codes "c") ∷ []) (codes "/" ∷ []) None) ≡ true }
-    ensures further_below { takes_each_request_of (line_with_lists (Below (codes "c") ∷ []) (codes "/" ∷ []) None)
-        (line_with_lists (Below (codes "x.c") ∷ []) (codes "/" ∷ []) None) ≡ true }
-    ensures above { takes_each_request_of (line_with_lists (Below (codes "x.c") ∷ []) (codes "/" ∷ []) None)
-        (line_with_lists (Below (codes "c") ∷ []) (codes "/" ∷ []) None) ≡ false }
-    ensures one_takes_no_below { takes_each_request_of (line_with_lists (OneHost (codes "c") ∷ []) (codes "/" ∷ []) None)
-        (line_with_lists (Below (codes "c") ∷ []) (codes "/" ∷ []) None) ≡ false }
-    ensures below_takes_not_every { takes_each_request_of (line_with_lists (Below (codes "c") ∷ []) (codes "/" ∷ []) None)
-        (line_with_lists (Every ∷ []) (codes "/" ∷ []) None) ≡ false }
-    ensures every { takes_each_request_of (line_with_lists (OneHost (codes "a") ∷ Every ∷ []) (codes "/" ∷ []) None)
-        (line_with_lists (Below (codes "c") ∷ OneHost (codes "b") ∷ []) (codes "/" ∷ []) None) ≡ true }
-    ensures none_taken { first_line_taking lines_with_lists 2 ≡ None }
+    ensures fewer { line_covers_line
+        (line_with_hosts_and_paths (OneHost (codes "a") ∷ OneHost (codes "b") ∷ []) (codes "/p" ∷ codes "/q" ∷ []) None)
+        (line_with_hosts_and_paths (OneHost (codes "b") ∷ []) (codes "/q/x" ∷ []) None) ≡ true }
+    ensures more_hosts { line_covers_line (line_with_hosts_and_paths (OneHost (codes "a") ∷ []) (codes "/" ∷ []) None)
+        (line_with_hosts_and_paths (OneHost (codes "a") ∷ OneHost (codes "b") ∷ []) (codes "/" ∷ []) None) ≡ false }
+    ensures more_paths { line_covers_line (line_with_hosts_and_paths (OneHost (codes "a") ∷ []) (codes "/p" ∷ []) None)
+        (line_with_hosts_and_paths (OneHost (codes "a") ∷ []) (codes "/p" ∷ codes "/q" ∷ []) None) ≡ false }
+    ensures one_below { line_covers_line (line_with_hosts_and_paths (Below (codes "c") ∷ []) (codes "/" ∷ []) None)
+        (line_with_hosts_and_paths (OneHost (codes "x.c") ∷ []) (codes "/" ∷ []) None) ≡ true }
+    ensures not_itself { line_covers_line (line_with_hosts_and_paths (Below (codes "c") ∷ []) (codes "/" ∷ []) None)
+        (line_with_hosts_and_paths (OneHost (codes "c") ∷ []) (codes "/" ∷ []) None) ≡ false }
+    ensures same_below { line_covers_line (line_with_hosts_and_paths (Below (codes "c") ∷ []) (codes "/" ∷ []) None)
+        (line_with_hosts_and_paths (Below (codes "c") ∷ []) (codes "/" ∷ []) None) ≡ true }
+    ensures further_below { line_covers_line (line_with_hosts_and_paths (Below (codes "c") ∷ []) (codes "/" ∷ []) None)
+        (line_with_hosts_and_paths (Below (codes "x.c") ∷ []) (codes "/" ∷ []) None) ≡ true }
+    ensures above { line_covers_line (line_with_hosts_and_paths (Below (codes "x.c") ∷ []) (codes "/" ∷ []) None)
+        (line_with_hosts_and_paths (Below (codes "c") ∷ []) (codes "/" ∷ []) None) ≡ false }
+    ensures one_takes_no_below { line_covers_line (line_with_hosts_and_paths (OneHost (codes "c") ∷ []) (codes "/"
+        ∷ []) None)
+        (line_with_hosts_and_paths (Below (codes "c") ∷ []) (codes "/" ∷ []) None) ≡ false }
+    ensures below_takes_not_every { line_covers_line (line_with_hosts_and_paths (Below (codes "c") ∷ []) (codes "/"
+        ∷ []) None)
+        (line_with_hosts_and_paths (Every ∷ []) (codes "/" ∷ []) None) ≡ false }
+    ensures every { line_covers_line (line_with_hosts_and_paths (OneHost (codes "a") ∷ Every ∷ []) (codes "/" ∷ []) None)
+        (line_with_hosts_and_paths (Below (codes "c") ∷ OneHost (codes "b") ∷ []) (codes "/" ∷ []) None) ≡ true }
+    ensures none_taken { first_covering_line lines_with_several_hosts 2 ≡ None }
 {}

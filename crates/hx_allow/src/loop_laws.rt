@@ -6,14 +6,15 @@ ghost use Rattle.hx_fields.specs.Line.{Field};
 ghost use Rattle.hx_fields.specs.Names.{is_same_name};
 ghost use Rattle.hx_target.specs.declared.targets.Target.{Target};
 ghost use Rattle.hx_allow.specs.TableLines.{Table};
-ghost use Rattle.hx_allow.specs.LineTables.{line_read};
+ghost use Rattle.hx_allow.specs.LineTables.{line_of_members};
 ghost use Rattle.hx_allow.specs.LineWords.{key_has_text};
-ghost use Rattle.hx_allow.specs.Matching.{line_refuses_loops, verdict_of, verdict_on_cookies, verdict_on_purges};
+ghost use Rattle.hx_allow.specs.Matching.{line_refuses_loops, verdict_of, verdict_after_cookie_check};
+ghost use Rattle.hx_allow.specs.Matching.{verdict_after_purge};
 ghost use Rattle.hx_allow.specs.Matching.{verdict_of_request};
-ghost use Rattle.hx_allow.specs.declared.verdicts.Route.{Route};
+ghost use Rattle.hx_allow.specs.declared.verdicts.RequestRoute.{RequestRoute};
 ghost use Rattle.hx_allow.specs.Rows.{has_keys_of};
-ghost use Rattle.hx_allow.specs.Tables.{version_of, judge_table};
-ghost use Rattle.hx_allow.specs.Via.{times_named, times_named_in, ViaMember, is_via_member, via_line_text};
+ghost use Rattle.hx_allow.specs.Tables.{table_version_of, judge_table};
+ghost use Rattle.hx_allow.specs.Via.{times_in_via, times_in_via_line, ViaMember, is_via_member, via_line_text};
 ghost use Rattle.hx_allow.specs.declared.values.TableVersion.TheVariants.{Four};
 ghost use Rattle.hx_allow.specs.declared.verdicts.Verdict.TheVariants.{Allowed, Looped};
 
@@ -21,41 +22,41 @@ ghost use Rattle.hx_allow.specs.declared.verdicts.Verdict.TheVariants.{Allowed, 
 /// received-by is its name, whatever stands in comments. Several lines count together.
 pub fn a_line_of_via_is_read_as_it_is_written()
     ensures written { (name : List ℕ) (member : ViaMember) (more : List ViaMember)
-        → list_all is_via_member (member ∷ more) ≡ true → times_named_in name (via_line_text member more)
+        → list_all is_via_member (member ∷ more) ≡ true → times_in_via_line name (via_line_text member more)
         ≡ count_by (λ (m : ViaMember). is_same_name m.by name) (member ∷ more) }
-    ensures together { (name : List ℕ) (fields more : List Field) → times_named name (fields ++ more)
-        ≡ times_named name fields + times_named name more }
+    ensures together { (name : List ℕ) (fields more : List Field) → times_in_via name (fields ++ more)
+        ≡ times_in_via name fields + times_in_via name more }
 {}
 
 /// A request is refused as a loop exactly where its Via names the proxy twice, and the line that would take it
 /// refuses loops. One of version 4 does exactly where it doesn't say that they are forwarded.
-#[tactic(auto, unfolding(crate::specs::LineTables::line_read))]
-pub fn a_loop_is_refused_where_its_line_says_so()
-    ensures refused { (table : Table) (method : List ℕ) (target : Target) (fields : List Field) (route : Route)
+#[tactic(auto, unfolding(crate::specs::LineTables::line_of_members))]
+pub fn a_loop_is_refused_where_its_line_refuses()
+    ensures refused { (table : Table) (method : List ℕ) (target : Target) (fields : List Field) (route : RequestRoute)
         → verdict_of table.lines method target ≡ Allowed route → line_refuses_loops table.lines route.number ≡ true
-        → 2 ≤ times_named table.name fields → verdict_of_request table method target fields ≡ Looped route.number }
+        → 2 ≤ times_in_via table.name fields → verdict_of_request table method target fields ≡ Looped route.number }
     ensures nothing_else { (table : Table) (method : List ℕ) (target : Target) (fields : List Field) (line : ℕ)
         → verdict_of_request table method target fields ≡ Looped line
-        → (route : Route) × (verdict_of table.lines method target ≡ Allowed route) × (route.number ≡ line)
-        × (line_refuses_loops table.lines line ≡ true) × (2 ≤ times_named table.name fields) }
-    ensures version_four { (members : Members) → (line_read Four members).refuses_loops
+        → (route : RequestRoute) × (verdict_of table.lines method target ≡ Allowed route) × (route.number ≡ line)
+        × (line_refuses_loops table.lines line ≡ true) × (2 ≤ times_in_via table.name fields) }
+    ensures version_four { (members : Members) → (line_of_members Four members).refuses_loops
         ≡ not (key_has_text (codes "loops") (codes "forwarded") members) }
 {}
 
 /// A request whose Via doesn't name the proxy twice has the verdict on its method and target, but for the store past
 /// which its cookies may bring it and the key that it may show, and so has each request over a line that lets loops go
 /// on. All lines of tables of the first three versions do, none of them looks at cookies, and none purges.
-pub fn other_requests_are_judged_as_before()
+pub fn requests_without_loops_are_judged_as_before()
     ensures seldom { (table : Table) (method : List ℕ) (target : Target) (fields : List Field)
-        → times_named table.name fields ≤ 1 → verdict_of_request table method target fields
-        ≡ verdict_on_purges table.lines fields
-        (verdict_on_cookies table.lines fields (verdict_of table.lines method target)) }
+        → times_in_via table.name fields ≤ 1 → verdict_of_request table method target fields
+        ≡ verdict_after_purge table.lines fields
+        (verdict_after_cookie_check table.lines fields (verdict_of table.lines method target)) }
     ensures forwarded { (table : Table) (method : List ℕ) (target : Target) (fields : List Field)
-        → ((route : Route) → verdict_of table.lines method target ≡ Allowed route
+        → ((route : RequestRoute) → verdict_of table.lines method target ≡ Allowed route
         → line_refuses_loops table.lines route.number ≡ false) → verdict_of_request table method target fields
-        ≡ verdict_on_purges table.lines fields
-        (verdict_on_cookies table.lines fields (verdict_of table.lines method target)) }
+        ≡ verdict_after_purge table.lines fields
+        (verdict_after_cookie_check table.lines fields (verdict_of table.lines method target)) }
     ensures earlier_versions { (t : Members) (table : Table) (method : List ℕ) (target : Target) (fields : List Field)
-        → has_keys_of (version_of t) Four ≡ false → judge_table t ≡ Ok table
+        → has_keys_of (table_version_of t) Four ≡ false → judge_table t ≡ Ok table
         → verdict_of_request table method target fields ≡ verdict_of table.lines method target }
 {}

@@ -2,12 +2,13 @@
 ghost use Rattle.std.specs.Prelude.{◌≡◌};
 ghost use Rattle.std.specs.Option.{option_copied};
 ghost use Rattle.hx_allow.specs.Matching.{line_of_number, line_refuses_loops, verdict_of_line};
-ghost use Rattle.hx_allow.specs.Index.{verdict_among, verdict_above, verdict_where, can_match, hosts_above};
-ghost use Rattle.hx_allow.specs.Index.{IsHostIndexOf, HasNoLonger};
+ghost use Rattle.hx_allow.specs.Index.{verdict_by_line_numbers, verdict_of_parent_domains, verdict_of_lines_that_pass};
+ghost use Rattle.hx_allow.specs.Index.{line_can_match_host, parent_domains_of};
+ghost use Rattle.hx_allow.specs.Index.{IsHostIndexOfLines, NoIndexedHostIsLonger};
 
 use crate::host_index::HostIndex;
 use crate::lines::Line;
-use crate::{Route, Verdict};
+use crate::{RequestRoute, Verdict};
 
 /// The line of a number, counted from 1.
 pub(crate) fn line_at(lines: &[Line], number: u16) -> Option<&Line>
@@ -34,7 +35,7 @@ fn verdict_of_line(number: u16, line: &Line) -> Verdict
     ensures { result ≡ verdict_of_line number line.now }
 {
     if line.origin.is_some() {
-        Verdict::Allowed(Route::over(number))
+        Verdict::Allowed(RequestRoute::over(number))
     } else {
         Verdict::DeniedBy(number)
     }
@@ -42,17 +43,17 @@ fn verdict_of_line(number: u16, line: &Line) -> Verdict
 
 /// What the first of the lines of these ascending numbers says that a method and a path match, or what was found, where
 /// none in front of that line does. The method is one that a line may allow.
-fn verdict_among(
+fn verdict_by_line_numbers(
     lines: &[Line],
     numbers: &[u16],
     method: &[u8],
     path: &[u8],
     found: Verdict,
 ) -> Verdict
-    ensures { result ≡ verdict_among lines.now numbers.now method.now path.now found }
+    ensures { result ≡ verdict_by_line_numbers lines.now numbers.now method.now path.now found }
 {
     for number in numbers {
-        if found.is_found_by(*number) {
+        if found.verdict_is_at_or_before_line(*number) {
             return found;
         }
         if let Some(line) = line_at(lines, *number) {
@@ -65,7 +66,7 @@ fn verdict_among(
 }
 
 /// The same of the lines for the hosts below one, of each that this host is below.
-fn verdict_above(
+fn verdict_of_parent_domains(
     lines: &[Line],
     index: &HostIndex,
     host: &[u8],
@@ -73,31 +74,32 @@ fn verdict_above(
     path: &[u8],
     mut found: Verdict,
 ) -> Verdict
-    requires { HasNoLonger index.now.longest index.now.below }
-    ensures { result ≡ verdict_above lines.now index.now.below (hosts_above host.now) method.now path.now found }
+    requires { NoIndexedHostIsLonger index.now.longest index.now.below }
+    ensures { result
+        ≡ verdict_of_parent_domains lines.now index.now.below (parent_domains_of host.now) method.now path.now found }
 {
     let skipped = host.len().saturating_sub(index.longest()).saturating_sub(1);
     for place in skipped..host.len() {
         if host[place] == b'.' {
             let numbers = index.for_hosts_below(&host[place + 1..]);
-            found = verdict_among(lines, numbers, method, path, found);
+            found = verdict_by_line_numbers(lines, numbers, method, path, found);
         }
     }
     found
 }
 
 /// What the first line says that a host, a method and a path match. The method is one that a line may allow.
-pub(crate) fn verdict_for_host(
+pub(crate) fn verdict_by_host_index(
     lines: &[Line],
     index: &HostIndex,
     host: &[u8],
     method: &[u8],
     path: &[u8],
 ) -> Verdict
-    requires { IsHostIndexOf lines.now index.now }
-    ensures { result ≡ verdict_where 1 (can_match host.now) lines.now method.now path.now }
+    requires { IsHostIndexOfLines lines.now index.now }
+    ensures { result ≡ verdict_of_lines_that_pass 1 (line_can_match_host host.now) lines.now method.now path.now }
 {
-    let named = verdict_among(lines, index.naming(host), method, path, Verdict::NoLine);
-    let below = verdict_above(lines, index, host, method, path, named);
-    verdict_among(lines, index.for_every_host(), method, path, below)
+    let named = verdict_by_line_numbers(lines, index.naming(host), method, path, Verdict::NoLine);
+    let below = verdict_of_parent_domains(lines, index, host, method, path, named);
+    verdict_by_line_numbers(lines, index.for_every_host(), method, path, below)
 }

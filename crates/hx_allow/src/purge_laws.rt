@@ -7,12 +7,12 @@ ghost use Rattle.hx_target.specs.declared.keys.Key.{Key};
 ghost use Rattle.hx_target.specs.declared.targets.Target.{Target as Aim};
 ghost use Rattle.hx_allow.specs.TableLines.{Table};
 ghost use Rattle.hx_allow.specs.Matching.{purge_key_of, verdict_of, verdict_of_request};
-ghost use Rattle.hx_allow.specs.Purges.{shows_key, asks_for_more, is_at_or_below, is_within_scope};
-ghost use Rattle.hx_allow.specs.Scopes.{IsAtOrBelow, IsThatTarget, IsWithinPrefix};
+ghost use Rattle.hx_allow.specs.Purges.{shows_purge_key, has_unknown_purge_order, is_at_or_below, is_in_purge_scope};
+ghost use Rattle.hx_allow.specs.Scopes.{PathIsAtOrBelow, KeyIsOfSameTarget, KeyIsAtOrBelowAskedTarget};
 ghost use Rattle.hx_allow.specs.declared.purges.PurgeScope.TheVariants.{Target, Prefix, Host, All as Everything};
 ghost use Rattle.hx_allow.specs.Rows.{has_keys_of};
-ghost use Rattle.hx_allow.specs.Tables.{version_of, judge_table};
-ghost use Rattle.hx_allow.specs.Versions.{LinePurgesByItsKey};
+ghost use Rattle.hx_allow.specs.Tables.{table_version_of, judge_table};
+ghost use Rattle.hx_allow.specs.Versions.{PurgeKeyIsOfPurgingLine};
 ghost use Rattle.hx_allow.specs.declared.values.TableVersion.TheVariants.{Four};
 ghost use Rattle.hx_allow.specs.declared.verdicts.Verdict.TheVariants.{DeniedBy, Purged};
 
@@ -21,35 +21,36 @@ ghost use Rattle.hx_allow.specs.declared.verdicts.Verdict.TheVariants.{DeniedBy,
 pub fn a_request_purges_where_it_shows_the_key_of_its_line()
     ensures purged { (table : Table) (method : List ℕ) (target : Aim) (fields : List Field) (line : ℕ) (key : List ℕ)
         → verdict_of table.lines method target ≡ DeniedBy line → purge_key_of table.lines line ≡ Some key
-        → shows_key key fields ≡ true → asks_for_more fields ≡ false
+        → shows_purge_key key fields ≡ true → has_unknown_purge_order fields ≡ false
         → verdict_of_request table method target fields ≡ Purged line }
     ensures nothing_else { (table : Table) (method : List ℕ) (target : Aim) (fields : List Field) (line : ℕ)
         → verdict_of_request table method target fields ≡ Purged line
         → (verdict_of table.lines method target ≡ DeniedBy line)
-        × ((key : List ℕ) × (purge_key_of table.lines line ≡ Some key) × (shows_key key fields ≡ true)
-        × (asks_for_more fields ≡ false)) }
+        × ((key : List ℕ) × (purge_key_of table.lines line ≡ Some key) × (shows_purge_key key fields ≡ true)
+        × (has_unknown_purge_order fields ≡ false)) }
     ensures denied { (table : Table) (method : List ℕ) (target : Aim) (fields : List Field) (line : ℕ) (key : List ℕ)
         → verdict_of table.lines method target ≡ DeniedBy line → purge_key_of table.lines line ≡ Some key
-        → (shows_key key fields && not (asks_for_more fields)) ≡ false
+        → (shows_purge_key key fields && not (has_unknown_purge_order fields)) ≡ false
         → verdict_of_request table method target fields ≡ DeniedBy line }
 {}
 
 /// A line that has a key has no origin, and the key is 16 to 64 letters and digits. Before the fourth version none has
 /// one.
 pub fn a_line_with_a_key_purges()
-    ensures keys { (t : Members) (table : Table) → judge_table t ≡ Ok table → All LinePurgesByItsKey table.lines }
-    ensures earlier_versions { (t : Members) (table : Table) (line : ℕ) → has_keys_of (version_of t) Four ≡ false
+    ensures keys { (t : Members) (table : Table) → judge_table t ≡ Ok table → All PurgeKeyIsOfPurgingLine table.lines }
+    ensures earlier_versions { (t : Members) (table : Table) (line : ℕ) → has_keys_of (table_version_of t) Four ≡ false
         → judge_table t ≡ Ok table → purge_key_of table.lines line ≡ None }
 {}
 
 /// Without a scope a purge takes its target; by a prefix what is at and below its path, on its host and port; by a host
 /// what that has, on each port; and else all.
-pub fn a_scope_has_what_its_word_says()
-    ensures target { (asked : Key) (key : Key) → Decides (is_within_scope Target asked key) (IsThatTarget asked key) }
+pub fn purge_scopes_cover_what_they_name()
+    ensures target { (asked : Key) (key : Key)
+        → Decides (is_in_purge_scope Target asked key) (KeyIsOfSameTarget asked key) }
     ensures below { (path : List ℕ) (other : List ℕ)
-        → Decides (is_at_or_below path other) (IsAtOrBelow path other) }
-    ensures prefix { (asked : Key) (key : Key) → Decides (is_within_scope Prefix asked key)
-        (IsWithinPrefix asked key) }
-    ensures host { (asked : Key) (key : Key) → Decides (is_within_scope Host asked key) (key.host ≡ asked.host) }
-    ensures all { (asked : Key) (key : Key) → is_within_scope Everything asked key ≡ true }
+        → Decides (is_at_or_below path other) (PathIsAtOrBelow path other) }
+    ensures prefix { (asked : Key) (key : Key) → Decides (is_in_purge_scope Prefix asked key)
+        (KeyIsAtOrBelowAskedTarget asked key) }
+    ensures host { (asked : Key) (key : Key) → Decides (is_in_purge_scope Host asked key) (key.host ≡ asked.host) }
+    ensures all { (asked : Key) (key : Key) → is_in_purge_scope Everything asked key ≡ true }
 {}

@@ -1,6 +1,6 @@
 //! What a purge does with what it takes. No function here takes memory.
 ghost use Rattle.std.specs.Prelude.{◌≡◌, bytes_eq};
-ghost use Rattle.hx_allow.specs.PurgeModes.{purge_mode_of, mode_to_purge};
+ghost use Rattle.hx_allow.specs.PurgeModes.{purge_mode_of, purge_mode_or_remove};
 
 use hx_fields::Fields;
 
@@ -33,8 +33,8 @@ pub(crate) fn purge_mode_of(fields: &Fields) -> Option<PurgeMode>
 }
 
 /// What a request that purges does with what it takes: without a word that is known it removes it.
-pub fn mode_to_purge(fields: &Fields) -> PurgeMode
-    ensures { result ≡ mode_to_purge fields.now }
+pub fn purge_mode_or_remove(fields: &Fields) -> PurgeMode
+    ensures { result ≡ purge_mode_or_remove fields.now }
 {
     match purge_mode_of(fields) {
         None => PurgeMode::Remove,

@@ -1,15 +1,16 @@
 //! Which requests purge, and which targets. No function here takes memory.
 ghost use Rattle.std.specs.Prelude.{◌≡◌, ◌==◌, ◌≤◌, bytes_eq, length, take};
 ghost use Rattle.std.specs.List.{list_any, list_all};
-ghost use Rattle.hx_allow.specs.Purges.{is_letter_or_digit, is_purge_key, shows_key, begins_with_purge};
-ghost use Rattle.hx_allow.specs.Purges.{is_unknown_purge_field, asks_for_more, asks_to_purge};
-ghost use Rattle.hx_allow.specs.Purges.{scope_of_word, scope_without_word, purge_scope_of, scope_to_purge};
-ghost use Rattle.hx_allow.specs.Purges.{path_before_query, ends_with_slash, begins_with, goes_on_with_slash};
-ghost use Rattle.hx_allow.specs.Purges.{is_at_or_below, is_within_scope};
+ghost use Rattle.hx_allow.specs.Purges.{is_letter_or_digit, is_purge_key, shows_purge_key, begins_with_purge_dash};
+ghost use Rattle.hx_allow.specs.Purges.{is_unknown_purge_field, has_unknown_purge_order, asks_to_purge};
+ghost use Rattle.hx_allow.specs.Purges.{purge_scope_of_word, default_purge_scope, purge_scope_of};
+ghost use Rattle.hx_allow.specs.Purges.{purge_scope_or_target};
+ghost use Rattle.hx_allow.specs.Purges.{path_before_query, ends_with_slash, text_begins_with, has_slash_behind_path};
+ghost use Rattle.hx_allow.specs.Purges.{is_at_or_below, is_in_purge_scope};
 
 use crate::purge_modes::purge_mode_of;
-use crate::tags::asks_for_a_tag_or_none;
-use hx_fields::{Field, Fields, cut_at, is_same_name};
+use crate::tags::asks_for_one_purge_tag_or_none;
+use hx_fields::{Field, Fields, is_same_name, split_at_first_byte};
 use hx_target::Key;
 
 /// Which targets a request purges.
@@ -60,8 +61,8 @@ fn is_same_secret(key: &[u8], given: &[u8]) -> bool
 }
 
 /// Whether one of the lines shows the key.
-fn shows_key(key: &[u8], fields: &[Field]) -> bool
-    ensures { result ≡ shows_key key.now fields.now }
+fn shows_purge_key(key: &[u8], fields: &[Field]) -> bool
+    ensures { result ≡ shows_purge_key key.now fields.now }
 {
     for line in fields {
         if is_same_name(line.name(), b"Purge-Key") && is_same_secret(key, line.value()) {
@@ -71,8 +72,8 @@ fn shows_key(key: &[u8], fields: &[Field]) -> bool
     false
 }
 
-fn scope_of_word(word: &[u8]) -> Option<PurgeScope>
-    ensures { result ≡ scope_of_word word.now }
+fn purge_scope_of_word(word: &[u8]) -> Option<PurgeScope>
+    ensures { result ≡ purge_scope_of_word word.now }
 {
     if word == b"prefix".as_slice() {
         Some(PurgeScope::Prefix)
@@ -86,8 +87,8 @@ fn scope_of_word(word: &[u8]) -> Option<PurgeScope>
 }
 
 /// Those that it purges without a word.
-fn scope_without_word(fields: &Fields) -> PurgeScope
-    ensures { result ≡ scope_without_word fields.now }
+fn default_purge_scope(fields: &Fields) -> PurgeScope
+    ensures { result ≡ default_purge_scope fields.now }
 {
     if fields.has(b"Purge-Tag") {
         PurgeScope::All
@@ -101,17 +102,17 @@ fn purge_scope_of(fields: &Fields) -> Option<PurgeScope>
     ensures { result ≡ purge_scope_of fields.now }
 {
     match fields.value(b"Purge-Scope") {
-        None => Some(scope_without_word(fields)),
+        None => Some(default_purge_scope(fields)),
         Some(_) => match fields.only_value(b"Purge-Scope") {
             None => None,
-            Some(word) => scope_of_word(word),
+            Some(word) => purge_scope_of_word(word),
         },
     }
 }
 
 /// The targets that a request purges; its own, where none are named, or all where it asks for a tag.
-pub fn scope_to_purge(fields: &Fields) -> PurgeScope
-    ensures { result ≡ scope_to_purge fields.now }
+pub fn purge_scope_or_target(fields: &Fields) -> PurgeScope
+    ensures { result ≡ purge_scope_or_target fields.now }
 {
     match purge_scope_of(fields) {
         None => PurgeScope::Target,
@@ -119,8 +120,8 @@ pub fn scope_to_purge(fields: &Fields) -> PurgeScope
     }
 }
 
-fn begins_with_purge(name: &[u8]) -> bool
-    ensures { result ≡ begins_with_purge name.now }
+fn begins_with_purge_dash(name: &[u8]) -> bool
+    ensures { result ≡ begins_with_purge_dash name.now }
 {
     6 <= name.len() && is_same_name(&name[..6], b"Purge-")
 }
@@ -129,7 +130,7 @@ fn is_unknown_purge_field(field: &Field) -> bool
     ensures { result ≡ is_unknown_purge_field field.now }
 {
     let name = field.name();
-    begins_with_purge(name)
+    begins_with_purge_dash(name)
         && !(is_same_name(name, b"Purge-Key")
             || is_same_name(name, b"Purge-Scope")
             || is_same_name(name, b"Purge-Tag")
@@ -143,12 +144,12 @@ fn has_unknown_purge_field(fields: &[Field]) -> bool
 }
 
 /// Whether a request asks for what isn't known here.
-fn asks_for_more(fields: &Fields) -> bool
-    ensures { result ≡ asks_for_more fields.now }
+fn has_unknown_purge_order(fields: &Fields) -> bool
+    ensures { result ≡ has_unknown_purge_order fields.now }
 {
     has_unknown_purge_field(fields.as_slice())
         || purge_scope_of(fields).is_none()
-        || !asks_for_a_tag_or_none(fields)
+        || !asks_for_one_purge_tag_or_none(fields)
         || purge_mode_of(fields).is_none()
 }
 
@@ -156,14 +157,14 @@ fn asks_for_more(fields: &Fields) -> bool
 pub(crate) fn asks_to_purge(key: &[u8], fields: &Fields) -> bool
     ensures { result ≡ asks_to_purge key.now fields.now }
 {
-    shows_key(key, fields.as_slice()) && !asks_for_more(fields)
+    shows_purge_key(key, fields.as_slice()) && !has_unknown_purge_order(fields)
 }
 
 /// The path before the query.
 fn path_before_query(path_query: &[u8]) -> &[u8]
     ensures { result.now ≡ path_before_query path_query.now }
 {
-    match cut_at(b'?', path_query) {
+    match split_at_first_byte(b'?', path_query) {
         None => path_query,
         Some((path, _)) => path,
     }
@@ -175,15 +176,15 @@ fn ends_with_slash(path: &[u8]) -> bool
     0 < path.len() && path[path.len() - 1] == b'/'
 }
 
-fn begins_with(beginning: &[u8], text: &[u8]) -> bool
-    ensures { result ≡ begins_with beginning.now text.now }
+fn text_begins_with(beginning: &[u8], text: &[u8]) -> bool
+    ensures { result ≡ text_begins_with beginning.now text.now }
 {
     beginning.len() <= text.len() && &text[..beginning.len()] == beginning
 }
 
 /// Whether a path continues another with a slash. It is longer.
-fn goes_on_with_slash(path: &[u8], other: &[u8]) -> bool
-    ensures { result ≡ goes_on_with_slash path.now other.now }
+fn has_slash_behind_path(path: &[u8], other: &[u8]) -> bool
+    ensures { result ≡ has_slash_behind_path path.now other.now }
 {
     path.len() < other.len() && other[path.len()] == b'/'
 }
@@ -193,13 +194,14 @@ fn is_at_or_below(path: &[u8], other: &[u8]) -> bool
     ensures { result ≡ is_at_or_below path.now other.now }
 {
     path == other
-        || begins_with(path, other) && (ends_with_slash(path) || goes_on_with_slash(path, other))
+        || text_begins_with(path, other)
+            && (ends_with_slash(path) || has_slash_behind_path(path, other))
 }
 
 impl PurgeScope {
     /// Whether what is held for a key is within this scope of a purge that is asked for `asked`.
     pub fn has(self, asked: &Key, key: &Key) -> bool
-        ensures { result ≡ is_within_scope self asked.now key.now }
+        ensures { result ≡ is_in_purge_scope self asked.now key.now }
     {
         match self {
             PurgeScope::Target => key.is_same(asked),
@@ -211,7 +213,7 @@ impl PurgeScope {
 }
 
 fn is_within_prefix(asked: &Key, key: &Key) -> bool
-    ensures { result ≡ is_within_scope PurgeScope.Prefix asked.now key.now }
+    ensures { result ≡ is_in_purge_scope PurgeScope.Prefix asked.now key.now }
 {
     key.host.as_slice() == asked.host.as_slice()
         && key.port == asked.port

@@ -1,16 +1,18 @@
 //! The keys of the operator's table: a row for each, and the order in which their faults are looked
 //! for. `specs/Rows.antt` has the same rows.
 ghost use Rattle.std.specs.Prelude.{◌≡◌};
-ghost use Rattle.hx_allow.specs.Rows.{number_row, word_row, line_row, fault_of_line_key, has_keys_of, version_number};
-ghost use Rattle.hx_allow.specs.Rows.{required_row};
-ghost use Rattle.hx_allow.specs.Rows.{row_for_caching_lines, least_number, greatest_number, plain_row, plain_kind};
-ghost use Rattle.hx_allow.specs.Rows.{top_row, fault_of_top_key};
+ghost use Rattle.hx_allow.specs.Rows.{number_key_row, word_row, row_of_line_key, fault_of_line_key, has_keys_of};
+ghost use Rattle.hx_allow.specs.Rows.{version_number};
+ghost use Rattle.hx_allow.specs.Rows.{row_of_required_key};
+ghost use Rattle.hx_allow.specs.Rows.{row_for_caching_lines, least_number, greatest_number, row_of_source};
+ghost use Rattle.hx_allow.specs.Rows.{kind_of_source};
+ghost use Rattle.hx_allow.specs.Rows.{row_of_top_key, fault_of_top_key};
 
-use crate::config_faults::{ConfigFault, LineWord, NumberKey};
+use crate::config_faults::{ConfigFault, LineOption, NumberKey};
 use crate::limits::MOST_STORE_BYTES;
 use crate::values::TableVersion;
 use crate::values::TableVersion::{Four, One, Three, Two};
-use Kind::{Names, Number, OneOf, OneOfInFour, OneOfThree, Seconds, StoreBound};
+use ValueKind::{Names, Number, OneOf, OneOfInFour, OneOfThree, Seconds, StoreBound};
 
 /// The most seconds that a lifetime has (RFC 9111, section 1.2.2).
 const MOST_SECONDS: u32 = 2_147_483_648;
@@ -20,7 +22,7 @@ const MOST_TIMEOUT_SECONDS: u32 = 86_400;
 
 /// What the value of a key has to be.
 #[derive(Clone, Copy)]
-pub(crate) enum Kind {
+pub(crate) enum ValueKind {
     /// A whole number from the first to the second.
     Number(u32, u32),
     /// The same, of seconds.
@@ -49,7 +51,7 @@ pub(crate) enum Kind {
 
 /// Where a key may stand.
 #[derive(Clone, Copy)]
-pub(crate) enum Place {
+pub(crate) enum KeyPlace {
     /// It has to stand in each table, or in each line.
     Needed,
     /// Where it stands it counts, and it needn't.
@@ -64,11 +66,11 @@ pub(crate) enum Place {
 
 /// A key, the version since which it is known, what its value has to be, and where it may stand.
 #[derive(Clone, Copy)]
-pub(crate) struct Row {
+pub(crate) struct KeyDefinition {
     pub key: &'static str,
     pub since: TableVersion,
-    pub kind: Kind,
-    pub place: Place,
+    pub kind: ValueKind,
+    pub place: KeyPlace,
 }
 
 /// A key at the top.
@@ -87,7 +89,7 @@ pub(crate) enum LineKey {
     Path,
     Origin,
     Cache,
-    Word(LineWord),
+    Word(LineOption),
 }
 
 /// The keys at the top, in the order in which they are looked at.
@@ -108,58 +110,58 @@ pub(crate) const LINE_KEYS: [LineKey; 24] = [
     LineKey::Path,
     LineKey::Origin,
     LineKey::Cache,
-    LineKey::Word(LineWord::Lifetime),
-    LineKey::Word(LineWord::ErrorLifetime),
-    LineKey::Word(LineWord::LifetimeMost),
-    LineKey::Word(LineWord::StaleIfError),
-    LineKey::Word(LineWord::SetCookie),
-    LineKey::Word(LineWord::Cookies),
-    LineKey::Word(LineWord::SessionCookies),
-    LineKey::Word(LineWord::Errors),
-    LineKey::Word(LineWord::RequestDirectives),
-    LineKey::Word(LineWord::Wait),
-    LineKey::Word(LineWord::Explain),
-    LineKey::Word(LineWord::Conditions),
-    LineKey::Word(LineWord::Loops),
-    LineKey::Word(LineWord::StaleWhileRevalidate),
-    LineKey::Word(LineWord::Vary),
-    LineKey::Word(LineWord::OriginTimeout),
-    LineKey::Word(LineWord::PurgeKey),
-    LineKey::Word(LineWord::Ranges),
-    LineKey::Word(LineWord::WaitTimeout),
+    LineKey::Word(LineOption::Lifetime),
+    LineKey::Word(LineOption::ErrorLifetime),
+    LineKey::Word(LineOption::LifetimeMost),
+    LineKey::Word(LineOption::StaleIfError),
+    LineKey::Word(LineOption::SetCookie),
+    LineKey::Word(LineOption::Cookies),
+    LineKey::Word(LineOption::SessionCookies),
+    LineKey::Word(LineOption::Errors),
+    LineKey::Word(LineOption::RequestDirectives),
+    LineKey::Word(LineOption::Wait),
+    LineKey::Word(LineOption::Explain),
+    LineKey::Word(LineOption::Conditions),
+    LineKey::Word(LineOption::Loops),
+    LineKey::Word(LineOption::StaleWhileRevalidate),
+    LineKey::Word(LineOption::Vary),
+    LineKey::Word(LineOption::OriginTimeout),
+    LineKey::Word(LineOption::PurgeKey),
+    LineKey::Word(LineOption::Ranges),
+    LineKey::Word(LineOption::WaitTimeout),
 ];
 
 /// What is told of a key that isn't known, with the keys that a version adds.
-pub(crate) const WORDS_OF_UNKNOWN_KEY: &str =
+pub(crate) const REQUIREMENT_OF_UNKNOWN_KEY: &str =
     "a key isn't known where it stands; correct its spelling or delete it: behind [[line]] keys belong to that line; cache needs version = 2, 3 or 4, lifetime, stale-if-error, set-cookie, errors, request-directives, wait and explain need version = 3 or 4, and max_store, error-lifetime, lifetime-most, cookies, session-cookies, conditions, loops, stale-while-revalidate, vary, origin-timeout, key, ranges and wait-timeout need version = 4";
 
 impl NumberKey {
-    pub(crate) fn row(self) -> Row
-        ensures { plain_row result ≡ number_row self }
+    pub(crate) fn row(self) -> KeyDefinition
+        ensures { row_of_source result ≡ number_key_row self }
     {
         match self {
-            NumberKey::Version => Row::needed("version", Kind::Version),
-            NumberKey::Capacity => Row::needed("capacity", Number(1, 65_536)),
-            NumberKey::MaxBody => Row::needed("max_body", Number(0, 16_777_216)),
-            NumberKey::MaxStored => Row::needed("max_stored", Number(0, 16_777_216)),
-            NumberKey::MaxStore => Row {
+            NumberKey::Version => KeyDefinition::needed("version", ValueKind::Version),
+            NumberKey::Capacity => KeyDefinition::needed("capacity", Number(1, 65_536)),
+            NumberKey::MaxBody => KeyDefinition::needed("max_body", Number(0, 16_777_216)),
+            NumberKey::MaxStored => KeyDefinition::needed("max_stored", Number(0, 16_777_216)),
+            NumberKey::MaxStore => KeyDefinition {
                 key: "max_store",
                 since: Four,
                 kind: StoreBound(65_536, MOST_STORE_BYTES),
-                place: Place::Optional,
+                place: KeyPlace::Optional,
             },
         }
     }
 }
 
 impl TopKey {
-    pub(crate) fn row(self) -> Row
-        ensures { plain_row result ≡ top_row self }
+    pub(crate) fn row(self) -> KeyDefinition
+        ensures { row_of_source result ≡ row_of_top_key self }
     {
         match self {
-            TopKey::Name => Row::needed("name", Kind::Name),
+            TopKey::Name => KeyDefinition::needed("name", ValueKind::Name),
             TopKey::Number(key) => key.row(),
-            TopKey::Lines => Row::needed("line", Kind::Lines),
+            TopKey::Lines => KeyDefinition::needed("line", ValueKind::Lines),
         }
     }
 
@@ -176,77 +178,101 @@ impl TopKey {
     }
 }
 
-impl LineWord {
-    pub(crate) fn row(self) -> Row
-        ensures { plain_row result ≡ word_row self }
+impl LineOption {
+    pub(crate) fn row(self) -> KeyDefinition
+        ensures { row_of_source result ≡ word_row self }
     {
         match self {
-            LineWord::Lifetime => Row::of_caching("lifetime", Three, Seconds(1, MOST_SECONDS)),
-            LineWord::ErrorLifetime => Row::of_caching(
+            LineOption::Lifetime => KeyDefinition::of_caching(
+                "lifetime",
+                Three,
+                Seconds(1, MOST_SECONDS),
+            ),
+            LineOption::ErrorLifetime => KeyDefinition::of_caching(
                 "error-lifetime",
                 Four,
                 Seconds(1, MOST_SECONDS),
             ),
-            LineWord::LifetimeMost => Row::of_caching(
+            LineOption::LifetimeMost => KeyDefinition::of_caching(
                 "lifetime-most",
                 Four,
                 Seconds(1, MOST_SECONDS),
             ),
-            LineWord::StaleIfError => Row::of_caching(
+            LineOption::StaleIfError => KeyDefinition::of_caching(
                 "stale-if-error",
                 Three,
                 Seconds(0, MOST_SECONDS),
             ),
-            LineWord::SetCookie => Row::of_caching(
+            LineOption::SetCookie => KeyDefinition::of_caching(
                 "set-cookie",
                 Three,
                 OneOfInFour("stored", "not-stored", "removed"),
             ),
-            LineWord::Cookies => Row::of_caching("cookies", Four, OneOf("private", "shared")),
-            LineWord::SessionCookies => Row::of_caching("session-cookies", Four, Names(16)),
-            LineWord::Errors => Row::of_caching("errors", Three, OneOf("stored", "not-stored")),
-            LineWord::RequestDirectives => Row::of_caching(
+            LineOption::Cookies => KeyDefinition::of_caching(
+                "cookies",
+                Four,
+                OneOf("private", "shared"),
+            ),
+            LineOption::SessionCookies => KeyDefinition::of_caching(
+                "session-cookies",
+                Four,
+                Names(16),
+            ),
+            LineOption::Errors => KeyDefinition::of_caching(
+                "errors",
+                Three,
+                OneOf("stored", "not-stored"),
+            ),
+            LineOption::RequestDirectives => KeyDefinition::of_caching(
                 "request-directives",
                 Three,
                 OneOf("heeded", "ignored"),
             ),
-            LineWord::Wait => Row::of_caching("wait", Three, OneOf("missing", "missing-or-stale")),
-            LineWord::Explain => Row::of_caching("explain", Three, OneOf("reuse", "storing")),
-            LineWord::Conditions => Row::of_caching(
+            LineOption::Wait => KeyDefinition::of_caching(
+                "wait",
+                Three,
+                OneOf("missing", "missing-or-stale"),
+            ),
+            LineOption::Explain => KeyDefinition::of_caching(
+                "explain",
+                Three,
+                OneOf("reuse", "storing"),
+            ),
+            LineOption::Conditions => KeyDefinition::of_caching(
                 "conditions",
                 Four,
                 OneOf("answered", "forwarded"),
             ),
-            LineWord::Loops => Row {
+            LineOption::Loops => KeyDefinition {
                 key: "loops",
                 since: Four,
                 kind: OneOf("refused", "forwarded"),
-                place: Place::AllowingLine,
+                place: KeyPlace::AllowingLine,
             },
-            LineWord::StaleWhileRevalidate => Row::of_caching(
+            LineOption::StaleWhileRevalidate => KeyDefinition::of_caching(
                 "stale-while-revalidate",
                 Four,
                 Seconds(0, MOST_SECONDS),
             ),
-            LineWord::Vary => Row::of_caching("vary", Four, Names(8)),
-            LineWord::OriginTimeout => Row {
+            LineOption::Vary => KeyDefinition::of_caching("vary", Four, Names(8)),
+            LineOption::OriginTimeout => KeyDefinition {
                 key: "origin-timeout",
                 since: Four,
                 kind: Seconds(1, MOST_TIMEOUT_SECONDS),
-                place: Place::AllowingLine,
+                place: KeyPlace::AllowingLine,
             },
-            LineWord::PurgeKey => Row {
+            LineOption::PurgeKey => KeyDefinition {
                 key: "key",
                 since: Four,
-                kind: Kind::PurgeKey,
-                place: Place::PurgingLine,
+                kind: ValueKind::PurgeKey,
+                place: KeyPlace::PurgingLine,
             },
-            LineWord::Ranges => Row::of_caching(
+            LineOption::Ranges => KeyDefinition::of_caching(
                 "ranges",
                 Four,
                 OneOfThree("served", "forwarded", "filled"),
             ),
-            LineWord::WaitTimeout => Row::of_caching(
+            LineOption::WaitTimeout => KeyDefinition::of_caching(
                 "wait-timeout",
                 Four,
                 Seconds(1, MOST_TIMEOUT_SECONDS),
@@ -256,19 +282,19 @@ impl LineWord {
 }
 
 impl LineKey {
-    pub(crate) fn row(self) -> Row
-        ensures { plain_row result ≡ line_row self }
+    pub(crate) fn row(self) -> KeyDefinition
+        ensures { row_of_source result ≡ row_of_line_key self }
     {
         match self {
-            LineKey::Host => Row::needed("host", Kind::Host),
-            LineKey::Methods => Row::needed("methods", Kind::Methods),
-            LineKey::Path => Row::needed("path", Kind::Path),
-            LineKey::Origin => Row::needed("origin", Kind::Origin),
-            LineKey::Cache => Row {
+            LineKey::Host => KeyDefinition::needed("host", ValueKind::Host),
+            LineKey::Methods => KeyDefinition::needed("methods", ValueKind::Methods),
+            LineKey::Path => KeyDefinition::needed("path", ValueKind::Path),
+            LineKey::Origin => KeyDefinition::needed("origin", ValueKind::Origin),
+            LineKey::Cache => KeyDefinition {
                 key: "cache",
                 since: Two,
                 kind: OneOf("on", "off"),
-                place: Place::AllowingLine,
+                place: KeyPlace::AllowingLine,
             },
             LineKey::Word(word) => word.row(),
         }
@@ -290,28 +316,28 @@ impl LineKey {
     }
 }
 
-impl Row {
+impl KeyDefinition {
     /// A key that each version has, and that has to stand.
-    fn needed(key: &'static str, kind: Kind) -> Row
-        ensures { plain_row result ≡ required_row key.now (plain_kind kind) }
+    fn needed(key: &'static str, kind: ValueKind) -> KeyDefinition
+        ensures { row_of_source result ≡ row_of_required_key key.now (kind_of_source kind) }
     {
-        Row {
+        KeyDefinition {
             key,
             since: One,
             kind,
-            place: Place::Needed,
+            place: KeyPlace::Needed,
         }
     }
 
     /// A key of a line that has an origin and its cache on.
-    fn of_caching(key: &'static str, since: TableVersion, kind: Kind) -> Row
-        ensures { plain_row result ≡ row_for_caching_lines key.now since (plain_kind kind) }
+    fn of_caching(key: &'static str, since: TableVersion, kind: ValueKind) -> KeyDefinition
+        ensures { row_of_source result ≡ row_for_caching_lines key.now since (kind_of_source kind) }
     {
-        Row {
+        KeyDefinition {
             key,
             since,
             kind,
-            place: Place::CachingLine,
+            place: KeyPlace::CachingLine,
         }
     }
 
@@ -343,17 +369,17 @@ impl TableVersion {
     }
 }
 
-impl Kind {
+impl ValueKind {
     /// The least and the greatest number of a kind.
     pub(crate) fn bounds(self) -> (u64, u64)
-        ensures least { result.0 ≡ least_number (plain_kind self) }
-        ensures greatest { result.1 ≡ greatest_number (plain_kind self) }
+        ensures least { result.0 ≡ least_number (kind_of_source self) }
+        ensures greatest { result.1 ≡ greatest_number (kind_of_source self) }
     {
         match self {
-            Kind::Number(low, high) => (u64::from(low), u64::from(high)),
-            Kind::Seconds(low, high) => (u64::from(low), u64::from(high)),
-            Kind::StoreBound(low, high) => (low, high),
-            Kind::Version => (1, 4),
+            ValueKind::Number(low, high) => (u64::from(low), u64::from(high)),
+            ValueKind::Seconds(low, high) => (u64::from(low), u64::from(high)),
+            ValueKind::StoreBound(low, high) => (low, high),
+            ValueKind::Version => (1, 4),
             _ => (0, 0),
         }
     }

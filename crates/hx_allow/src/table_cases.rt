@@ -6,10 +6,12 @@ ghost use Rattle.toml.specs.Parse.{parse_document};
 ghost use Rattle.hx_policy.specs.Policies.{plain};
 ghost use Rattle.hx_allow.specs.Examples.{denying_line_table_with, line_table, repeated_value, key_with_method};
 ghost use Rattle.hx_allow.specs.Examples.{key_with_number, array_of_values, table_of_pairs, line_with_method};
-ghost use Rattle.hx_allow.specs.Examples.{origin_8081, key_with_text, top_table, bounded_table, line_table_with_keys};
-ghost use Rattle.hx_allow.specs.Examples.{line_of_four, plain_of_four};
-ghost use Rattle.hx_allow.specs.LineTables.{line_fault, line_read, lines_fault, lines_read};
-ghost use Rattle.hx_allow.specs.Tables.{judge_table, line_limit, lines_at, version_of, is_out_of_memory};
+ghost use Rattle.hx_allow.specs.Examples.{origin_8081, key_with_text, table_with_lines, table_with_bounds};
+ghost use Rattle.hx_allow.specs.Examples.{line_table_with_keys};
+ghost use Rattle.hx_allow.specs.Examples.{line_of_version_four, policy_of_version_four};
+ghost use Rattle.hx_allow.specs.LineTables.{line_fault, line_of_members, first_fault_of_lines, lines_of_tables};
+ghost use Rattle.hx_allow.specs.Tables.{judge_table, most_lines_of_version, line_items_of_table, table_version_of};
+ghost use Rattle.hx_allow.specs.Tables.{fault_may_be_out_of_memory};
 ghost use Rattle.hx_allow.specs.declared.config_faults.ConfigFault.TheVariants.{UnknownKey, BadName, BadNumber};
 ghost use Rattle.hx_allow.specs.declared.config_faults.ConfigFault.TheVariants.{BadHost};
 ghost use Rattle.hx_allow.specs.declared.config_faults.ConfigFault.TheVariants.{BadMethod, BadPath, BadOrigin, NoLines};
@@ -21,8 +23,8 @@ ghost use Rattle.hx_allow.specs.declared.line_hosts.LineHost.TheVariants.{Every}
 ghost use Rattle.hx_allow.specs.declared.values.TableVersion.TheVariants.{One, Two, Three, Four};
 
 /// The faults of a line in their order: with each that is mended the next one is told.
-#[tactic(auto, unfolding(crate::specs::LineTables::line_fault, crate::specs::LineTables::is_line_host, crate::specs::LineTables::is_line_method, crate::specs::LineTables::is_line_path, crate::specs::Addresses::address_of, hx_target::specs::Hosts::is_host, hx_target::specs::Hosts::short_number, hx_target::specs::Paths::has_dot_segment))]
-pub fn faults_of_a_line_in_order()
+#[tactic(auto, unfolding(crate::specs::LineTables::line_fault, crate::specs::LineTables::is_line_host, crate::specs::LineTables::is_line_method, crate::specs::LineTables::is_line_path, crate::specs::Addresses::address_of, hx_target::specs::Hosts::is_host, hx_target::specs::Hosts::number_of_few_digits, hx_target::specs::Paths::has_dot_segment))]
+pub fn worked_order_of_line_faults()
     ensures unknown { line_fault One 3 (table_of_pairs (key_with_text (codes "colour") (codes "red") ∷ key_with_text
         (codes "host") (codes "H")
         ∷ [])) ≡ Some (UnknownKey (codes "colour")) }
@@ -35,7 +37,7 @@ pub fn faults_of_a_line_in_order()
 
 /// What the fourth version refuses of a line whose keys are good: a method in lower case, and a `*`
 /// in a path.
-#[tactic(auto, unfolding(crate::specs::LineTables::line_fault, crate::specs::LineTables::is_line_host, crate::specs::LineTables::is_line_method, crate::specs::LineTables::is_line_path, crate::specs::Addresses::address_of, hx_target::specs::Hosts::is_host, hx_target::specs::Hosts::short_number, hx_target::specs::Paths::has_dot_segment))]
+#[tactic(auto, unfolding(crate::specs::LineTables::line_fault, crate::specs::LineTables::is_line_host, crate::specs::LineTables::is_line_method, crate::specs::LineTables::is_line_path, crate::specs::Addresses::address_of, hx_target::specs::Hosts::is_host, hx_target::specs::Hosts::number_of_few_digits, hx_target::specs::Paths::has_dot_segment))]
 pub fn worked_spellings_of_lines()
     ensures none { line_fault Four 3 (line_table (codes "h") (codes "GET") (codes "/a") (codes "deny")) ≡ None }
     ensures every { line_fault Four 3 (line_table (codes "*") (codes "*") (codes "/") (codes "deny")) ≡ None }
@@ -55,8 +57,8 @@ pub fn worked_spellings_of_lines()
 {}
 
 /// A key that is missing has the fault of that key, as one of another type.
-#[tactic(auto, unfolding(crate::specs::LineTables::line_fault, crate::specs::LineTables::is_line_host, crate::specs::LineTables::is_line_method, crate::specs::LineTables::is_line_path, crate::specs::Addresses::address_of, hx_target::specs::Hosts::is_host, hx_target::specs::Hosts::short_number, hx_target::specs::Paths::has_dot_segment))]
-pub fn missing_keys_of_a_line()
+#[tactic(auto, unfolding(crate::specs::LineTables::line_fault, crate::specs::LineTables::is_line_host, crate::specs::LineTables::is_line_method, crate::specs::LineTables::is_line_path, crate::specs::Addresses::address_of, hx_target::specs::Hosts::is_host, hx_target::specs::Hosts::number_of_few_digits, hx_target::specs::Paths::has_dot_segment))]
+pub fn worked_missing_keys_of_a_line()
     ensures all { line_fault One 1 no_members ≡ Some (BadHost 1) }
     ensures methods { line_fault One 1 (table_of_pairs (key_with_text (codes "host") (codes "*") ∷ key_with_text
         (codes "origin") (codes "deny")
@@ -74,7 +76,7 @@ pub fn missing_keys_of_a_line()
 
 /// `cache` in a line: two words, in the second version, and not in a line that denies. It is looked
 /// at after the origin.
-#[tactic(auto, unfolding(crate::specs::LineTables::line_fault, crate::specs::LineTables::is_line_host, crate::specs::LineTables::is_line_method, crate::specs::LineTables::is_line_path, crate::specs::Addresses::address_of, hx_target::specs::Hosts::is_host, hx_target::specs::Hosts::short_number, hx_target::specs::Paths::has_dot_segment))]
+#[tactic(auto, unfolding(crate::specs::LineTables::line_fault, crate::specs::LineTables::is_line_host, crate::specs::LineTables::is_line_method, crate::specs::LineTables::is_line_path, crate::specs::Addresses::address_of, hx_target::specs::Hosts::is_host, hx_target::specs::Hosts::number_of_few_digits, hx_target::specs::Paths::has_dot_segment))]
 pub fn worked_cache_of_a_line()
     ensures on { line_fault Two 1 (line_table_with_keys (key_with_text (codes "cache") (codes "on") ∷ [])) ≡ None }
     ensures off { line_fault Two 1 (line_table_with_keys (key_with_text (codes "cache") (codes "off") ∷ [])) ≡ None }
@@ -96,17 +98,17 @@ pub fn worked_cache_of_a_line()
 {}
 
 /// What lines say: `*` is no host, `deny` no origin, a path is a table path, and each is cached that doesn't say `off`.
-#[tactic(auto, unfolding(crate::specs::LineTables::line_read, crate::specs::Addresses::address_of, hx_target::specs::Hosts::short_number))]
+#[tactic(auto, unfolding(crate::specs::LineTables::line_of_members, crate::specs::Addresses::address_of, hx_target::specs::Hosts::number_of_few_digits))]
 pub fn worked_lines()
-    ensures every_host { line_read Three (line_table (codes "*") (codes "GET") (codes "/") (codes "127.0.0.1:8081"))
+    ensures every_host { line_of_members Three (line_table (codes "*") (codes "GET") (codes "/") (codes "127.0.0.1:8081"))
         ≡ line_with_method None (codes "GET") (codes "/") origin_8081 }
-    ensures one_host { line_read Three (line_table (codes "x") (codes "*") (codes "/%61dmin%2f") (codes "deny"))
+    ensures one_host { line_of_members Three (line_table (codes "x") (codes "*") (codes "/%61dmin%2f") (codes "deny"))
         ≡ line_with_method (Some (codes "x")) (codes "*") (codes "/admin%2F") None }
-    ensures off { line_read Three (line_table_with_keys (key_with_text (codes "cache") (codes "off") ∷ []))
+    ensures off { line_of_members Three (line_table_with_keys (key_with_text (codes "cache") (codes "off") ∷ []))
         ≡ record (line_with_method None (codes "GET") (codes "/") origin_8081) { policy = plain false } }
-    ensures on { line_read Three (line_table_with_keys (key_with_text (codes "cache") (codes "on") ∷ []))
+    ensures on { line_of_members Three (line_table_with_keys (key_with_text (codes "cache") (codes "on") ∷ []))
         ≡ line_with_method None (codes "GET") (codes "/") origin_8081 }
-    ensures two_methods { line_read Three (table_of_pairs (key_with_text (codes "host") (codes "*")
+    ensures two_methods { line_of_members Three (table_of_pairs (key_with_text (codes "host") (codes "*")
         ∷ (codes "methods", array (array_of_values (string (codes "GET") ∷ string (codes "HEAD") ∷ [])))
         ∷ key_with_text (codes "origin") (codes "deny") ∷ key_with_text (codes "path") (codes "/") ∷ [])) ≡ record {
           hosts = Every ∷ [];
@@ -124,17 +126,17 @@ pub fn worked_lines()
 {}
 
 /// Lines are read in their order and counted from 1, and the first at fault is told.
-#[tactic(auto, unfolding(crate::specs::LineTables::line_fault, crate::specs::LineTables::line_read, crate::specs::LineTables::is_line_host, crate::specs::LineTables::is_line_method, crate::specs::LineTables::is_line_path, crate::specs::Addresses::address_of, hx_target::specs::Hosts::is_host, hx_target::specs::Hosts::short_number, hx_target::specs::Paths::has_dot_segment))]
-pub fn lines_in_their_order()
-    ensures first { lines_fault One 1 (array_of_values (table (line_table (codes "*") (codes "GET") (codes "/a/")
+#[tactic(auto, unfolding(crate::specs::LineTables::line_fault, crate::specs::LineTables::line_of_members, crate::specs::LineTables::is_line_host, crate::specs::LineTables::is_line_method, crate::specs::LineTables::is_line_path, crate::specs::Addresses::address_of, hx_target::specs::Hosts::is_host, hx_target::specs::Hosts::number_of_few_digits, hx_target::specs::Paths::has_dot_segment))]
+pub fn worked_order_of_lines()
+    ensures first { first_fault_of_lines One 1 (array_of_values (table (line_table (codes "*") (codes "GET") (codes "/a/")
         (codes "deny")) ∷ table (line_table (codes "H") (codes "GET") (codes "/") (codes "deny")) ∷ []))
         ≡ Some (BadPath 1) }
-    ensures second { lines_fault One 1
+    ensures second { first_fault_of_lines One 1
         (array_of_values (table (line_table (codes "*") (codes "GET") (codes "/a") (codes "deny"))
         ∷ table (line_table (codes "H") (codes "GET") (codes "/") (codes "deny")) ∷ [])) ≡ Some (BadHost 2) }
-    ensures none { lines_fault One 1 (array_of_values (table (line_table_with_keys []) ∷ table
+    ensures none { first_fault_of_lines One 1 (array_of_values (table (line_table_with_keys []) ∷ table
         (denying_line_table_with []) ∷ [])) ≡ None }
-    ensures both { lines_read Three (array_of_values (table (denying_line_table_with [])
+    ensures both { lines_of_tables Three (array_of_values (table (denying_line_table_with [])
         ∷ table (line_table_with_keys [])
         ∷ []))
         ≡ line_with_method None (codes "GET") (codes "/") None ∷ line_with_method None (codes "GET")
@@ -143,34 +145,37 @@ pub fn lines_in_their_order()
 
 /// A table has 1 to 256 lines, or 1 to 4,096 in the fourth version, each of which is a table.
 pub fn a_table_has_1_to_256_lines()
-    ensures one { lines_at (top_table 1 2 (repeated_value 1 (table no_members))) ≡ Some
+    ensures one { line_items_of_table (table_with_lines 1 2 (repeated_value 1 (table no_members))) ≡ Some
         (repeated_value 1 (table no_members)) }
-    ensures of_256 { lines_at (top_table 1 2 (repeated_value 256 (table no_members))) ≡ Some
+    ensures of_256 { line_items_of_table (table_with_lines 1 2 (repeated_value 256 (table no_members))) ≡ Some
         (repeated_value 256 (table no_members)) }
-    ensures of_257 { lines_at (top_table 1 2 (repeated_value 257 (table no_members))) ≡ None }
-    ensures of_257_in_three { lines_at (top_table 3 2 (repeated_value 257 (table no_members))) ≡ None }
-    ensures of_257_in_four { lines_at (top_table 4 2 (repeated_value 257 (table no_members))) ≡ Some
+    ensures of_257 { line_items_of_table (table_with_lines 1 2 (repeated_value 257 (table no_members))) ≡ None }
+    ensures of_257_in_three { line_items_of_table (table_with_lines 3 2 (repeated_value 257 (table no_members)))
+        ≡ None }
+    ensures of_257_in_four { line_items_of_table (table_with_lines 4 2 (repeated_value 257 (table no_members))) ≡ Some
         (repeated_value 257 (table no_members)) }
-    ensures limits { map line_limit (One ∷ Two ∷ Three ∷ Four ∷ []) ≡ 256 ∷ 256 ∷ 256 ∷ 4096 ∷ [] }
-    ensures none { lines_at (top_table 1 2 no_items) ≡ None }
-    ensures a_text { lines_at (top_table 1 2 (array_of_values (table no_members ∷ string (codes "line") ∷ []))) ≡ None }
-    ensures missing { lines_at no_members ≡ None }
-    ensures one_table { lines_at (table_of_pairs ((codes "line", table no_members) ∷ [])) ≡ None }
+    ensures limits { map most_lines_of_version (One ∷ Two ∷ Three ∷ Four ∷ []) ≡ 256 ∷ 256 ∷ 256 ∷ 4096 ∷ [] }
+    ensures none { line_items_of_table (table_with_lines 1 2 no_items) ≡ None }
+    ensures a_text { line_items_of_table (table_with_lines 1 2 (array_of_values (table no_members
+        ∷ string (codes "line") ∷ [])))
+        ≡ None }
+    ensures missing { line_items_of_table no_members ≡ None }
+    ensures one_table { line_items_of_table (table_of_pairs ((codes "line", table no_members) ∷ [])) ≡ None }
 {}
 
 /// The version of a table decides on the keys of its lines.
 pub fn worked_versions_of_tables()
-    ensures one { version_of (top_table 1 2 no_items) ≡ One }
-    ensures two { version_of (top_table 2 2 no_items) ≡ Two }
-    ensures three { version_of (top_table 3 2 no_items) ≡ Three }
-    ensures four { version_of (top_table 4 2 no_items) ≡ Four }
-    ensures five { version_of (top_table 5 2 no_items) ≡ One }
-    ensures missing { version_of no_members ≡ One }
+    ensures one { table_version_of (table_with_lines 1 2 no_items) ≡ One }
+    ensures two { table_version_of (table_with_lines 2 2 no_items) ≡ Two }
+    ensures three { table_version_of (table_with_lines 3 2 no_items) ≡ Three }
+    ensures four { table_version_of (table_with_lines 4 2 no_items) ≡ Four }
+    ensures five { table_version_of (table_with_lines 5 2 no_items) ≡ One }
+    ensures missing { table_version_of no_members ≡ One }
 {}
 
 /// The faults of a table in their order: with each that is mended the next one is told.
-#[tactic(auto, unfolding(crate::specs::Tables::judge_table, crate::specs::Tables::table_fault, crate::specs::Tables::is_name, crate::specs::LineTables::line_fault, crate::specs::LineTables::is_line_host, crate::specs::LineTables::is_line_method, crate::specs::LineTables::is_line_path, crate::specs::Addresses::address_of, hx_target::specs::Hosts::is_host, hx_target::specs::Hosts::short_number, hx_target::specs::Paths::has_dot_segment))]
-pub fn faults_of_a_table_in_order()
+#[tactic(auto, unfolding(crate::specs::Tables::judge_table, crate::specs::Tables::table_fault, crate::specs::Tables::is_name, crate::specs::LineTables::line_fault, crate::specs::LineTables::is_line_host, crate::specs::LineTables::is_line_method, crate::specs::LineTables::is_line_path, crate::specs::Addresses::address_of, hx_target::specs::Hosts::is_host, hx_target::specs::Hosts::number_of_few_digits, hx_target::specs::Paths::has_dot_segment))]
+pub fn worked_order_of_table_faults()
     ensures unknown { judge_table (table_of_pairs (key_with_number (codes "colour") 1 ∷ [])) ≡ Err (UnknownKey (codes "colour")) }
     ensures name { judge_table no_members ≡ Err BadName }
     ensures bad_name { judge_table (table_of_pairs (key_with_text (codes "name") (codes "Edge") ∷ [])) ≡ Err BadName }
@@ -186,32 +191,33 @@ pub fn faults_of_a_table_in_order()
     ensures no_lines { judge_table (table_of_pairs (key_with_number (codes "capacity") 2 ∷ key_with_number (codes "max_body") 0
         ∷ key_with_number (codes "max_stored") 0 ∷ key_with_text (codes "name") (codes "edge") ∷ key_with_number (codes "version") 1 ∷ []))
         ≡ Err NoLines }
-    ensures empty_lines { judge_table (top_table 1 2 no_items) ≡ Err NoLines }
-    ensures first_line { judge_table (top_table 1 2 (repeated_value 1 (table no_members))) ≡ Err (BadHost 1) }
-    ensures cache_of_one { judge_table (top_table 1 2
+    ensures empty_lines { judge_table (table_with_lines 1 2 no_items) ≡ Err NoLines }
+    ensures first_line { judge_table (table_with_lines 1 2 (repeated_value 1 (table no_members))) ≡ Err (BadHost 1) }
+    ensures cache_of_one { judge_table (table_with_lines 1 2
         (repeated_value 1 (table (line_table_with_keys (key_with_text (codes "cache") (codes "on") ∷ []))))) ≡ Err
         (UnknownKey (codes "cache")) }
-    ensures cache_of_two { judge_table (top_table 2 2
+    ensures cache_of_two { judge_table (table_with_lines 2 2
         (repeated_value 1 (table (line_table_with_keys (key_with_text (codes "cache") (codes "no") ∷ []))))) ≡ Err
         (BadCache 1) }
-    ensures capacity_0 { judge_table (top_table 1 0 (repeated_value 1 (table (line_table_with_keys [])))) ≡ Err
+    ensures capacity_0 { judge_table (table_with_lines 1 0 (repeated_value 1 (table (line_table_with_keys [])))) ≡ Err
         (BadNumber Capacity) }
-    ensures version_5 { judge_table (top_table 5 2 (repeated_value 1 (table (line_table_with_keys [])))) ≡ Err
+    ensures version_5 { judge_table (table_with_lines 5 2 (repeated_value 1 (table (line_table_with_keys [])))) ≡ Err
         (BadNumber Version) }
 {}
 
 /// What a table without a fault says.
-#[tactic(auto, unfolding(crate::specs::Tables::judge_table, crate::specs::Tables::table_fault, crate::specs::Tables::table_read, crate::specs::Tables::is_name, crate::specs::LineTables::line_fault, crate::specs::LineTables::line_read, crate::specs::LineTables::is_line_host, crate::specs::LineTables::is_line_method, crate::specs::LineTables::is_line_path, crate::specs::Addresses::address_of, hx_target::specs::Hosts::is_host, hx_target::specs::Hosts::short_number, hx_target::specs::Paths::has_dot_segment))]
+#[tactic(auto, unfolding(crate::specs::Tables::judge_table, crate::specs::Tables::table_fault, crate::specs::Tables::table_of_members, crate::specs::Tables::is_name, crate::specs::LineTables::line_fault, crate::specs::LineTables::line_of_members, crate::specs::LineTables::is_line_host, crate::specs::LineTables::is_line_method, crate::specs::LineTables::is_line_path, crate::specs::Addresses::address_of, hx_target::specs::Hosts::is_host, hx_target::specs::Hosts::number_of_few_digits, hx_target::specs::Paths::has_dot_segment))]
 pub fn worked_tables()
-    ensures first { judge_table (top_table 1 2 (repeated_value 1 (table (line_table_with_keys [])))) ≡ Ok (record {
-      name = codes "edge";
-      capacity = 2;
-      max_body = 1000;
-      max_stored = 1000;
-      max_store = None;
-      lines = line_with_method None (codes "GET") (codes "/") origin_8081 ∷ [];
-    }) }
-    ensures second { judge_table (top_table 2 65536
+    ensures first { judge_table (table_with_lines 1 2 (repeated_value 1 (table (line_table_with_keys []))))
+        ≡ Ok (record {
+          name = codes "edge";
+          capacity = 2;
+          max_body = 1000;
+          max_stored = 1000;
+          max_store = None;
+          lines = line_with_method None (codes "GET") (codes "/") origin_8081 ∷ [];
+        }) }
+    ensures second { judge_table (table_with_lines 2 65536
         (repeated_value 1 (table (line_table_with_keys (key_with_text (codes "cache") (codes "off") ∷ []))))) ≡ Ok (record {
           name = codes "edge";
           capacity = 65536;
@@ -235,72 +241,73 @@ pub fn worked_tables()
 
 /// The bound of the store's bytes: a key of version 4, which needn't stand. It is looked at after `max_stored` and
 /// before the lines.
-#[tactic(auto, unfolding(crate::specs::Tables::judge_table, crate::specs::Tables::table_fault, crate::specs::Tables::is_name, crate::specs::LineTables::line_fault, crate::specs::LineTables::is_line_host, crate::specs::LineTables::is_line_method, crate::specs::LineTables::is_line_path, crate::specs::Addresses::address_of, hx_target::specs::Hosts::is_host, hx_target::specs::Hosts::short_number, hx_target::specs::Paths::has_dot_segment))]
-pub fn faults_of_a_store_bound()
-    ensures below { judge_table (bounded_table 4 1000 (integer (pos 65535)) no_items) ≡ Err (BadNumber MaxStore) }
-    ensures above { judge_table (bounded_table 4 1000 (integer (pos 1099511627777)) no_items)
+#[tactic(auto, unfolding(crate::specs::Tables::judge_table, crate::specs::Tables::table_fault, crate::specs::Tables::is_name, crate::specs::LineTables::line_fault, crate::specs::LineTables::is_line_host, crate::specs::LineTables::is_line_method, crate::specs::LineTables::is_line_path, crate::specs::Addresses::address_of, hx_target::specs::Hosts::is_host, hx_target::specs::Hosts::number_of_few_digits, hx_target::specs::Paths::has_dot_segment))]
+pub fn worked_faults_of_store_bound()
+    ensures below { judge_table (table_with_bounds 4 1000 (integer (pos 65535)) no_items) ≡ Err (BadNumber MaxStore) }
+    ensures above { judge_table (table_with_bounds 4 1000 (integer (pos 1099511627777)) no_items)
         ≡ Err (BadNumber MaxStore) }
-    ensures a_text { judge_table (bounded_table 4 1000 (string (codes "65536")) no_items) ≡ Err (BadNumber MaxStore) }
-    ensures below_max_stored { judge_table (bounded_table 4 65537 (integer (pos 65536)) no_items)
+    ensures a_text { judge_table (table_with_bounds 4 1000 (string (codes "65536")) no_items) ≡ Err (BadNumber MaxStore) }
+    ensures below_max_stored { judge_table (table_with_bounds 4 65537 (integer (pos 65536)) no_items)
         ≡ Err (BadNumber MaxStore) }
-    ensures behind_max_stored { judge_table (bounded_table 4 16777217 (integer (pos 1)) no_items)
+    ensures behind_max_stored { judge_table (table_with_bounds 4 16777217 (integer (pos 1)) no_items)
         ≡ Err (BadNumber MaxStored) }
-    ensures least { judge_table (bounded_table 4 65536 (integer (pos 65536)) no_items) ≡ Err NoLines }
-    ensures most { judge_table (bounded_table 4 1000 (integer (pos 1099511627776)) no_items) ≡ Err NoLines }
-    ensures missing { judge_table (top_table 4 2 no_items) ≡ Err NoLines }
-    ensures of_three { judge_table (bounded_table 3 1000 (integer (pos 65536)) no_items)
+    ensures least { judge_table (table_with_bounds 4 65536 (integer (pos 65536)) no_items) ≡ Err NoLines }
+    ensures most { judge_table (table_with_bounds 4 1000 (integer (pos 1099511627776)) no_items) ≡ Err NoLines }
+    ensures missing { judge_table (table_with_lines 4 2 no_items) ≡ Err NoLines }
+    ensures of_three { judge_table (table_with_bounds 3 1000 (integer (pos 65536)) no_items)
         ≡ Err (UnknownKey (codes "max_store")) }
-    ensures of_two { judge_table (bounded_table 2 1000 (integer (pos 65536)) no_items)
+    ensures of_two { judge_table (table_with_bounds 2 1000 (integer (pos 65536)) no_items)
         ≡ Err (UnknownKey (codes "max_store")) }
-    ensures of_one { judge_table (bounded_table 1 1000 (integer (pos 65536)) no_items)
+    ensures of_one { judge_table (table_with_bounds 1 1000 (integer (pos 65536)) no_items)
         ≡ Err (UnknownKey (codes "max_store")) }
-    ensures of_five { judge_table (bounded_table 5 1000 (integer (pos 65536)) no_items)
+    ensures of_five { judge_table (table_with_bounds 5 1000 (integer (pos 65536)) no_items)
         ≡ Err (UnknownKey (codes "max_store")) }
 {}
 
 /// What tables of version 4 say of the bytes of the store.
-#[tactic(auto, unfolding(crate::specs::Tables::judge_table, crate::specs::Tables::table_fault, crate::specs::Tables::table_read, crate::specs::Tables::is_name, crate::specs::LineTables::line_fault, crate::specs::LineTables::line_read, crate::specs::LineTables::is_line_host, crate::specs::LineTables::is_line_method, crate::specs::LineTables::is_line_path, crate::specs::Addresses::address_of, hx_target::specs::Hosts::is_host, hx_target::specs::Hosts::short_number, hx_target::specs::Paths::has_dot_segment))]
+#[tactic(auto, unfolding(crate::specs::Tables::judge_table, crate::specs::Tables::table_fault, crate::specs::Tables::table_of_members, crate::specs::Tables::is_name, crate::specs::LineTables::line_fault, crate::specs::LineTables::line_of_members, crate::specs::LineTables::is_line_host, crate::specs::LineTables::is_line_method, crate::specs::LineTables::is_line_path, crate::specs::Addresses::address_of, hx_target::specs::Hosts::is_host, hx_target::specs::Hosts::number_of_few_digits, hx_target::specs::Paths::has_dot_segment))]
 pub fn worked_store_bounds()
-    ensures bounded { judge_table (bounded_table 4 1000 (integer (pos 65536)) (repeated_value 1
+    ensures bounded { judge_table (table_with_bounds 4 1000 (integer (pos 65536)) (repeated_value 1
         (table (line_table_with_keys [])))) ≡ Ok (record {
           name = codes "edge";
           capacity = 2;
           max_body = 1000;
           max_stored = 1000;
           max_store = Some 65536;
-          lines = line_of_four ∷ [];
+          lines = line_of_version_four ∷ [];
         }) }
-    ensures unbounded { judge_table (top_table 4 2 (repeated_value 1 (table (line_table_with_keys [])))) ≡ Ok (record {
-      name = codes "edge";
-      capacity = 2;
-      max_body = 1000;
-      max_stored = 1000;
-      max_store = None;
-      lines = line_of_four ∷ [];
-    }) }
-    ensures with_a_word { judge_table (top_table 4 2 (repeated_value 1
+    ensures unbounded { judge_table (table_with_lines 4 2 (repeated_value 1 (table (line_table_with_keys []))))
+        ≡ Ok (record {
+          name = codes "edge";
+          capacity = 2;
+          max_body = 1000;
+          max_stored = 1000;
+          max_store = None;
+          lines = line_of_version_four ∷ [];
+        }) }
+    ensures with_a_word { judge_table (table_with_lines 4 2 (repeated_value 1
         (table (line_table_with_keys (key_with_number (codes "lifetime") 60 ∷ []))))) ≡ Ok (record {
           name = codes "edge";
           capacity = 2;
           max_body = 1000;
           max_stored = 1000;
           max_store = None;
-          lines = record line_of_four { policy = record plain_of_four { lifetime = Some 60 } } ∷ [];
+          lines = record line_of_version_four { policy = record policy_of_version_four { lifetime = Some 60 } } ∷ [];
         }) }
 {}
 
 /// Of the faults, that of an unknown key alone allocates, for the bytes of the key, before it is told.
 pub fn worked_faults_that_allocate()
-    ensures none { is_out_of_memory None ≡ true }
-    ensures unknown { is_out_of_memory (Some (UnknownKey [])) ≡ true }
-    ensures name { is_out_of_memory (Some BadName) ≡ false }
-    ensures number { is_out_of_memory (Some (BadNumber Version)) ≡ false }
-    ensures lines { is_out_of_memory (Some NoLines) ≡ false }
-    ensures host { is_out_of_memory (Some (BadHost 1)) ≡ false }
+    ensures none { fault_may_be_out_of_memory None ≡ true }
+    ensures unknown { fault_may_be_out_of_memory (Some (UnknownKey [])) ≡ true }
+    ensures name { fault_may_be_out_of_memory (Some BadName) ≡ false }
+    ensures number { fault_may_be_out_of_memory (Some (BadNumber Version)) ≡ false }
+    ensures lines { fault_may_be_out_of_memory (Some NoLines) ≡ false }
+    ensures host { fault_may_be_out_of_memory (Some (BadHost 1)) ≡ false }
 {}
 
 /// The faults of whole texts: a key that isn't known in front of others, a path that ends with a slash, and no line.
-#[tactic(auto, unfolding(toml::proofs::OnLiterals::toml_on_literals, crate::specs::Tables::judge_table, crate::specs::Tables::table_fault, crate::specs::Tables::is_name, crate::specs::LineTables::line_fault, crate::specs::LineTables::is_line_host, crate::specs::LineTables::is_line_method, crate::specs::LineTables::is_line_path, crate::specs::Addresses::address_of, hx_target::specs::Hosts::is_host, hx_target::specs::Hosts::short_number, hx_target::specs::Paths::has_dot_segment))]
+#[tactic(auto, unfolding(toml::proofs::OnLiterals::toml_on_literals, crate::specs::Tables::judge_table, crate::specs::Tables::table_fault, crate::specs::Tables::is_name, crate::specs::LineTables::line_fault, crate::specs::LineTables::is_line_host, crate::specs::LineTables::is_line_method, crate::specs::LineTables::is_line_path, crate::specs::Addresses::address_of, hx_target::specs::Hosts::is_host, hx_target::specs::Hosts::number_of_few_digits, hx_target::specs::Paths::has_dot_segment))]
 pub fn worked_faults_of_texts()
     ensures unknown { option_map judge_table (parse_document (codes "colour = 1\nversion = 1\nname = \"edge\"\ncapacity = 2\nmax_body = 1000\nmax_stored = 1000\n\n[[line]]\nhost = \"*\"\nmethods = [\"GET\", \"HEAD\", \"POST\"]\npath = \"/\"\norigin = \"127.0.0.1:8081\"\n")) ≡ Some (Err (UnknownKey (codes "colour"))) }
     ensures least { option_map judge_table (parse_document (codes "zeta = 1\nalpha = 2\n")) ≡ Some (Err (UnknownKey (codes "alpha"))) }

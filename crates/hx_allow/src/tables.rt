@@ -4,21 +4,25 @@ ghost use Rattle.std.specs.Option.{option_map, option_copied};
 ghost use Rattle.std.specs.List.{list_all};
 ghost use Rattle.toml.specs.Data.{as_table};
 ghost use Rattle.toml.specs.View.{table_view, array_view, items_view, view};
-ghost use Rattle.hx_allow.specs.Values.{is_some_and, text_at};
+ghost use Rattle.hx_allow.specs.Values.{is_some_and, text_of_key};
 ghost use Rattle.hx_allow.specs.LineTables.{config_fault_found};
-ghost use Rattle.hx_allow.specs.Tables.{is_name_byte, is_name, number_at, version_of, are_lines, lines_at, table_fault};
-ghost use Rattle.hx_allow.specs.Tables.{line_limit};
-ghost use Rattle.hx_allow.specs.Rows.{greatest_number, number_row};
-ghost use Rattle.hx_allow.specs.Tables.{table_read, judge_table, is_good_at_top, first_bad_at_top, is_out_of_memory};
-ghost use Rattle.hx_allow.specs.Tables.{SomeTextIsToml, is_good_number, is_good_store_bound};
+ghost use Rattle.hx_allow.specs.Tables.{is_name_byte, is_name, number_of_key, table_version_of, are_line_tables};
+ghost use Rattle.hx_allow.specs.Tables.{line_items_of_table};
+ghost use Rattle.hx_allow.specs.Tables.{table_fault};
+ghost use Rattle.hx_allow.specs.Tables.{most_lines_of_version};
+ghost use Rattle.hx_allow.specs.Rows.{greatest_number, number_key_row};
+ghost use Rattle.hx_allow.specs.Tables.{table_of_members, judge_table, top_key_has_good_value, first_bad_top_key};
+ghost use Rattle.hx_allow.specs.Tables.{fault_may_be_out_of_memory};
+ghost use Rattle.hx_allow.specs.Tables.{MembersAreOfSomeToml, top_number_key_has_good_value, store_bound_is_good};
 
 use crate::config_faults::FoundFault;
 use crate::host_index::HostIndex;
 use crate::limits::MOST_LINES;
-use crate::line_tables::{lines_fault, lines_read};
+use crate::line_tables::{first_fault_of_lines, lines_of_tables};
 use crate::rows::{TOP_KEYS, TopKey};
 use crate::values::{
-    Scope, TableVersion, array_at, count_is_from_1_to, first_unknown, number_in, text_at, value_at,
+    Scope, TableVersion, array_of_key, count_is_from_1_to, first_unknown, number_in, text_of_key,
+    value_of_key,
 };
 use crate::{Config, ConfigFault, NumberKey};
 use hx_fields::Bytes;
@@ -57,17 +61,17 @@ fn is_good_name(text: Option<&str>) -> bool
     }
 }
 
-fn number_at(table: &Table, key: NumberKey) -> Option<u64>
-    ensures number { result ≡ number_at key (table_view table.now) }
-    ensures bounded { IfSome result (λ n. n ≤ greatest_number (number_row key).kind) }
+fn number_of_key(table: &Table, key: NumberKey) -> Option<u64>
+    ensures number { result ≡ number_of_key key (table_view table.now) }
+    ensures bounded { IfSome result (λ n. n ≤ greatest_number (number_key_row key).kind) }
 {
     number_in(key.row(), table)
 }
 
-fn version_of(table: &Table) -> TableVersion
-    ensures { result ≡ version_of (table_view table.now) }
+fn table_version_of(table: &Table) -> TableVersion
+    ensures { result ≡ table_version_of (table_view table.now) }
 {
-    match number_at(table, NumberKey::Version) {
+    match number_of_key(table, NumberKey::Version) {
         Some(2) => TableVersion::Two,
         Some(3) => TableVersion::Three,
         Some(4) => TableVersion::Four,
@@ -76,8 +80,8 @@ fn version_of(table: &Table) -> TableVersion
 }
 
 /// The most lines of a table of a version.
-fn line_limit(version: TableVersion) -> usize
-    ensures limit { result ≡ line_limit version }
+fn most_lines_of_version(version: TableVersion) -> usize
+    ensures limit { result ≡ most_lines_of_version version }
     ensures bounded { result ≤ 4096 }
 {
     match version {
@@ -86,11 +90,11 @@ fn line_limit(version: TableVersion) -> usize
     }
 }
 
-fn are_lines(version: TableVersion, values: &[Value]) -> bool
-    ensures lines { result ≡ are_lines version (items_view values.now) }
+fn are_line_tables(version: TableVersion, values: &[Value]) -> bool
+    ensures lines { result ≡ are_line_tables version (items_view values.now) }
     ensures few { result ≡ true → length values.now ≤ 4096 }
 {
-    if !count_is_from_1_to(line_limit(version), values) {
+    if !count_is_from_1_to(most_lines_of_version(version), values) {
         return false;
     }
     for value in values {
@@ -102,13 +106,13 @@ fn are_lines(version: TableVersion, values: &[Value]) -> bool
 }
 
 /// The array of lines, where it has tables and nothing else, as many as the version lets it.
-fn lines_at(table: &Table) -> Option<&Array>
-    ensures found { option_map (λ a. array_view a.now) result ≡ lines_at (table_view table.now) }
+fn line_items_of_table(table: &Table) -> Option<&Array>
+    ensures found { option_map (λ a. array_view a.now) result ≡ line_items_of_table (table_view table.now) }
     ensures few { IfSome result (λ a. length a.now.items ≤ 4096) }
 {
-    match array_at(table, "line") {
+    match array_of_key(table, "line") {
         Some(values) => {
-            if are_lines(version_of(table), values) {
+            if are_line_tables(table_version_of(table), values) {
                 Some(values)
             } else {
                 None
@@ -119,45 +123,45 @@ fn lines_at(table: &Table) -> Option<&Array>
 }
 
 /// Whether the bytes of the store aren't bounded, or their bound is in its range and no less than that of one content.
-fn is_good_store_bound(table: &Table) -> bool
-    ensures { result ≡ is_good_store_bound (table_view table.now) }
+fn store_bound_is_good(table: &Table) -> bool
+    ensures { result ≡ store_bound_is_good (table_view table.now) }
 {
-    if value_at(table, NumberKey::MaxStore.row().key).is_none() {
+    if value_of_key(table, NumberKey::MaxStore.row().key).is_none() {
         return true;
     }
-    match number_at(table, NumberKey::MaxStore) {
-        Some(most) => number_at(table, NumberKey::MaxStored).unwrap_or(0) <= most,
+    match number_of_key(table, NumberKey::MaxStore) {
+        Some(most) => number_of_key(table, NumberKey::MaxStored).unwrap_or(0) <= most,
         None => false,
     }
 }
 
-fn is_good_number(key: NumberKey, table: &Table) -> bool
-    ensures { result ≡ is_good_number (table_view table.now) key }
+fn top_number_key_has_good_value(key: NumberKey, table: &Table) -> bool
+    ensures { result ≡ top_number_key_has_good_value (table_view table.now) key }
 {
     match key {
-        NumberKey::MaxStore => is_good_store_bound(table),
-        _ => number_at(table, key).is_some(),
+        NumberKey::MaxStore => store_bound_is_good(table),
+        _ => number_of_key(table, key).is_some(),
     }
 }
 
-fn is_good_at_top(key: TopKey, table: &Table) -> bool
-    ensures { result ≡ is_good_at_top (table_view table.now) key }
+fn top_key_has_good_value(key: TopKey, table: &Table) -> bool
+    ensures { result ≡ top_key_has_good_value (table_view table.now) key }
 {
     match key {
-        TopKey::Name => is_good_name(text_at(table, "name")),
-        TopKey::Number(key) => is_good_number(key, table),
-        TopKey::Lines => lines_at(table).is_some(),
+        TopKey::Name => is_good_name(text_of_key(table, "name")),
+        TopKey::Number(key) => top_number_key_has_good_value(key, table),
+        TopKey::Lines => line_items_of_table(table).is_some(),
     }
 }
 
 /// The first key at the top that is missing or isn't good, in the order in which they are looked at.
-fn first_bad_at_top(table: &Table) -> Option<TopKey>
-    ensures { result ≡ first_bad_at_top (table_view table.now) }
+fn first_bad_top_key(table: &Table) -> Option<TopKey>
+    ensures { result ≡ first_bad_top_key (table_view table.now) }
 {
     TOP_KEYS
         .iter()
         .copied()
-        .find(|key| !is_good_at_top(*key, table))
+        .find(|key| !top_key_has_good_value(*key, table))
 }
 
 /// The first fault of a table.
@@ -166,34 +170,34 @@ fn table_fault(table: &Table) -> Option<FoundFault<'_>>
     ensures first { option_map config_fault_found result ≡ table_fault (table_view table.now) }
     ensures found_fault { ¬ (result ≡ Some (FoundFault.Other ConfigFault.OutOfMemory)) }
 {
-    let version = version_of(table);
+    let version = table_version_of(table);
     if let Some(key) = first_unknown(Scope::Top(version), table) {
         return Some(FoundFault::UnknownKey(key));
     }
-    if let Some(key) = first_bad_at_top(table) {
+    if let Some(key) = first_bad_top_key(table) {
         return Some(FoundFault::Other(key.fault()));
     }
-    let values = lines_at(table)?;
-    lines_fault(version, values)
+    let values = line_items_of_table(table)?;
+    first_fault_of_lines(version, values)
 }
 
 /// What a table without fault says.
-#[tactic(auto, unfolding(crate::specs::Tables::table_read), using(crate::proofs::Readings::said_by_a_text))]
+#[tactic(auto, unfolding(crate::specs::Tables::table_of_members), using(crate::proofs::Readings::said_by_a_text))]
 fn config_of(alloc: Global, table: &Table) -> Result<Config, AllocError>
-    requires toml { SomeTextIsToml (table_view table.now) }
+    requires toml { MembersAreOfSomeToml (table_view table.now) }
     requires faultless { table_fault (table_view table.now) ≡ None }
-    ensures { IfOk result (λ config. config ≡ table_read (table_view table.now)) }
+    ensures { IfOk result (λ config. config ≡ table_of_members (table_view table.now)) }
 {
-    let lines = match lines_at(table) {
-        Some(values) => lines_read(alloc, version_of(table), values)?,
+    let lines = match line_items_of_table(table) {
+        Some(values) => lines_of_tables(alloc, table_version_of(table), values)?,
         None => Vec::new(alloc),
     };
     Ok(Config {
-        name: String::from_str(alloc, text_at(table, "name").unwrap_or(""))?,
-        capacity: number_at(table, NumberKey::Capacity).unwrap_or(0) as usize,
-        max_body: number_at(table, NumberKey::MaxBody).unwrap_or(0),
-        max_stored: number_at(table, NumberKey::MaxStored).unwrap_or(0),
-        max_store: number_at(table, NumberKey::MaxStore),
+        name: String::from_str(alloc, text_of_key(table, "name").unwrap_or(""))?,
+        capacity: number_of_key(table, NumberKey::Capacity).unwrap_or(0) as usize,
+        max_body: number_of_key(table, NumberKey::MaxBody).unwrap_or(0),
+        max_stored: number_of_key(table, NumberKey::MaxStored).unwrap_or(0),
+        max_store: number_of_key(table, NumberKey::MaxStore),
         by_host: HostIndex::of(alloc, &lines)?,
         lines,
     })
@@ -212,10 +216,10 @@ fn fault_of_key(copied: Result<Bytes, AllocError>) -> ConfigFault
 /// What a table says, or its first fault. Only the bytes of an unknown key are copied for a fault.
 #[tactic(auto, unfolding(crate::specs::Tables::judge_table))]
 pub fn judge_table(alloc: Global, table: &Table) -> Result<Config, ConfigFault>
-    requires { SomeTextIsToml (table_view table.now) }
+    requires { MembersAreOfSomeToml (table_view table.now) }
     ensures judged { ¬ (result ≡ Err ConfigFault.OutOfMemory) → result ≡ judge_table (table_view table.now) }
     ensures memory_last { result ≡ Err ConfigFault.OutOfMemory
-        → is_out_of_memory (table_fault (table_view table.now)) ≡ true }
+        → fault_may_be_out_of_memory (table_fault (table_view table.now)) ≡ true }
 {
     match table_fault(table) {
         Some(FoundFault::UnknownKey(key)) => {

@@ -3,8 +3,8 @@ ghost use Rattle.std.specs.Prelude.{◌≡◌, ◌==◌, ◌||◌, not, length, 
 ghost use Rattle.std.specs.List.{list_all};
 ghost use Rattle.std.specs.Option.{option_copied};
 ghost use Rattle.hx_fields.specs.Names.{is_blank, members_of_value};
-ghost use Rattle.hx_allow.specs.Tags.{is_tag, purge_tag_of, tag_to_purge};
-ghost use Rattle.hx_allow.specs.Tags.{comparisons_left, comparisons_left_after_lines, names_tag};
+ghost use Rattle.hx_allow.specs.Tags.{is_cache_tag, purge_tag_of, purge_tag_or_none};
+ghost use Rattle.hx_allow.specs.Tags.{tag_comparisons_left, tag_comparisons_left_after_lines, response_names_tag};
 
 use hx_fields::{Field, Fields, is_same_name, next_member};
 
@@ -24,36 +24,42 @@ fn may_stand_in_tags(text: &[u8]) -> bool
 }
 
 /// Whether a text may be a tag.
-fn is_tag(text: &[u8]) -> bool
-    ensures { result ≡ is_tag text.now }
+fn is_cache_tag(text: &[u8]) -> bool
+    ensures { result ≡ is_cache_tag text.now }
 {
     !text.is_empty() && may_stand_in_tags(text)
 }
 
 /// Whether the lines of a request ask for one tag, or for none.
-pub(crate) fn asks_for_a_tag_or_none(fields: &Fields) -> bool
+pub(crate) fn asks_for_one_purge_tag_or_none(fields: &Fields) -> bool
     ensures { result ≡ is_some (purge_tag_of fields.now) }
 {
     match fields.value(b"Purge-Tag") {
         None => true,
-        Some(_) => tag_to_purge(fields).is_some(),
+        Some(_) => purge_tag_or_none(fields).is_some(),
     }
 }
 
 /// The tag that a request to purge asks for.
-pub fn tag_to_purge(fields: &Fields) -> Option<&[u8]>
-    ensures { option_copied result ≡ tag_to_purge fields.now }
+pub fn purge_tag_or_none(fields: &Fields) -> Option<&[u8]>
+    ensures { option_copied result ≡ purge_tag_or_none fields.now }
 {
     match fields.only_value(b"Purge-Tag") {
         None => None,
-        Some(value) => { if is_tag(value) { Some(value) } else { None } }
+        Some(value) => {
+            if is_cache_tag(value) {
+                Some(value)
+            } else {
+                None
+            }
+        }
     }
 }
 
 /// How many more members may be looked at after those of this value, unless one of them is the tag or they are too
 /// many.
-fn comparisons_left(tag: &[u8], value: &[u8], left: usize) -> Option<usize>
-    ensures { result ≡ comparisons_left tag.now left (members_of_value value.now) }
+fn tag_comparisons_left(tag: &[u8], value: &[u8], left: usize) -> Option<usize>
+    ensures { result ≡ tag_comparisons_left tag.now left (members_of_value value.now) }
 {
     let mut rest = value;
     let mut left = left;
@@ -67,21 +73,21 @@ fn comparisons_left(tag: &[u8], value: &[u8], left: usize) -> Option<usize>
     Some(left)
 }
 
-fn comparisons_left_after_lines(tag: &[u8], fields: &[Field]) -> Option<usize>
-    ensures { result ≡ comparisons_left_after_lines tag.now 64 fields.now }
+fn tag_comparisons_left_after_lines(tag: &[u8], fields: &[Field]) -> Option<usize>
+    ensures { result ≡ tag_comparisons_left_after_lines tag.now 64 fields.now }
 {
     let mut left = MOST_TAGS;
     for line in fields {
         if is_same_name(line.name(), b"Cache-Tag") {
-            left = comparisons_left(tag, line.value(), left)?;
+            left = tag_comparisons_left(tag, line.value(), left)?;
         }
     }
     Some(left)
 }
 
 /// Whether the lines of a response name a tag. At most 64 members of Cache-Tag are looked at: of more each is named.
-pub fn names_tag(tag: &[u8], fields: &Fields) -> bool
-    ensures { result ≡ names_tag tag.now fields.now }
+pub fn response_names_tag(tag: &[u8], fields: &Fields) -> bool
+    ensures { result ≡ response_names_tag tag.now fields.now }
 {
-    comparisons_left_after_lines(tag, fields.as_slice()).is_none()
+    tag_comparisons_left_after_lines(tag, fields.as_slice()).is_none()
 }

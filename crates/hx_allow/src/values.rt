@@ -5,11 +5,11 @@ ghost use Rattle.std.specs.BTreeMap.{keys};
 ghost use Rattle.std.specs.Option.{option_copied};
 ghost use Rattle.toml.specs.Data.{get_member};
 ghost use Rattle.toml.specs.View.{table_view, array_view, items_view, view};
-ghost use Rattle.hx_allow.specs.Rows.{plain_row, plain_kind, greatest_number};
-ghost use Rattle.hx_allow.specs.Values.{is_known, is_key_of, first_unknown, text_at, items_at};
+ghost use Rattle.hx_allow.specs.Rows.{row_of_source, kind_of_source, greatest_number};
+ghost use Rattle.hx_allow.specs.Values.{is_known_key, is_row_key_in_version, first_unknown, text_of_key, items_of_key};
 ghost use Rattle.hx_allow.specs.Values.{number_between, number_in, count_is_from_1_to};
 
-use crate::rows::{LINE_KEYS, Row, TOP_KEYS};
+use crate::rows::{KeyDefinition, LINE_KEYS, TOP_KEYS};
 use toml::value::Array;
 use toml::{Table, Value};
 
@@ -20,7 +20,7 @@ pub enum TableVersion {
     One,
     /// A line may have the key `cache`.
     Two,
-    /// A line may have that key and those of `LineWord`, but for `error-lifetime`.
+    /// A line may have that key and those of `LineOption`, but for `error-lifetime`.
     Three,
     /// A line may have that one too, and the top may have `max_store`.
     Four,
@@ -35,8 +35,8 @@ pub enum Scope {
     Line(TableVersion),
 }
 
-fn is_known(scope: Scope, key: &[u8]) -> bool
-    ensures { result ≡ is_known scope key.now }
+fn is_known_key(scope: Scope, key: &[u8]) -> bool
+    ensures { result ≡ is_known_key scope key.now }
 {
     match scope {
         Scope::Top(version) => is_top_key(version, key),
@@ -45,7 +45,7 @@ fn is_known(scope: Scope, key: &[u8]) -> bool
 }
 
 fn is_top_key(version: TableVersion, key: &[u8]) -> bool
-    ensures { result ≡ is_known (Scope.Top version) key.now }
+    ensures { result ≡ is_known_key (Scope.Top version) key.now }
 {
     TOP_KEYS
         .iter()
@@ -53,14 +53,14 @@ fn is_top_key(version: TableVersion, key: &[u8]) -> bool
 }
 
 /// Whether a version has the key of the row, and this is it.
-fn is_row_of(version: TableVersion, key: &[u8], row: Row) -> bool
-    ensures { result ≡ is_key_of version key.now (plain_row row) }
+fn is_row_of(version: TableVersion, key: &[u8], row: KeyDefinition) -> bool
+    ensures { result ≡ is_row_key_in_version version key.now (row_of_source row) }
 {
     row.is_known_in(version) && key == row.key.as_bytes()
 }
 
 fn is_line_key(version: TableVersion, key: &[u8]) -> bool
-    ensures { result ≡ is_known (Scope.Line version) key.now }
+    ensures { result ≡ is_known_key (Scope.Line version) key.now }
 {
     LINE_KEYS
         .iter()
@@ -68,11 +68,11 @@ fn is_line_key(version: TableVersion, key: &[u8]) -> bool
 }
 
 fn unknown_key(scope: Scope, table: &Table) -> Option<&String>
-    ensures { option_copied result ≡ find (λ k. not (is_known scope (string_bytes k))) (keys table.now) }
+    ensures { option_copied result ≡ find (λ k. not (is_known_key scope (string_bytes k))) (keys table.now) }
 {
     table
         .keys()
-        .find(|k| !is_known(scope, k.as_str().as_bytes()))
+        .find(|k| !is_known_key(scope, k.as_str().as_bytes()))
 }
 
 /// The first key that isn't known. Keys ascend by their bytes, so it is the least.
@@ -86,27 +86,27 @@ pub fn first_unknown(scope: Scope, table: &Table) -> Option<&str>
 }
 
 /// The value of a key, where it stands.
-pub fn value_at<'a>(table: &'a Table, key: &str) -> Option<&'a Value>
+pub fn value_of_key<'a>(table: &'a Table, key: &str) -> Option<&'a Value>
     ensures { option_map (λ v. view v.now) result ≡ get_member key.now (table_view table.now) }
 {
     table.get(key)
 }
 
 /// The text of a key, where it has one.
-pub fn text_at<'a>(table: &'a Table, key: &str) -> Option<&'a str>
-    ensures { option_copied result ≡ text_at key.now (table_view table.now) }
+pub fn text_of_key<'a>(table: &'a Table, key: &str) -> Option<&'a str>
+    ensures { option_copied result ≡ text_of_key key.now (table_view table.now) }
 {
-    match value_at(table, key) {
+    match value_of_key(table, key) {
         Some(value) => value.as_str(),
         None => None,
     }
 }
 
 /// The array of a key, where it has one.
-pub fn array_at<'a>(table: &'a Table, key: &str) -> Option<&'a Array>
-    ensures { option_map (λ a. array_view a.now) result ≡ items_at key.now (table_view table.now) }
+pub fn array_of_key<'a>(table: &'a Table, key: &str) -> Option<&'a Array>
+    ensures { option_map (λ a. array_view a.now) result ≡ items_of_key key.now (table_view table.now) }
 {
-    match value_at(table, key) {
+    match value_of_key(table, key) {
         Some(value) => value.as_array(),
         None => None,
     }
@@ -117,16 +117,16 @@ pub fn number_between(table: &Table, key: &str, low: u64, high: u64) -> Option<u
     ensures number { result ≡ number_between low high (get_member key.now (table_view table.now)) }
     ensures bounded { IfSome result (λ n. n ≤ high) }
 {
-    match value_at(table, key) {
+    match value_of_key(table, key) {
         Some(value) => within(low, high, value.as_integer()),
         None => None,
     }
 }
 
 /// The number of a row's key, where it is whole and within its bounds.
-pub(crate) fn number_in(row: Row, table: &Table) -> Option<u64>
-    ensures number { result ≡ number_in (plain_row row) (table_view table.now) }
-    ensures bounded { IfSome result (λ n. n ≤ greatest_number (plain_kind row.kind)) }
+pub(crate) fn number_in(row: KeyDefinition, table: &Table) -> Option<u64>
+    ensures number { result ≡ number_in (row_of_source row) (table_view table.now) }
+    ensures bounded { IfSome result (λ n. n ≤ greatest_number (kind_of_source row.kind)) }
 {
     let (low, high) = row.kind.bounds();
     number_between(table, row.key, low, high)
@@ -143,9 +143,9 @@ fn within(low: u64, high: u64, number: Option<i64>) -> Option<u64>
 }
 
 /// The seconds of a row's key, where they are whole and within its bounds.
-pub(crate) fn seconds_in(row: Row, table: &Table) -> Option<u32>
-    requires { greatest_number (plain_kind row.kind) < 2 ^ 32 }
-    ensures { result ≡ number_in (plain_row row) (table_view table.now) }
+pub(crate) fn seconds_of_row(row: KeyDefinition, table: &Table) -> Option<u32>
+    requires { greatest_number (kind_of_source row.kind) < 2 ^ 32 }
+    ensures { result ≡ number_in (row_of_source row) (table_view table.now) }
 {
     match number_in(row, table) {
         Some(seconds) => Some(seconds as u32),

@@ -2,24 +2,28 @@
 ghost use Rattle.std.specs.Prelude.{◌≡◌, ◌∷◌, [], true, codes, None, Some};
 ghost use Rattle.toml.specs.Data.{boolean};
 ghost use Rattle.hx_allow.specs.Examples.{key_with_text, line_table_with_keys, denying_line_table_with, list_of_texts};
-ghost use Rattle.hx_allow.specs.Examples.{eight_names, varying_table};
-ghost use Rattle.hx_allow.specs.Keys.{word_key};
-ghost use Rattle.hx_allow.specs.LineTables.{line_fault, line_read};
-ghost use Rattle.hx_allow.specs.Matching.{vary_of};
+ghost use Rattle.hx_allow.specs.Examples.{eight_vary_names, table_with_vary_lines};
+ghost use Rattle.hx_allow.specs.Keys.{key_of_line_option};
+ghost use Rattle.hx_allow.specs.LineTables.{line_fault, line_of_members};
+ghost use Rattle.hx_allow.specs.Matching.{vary_names_of_line};
 ghost use Rattle.hx_allow.specs.declared.config_faults.ConfigFault.TheVariants.{BadWord, UnknownKey};
-ghost use Rattle.hx_allow.specs.declared.config_faults.LineWord.TheVariants.{SessionCookies, StaleWhileRevalidate};
-ghost use Rattle.hx_allow.specs.declared.config_faults.LineWord.TheVariants.{Vary};
+ghost use Rattle.hx_allow.specs.declared.config_faults.LineOption.TheVariants.{SessionCookies, StaleWhileRevalidate};
+ghost use Rattle.hx_allow.specs.declared.config_faults.LineOption.TheVariants.{Vary};
 ghost use Rattle.hx_allow.specs.declared.values.TableVersion.TheVariants.{Three, Four};
 
 /// What may stand there: 1 to 8 tokens but `*`, in a line of version 4 that has an origin and its cache on. It is
 /// looked at behind `stale-while-revalidate`. A `*` among the names of cookies is none either.
-#[tactic(auto, unfolding(crate::specs::LineTables::line_fault, crate::specs::LineTables::is_line_host, crate::specs::LineTables::is_line_method, crate::specs::LineTables::is_line_path, crate::specs::Addresses::address_of, hx_target::specs::Hosts::is_host, hx_target::specs::Hosts::short_number, hx_target::specs::Paths::has_dot_segment))]
+#[tactic(auto, unfolding(crate::specs::LineTables::line_fault, crate::specs::LineTables::is_line_host, crate::specs::LineTables::is_line_method, crate::specs::LineTables::is_line_path, crate::specs::Addresses::address_of, hx_target::specs::Hosts::is_host, hx_target::specs::Hosts::number_of_few_digits, hx_target::specs::Paths::has_dot_segment))]
 pub fn worked_names_of_vary()
-    ensures key { word_key Vary ≡ codes "vary" }
+    ensures key { key_of_line_option Vary ≡ codes "vary" }
     ensures one { line_fault Four 1
         (line_table_with_keys ((codes "vary", list_of_texts (codes "X-Forwarded-Proto" ∷ [])) ∷ [])) ≡ None }
-    ensures eight { line_fault Four 1 (line_table_with_keys ((codes "vary", list_of_texts eight_names) ∷ [])) ≡ None }
-    ensures nine { line_fault Four 1 (line_table_with_keys ((codes "vary", list_of_texts (codes "q" ∷ eight_names)) ∷ []))
+    ensures eight { line_fault Four 1 (line_table_with_keys ((codes "vary", list_of_texts eight_vary_names) ∷ [])) ≡ None }
+    ensures nine { line_fault Four 1 (line_table_with_keys ((
+      codes "vary",
+      list_of_texts (codes "q"
+          ∷ eight_vary_names),
+    ) ∷ []))
         ≡ Some (BadWord 1 Vary) }
     ensures none { line_fault Four 1 (line_table_with_keys ((codes "vary", list_of_texts []) ∷ []))
         ≡ Some (BadWord 1 Vary) }
@@ -48,16 +52,16 @@ pub fn worked_names_of_vary()
 {}
 
 /// What a line names: nothing where it doesn't say so.
-#[tactic(auto, unfolding(crate::specs::LineTables::line_read))]
+#[tactic(auto, unfolding(crate::specs::LineTables::line_of_members))]
 pub fn worked_vary_of_lines()
-    ensures named { (line_read Four (line_table_with_keys ((
+    ensures named { (line_of_members Four (line_table_with_keys ((
       codes "vary",
       list_of_texts (codes "X-Forwarded-Proto" ∷ codes "X-Device" ∷ []),
     ) ∷ []))).vary
         ≡ codes "X-Forwarded-Proto" ∷ codes "X-Device" ∷ [] }
-    ensures none { (line_read Four (line_table_with_keys [])).vary ≡ [] }
-    ensures of_the_first { vary_of varying_table.lines 1 ≡ codes "X-Forwarded-Proto" ∷ codes "X-Device" ∷ [] }
-    ensures of_the_second { vary_of varying_table.lines 2 ≡ [] }
-    ensures of_no_line { vary_of varying_table.lines 3 ≡ [] }
-    ensures of_number_0 { vary_of varying_table.lines 0 ≡ [] }
+    ensures none { (line_of_members Four (line_table_with_keys [])).vary ≡ [] }
+    ensures of_the_first { vary_names_of_line table_with_vary_lines.lines 1 ≡ codes "X-Forwarded-Proto" ∷ codes "X-Device" ∷ [] }
+    ensures of_the_second { vary_names_of_line table_with_vary_lines.lines 2 ≡ [] }
+    ensures of_no_line { vary_names_of_line table_with_vary_lines.lines 3 ≡ [] }
+    ensures of_number_0 { vary_names_of_line table_with_vary_lines.lines 0 ≡ [] }
 {}

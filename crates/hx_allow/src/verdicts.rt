@@ -1,11 +1,11 @@
 //! What the operator's table says of a request.
 ghost use Rattle.std.specs.Prelude.{◌≡◌};
-ghost use Rattle.hx_allow.specs.Index.{is_found_by};
-ghost use Rattle.hx_allow.specs.Matching.{over_line};
+ghost use Rattle.hx_allow.specs.Index.{verdict_is_at_or_before_line};
+ghost use Rattle.hx_allow.specs.Matching.{route_over};
 
 /// Over which line of the table a request goes, and whether past the store.
 #[derive(Clone, Copy, Debug, PartialEq, Eq, Hash)]
-pub struct Route {
+pub struct RequestRoute {
     /// The number of the line, counted from 1.
     pub number: u16,
     /// The request has one of the cookies that the line names: nothing stored is sent for it, its answer isn't stored,
@@ -13,12 +13,12 @@ pub struct Route {
     pub past_store: bool,
 }
 
-impl Route {
+impl RequestRoute {
     /// The way over a line for a request without such a cookie.
-    pub fn over(number: u16) -> Route
-        ensures { result ≡ over_line number }
+    pub fn over(number: u16) -> RequestRoute
+        ensures { result ≡ route_over number }
     {
-        Route {
+        RequestRoute {
             number,
             past_store: false,
         }
@@ -29,7 +29,7 @@ impl Route {
 #[derive(Clone, Copy, Debug, PartialEq, Eq, Hash)]
 pub enum Verdict {
     /// The first line that matches has an origin.
-    Allowed(Route),
+    Allowed(RequestRoute),
     /// The first line that matches denies, or purges and the request shows no key of its.
     DeniedBy(u16),
     /// No line matches, which denies too.
@@ -42,8 +42,8 @@ pub enum Verdict {
 
 impl Verdict {
     /// Whether the line that was found isn't behind the one with this number.
-    pub(crate) fn is_found_by(self, number: u16) -> bool
-        ensures { result ≡ is_found_by number self }
+    pub(crate) fn verdict_is_at_or_before_line(self, number: u16) -> bool
+        ensures { result ≡ verdict_is_at_or_before_line number self }
     {
         match self {
             Verdict::Allowed(route) => route.number <= number,

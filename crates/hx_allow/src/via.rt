@@ -2,8 +2,11 @@
 ghost use Rattle.std.specs.Prelude.{◌≡◌, ◌≤◌, ◌<◌, ◌+◌, ◌^◌, length, nat_le, if◌then◌else◌};
 ghost use Rattle.std.specs.List.{prefix_len};
 ghost use Rattle.hx_fields.specs.Names.{is_blank};
-ghost use Rattle.hx_allow.specs.Via.{via_place_after, is_comma_of_list, is_word_byte, without_blanks, received_by};
-ghost use Rattle.hx_allow.specs.Via.{comments_around, names_proxy, times_named_in, times_named, request_loops};
+ghost use Rattle.hx_allow.specs.Via.{via_place_after_byte, is_list_comma_at, is_via_word_byte, without_blanks};
+ghost use Rattle.hx_allow.specs.Via.{received_by_of_via_member};
+ghost use Rattle.hx_allow.specs.Via.{number_of_enclosing_comments, via_member_names_proxy, times_in_via_line};
+ghost use Rattle.hx_allow.specs.Via.{times_in_via};
+ghost use Rattle.hx_allow.specs.Via.{via_names_proxy_twice};
 
 use hx_fields::{Field, is_same_name};
 
@@ -22,7 +25,7 @@ pub(crate) enum ViaPlace {
 
 fn place_in_comment(around: usize, b: u8) -> ViaPlace
     requires { around + 1 < 2 ^ 64 }
-    ensures { result ≡ via_place_after (ViaPlace.Comment around) b }
+    ensures { result ≡ via_place_after_byte (ViaPlace.Comment around) b }
 {
     match b {
         b'(' => ViaPlace::Comment(around + 1),
@@ -34,9 +37,9 @@ fn place_in_comment(around: usize, b: u8) -> ViaPlace
 }
 
 /// Where the byte behind this one stands.
-fn via_place_after(place: ViaPlace, b: u8) -> ViaPlace
-    requires { comments_around place + 1 < 2 ^ 64 }
-    ensures { result ≡ via_place_after place b }
+fn via_place_after_byte(place: ViaPlace, b: u8) -> ViaPlace
+    requires { number_of_enclosing_comments place + 1 < 2 ^ 64 }
+    ensures { result ≡ via_place_after_byte place b }
 {
     match place {
         ViaPlace::Outside => match b {
@@ -55,8 +58,8 @@ fn via_place_after(place: ViaPlace, b: u8) -> ViaPlace
     }
 }
 
-fn is_comma_of_list(place: ViaPlace, b: u8) -> bool
-    ensures { result ≡ is_comma_of_list place b }
+fn is_list_comma_at(place: ViaPlace, b: u8) -> bool
+    ensures { result ≡ is_list_comma_at place b }
 {
     match place {
         ViaPlace::Outside => b == b',',
@@ -70,8 +73,8 @@ fn is_blank(b: u8) -> bool
     b == b' ' || b == b'\t'
 }
 
-fn is_word_byte(b: u8) -> bool
-    ensures { result ≡ is_word_byte b }
+fn is_via_word_byte(b: u8) -> bool
+    ensures { result ≡ is_via_word_byte b }
 {
     !(is_blank(b) || b == b'(')
 }
@@ -88,11 +91,11 @@ fn leading_blanks(text: &[u8]) -> usize
 }
 
 fn word_len(text: &[u8]) -> usize
-    ensures count { result ≡ prefix_len is_word_byte text.now }
+    ensures count { result ≡ prefix_len is_via_word_byte text.now }
     ensures bound { result ≤ length text.now }
 {
     let mut n = 0;
-    while n < text.len() && is_word_byte(text[n]) {
+    while n < text.len() && is_via_word_byte(text[n]) {
         n += 1;
     }
     n
@@ -105,30 +108,34 @@ fn without_blanks(text: &[u8]) -> &[u8]
 }
 
 /// By whom a member says that the request was received.
-fn received_by(member: &[u8]) -> &[u8]
-    ensures { result.now ≡ received_by member.now }
+fn received_by_of_via_member(member: &[u8]) -> &[u8]
+    ensures { result.now ≡ received_by_of_via_member member.now }
 {
     let protocol = without_blanks(member);
     let rest = without_blanks(&protocol[word_len(protocol)..]);
     &rest[..word_len(rest)]
 }
 
-fn names_proxy(name: &[u8], member: &[u8]) -> bool
-    ensures { result ≡ names_proxy name.now member.now }
+fn via_member_names_proxy(name: &[u8], member: &[u8]) -> bool
+    ensures { result ≡ via_member_names_proxy name.now member.now }
 {
-    is_same_name(received_by(member), name)
+    is_same_name(received_by_of_via_member(member), name)
 }
 
 fn one_if_named(name: &[u8], member: &[u8]) -> usize
-    ensures times { result ≡ (if names_proxy name.now member.now then 1 else 0) }
+    ensures times { result ≡ (if via_member_names_proxy name.now member.now then 1 else 0) }
     ensures bound { result ≤ 1 }
 {
-    if names_proxy(name, member) { 1 } else { 0 }
+    if via_member_names_proxy(name, member) {
+        1
+    } else {
+        0
+    }
 }
 
 /// How many members of a line name a proxy.
-fn times_named_in(name: &[u8], value: &[u8]) -> usize
-    ensures times { result ≡ times_named_in name.now value.now }
+fn times_in_via_line(name: &[u8], value: &[u8]) -> usize
+    ensures times { result ≡ times_in_via_line name.now value.now }
     ensures bound { result ≤ length value.now + 1 }
 {
     let mut place = ViaPlace::Outside;
@@ -137,11 +144,11 @@ fn times_named_in(name: &[u8], value: &[u8]) -> usize
     let mut i = 0;
     while i < value.len() {
         let b = value[i];
-        if is_comma_of_list(place, b) {
+        if is_list_comma_at(place, b) {
             found += one_if_named(name, &value[start..i]);
             start = i + 1;
         }
-        place = via_place_after(place, b);
+        place = via_place_after_byte(place, b);
         i += 1;
     }
     found + one_if_named(name, &value[start..])
@@ -150,12 +157,12 @@ fn times_named_in(name: &[u8], value: &[u8]) -> usize
 /// Whether these lines name a proxy so often, once or twice.
 fn is_named(name: &[u8], fields: &[Field], least: usize) -> bool
     requires { (1 ≤ least) × (least ≤ 2) }
-    ensures { result ≡ nat_le least (times_named name.now fields.now) }
+    ensures { result ≡ nat_le least (times_in_via name.now fields.now) }
 {
     let mut found = 0;
     for line in fields {
         if is_same_name(line.name(), b"Via") {
-            found += times_named_in(name, line.value());
+            found += times_in_via_line(name, line.value());
             if found >= least {
                 return true;
             }
@@ -165,15 +172,15 @@ fn is_named(name: &[u8], fields: &[Field], least: usize) -> bool
 }
 
 /// Whether a request with these lines was here twice already.
-pub(crate) fn request_loops(name: &[u8], fields: &[Field]) -> bool
-    ensures { result ≡ request_loops name.now fields.now }
+pub(crate) fn via_names_proxy_twice(name: &[u8], fields: &[Field]) -> bool
+    ensures { result ≡ via_names_proxy_twice name.now fields.now }
 {
     is_named(name, fields, 2)
 }
 
 /// Whether a request with these lines was here already.
-pub(crate) fn was_here(name: &[u8], fields: &[Field]) -> bool
-    ensures { result ≡ nat_le 1 (times_named name.now fields.now) }
+pub(crate) fn via_names_proxy(name: &[u8], fields: &[Field]) -> bool
+    ensures { result ≡ nat_le 1 (times_in_via name.now fields.now) }
 {
     is_named(name, fields, 1)
 }

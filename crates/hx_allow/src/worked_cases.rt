@@ -8,24 +8,24 @@ ghost use Rattle.hx_allow.specs.Examples.{target_for_path, repeated_byte, first_
 ghost use Rattle.hx_allow.specs.Examples.{line_without_cache, repeated_value};
 ghost use Rattle.hx_allow.specs.Examples.{key_with_number, array_of_values, table_of_pairs, origin_8081};
 ghost use Rattle.hx_allow.specs.Examples.{line_with_method, several_lines, key_with_text};
-ghost use Rattle.hx_allow.specs.Index.{names_exact_host, is_every, line_numbers_of, verdict_among};
-ghost use Rattle.hx_allow.specs.Keys.{fault_number, key_text};
-ghost use Rattle.hx_allow.specs.LineHosts.{matches_host};
-ghost use Rattle.hx_allow.specs.LineTables.{are_texts_of, is_line_host, is_line_method, is_line_origin};
+ghost use Rattle.hx_allow.specs.Index.{is_exactly_host, is_for_every_host, line_numbers_with, verdict_by_line_numbers};
+ghost use Rattle.hx_allow.specs.Keys.{config_fault_number, key_text};
+ghost use Rattle.hx_allow.specs.LineHosts.{line_host_matches};
+ghost use Rattle.hx_allow.specs.LineTables.{are_texts_of_kind, is_line_host, is_line_method, is_line_origin};
 ghost use Rattle.hx_allow.specs.LineTables.{is_line_path};
-ghost use Rattle.hx_allow.specs.Matching.{line_policy, over_line, matches_method, matches_path};
+ghost use Rattle.hx_allow.specs.Matching.{line_policy, route_over, matches_method, matches_path};
 ghost use Rattle.hx_allow.specs.Matching.{origin_of, origin_address_of, verdict_of};
 ghost use Rattle.hx_allow.specs.PathTails.{path_may_match_tail, path_tail_of};
-ghost use Rattle.hx_allow.specs.NeverReached.{first_line_taking, takes_each_request_of};
+ghost use Rattle.hx_allow.specs.NeverReached.{first_covering_line, line_covers_line};
 ghost use Rattle.hx_allow.specs.Rows.{some_methods};
-ghost use Rattle.hx_allow.specs.Tables.{is_name, number_at};
-ghost use Rattle.hx_allow.specs.Values.{is_known, items_at, number_between, text_at};
+ghost use Rattle.hx_allow.specs.Tables.{is_name, number_of_key};
+ghost use Rattle.hx_allow.specs.Values.{is_known_key, items_of_key, number_between, text_of_key};
 ghost use Rattle.hx_allow.specs.declared.config_faults.ConfigFault.TheVariants.{NotToml, UnknownKey, BadName};
 ghost use Rattle.hx_allow.specs.declared.config_faults.ConfigFault.TheVariants.{BadNumber};
 ghost use Rattle.hx_allow.specs.declared.config_faults.ConfigFault.TheVariants.{BadHost, BadMethod, BadPath, BadOrigin};
 ghost use Rattle.hx_allow.specs.declared.config_faults.ConfigFault.TheVariants.{NoLines, OutOfMemory, BadCache};
 ghost use Rattle.hx_allow.specs.declared.config_faults.ConfigFault.TheVariants.{BadWord, MethodInLowerCase, StarInPath};
-ghost use Rattle.hx_allow.specs.declared.config_faults.LineWord.TheVariants.{Lifetime};
+ghost use Rattle.hx_allow.specs.declared.config_faults.LineOption.TheVariants.{Lifetime};
 ghost use Rattle.hx_allow.specs.declared.config_faults.NumberKey.TheVariants.{Version, Capacity, MaxBody, MaxStored};
 ghost use Rattle.hx_allow.specs.declared.config_faults.NumberKey.TheVariants.{MaxStore};
 ghost use Rattle.hx_allow.specs.declared.line_hosts.LineHost.TheVariants.{Every, One as OneHost};
@@ -34,79 +34,79 @@ ghost use Rattle.hx_allow.specs.declared.values.TableVersion.TheVariants.{One, T
 ghost use Rattle.hx_allow.specs.declared.verdicts.Verdict.TheVariants.{Allowed, DeniedBy, NoLine};
 
 /// The numbers of the faults.
-pub fn faults_have_these_numbers()
-    ensures not_toml { fault_number NotToml ≡ 1 }
-    ensures unknown_key { fault_number (UnknownKey []) ≡ 2 }
-    ensures bad_name { fault_number BadName ≡ 3 }
-    ensures bad_number { fault_number (BadNumber Version) ≡ 4 }
-    ensures bad_host { fault_number (BadHost 1) ≡ 5 }
-    ensures bad_method { fault_number (BadMethod 1) ≡ 6 }
-    ensures bad_path { fault_number (BadPath 1) ≡ 7 }
-    ensures bad_origin { fault_number (BadOrigin 1) ≡ 8 }
-    ensures no_lines { fault_number NoLines ≡ 9 }
-    ensures out_of_memory { fault_number OutOfMemory ≡ 10 }
-    ensures bad_cache { fault_number (BadCache 1) ≡ 11 }
-    ensures bad_word { fault_number (BadWord 1 Lifetime) ≡ 12 }
-    ensures method_in_lower_case { fault_number (MethodInLowerCase 1) ≡ 13 }
-    ensures star_in_path { fault_number (StarInPath 1) ≡ 14 }
+pub fn worked_config_fault_numbers()
+    ensures not_toml { config_fault_number NotToml ≡ 1 }
+    ensures unknown_key { config_fault_number (UnknownKey []) ≡ 2 }
+    ensures bad_name { config_fault_number BadName ≡ 3 }
+    ensures bad_number { config_fault_number (BadNumber Version) ≡ 4 }
+    ensures bad_host { config_fault_number (BadHost 1) ≡ 5 }
+    ensures bad_method { config_fault_number (BadMethod 1) ≡ 6 }
+    ensures bad_path { config_fault_number (BadPath 1) ≡ 7 }
+    ensures bad_origin { config_fault_number (BadOrigin 1) ≡ 8 }
+    ensures no_lines { config_fault_number NoLines ≡ 9 }
+    ensures out_of_memory { config_fault_number OutOfMemory ≡ 10 }
+    ensures bad_cache { config_fault_number (BadCache 1) ≡ 11 }
+    ensures bad_word { config_fault_number (BadWord 1 Lifetime) ≡ 12 }
+    ensures method_in_lower_case { config_fault_number (MethodInLowerCase 1) ≡ 13 }
+    ensures star_in_path { config_fault_number (StarInPath 1) ≡ 14 }
 {}
 
 /// The keys at the top of a table, and others.
 pub fn worked_keys_at_the_top()
-    ensures version { is_known (Top Four) (codes "version") ≡ true }
-    ensures name { is_known (Top Four) (codes "name") ≡ true }
-    ensures capacity { is_known (Top Four) (codes "capacity") ≡ true }
-    ensures max_body { is_known (Top Four) (codes "max_body") ≡ true }
-    ensures max_stored { is_known (Top Four) (codes "max_stored") ≡ true }
-    ensures max_store { is_known (Top Four) (codes "max_store") ≡ true }
-    ensures max_store_of_three { is_known (Top Three) (codes "max_store") ≡ false }
-    ensures max_store_of_one { is_known (Top One) (codes "max_store") ≡ false }
-    ensures max_stored_of_one { is_known (Top One) (codes "max_stored") ≡ true }
-    ensures line { is_known (Top Four) (codes "line") ≡ true }
-    ensures colour { is_known (Top Four) (codes "colour") ≡ false }
-    ensures host { is_known (Top Four) (codes "host") ≡ false }
-    ensures methods { is_known (Top Four) (codes "methods") ≡ false }
-    ensures path { is_known (Top Four) (codes "path") ≡ false }
-    ensures origin { is_known (Top Four) (codes "origin") ≡ false }
-    ensures cache { is_known (Top Four) (codes "cache") ≡ false }
-    ensures upper { is_known (Top Four) (codes "Version") ≡ false }
-    ensures shorter { is_known (Top Four) (codes "lin") ≡ false }
-    ensures longer { is_known (Top Four) (codes "lines") ≡ false }
-    ensures empty { is_known (Top Four) [] ≡ false }
+    ensures version { is_known_key (Top Four) (codes "version") ≡ true }
+    ensures name { is_known_key (Top Four) (codes "name") ≡ true }
+    ensures capacity { is_known_key (Top Four) (codes "capacity") ≡ true }
+    ensures max_body { is_known_key (Top Four) (codes "max_body") ≡ true }
+    ensures max_stored { is_known_key (Top Four) (codes "max_stored") ≡ true }
+    ensures max_store { is_known_key (Top Four) (codes "max_store") ≡ true }
+    ensures max_store_of_three { is_known_key (Top Three) (codes "max_store") ≡ false }
+    ensures max_store_of_one { is_known_key (Top One) (codes "max_store") ≡ false }
+    ensures max_stored_of_one { is_known_key (Top One) (codes "max_stored") ≡ true }
+    ensures line { is_known_key (Top Four) (codes "line") ≡ true }
+    ensures colour { is_known_key (Top Four) (codes "colour") ≡ false }
+    ensures host { is_known_key (Top Four) (codes "host") ≡ false }
+    ensures methods { is_known_key (Top Four) (codes "methods") ≡ false }
+    ensures path { is_known_key (Top Four) (codes "path") ≡ false }
+    ensures origin { is_known_key (Top Four) (codes "origin") ≡ false }
+    ensures cache { is_known_key (Top Four) (codes "cache") ≡ false }
+    ensures upper { is_known_key (Top Four) (codes "Version") ≡ false }
+    ensures shorter { is_known_key (Top Four) (codes "lin") ≡ false }
+    ensures longer { is_known_key (Top Four) (codes "lines") ≡ false }
+    ensures empty { is_known_key (Top Four) [] ≡ false }
 {}
 
 /// The keys of a line: `cache` is one from the second version on.
 pub fn worked_keys_of_a_line()
-    ensures host { is_known (Line One) (codes "host") ≡ true }
-    ensures methods { is_known (Line One) (codes "methods") ≡ true }
-    ensures path { is_known (Line One) (codes "path") ≡ true }
-    ensures origin { is_known (Line One) (codes "origin") ≡ true }
-    ensures cache { is_known (Line One) (codes "cache") ≡ false }
-    ensures cache_of_two { is_known (Line Two) (codes "cache") ≡ true }
-    ensures host_of_two { is_known (Line Two) (codes "host") ≡ true }
-    ensures methods_of_two { is_known (Line Two) (codes "methods") ≡ true }
-    ensures path_of_two { is_known (Line Two) (codes "path") ≡ true }
-    ensures origin_of_two { is_known (Line Two) (codes "origin") ≡ true }
-    ensures name { is_known (Line Two) (codes "name") ≡ false }
-    ensures version { is_known (Line Two) (codes "version") ≡ false }
-    ensures line { is_known (Line Two) (codes "line") ≡ false }
-    ensures one { is_known (Line Two) (codes "method") ≡ false }
+    ensures host { is_known_key (Line One) (codes "host") ≡ true }
+    ensures methods { is_known_key (Line One) (codes "methods") ≡ true }
+    ensures path { is_known_key (Line One) (codes "path") ≡ true }
+    ensures origin { is_known_key (Line One) (codes "origin") ≡ true }
+    ensures cache { is_known_key (Line One) (codes "cache") ≡ false }
+    ensures cache_of_two { is_known_key (Line Two) (codes "cache") ≡ true }
+    ensures host_of_two { is_known_key (Line Two) (codes "host") ≡ true }
+    ensures methods_of_two { is_known_key (Line Two) (codes "methods") ≡ true }
+    ensures path_of_two { is_known_key (Line Two) (codes "path") ≡ true }
+    ensures origin_of_two { is_known_key (Line Two) (codes "origin") ≡ true }
+    ensures name { is_known_key (Line Two) (codes "name") ≡ false }
+    ensures version { is_known_key (Line Two) (codes "version") ≡ false }
+    ensures line { is_known_key (Line Two) (codes "line") ≡ false }
+    ensures one { is_known_key (Line Two) (codes "method") ≡ false }
 {}
 
 /// The text of a key is a string; a number isn't one.
-pub fn texts_are_strings()
-    ensures is_present { text_at (codes "name")
+pub fn worked_texts_of_keys()
+    ensures is_present { text_of_key (codes "name")
         (table_of_pairs (key_with_number (codes "capacity") 2 ∷ key_with_text (codes "name") (codes "edge") ∷ [])) ≡ Some (codes "edge") }
-    ensures missing { text_at (codes "name") (table_of_pairs (key_with_number (codes "capacity") 2 ∷ [])) ≡ None }
-    ensures a_number { text_at (codes "name") (table_of_pairs (key_with_number (codes "name") 2 ∷ [])) ≡ None }
-    ensures a_list { text_at (codes "name") (table_of_pairs
+    ensures missing { text_of_key (codes "name") (table_of_pairs (key_with_number (codes "capacity") 2 ∷ [])) ≡ None }
+    ensures a_number { text_of_key (codes "name") (table_of_pairs (key_with_number (codes "name") 2 ∷ [])) ≡ None }
+    ensures a_list { text_of_key (codes "name") (table_of_pairs
         ((codes "name", array (array_of_values (string (codes "edge") ∷ []))) ∷ [])) ≡ None }
-    ensures items { items_at (codes "line") (table_of_pairs ((codes "line", array no_items) ∷ [])) ≡ Some no_items }
-    ensures no_items { items_at (codes "line") (table_of_pairs ((codes "line", table no_members) ∷ [])) ≡ None }
+    ensures items { items_of_key (codes "line") (table_of_pairs ((codes "line", array no_items) ∷ [])) ≡ Some no_items }
+    ensures no_items { items_of_key (codes "line") (table_of_pairs ((codes "line", table no_members) ∷ [])) ≡ None }
 {}
 
 /// Numbers within bounds, and beside them.
-pub fn numbers_are_whole_and_within_bounds()
+pub fn worked_numbers_within_bounds()
     ensures least { number_between 1 65536 (Some (integer (pos 1))) ≡ Some 1 }
     ensures greatest { number_between 1 65536 (Some (integer (pos 65536))) ≡ Some 65536 }
     ensures below { number_between 1 65536 (Some (integer (pos 0))) ≡ None }
@@ -118,32 +118,34 @@ pub fn numbers_are_whole_and_within_bounds()
 {}
 
 /// The least and the greatest number of each key, and those beside them.
-pub fn bounds_of_the_numbers()
-    ensures version_0 { number_at Version (table_of_pairs (key_with_number (codes "version") 0 ∷ [])) ≡ None }
-    ensures version_1 { number_at Version (table_of_pairs (key_with_number (codes "version") 1 ∷ [])) ≡ Some 1 }
-    ensures version_2 { number_at Version (table_of_pairs (key_with_number (codes "version") 2 ∷ [])) ≡ Some 2 }
-    ensures version_3 { number_at Version (table_of_pairs (key_with_number (codes "version") 3 ∷ [])) ≡ Some 3 }
-    ensures version_4 { number_at Version (table_of_pairs (key_with_number (codes "version") 4 ∷ [])) ≡ Some 4 }
-    ensures version_5 { number_at Version (table_of_pairs (key_with_number (codes "version") 5 ∷ [])) ≡ None }
-    ensures capacity_0 { number_at Capacity (table_of_pairs (key_with_number (codes "capacity") 0 ∷ [])) ≡ None }
-    ensures capacity_1 { number_at Capacity (table_of_pairs (key_with_number (codes "capacity") 1 ∷ [])) ≡ Some 1 }
-    ensures capacity_65536 { number_at Capacity (table_of_pairs (key_with_number (codes "capacity") 65536 ∷ [])) ≡ Some 65536 }
-    ensures capacity_65537 { number_at Capacity (table_of_pairs (key_with_number (codes "capacity") 65537 ∷ [])) ≡ None }
-    ensures max_body_0 { number_at MaxBody (table_of_pairs (key_with_number (codes "max_body") 0 ∷ [])) ≡ Some 0 }
-    ensures max_body_16777216 { number_at MaxBody (table_of_pairs (key_with_number (codes "max_body") 16777216 ∷ []))
-        ≡ Some 16777216 }
-    ensures max_body_16777217 { number_at MaxBody (table_of_pairs (key_with_number (codes "max_body") 16777217 ∷ [])) ≡ None }
-    ensures max_stored_0 { number_at MaxStored (table_of_pairs (key_with_number (codes "max_stored") 0 ∷ [])) ≡ Some 0 }
-    ensures max_stored_16777216 { number_at MaxStored
-        (table_of_pairs (key_with_number (codes "max_stored") 16777216 ∷ [])) ≡ Some 16777216 }
-    ensures max_stored_16777217 { number_at MaxStored
-        (table_of_pairs (key_with_number (codes "max_stored") 16777217 ∷ [])) ≡ None }
-    ensures max_store_65535 { number_at MaxStore (table_of_pairs (key_with_number (codes "max_store") 65535 ∷ [])) ≡ None }
-    ensures max_store_65536 { number_at MaxStore (table_of_pairs (key_with_number (codes "max_store") 65536 ∷ []))
+pub fn worked_bounds_of_top_numbers()
+    ensures version_0 { number_of_key Version (table_of_pairs (key_with_number (codes "version") 0 ∷ [])) ≡ None }
+    ensures version_1 { number_of_key Version (table_of_pairs (key_with_number (codes "version") 1 ∷ [])) ≡ Some 1 }
+    ensures version_2 { number_of_key Version (table_of_pairs (key_with_number (codes "version") 2 ∷ [])) ≡ Some 2 }
+    ensures version_3 { number_of_key Version (table_of_pairs (key_with_number (codes "version") 3 ∷ [])) ≡ Some 3 }
+    ensures version_4 { number_of_key Version (table_of_pairs (key_with_number (codes "version") 4 ∷ [])) ≡ Some 4 }
+    ensures version_5 { number_of_key Version (table_of_pairs (key_with_number (codes "version") 5 ∷ [])) ≡ None }
+    ensures capacity_0 { number_of_key Capacity (table_of_pairs (key_with_number (codes "capacity") 0 ∷ [])) ≡ None }
+    ensures capacity_1 { number_of_key Capacity (table_of_pairs (key_with_number (codes "capacity") 1 ∷ [])) ≡ Some 1 }
+    ensures capacity_65536 { number_of_key Capacity (table_of_pairs (key_with_number (codes "capacity") 65536 ∷ []))
         ≡ Some 65536 }
-    ensures max_store_1099511627776 { number_at MaxStore
+    ensures capacity_65537 { number_of_key Capacity (table_of_pairs (key_with_number (codes "capacity") 65537 ∷ [])) ≡ None }
+    ensures max_body_0 { number_of_key MaxBody (table_of_pairs (key_with_number (codes "max_body") 0 ∷ [])) ≡ Some 0 }
+    ensures max_body_16777216 { number_of_key MaxBody (table_of_pairs (key_with_number (codes "max_body") 16777216 ∷ []))
+        ≡ Some 16777216 }
+    ensures max_body_16777217 { number_of_key MaxBody (table_of_pairs (key_with_number (codes "max_body") 16777217
+        ∷ [])) ≡ None }
+    ensures max_stored_0 { number_of_key MaxStored (table_of_pairs (key_with_number (codes "max_stored") 0 ∷ [])) ≡ Some 0 }
+    ensures max_stored_16777216 { number_of_key MaxStored
+        (table_of_pairs (key_with_number (codes "max_stored") 16777216 ∷ [])) ≡ Some 16777216 }
+    ensures max_stored_16777217 { number_of_key MaxStored
+        (table_of_pairs (key_with_number (codes "max_stored") 16777217 ∷ [])) ≡ None }
+    ensures max_store_65535 { number_of_key MaxStore (table_of_pairs (key_with_number (codes "max_store") 65535 ∷ [])) ≡ None }
+    ensures max_store_65536 { number_of_key MaxStore (table_of_pairs (key_with_number (codes "max_store") 65536 ∷ []))
+        ≡ Some 65536 }
+    ensures max_store_1099511627776 { number_of_key MaxStore
         (table_of_pairs (key_with_number (codes "max_store") 1099511627776 ∷ [])) ≡ Some 1099511627776 }
-    ensures max_store_1099511627777 { number_at MaxStore
+    ensures max_store_1099511627777 { number_of_key MaxStore
         (table_of_pairs (key_with_number (codes "max_store") 1099511627777 ∷ [])) ≡ None }
 {}
 
@@ -198,13 +200,13 @@ pub fn worked_methods_of_lines()
 /// A line has 1 to 32 methods, each of which is good.
 #[tactic(auto, unfolding(crate::specs::LineTables::is_line_method))]
 pub fn a_line_has_1_to_32_methods()
-    ensures none { are_texts_of One some_methods no_items ≡ false }
-    ensures one { are_texts_of One some_methods (repeated_value 1 (string (codes "GET"))) ≡ true }
-    ensures of_32 { are_texts_of One some_methods (repeated_value 32 (string (codes "GET"))) ≡ true }
-    ensures of_33 { are_texts_of One some_methods (repeated_value 33 (string (codes "GET"))) ≡ false }
-    ensures second_bad { are_texts_of One some_methods
+    ensures none { are_texts_of_kind One some_methods no_items ≡ false }
+    ensures one { are_texts_of_kind One some_methods (repeated_value 1 (string (codes "GET"))) ≡ true }
+    ensures of_32 { are_texts_of_kind One some_methods (repeated_value 32 (string (codes "GET"))) ≡ true }
+    ensures of_33 { are_texts_of_kind One some_methods (repeated_value 33 (string (codes "GET"))) ≡ false }
+    ensures second_bad { are_texts_of_kind One some_methods
         (array_of_values (string (codes "GET") ∷ string (codes "TRACE") ∷ [])) ≡ false }
-    ensures first_bad { are_texts_of One some_methods
+    ensures first_bad { are_texts_of_kind One some_methods
         (array_of_values (integer (pos 1) ∷ string (codes "GET") ∷ [])) ≡ false }
 {}
 
@@ -234,7 +236,7 @@ pub fn worked_paths_of_lines()
 {}
 
 /// Numbers in addresses are decimal, without leading zeros.
-#[tactic(auto, unfolding(hx_target::specs::Hosts::short_number))]
+#[tactic(auto, unfolding(hx_target::specs::Hosts::number_of_few_digits))]
 pub fn worked_numbers_in_addresses()
     ensures zero { is_decimal_within 0 255 (codes "0") ≡ true }
     ensures greatest { is_decimal_within 0 255 (codes "255") ≡ true }
@@ -249,7 +251,7 @@ pub fn worked_numbers_in_addresses()
 {}
 
 /// Addresses of origins.
-#[tactic(auto, unfolding(crate::specs::Addresses::address_of, hx_target::specs::Hosts::short_number))]
+#[tactic(auto, unfolding(crate::specs::Addresses::address_of, hx_target::specs::Hosts::number_of_few_digits))]
 pub fn worked_addresses_of_origins()
     ensures first_run { is_address (codes "127.0.0.1:8081") ≡ true }
     ensures least { is_address (codes "0.0.0.0:1") ≡ true }
@@ -272,7 +274,7 @@ pub fn worked_addresses_of_origins()
 {}
 
 /// The addresses that texts and lines spell.
-#[tactic(auto, unfolding(crate::specs::Addresses::address_of, hx_target::specs::Hosts::short_number))]
+#[tactic(auto, unfolding(crate::specs::Addresses::address_of, hx_target::specs::Hosts::number_of_few_digits))]
 pub fn worked_addresses_that_are_read()
     ensures first_run { address_of (codes "127.0.0.1:8081") ≡ Some (address_of_numbers 127 0 0 1 8081) }
     ensures five_numbers { address_of (codes "1.20.255.0:65535") ≡ Some (address_of_numbers 1 20 255 0 65535) }
@@ -282,7 +284,7 @@ pub fn worked_addresses_that_are_read()
 {}
 
 /// Origins of lines: `deny`, or an address.
-#[tactic(auto, unfolding(crate::specs::Addresses::address_of, hx_target::specs::Hosts::short_number))]
+#[tactic(auto, unfolding(crate::specs::Addresses::address_of, hx_target::specs::Hosts::number_of_few_digits))]
 pub fn worked_origins_of_lines()
     ensures deny { is_line_origin Four (codes "deny") ≡ true }
     ensures address { is_line_origin Four (codes "127.0.0.1:8081") ≡ true }
@@ -293,12 +295,12 @@ pub fn worked_origins_of_lines()
 
 /// Hosts compare by their bytes, and a line without one matches each.
 pub fn worked_hosts_that_match()
-    ensures any { matches_host Every (codes "h") ≡ true }
-    ensures same { matches_host (OneHost (codes "x")) (codes "x") ≡ true }
-    ensures other { matches_host (OneHost (codes "x")) (codes "h") ≡ false }
-    ensures longer { matches_host (OneHost (codes "x")) (codes "xy") ≡ false }
-    ensures within { matches_host (OneHost (codes "x.y")) (codes "a.x.y") ≡ false }
-    ensures final_dot { matches_host (OneHost (codes "x")) (codes "x.") ≡ false }
+    ensures any { line_host_matches Every (codes "h") ≡ true }
+    ensures same { line_host_matches (OneHost (codes "x")) (codes "x") ≡ true }
+    ensures other { line_host_matches (OneHost (codes "x")) (codes "h") ≡ false }
+    ensures longer { line_host_matches (OneHost (codes "x")) (codes "xy") ≡ false }
+    ensures within { line_host_matches (OneHost (codes "x.y")) (codes "a.x.y") ≡ false }
+    ensures final_dot { line_host_matches (OneHost (codes "x")) (codes "x.") ≡ false }
 {}
 
 /// Methods compare with their case (RFC 9110, section 9.1); `*` is every method but three.
@@ -334,11 +336,11 @@ pub fn worked_paths_that_match()
 
 /// The first line decides, also against a later one that allows; an escape in the asked path hides nothing.
 #[tactic(auto, unfolding(crate::specs::Matching::verdict_of, crate::specs::Matching::matches_line))]
-pub fn the_first_line_denies()
+pub fn worked_first_line_denies()
     ensures escaped { verdict_of first_line_denies (codes "GET") (target_for_path (codes "h") (codes "/%61dmin")) ≡ DeniedBy 1 }
     ensures head { verdict_of first_line_denies (codes "HEAD") (target_for_path (codes "h") (codes "/%61dmin")) ≡ DeniedBy 1 }
     ensures other_path { verdict_of first_line_denies (codes "GET") (target_for_path (codes "h") (codes "/admins"))
-        ≡ Allowed (over_line 2) }
+        ≡ Allowed (route_over 2) }
     ensures other_method { verdict_of first_line_denies (codes "POST") (target_for_path (codes "h") (codes "/x")) ≡ NoLine }
     ensures connect { verdict_of first_line_denies (codes "CONNECT") (target_for_path (codes "h") (codes "/admin")) ≡ NoLine }
     ensures no_lines { verdict_of [] (codes "GET") (target_for_path (codes "h") (codes "/x")) ≡ NoLine }
@@ -346,39 +348,42 @@ pub fn the_first_line_denies()
 
 /// A line for every host and one for one of them.
 #[tactic(auto, unfolding(crate::specs::Matching::verdict_of, crate::specs::Matching::matches_line))]
-pub fn several_lines_decide()
+pub fn worked_verdicts_of_several_lines()
     ensures denied { verdict_of several_lines (codes "GET") (target_for_path (codes "h") (codes "/admin/x")) ≡ DeniedBy 1 }
     ensures allowed { verdict_of several_lines (codes "GET") (target_for_path (codes "x") (codes "/admins"))
-        ≡ Allowed (over_line 2) }
+        ≡ Allowed (route_over 2) }
     ensures no_line { verdict_of several_lines (codes "GET") (target_for_path (codes "h") (codes "/b")) ≡ NoLine }
     ensures other_port { verdict_of several_lines (codes "GET") (record (target_for_path (codes "x") (codes "/b")) {
       key = record { host = codes "x"; port = 8080; path_query = codes "/b?q" };
-    }) ≡ Allowed (over_line 2) }
+    }) ≡ Allowed (route_over 2) }
 {}
 
 /// Lines of one host around one for every host: those that a host can match, and which of them decides.
 #[tactic(auto, unfolding(crate::specs::Matching::verdict_of, crate::specs::Matching::matches_line))]
-pub fn lines_of_a_host_decide()
+pub fn worked_verdicts_of_indexed_lines()
     ensures denied { verdict_of indexed_lines (codes "GET") (target_for_path (codes "x") (codes "/p/q")) ≡ DeniedBy 1 }
     ensures for_every_host { verdict_of indexed_lines (codes "GET") (target_for_path (codes "x") (codes "/"))
-        ≡ Allowed (over_line 2) }
+        ≡ Allowed (route_over 2) }
     ensures behind_it { verdict_of indexed_lines (codes "POST") (target_for_path (codes "x") (codes "/"))
-        ≡ Allowed (over_line 3) }
+        ≡ Allowed (route_over 3) }
     ensures other_host { verdict_of indexed_lines (codes "POST") (target_for_path (codes "y") (codes "/")) ≡ NoLine }
-    ensures numbers { line_numbers_of (names_exact_host (codes "x")) indexed_lines ≡ 1 ∷ 3 ∷ [] }
-    ensures numbers_of_others { line_numbers_of (names_exact_host (codes "y")) indexed_lines ≡ [] }
-    ensures numbers_for_every_host { line_numbers_of is_every indexed_lines ≡ 2 ∷ [] }
-    ensures among { verdict_among indexed_lines (1 ∷ 2 ∷ 3 ∷ []) (codes "POST") (codes "/") NoLine ≡ Allowed (over_line 3) }
-    ensures among_others { verdict_among indexed_lines (2 ∷ []) (codes "POST") (codes "/") NoLine ≡ NoLine }
-    ensures among_none { verdict_among indexed_lines (0 ∷ 4 ∷ []) (codes "GET") (codes "/") NoLine ≡ NoLine }
-    ensures behind_a_missing_one { verdict_among indexed_lines (4 ∷ 2 ∷ []) (codes "GET") (codes "/") NoLine
-        ≡ Allowed (over_line 2) }
-    ensures among_denied { verdict_among indexed_lines (1 ∷ 2 ∷ []) (codes "GET") (codes "/p/q") NoLine ≡ DeniedBy 1 }
-    ensures in_front { verdict_among indexed_lines (2 ∷ []) (codes "GET") (codes "/") (Allowed (over_line 3))
-        ≡ Allowed (over_line 2) }
-    ensures found_in_front { verdict_among indexed_lines (2 ∷ []) (codes "GET") (codes "/") (DeniedBy 1) ≡ DeniedBy 1 }
-    ensures found_alone { verdict_among indexed_lines (2 ∷ []) (codes "POST") (codes "/") (Allowed (over_line 3))
-        ≡ Allowed (over_line 3) }
+    ensures numbers { line_numbers_with (is_exactly_host (codes "x")) indexed_lines ≡ 1 ∷ 3 ∷ [] }
+    ensures numbers_of_others { line_numbers_with (is_exactly_host (codes "y")) indexed_lines ≡ [] }
+    ensures numbers_for_every_host { line_numbers_with is_for_every_host indexed_lines ≡ 2 ∷ [] }
+    ensures among { verdict_by_line_numbers indexed_lines (1 ∷ 2 ∷ 3 ∷ []) (codes "POST") (codes "/") NoLine
+        ≡ Allowed (route_over 3) }
+    ensures among_others { verdict_by_line_numbers indexed_lines (2 ∷ []) (codes "POST") (codes "/") NoLine ≡ NoLine }
+    ensures among_none { verdict_by_line_numbers indexed_lines (0 ∷ 4 ∷ []) (codes "GET") (codes "/") NoLine ≡ NoLine }
+    ensures behind_a_missing_one { verdict_by_line_numbers indexed_lines (4 ∷ 2 ∷ []) (codes "GET") (codes "/") NoLine
+        ≡ Allowed (route_over 2) }
+    ensures among_denied { verdict_by_line_numbers indexed_lines (1 ∷ 2 ∷ []) (codes "GET") (codes "/p/q") NoLine
+        ≡ DeniedBy 1 }
+    ensures in_front { verdict_by_line_numbers indexed_lines (2 ∷ []) (codes "GET") (codes "/") (Allowed (route_over 3))
+        ≡ Allowed (route_over 2) }
+    ensures found_in_front { verdict_by_line_numbers indexed_lines (2 ∷ []) (codes "GET") (codes "/") (DeniedBy 1)
+        ≡ DeniedBy 1 }
+    ensures found_alone { verdict_by_line_numbers indexed_lines (2 ∷ []) (codes "POST") (codes "/") (Allowed (route_over 3))
+        ≡ Allowed (route_over 3) }
 {}
 
 /// Which lines are cached, and which say nothing.
@@ -417,35 +422,35 @@ pub fn worked_keys_of_numbers()
 {}
 
 /// A line in front takes another where its host, its methods and its path take those.
-#[tactic(auto, unfolding(crate::specs::NeverReached::takes_each_request_of))]
+#[tactic(auto, unfolding(crate::specs::NeverReached::line_covers_line))]
 pub fn worked_lines_never_reached()
-    ensures same { takes_each_request_of (line_with_method None (codes "GET") (codes "/a") origin_8081)
+    ensures same { line_covers_line (line_with_method None (codes "GET") (codes "/a") origin_8081)
         (line_with_method None (codes "GET") (codes "/a") None) ≡ true }
-    ensures below { takes_each_request_of (line_with_method None (codes "GET") (codes "/a") origin_8081)
+    ensures below { line_covers_line (line_with_method None (codes "GET") (codes "/a") origin_8081)
         (line_with_method None (codes "GET") (codes "/a/b") None) ≡ true }
-    ensures above { takes_each_request_of (line_with_method None (codes "GET") (codes "/a/b") origin_8081)
+    ensures above { line_covers_line (line_with_method None (codes "GET") (codes "/a/b") origin_8081)
         (line_with_method None (codes "GET") (codes "/a") None) ≡ false }
-    ensures beside { takes_each_request_of (line_with_method None (codes "GET") (codes "/a") origin_8081)
+    ensures beside { line_covers_line (line_with_method None (codes "GET") (codes "/a") origin_8081)
         (line_with_method None (codes "GET") (codes "/ab") None) ≡ false }
-    ensures root { takes_each_request_of (line_with_method None (codes "GET") (codes "/") origin_8081)
+    ensures root { line_covers_line (line_with_method None (codes "GET") (codes "/") origin_8081)
         (line_with_method None (codes "GET") (codes "/admin") None) ≡ true }
-    ensures under_root { takes_each_request_of (line_with_method None (codes "GET") (codes "/a") origin_8081)
+    ensures under_root { line_covers_line (line_with_method None (codes "GET") (codes "/a") origin_8081)
         (line_with_method None (codes "GET") (codes "/") None) ≡ false }
-    ensures any_method { takes_each_request_of (line_with_method None (codes "*") (codes "/") origin_8081)
+    ensures any_method { line_covers_line (line_with_method None (codes "*") (codes "/") origin_8081)
         (line_with_method None (codes "POST") (codes "/") None) ≡ true }
-    ensures other_method { takes_each_request_of (line_with_method None (codes "GET") (codes "/") origin_8081)
+    ensures other_method { line_covers_line (line_with_method None (codes "GET") (codes "/") origin_8081)
         (line_with_method None (codes "POST") (codes "/") None) ≡ false }
-    ensures one_of_all { takes_each_request_of (line_with_method None (codes "GET") (codes "/") origin_8081)
+    ensures one_of_all { line_covers_line (line_with_method None (codes "GET") (codes "/") origin_8081)
         (line_with_method None (codes "*") (codes "/") None) ≡ false }
-    ensures any_host { takes_each_request_of (line_with_method None (codes "GET") (codes "/") origin_8081)
+    ensures any_host { line_covers_line (line_with_method None (codes "GET") (codes "/") origin_8081)
         (line_with_method (Some (codes "x")) (codes "GET") (codes "/") None) ≡ true }
-    ensures one_host { takes_each_request_of (line_with_method (Some (codes "x")) (codes "GET") (codes "/") origin_8081)
+    ensures one_host { line_covers_line (line_with_method (Some (codes "x")) (codes "GET") (codes "/") origin_8081)
         (line_with_method None (codes "GET") (codes "/") None) ≡ false }
-    ensures other_host { takes_each_request_of (line_with_method (Some (codes "x")) (codes "GET") (codes "/") origin_8081)
+    ensures other_host { line_covers_line (line_with_method (Some (codes "x")) (codes "GET") (codes "/") origin_8081)
         (line_with_method (Some (codes "y")) (codes "GET") (codes "/") None) ≡ false }
-    ensures denial_in_front { first_line_taking first_line_denies 2 ≡ None }
-    ensures denial_behind { first_line_taking (line_with_method None (codes "*") (codes "/") origin_8081
+    ensures denial_in_front { first_covering_line first_line_denies 2 ≡ None }
+    ensures denial_behind { first_covering_line (line_with_method None (codes "*") (codes "/") origin_8081
         ∷ line_with_method None (codes "*") (codes "/admin") None ∷ []) 2 ≡ Some 1 }
-    ensures first { first_line_taking first_line_denies 1 ≡ None }
-    ensures missing { first_line_taking first_line_denies 3 ≡ None }
+    ensures first { first_covering_line first_line_denies 1 ≡ None }
+    ensures missing { first_covering_line first_line_denies 3 ≡ None }
 {}

@@ -4,7 +4,7 @@ use Rattle.std.specs.Prelude.{filter, find, position, unwrap_or, option_map}
 use Rattle.std.specs.List.{cons_option, filter_map, prefix_len, suffix_len}
 use Rattle.std.proofs.lemmas.Bool.{cases_Bool}
 use Rattle.std.proofs.lemmas.List.{length-drop, length-take}
-use Rattle.hx_fields.specs.LongMembers.{is_long, long_members}
+use Rattle.hx_fields.specs.LongMembers.{has_at_least_bytes, members_of_least_length}
 use Rattle.hx_fields.specs.Names.{is_blank, is_same_name, members_of_value}
 use Rattle.hx_fields.specs.Tokens.{is_token}
 use Rattle.hx_fields.proofs.LongNames.{is_shorter, shorter_differs}
@@ -15,7 +15,7 @@ use Rattle.hx_directives.specs.declared.names.Directive.TheVariants.{StaleWhileR
 use Rattle.hx_directives.specs.declared.names.Directive.TheVariants.{NoCache, NoStore, OnlyIfCached, MustRevalidate}
 use Rattle.hx_directives.specs.declared.names.Directive.TheVariants.{ProxyRevalidate, MustUnderstand, Private, Public}
 use Rattle.hx_directives.specs.declared.occurrences.Occurrence.{Occurrence}
-use Rattle.hx_directives.specs.Occurrences.{all_directives, directive_name, directive_of, is_equals, member_argument, member_name, occurrence_of}
+use Rattle.hx_directives.specs.Occurrences.{all_directives, directive_name, directive_of, is_equals_sign, member_argument, member_name, occurrence_of}
 
 six_at_least : (d : Directive) → 6 ≤ length (directive_name d)
 six_at_least MaxAge = omega arith
@@ -47,7 +47,7 @@ part_is_shorter n k text = omega (arith, length-take n (drop k text), length-dro
 
 name_is_shorter : (member : List ℕ) → length (member_name member) ≤ length member
 name_is_shorter member =
-    let n = unwrap_or (position is_equals member) (length member) in
+    let n = unwrap_or (position is_equals_sign member) (length member) in
     let front : List ℕ = take n member in
     let k = prefix_len is_blank front in
     omega (arith, part_is_shorter (length (drop k front) - suffix_len is_blank (drop k front)) k front, length-take n member)
@@ -62,16 +62,16 @@ spells_none member h =
     shorter_name : length member < 6 → length (member_name member) < 6
     shorter_name k = omega (arith, name_is_shorter member)
 
-over_members : (members : List (List ℕ)) → filter_map occurrence_of (filter (is_long 6) members) ≡ filter_map occurrence_of members
+over_members : (members : List (List ℕ)) → filter_map occurrence_of (filter (has_at_least_bytes 6) members) ≡ filter_map occurrence_of members
 over_members [] = refl
 over_members (member ∷ members) =
     let more = over_members members in
-    elim (cases_Bool (is_long 6 member)) [
-      | inl t ↦ ap (λ b. filter_map occurrence_of (cond b (member ∷ filter (is_long 6) members) (filter (is_long 6) members))) t
+    elim (cases_Bool (has_at_least_bytes 6 member)) [
+      | inl t ↦ ap (λ b. filter_map occurrence_of (cond b (member ∷ filter (has_at_least_bytes 6) members) (filter (has_at_least_bytes 6) members))) t
           ∙ ap (λ os. cons_option (occurrence_of member) os) more
-      | inr f ↦ ap (λ b. filter_map occurrence_of (cond b (member ∷ filter (is_long 6) members) (filter (is_long 6) members))) f
+      | inr f ↦ ap (λ b. filter_map occurrence_of (cond b (member ∷ filter (has_at_least_bytes 6) members) (filter (has_at_least_bytes 6) members))) f
           ∙ more ∙ sym (ap (λ o. cons_option o (filter_map occurrence_of members)) (spells_none member (is_shorter 6 member f)))
     ]
 
-pub short_members_spell_none : (value : List ℕ) → filter_map occurrence_of (long_members 6 value) ≡ filter_map occurrence_of (members_of_value value)
+pub short_members_spell_none : (value : List ℕ) → filter_map occurrence_of (members_of_least_length 6 value) ≡ filter_map occurrence_of (members_of_value value)
 short_members_spell_none value = over_members (members_of_value value)

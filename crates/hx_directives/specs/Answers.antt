@@ -22,8 +22,8 @@ abbrev pub directive_occurs : List Occurrence → Directive → Bool
 directive_occurs found d = list_any (λ o. is_same_directive o.directive d) found
 
 -- the arguments with which a directive occurs, in order
-abbrev pub arguments_of : List Occurrence → Directive → List Argument
-arguments_of found d = map (λ o. o.argument) (filter (λ o. is_same_directive o.directive d) found)
+abbrev pub arguments_of_directive : List Occurrence → Directive → List Argument
+arguments_of_directive found d = map (λ o. o.argument) (filter (λ o. is_same_directive o.directive d) found)
 
 -- the seconds of one argument, if it says any
 abbrev pub argument_seconds : Argument → Option ℕ
@@ -32,7 +32,7 @@ argument_seconds _ = None
 
 -- the seconds of a directive that is to occur once
 abbrev pub seconds_of_directive : List Occurrence → Directive → Seconds
-seconds_of_directive found d = of_arguments (arguments_of found d)
+seconds_of_directive found d = of_arguments (arguments_of_directive found d)
   where
     of_number : Option ℕ → Seconds
     of_number None = seconds_are.Bad
@@ -46,12 +46,12 @@ seconds_of_directive found d = of_arguments (arguments_of found d)
 -- the first valid seconds of a directive
 -- own: a request's invalid arguments are ignored
 abbrev pub first_valid : List Occurrence → Directive → Option ℕ
-first_valid found d = slice_get (filter_map argument_seconds (arguments_of found d)) 0
+first_valid found d = slice_get (filter_map argument_seconds (arguments_of_directive found d)) 0
 
 -- how stale a response a request accepts, by the first `max-stale` that has no argument or valid seconds
 -- (RFC 9111, section 5.2.1.2)
 abbrev pub max_stale : List Occurrence → MaxStale
-max_stale found = of_limits (filter_map limit_of (arguments_of found max_stale_directive))
+max_stale found = of_limits (filter_map limit_of (arguments_of_directive found max_stale_directive))
   where
     limit_of : Argument → Option MaxStale
     limit_of argument.Absent = Some accepts.Any

@@ -40,16 +40,16 @@ all_directives =
 abbrev pub directive_of : List ℕ → Option Directive
 directive_of name = find (λ d. is_same_name name (directive_name d)) all_directives
 
-abbrev pub is_equals : ℕ → Bool
-is_equals b = b == 61
+abbrev pub is_equals_sign : ℕ → Bool
+is_equals_sign b = b == 61
 
 -- the name of a member: what stands before its first `=`, or all of it
 abbrev pub member_name : List ℕ → List ℕ
-member_name member = trimmed (take (unwrap_or (position is_equals member) (length member)) member)
+member_name member = trimmed (take (unwrap_or (position is_equals_sign member) (length member)) member)
 
 -- the argument of a member: what follows its first `=`
 abbrev pub member_argument : List ℕ → Option (List ℕ)
-member_argument member = option_map (λ i. trimmed (drop (i + 1) member)) (position is_equals member)
+member_argument member = option_map (λ i. trimmed (drop (i + 1) member)) (position is_equals_sign member)
 
 -- the directive that a member spells, with its argument
 -- own: a name that is no token drops the member

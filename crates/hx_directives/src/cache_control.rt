@@ -6,12 +6,13 @@ ghost use Rattle.std.specs.Prelude.{◌≡◌, ◌++◌, ◌∷◌, [], IfOk, On
 ghost use Rattle.std.specs.List.{filter_map};
 ghost use Rattle.hx_fields.specs.Names.{members_of_value};
 ghost use Rattle.hx_directives.specs.Occurrences.{occurrence_of, line_occurrences, occurrences_of};
-ghost use Rattle.hx_directives.specs.Answers.{directive_occurs, arguments_of, seconds_of_directive, first_valid};
+ghost use Rattle.hx_directives.specs.Answers.{directive_occurs, arguments_of_directive, seconds_of_directive};
+ghost use Rattle.hx_directives.specs.Answers.{first_valid};
 ghost use Rattle.hx_directives.specs.Answers.{max_stale};
 
 use crate::answers::{MaxStale, Seconds};
 use crate::arguments::Argument;
-use crate::limits::SHORTEST_NAME;
+use crate::limits::SHORTEST_DIRECTIVE_NAME_BYTES;
 use crate::names::Directive;
 use crate::occurrences::{Occurrence, occurrence_of};
 use hx_fields::{Field, Fields, is_same_name, next_long_member};
@@ -135,7 +136,7 @@ fn push_value(
     ensures { OnOk result (found.new.items ≡ found.old.items ++ filter_map occurrence_of (members_of_value value.now)) }
 {
     let mut rest = value;
-    while let Some((member, after)) = next_long_member(rest, SHORTEST_NAME) {
+    while let Some((member, after)) = next_long_member(rest, SHORTEST_DIRECTIVE_NAME_BYTES) {
         if let Some(occurrence) = occurrence_of(alloc, member)? {
             found.push(occurrence)?;
         }
@@ -149,8 +150,8 @@ fn first_argument_of(
     found: &[Occurrence],
     directive: Directive,
 ) -> Option<(Argument, &[Occurrence])>
-    ensures { MatchOption result (arguments_of found.now directive ≡ [])
-        (λ r. arguments_of found.now directive ≡ r.0 ∷ arguments_of r.1.now directive) }
+    ensures { MatchOption result (arguments_of_directive found.now directive ≡ [])
+        (λ r. arguments_of_directive found.now directive ≡ r.0 ∷ arguments_of_directive r.1.now directive) }
 {
     for (i, o) in found.iter().enumerate() {
         if o.directive == directive {

@@ -58,7 +58,7 @@ pub fn least_reuse_rule()
 {}
 
 /// Every text comes back from its quoted string, each of whose bytes stands after a backslash.
-pub fn quoting_is_undone()
+pub fn quoted_text_reads_back()
     ensures { (text : List ℕ) → text_without_quotes (quoted_text text) ≡ text }
 {}
 
@@ -68,7 +68,7 @@ pub fn each_directive_is_read_by_its_name()
 {}
 
 /// The names, in any case (RFC 9111, sections 5.2.1 and 5.2.2; RFC 5861, sections 3 and 4), and one that no rule reads.
-pub fn names_of_directives()
+pub fn worked_names_of_directives()
     ensures max_age { directive_of (codes "max-age") ≡ Some directive.MaxAge }
     ensures s_maxage { directive_of (codes "s-maxage") ≡ Some directive.SMaxage }
     ensures max_stale { directive_of (codes "max-stale") ≡ Some directive.MaxStale }
@@ -90,7 +90,7 @@ pub fn names_of_directives()
 
 /// What stands behind the first equals sign is the argument, without blanks; there may be none, or
 /// one that says no seconds.
-pub fn arguments_are_read()
+pub fn worked_arguments()
     ensures none { seconds_of_argument None ≡ argument.Absent }
     ensures seconds { seconds_of_argument (Some (codes "60")) ≡ argument.Delta 60 }
     ensures empty { seconds_of_argument (Some []) ≡ argument.Other }
@@ -106,7 +106,7 @@ pub fn arguments_are_read()
 {}
 
 /// Of a request's directive the first valid seconds count, and no max-stale takes no stale response.
-pub fn the_first_valid_seconds_count()
+pub fn worked_first_valid_seconds()
     ensures first { first_valid (directives_of_value (codes "max-age=x, max-age=5, max-age=6")) Directive.MaxAge ≡ Some 5 }
     ensures without { first_valid (directives_of_value (codes "max-age, min-fresh=5")) Directive.MaxAge ≡ None }
     ensures another { first_valid (directives_of_value (codes "max-age=1, min-fresh=5")) Directive.MinFresh ≡ Some 5 }
@@ -116,7 +116,7 @@ pub fn the_first_valid_seconds_count()
 {}
 
 /// A quoted string ends with the text (RFC 9110, section 5.6.4); a text that only begins as one stands as it is.
-pub fn quoted_strings_are_whole()
+pub fn worked_quoted_strings()
     ensures whole { text_without_quotes (codes "\"60\"") ≡ codes "60" }
     ensures pair { text_without_quotes (codes "\"6\\0\"") ≡ codes "60" }
     ensures open { text_without_quotes (codes "\"60") ≡ codes "\"60" }
@@ -125,7 +125,7 @@ pub fn quoted_strings_are_whole()
 {}
 
 /// So many seconds are counted at most, and fewer as they are (RFC 9111, section 1.2.2).
-pub fn seconds_have_a_cap()
+pub fn worked_capped_seconds()
     ensures below { capped 2147483647 ≡ 2147483647 }
     ensures most { capped 2147483648 ≡ 2147483648 }
     ensures above { capped 2147483649 ≡ 2147483648 }

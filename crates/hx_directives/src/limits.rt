@@ -4,4 +4,4 @@
 pub const MOST_SECONDS: u64 = 2_147_483_648;
 
 /// No directive that a rule reads has a shorter name, in bytes.
-pub(crate) const SHORTEST_NAME: usize = 6;
+pub(crate) const SHORTEST_DIRECTIVE_NAME_BYTES: usize = 6;

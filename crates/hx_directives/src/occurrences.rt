@@ -1,7 +1,7 @@
 //! From members of Cache-Control to directives.
 
 ghost use Rattle.std.specs.Prelude.{◌≡◌, ◌<◌, length, position, IfOk, IfSome, option_copied};
-ghost use Rattle.hx_directives.specs.Occurrences.{is_equals, member_name, member_argument, occurrence_of};
+ghost use Rattle.hx_directives.specs.Occurrences.{is_equals_sign, member_name, member_argument, occurrence_of};
 
 use crate::arguments::{Argument, seconds_of_argument};
 use crate::names::{Directive, directive_of};
@@ -46,7 +46,7 @@ fn name_and_argument(member: &[u8]) -> (&[u8], Option<&[u8]>)
 
 /// Where the first `=` stands.
 fn index_of_equals(member: &[u8]) -> Option<usize>
-    ensures first { result ≡ position is_equals member.now }
+    ensures first { result ≡ position is_equals_sign member.now }
     ensures within { IfSome result (λ i. i < length member.now) }
 {
     member.iter().position(|b| *b == b'=')

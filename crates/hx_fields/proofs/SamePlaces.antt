@@ -9,7 +9,7 @@ use Rattle.hx_fields.specs.Line.{Field}
 use Rattle.hx_fields.specs.FirstBytes.{first_byte}
 use Rattle.hx_fields.specs.FieldLines.{is_named, has_field, values_of}
 use Rattle.hx_fields.specs.Names.{is_same_name}
-use Rattle.hx_fields.specs.NamePlaces.{place_of_name, PlacesAreMarked}
+use Rattle.hx_fields.specs.NamePlaces.{bit_place_of_name, PlaceOfEachNameIsMarked}
 
 abbrev folded : List ℕ → List ℕ
 folded text = map to_ascii_lowercase text
@@ -22,7 +22,7 @@ length_is : (text : List ℕ) → length (folded text) ≡ length text
 length_is [] = refl
 length_is (b ∷ bs) = ap suc (length_is bs)
 
-of_folded : (text : List ℕ) → place_of_name text ≡ (slice_index_or (folded text) 0 0 + 8 * (length (folded text) % 8)) % 64
+of_folded : (text : List ℕ) → bit_place_of_name text ≡ (slice_index_or (folded text) 0 0 + 8 * (length (folded text) % 8)) % 64
 of_folded text =
     ap (λ n. (n + 8 * (length text % 8)) % 64) (first_is text)
     ∙ ap (λ n. (slice_index_or (folded text) 0 0 + 8 * (n % 8)) % 64) (sym (length_is text))
@@ -30,23 +30,23 @@ of_folded text =
 bytes_are : (a b : List ℕ) → is_same_name a b ≡ true → folded a ≡ folded b
 bytes_are a b h = (bytes_eq-Decides (folded a) (folded b)).0 h
 
-pub same_place : (a b : List ℕ) → is_same_name a b ≡ true → place_of_name a ≡ place_of_name b
+pub same_place : (a b : List ℕ) → is_same_name a b ≡ true → bit_place_of_name a ≡ bit_place_of_name b
 same_place a b h =
     of_folded a
     ∙ ap (λ t. (slice_index_or t 0 0 + 8 * (length t % 8)) % 64) (bytes_are a b h)
     ∙ sym (of_folded b)
 
-none_named : (marks : ℕ) (name : List ℕ) (fields : List Field) → PlacesAreMarked marks fields → eqb (bit_at marks (place_of_name name)) 1 ≡ false → filter (is_named name) fields ≡ []
+none_named : (marks : ℕ) (name : List ℕ) (fields : List Field) → PlaceOfEachNameIsMarked marks fields → eqb (bit_at marks (bit_place_of_name name)) 1 ≡ false → filter (is_named name) fields ≡ []
 none_named marks name [] m h = refl
 none_named marks name (f ∷ fs) m h = elim (cases_Bool (is_same_name f.name name)) [
   | inl t ↦ absurd (false≢true (sym h ∙ eq-eqb _ 1 (ap (bit_at marks) (sym (same_place f.name name t)) ∙ m.0)))
   | inr o ↦ ap (λ b. cond b (f ∷ filter (is_named name) fs) (filter (is_named name) fs)) o ∙ none_named marks name fs m.1 h
 ]
 
-pub no_values : (marks : ℕ) (name : List ℕ) (fields : List Field) → PlacesAreMarked marks fields → eqb (bit_at marks (place_of_name name)) 1 ≡ false → values_of fields name ≡ []
+pub no_values : (marks : ℕ) (name : List ℕ) (fields : List Field) → PlaceOfEachNameIsMarked marks fields → eqb (bit_at marks (bit_place_of_name name)) 1 ≡ false → values_of fields name ≡ []
 no_values marks name fields m h = ap (map (λ (f : Field). f.value)) (none_named marks name fields m h)
 
-pub has_none : (marks : ℕ) (name : List ℕ) (fields : List Field) → PlacesAreMarked marks fields → eqb (bit_at marks (place_of_name name)) 1 ≡ false → has_field fields name ≡ false
+pub has_none : (marks : ℕ) (name : List ℕ) (fields : List Field) → PlaceOfEachNameIsMarked marks fields → eqb (bit_at marks (bit_place_of_name name)) 1 ≡ false → has_field fields name ≡ false
 has_none marks name [] m h = refl
 has_none marks name (f ∷ fs) m h = elim (cases_Bool (is_same_name f.name name)) [
   | inl t ↦ absurd (false≢true (sym h ∙ eq-eqb _ 1 (ap (bit_at marks) (sym (same_place f.name name t)) ∙ m.0)))
@@ -55,18 +55,18 @@ has_none marks name (f ∷ fs) m h = elim (cases_Bool (is_same_name f.name name)
 
 -- ---- the places of changed lines
 
-pub marked_more : (old new : ℕ) (fields : List Field) → ((i : ℕ) → bit_at old i ≡ 1 → bit_at new i ≡ 1) → PlacesAreMarked old fields → PlacesAreMarked new fields
+pub marked_more : (old new : ℕ) (fields : List Field) → ((i : ℕ) → bit_at old i ≡ 1 → bit_at new i ≡ 1) → PlaceOfEachNameIsMarked old fields → PlaceOfEachNameIsMarked new fields
 marked_more old new [] k m = tt
-marked_more old new (f ∷ fs) k m = (k (place_of_name f.name) m.0, marked_more old new fs k m.1)
+marked_more old new (f ∷ fs) k m = (k (bit_place_of_name f.name) m.0, marked_more old new fs k m.1)
 
-pub marked_behind : (old new : ℕ) (line : Field) (fields : List Field) → ((i : ℕ) → bit_at old i ≡ 1 → bit_at new i ≡ 1) → bit_at new (place_of_name line.name) ≡ 1 → PlacesAreMarked old fields → PlacesAreMarked new (fields ++ line ∷ [])
+pub marked_behind : (old new : ℕ) (line : Field) (fields : List Field) → ((i : ℕ) → bit_at old i ≡ 1 → bit_at new i ≡ 1) → bit_at new (bit_place_of_name line.name) ≡ 1 → PlaceOfEachNameIsMarked old fields → PlaceOfEachNameIsMarked new (fields ++ line ∷ [])
 marked_behind old new line [] k l m = (l, tt)
-marked_behind old new line (f ∷ fs) k l m = (k (place_of_name f.name) m.0, marked_behind old new line fs k l m.1)
+marked_behind old new line (f ∷ fs) k l m = (k (bit_place_of_name f.name) m.0, marked_behind old new line fs k l m.1)
 
-pub marked_left : (marks : ℕ) (keeps : Field → Bool) (fields : List Field) → PlacesAreMarked marks fields → PlacesAreMarked marks (filter keeps fields)
+pub marked_left : (marks : ℕ) (keeps : Field → Bool) (fields : List Field) → PlaceOfEachNameIsMarked marks fields → PlaceOfEachNameIsMarked marks (filter keeps fields)
 marked_left marks keeps [] m = tt
 marked_left marks keeps (f ∷ fs) m = by_test (marked_left marks keeps fs m.1) (keeps f)
   where
-    by_test : PlacesAreMarked marks (filter keeps fs) → (b : Bool) → PlacesAreMarked marks (cond b (f ∷ filter keeps fs) (filter keeps fs))
+    by_test : PlaceOfEachNameIsMarked marks (filter keeps fs) → (b : Bool) → PlaceOfEachNameIsMarked marks (cond b (f ∷ filter keeps fs) (filter keeps fs))
     by_test rest true = (m.0, rest)
     by_test rest false = rest

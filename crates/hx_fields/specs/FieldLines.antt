@@ -1,7 +1,7 @@
 -- What a list of field lines says of a name (RFC 9110, sections 5.2, 5.3 and 5.6.1).
 --
 -- is_named: a line is of a name            has_field: some line is
--- values_of: the values, in order          count_of: how many lines there are
+-- values_of: the values, in order          line_count_of_name: how many lines there are
 -- only_value: the value where there is one line
 -- combined_of: as one value                members_of: as one list
 -- without_named: the other lines
@@ -23,17 +23,17 @@ abbrev pub values_of : List Field → List ℕ → List (List ℕ)
 values_of fields name = map (λ (f : Field). f.value) (filter (is_named name) fields)
 
 -- how many lines a name has
-abbrev pub count_of : List Field → List ℕ → ℕ
-count_of fields name = length (values_of fields name)
+abbrev pub line_count_of_name : List Field → List ℕ → ℕ
+line_count_of_name fields name = length (values_of fields name)
 
 -- the value of a name that has one line
-abbrev pub only_one : List (List ℕ) → Option (List ℕ)
-only_one [] = None
-only_one (value ∷ []) = Some value
-only_one (value ∷ other ∷ more) = None
+abbrev pub value_if_only_one : List (List ℕ) → Option (List ℕ)
+value_if_only_one [] = None
+value_if_only_one (value ∷ []) = Some value
+value_if_only_one (value ∷ other ∷ more) = None
 
 abbrev pub only_value : List Field → List ℕ → Option (List ℕ)
-only_value fields name = only_one (values_of fields name)
+only_value fields name = value_if_only_one (values_of fields name)
 
 -- the combined value of a name, or none where no line has it (RFC 9110, section 5.3)
 abbrev pub combined_of : List Field → List ℕ → Option (List ℕ)

@@ -37,8 +37,8 @@ as_numbered true false h = sym (h refl)
 as_numbered false true h = refl
 as_numbered false false h = refl
 
-pub folded_ties : (a b : List ℕ) → bytes_eq a b ≡ eq_by_cmp folded_cmp a b
-folded_ties a b =
+pub folded_cmp_ties_are_equal : (a b : List ℕ) → bytes_eq a b ≡ eq_by_cmp folded_cmp a b
+folded_cmp_ties_are_equal a b =
     as_numbered (bytes_eq a b) (number_of a == number_of b)
     (λ e. eq-eqb (number_of a) (number_of b) (ap number_of ((bytes_eq-Decides a b).0 e)))
     ∙ both_tied _ _ (nat_cmp (number_of a) (number_of b)) _

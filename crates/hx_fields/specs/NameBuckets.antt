@@ -3,9 +3,9 @@ use Rattle.std.specs.Prelude.{ℕ, Bool, false, ◌*◌, ◌%◌, ◌/◌, ◌^�
 use Rattle.hx_fields.specs.Folded.{folded, number_of}
 
 -- the first twelve bits of a product with 2^64 divided by the golden ratio, so that names that are alike fall far apart
-abbrev pub bucket_of : List ℕ → ℕ
-bucket_of name = number_of (folded name) * 11400714819323198485 % 2 ^ 64 / 2 ^ 52
+abbrev pub bucket_of_name : List ℕ → ℕ
+bucket_of_name name = number_of (folded name) * 11400714819323198485 % 2 ^ 64 / 2 ^ 52
 
 -- a text falls into one of these buckets
-abbrev pub falls_in : List Bool → List ℕ → Bool
-falls_in buckets text = slice_index_or buckets (bucket_of text) false
+abbrev pub falls_in_marked_bucket : List Bool → List ℕ → Bool
+falls_in_marked_bucket buckets text = slice_index_or buckets (bucket_of_name text) false

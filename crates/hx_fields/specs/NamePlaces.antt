@@ -7,9 +7,10 @@ use Rattle.hx_fields.specs.Line.{Field}
 use Rattle.hx_fields.specs.FirstBytes.{first_byte}
 
 -- by its first byte without case, and its length
-abbrev pub place_of_name : List ℕ → ℕ
-place_of_name name = (first_byte name + 8 * (length name % 8)) % 64
+abbrev pub bit_place_of_name : List ℕ → ℕ
+bit_place_of_name name = (first_byte name + 8 * (length name % 8)) % 64
 
 -- the place of each line's name is marked
-abbrev pub PlacesAreMarked : ℕ → List Field → Type 0
-PlacesAreMarked marks fields = AllByRecursion (λ (f : Field). bit_at marks (place_of_name f.name) ≡ 1) fields
+abbrev pub PlaceOfEachNameIsMarked : ℕ → List Field → Type 0
+PlaceOfEachNameIsMarked marks fields =
+    AllByRecursion (λ (f : Field). bit_at marks (bit_place_of_name f.name) ≡ 1) fields

@@ -4,8 +4,8 @@
 -- is_same_name: two names are one          joined: values as one value
 -- is_blank, trimmed: the spaces and tabs round a value
 -- pieces, members_of_value: what stands between the commas of a value
--- RunsTo: nothing is cut between two places
--- cut_at: a text before and behind a byte
+-- ValueRunsUncutTo: nothing is cut between two places
+-- split_at_first_byte: a text before and behind a byte
 use Rattle.std.specs.Prelude.{◌≡◌, ℕ, ◌-◌, ◌==◌, nat_lt, if◌then◌else◌, Bool, false, ◌||◌, List, [], ◌∷◌, ◌++◌, length}
 use Rattle.std.specs.Prelude.{take, drop, map, filter, slice_range, codes, Option, Some, None}
 use Rattle.std.specs.Option.{option_map}
@@ -58,15 +58,15 @@ is_separating_comma Quoted b = false
 is_separating_comma Escaped b = false
 
 -- a byte in front of the first piece
-abbrev pub piece_with_byte : ℕ → List (List ℕ) → List (List ℕ)
-piece_with_byte b [] = (b ∷ []) ∷ []
-piece_with_byte b (p ∷ ps) = (b ∷ p) ∷ ps
+abbrev pub pieces_with_first_byte : ℕ → List (List ℕ) → List (List ℕ)
+pieces_with_first_byte b [] = (b ∷ []) ∷ []
+pieces_with_first_byte b (p ∷ ps) = (b ∷ p) ∷ ps
 
 -- the pieces of a text between the commas that separate members; its first byte stands at this place
 abbrev pub pieces : QuoteState → List ℕ → List (List ℕ)
 pieces place [] = [] ∷ []
 pieces place (b ∷ bs) =
-    if is_separating_comma place b then [] ∷ pieces Outside bs else piece_with_byte b
+    if is_separating_comma place b then [] ∷ pieces Outside bs else pieces_with_first_byte b
     (pieces (quote_state_after place b) bs)
 
 -- these bytes in front of the first piece
@@ -75,8 +75,8 @@ all_in_front front [] = front ∷ []
 all_in_front front (p ∷ ps) = (front ++ p) ∷ ps
 
 -- what stands at a start goes on to here without a cut, and the next byte stands at this place
-abbrev pub RunsTo : List ℕ → ℕ → ℕ → QuoteState → Type 0
-RunsTo value start i place =
+abbrev pub ValueRunsUncutTo : List ℕ → ℕ → ℕ → QuoteState → Type 0
+ValueRunsUncutTo value start i place =
     pieces Outside (drop start value) ≡ all_in_front (slice_range value start i) (pieces place (drop i value))
 
 abbrev pub is_nonempty : List ℕ → Bool
@@ -96,7 +96,7 @@ joined_lists [] = []
 joined_lists (xs ∷ xss) = xs ++ joined_lists xss
 
 -- what stands before the first of these bytes, and what stands behind it
-abbrev pub cut_at : ℕ → List ℕ → Option (List ℕ × List ℕ)
-cut_at separator [] = None
-cut_at separator (b ∷ bs) =
-    if b == separator then Some ([], bs) else option_map (λ p. (b ∷ p.0, p.1)) (cut_at separator bs)
+abbrev pub split_at_first_byte : ℕ → List ℕ → Option (List ℕ × List ℕ)
+split_at_first_byte separator [] = None
+split_at_first_byte separator (b ∷ bs) =
+    if b == separator then Some ([], bs) else option_map (λ p. (b ∷ p.0, p.1)) (split_at_first_byte separator bs)

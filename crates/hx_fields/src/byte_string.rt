@@ -3,7 +3,7 @@
 //! Few stand in the value itself. More are a vector of their own, or a part of a buffer that others share: neither
 //! few bytes nor a copy of a part takes memory.
 ghost use Rattle.std.specs.Prelude.{◌≡◌, ◌≤◌, ◌==◌, ◌++◌, [], length, IfOk, IfSome, OnOk, OnErr, slice_range};
-ghost use Rattle.hx_fields.specs.ByteStrings.{bytes_kept};
+ghost use Rattle.hx_fields.specs.ByteStrings.{bytes_of_storage_form};
 
 use crate::limits::{LEAST_SHARED_BYTES, MOST_SHORT_BYTES};
 use arrayvec::ArrayVec;
@@ -39,7 +39,7 @@ impl Drop for Kept {
 impl Kept {
     /// The vector of these bytes: that which is there, or a copy of the part. Fails only where memory runs out.
     fn into_vec(self, alloc: Global) -> Result<Vec<u8>, AllocError>
-        ensures { IfOk result (λ bytes. bytes.items ≡ bytes_kept self) }
+        ensures { IfOk result (λ bytes. bytes.items ≡ bytes_of_storage_form self) }
     {
         match self {
             Kept::Short(bytes) => Vec::from_slice(alloc, bytes.as_slice()),
@@ -69,11 +69,11 @@ impl Model for Part {
 
 impl Model for Bytes {
     ghost use Rattle.std.specs.Prelude.{List, ℕ};
-    ghost use Rattle.hx_fields.specs.ByteStrings.{bytes_kept};
+    ghost use Rattle.hx_fields.specs.ByteStrings.{bytes_of_storage_form};
 
     ghost Value = { List ℕ };
 
-    ghost view = { λ b. bytes_kept b.kept };
+    ghost view = { λ b. bytes_of_storage_form b.kept };
 }
 
 impl Part {
@@ -171,7 +171,7 @@ impl Bytes {
     }
 
     /// A copy of two slices, one behind the other. Few bytes take no memory.
-    pub(crate) fn copy_of_both(
+    pub(crate) fn copy_of_two_slices(
         alloc: Global,
         first: &[u8],
         second: &[u8],

@@ -4,8 +4,8 @@ ghost use Rattle.std.specs.Prelude.{ℕ, IfSome, MatchOption};
 ghost use Rattle.std.specs.Option.{option_map};
 ghost use Rattle.std.specs.List.{prefix_len, suffix_len};
 ghost use Rattle.hx_fields.specs.Names.{is_same_name, is_blank, trimmed, members_of_value, member_of_piece};
-ghost use Rattle.hx_fields.specs.Names.{RunsTo, Outside, Quoted, cut_at};
-ghost use Rattle.hx_fields.specs.LongMembers.{long_members};
+ghost use Rattle.hx_fields.specs.Names.{ValueRunsUncutTo, Outside, Quoted, split_at_first_byte};
+ghost use Rattle.hx_fields.specs.LongMembers.{members_of_least_length};
 ghost use Rattle.hx_fields.specs.FirstBytes.{members_beginning_in};
 
 use crate::first_bytes::FirstBytes;
@@ -59,8 +59,8 @@ fn quoted_end(text: &[u8], from: usize) -> usize
     requires { from ≤ length text.now }
     ensures behind { from ≤ result }
     ensures within { result ≤ length text.now }
-    ensures runs { (start : ℕ) → start ≤ from → RunsTo text.now start from Quoted
-        → RunsTo text.now start result Outside }
+    ensures runs { (start : ℕ) → start ≤ from → ValueRunsUncutTo text.now start from Quoted
+        → ValueRunsUncutTo text.now start result Outside }
 {
     let mut i = from;
     while i < text.len() {
@@ -146,8 +146,8 @@ pub fn next_member(value: &[u8]) -> Option<(&[u8], &[u8])>
 
 /// The first member of a value that has so many bytes at least, and what stands behind it.
 pub fn next_long_member(value: &[u8], least: usize) -> Option<(&[u8], &[u8])>
-    ensures members { MatchOption result (long_members least value.now ≡ [])
-        (λ r. long_members least value.now ≡ r.0.now ∷ long_members least r.1.now) }
+    ensures members { MatchOption result (members_of_least_length least value.now ≡ [])
+        (λ r. members_of_least_length least value.now ≡ r.0.now ∷ members_of_least_length least r.1.now) }
     ensures shorter { IfSome result (λ r. length r.1.now < length value.now) }
 {
     let mut start = 0;
@@ -193,8 +193,8 @@ pub fn next_member_beginning_in<'a>(
 }
 
 /// What stands before the first of these bytes, and what stands behind it.
-pub fn cut_at(separator: u8, text: &[u8]) -> Option<(&[u8], &[u8])>
-    ensures { option_map (λ p. (p.0.now, p.1.now)) result ≡ cut_at separator text.now }
+pub fn split_at_first_byte(separator: u8, text: &[u8]) -> Option<(&[u8], &[u8])>
+    ensures { option_map (λ p. (p.0.now, p.1.now)) result ≡ split_at_first_byte separator text.now }
 {
     for (i, b) in text.iter().enumerate() {
         if *b == separator {

@@ -43,7 +43,7 @@ impl Field {
     {
         let name_end = place_in_line(name.len())?;
         Ok(Field {
-            text: Bytes::copy_of_both(alloc, name, value)?,
+            text: Bytes::copy_of_two_slices(alloc, name, value)?,
             name_end,
             value_start: name_end,
         })

@@ -2,7 +2,8 @@
 ghost use Rattle.std.specs.Prelude.{◌≡◌, ◌≤◌, ◌++◌, ◌∷◌, [], length, take, IfOk, OnOk, OnErr, slice_get, count_by};
 ghost use Rattle.std.specs.Prelude.{option_copied, false};
 ghost use Rattle.std.specs.Bool.{OnFalse};
-ghost use Rattle.hx_fields.specs.FieldLines.{is_named, has_field, count_of, values_of, only_value, combined_of};
+ghost use Rattle.hx_fields.specs.FieldLines.{is_named, has_field, line_count_of_name, values_of, only_value};
+ghost use Rattle.hx_fields.specs.FieldLines.{combined_of};
 ghost use Rattle.hx_fields.specs.FieldLines.{members_of};
 ghost use Rattle.hx_fields.specs.FieldLines.{without_named};
 ghost use Rattle.hx_fields.specs.Names.{members_of_value};
@@ -26,13 +27,13 @@ pub struct Fields {
 impl Model for Fields {
     ghost use Rattle.std.specs.Prelude.{List};
     ghost use Rattle.hx_fields.specs.Line.{Field};
-    ghost use Rattle.hx_fields.specs.NamePlaces.{PlacesAreMarked};
+    ghost use Rattle.hx_fields.specs.NamePlaces.{PlaceOfEachNameIsMarked};
 
     ghost Value = { List Field };
 
     ghost view = { λ f. f.lines.items };
 
-    ghost invariant = { λ f. PlacesAreMarked f.places.marks f.lines.items };
+    ghost invariant = { λ f. PlaceOfEachNameIsMarked f.places.marks f.lines.items };
 }
 
 impl Fields {
@@ -129,7 +130,7 @@ impl Fields {
 
     /// How many lines of this name stand.
     pub fn count(&self, name: &[u8]) -> usize
-        ensures { result ≡ count_of self.now name.now }
+        ensures { result ≡ line_count_of_name self.now name.now }
     {
         if self.may_have(name) {
             count_lines(self.lines.as_slice(), name)
@@ -246,7 +247,7 @@ fn has_line(lines: &[Field], name: &[u8]) -> bool
 }
 
 fn count_lines(lines: &[Field], name: &[u8]) -> usize
-    ensures { result ≡ count_of lines.now name.now }
+    ensures { result ≡ line_count_of_name lines.now name.now }
 {
     let mut n = 0;
     for line in lines {

@@ -4,7 +4,7 @@
 
 ghost use Rattle.std.specs.Prelude.{◌≡◌, ◌<◌, false, true, length, replicate, slice_set, slice_index_or};
 ghost use Rattle.std.specs.Char.{to_ascii_lowercase};
-ghost use Rattle.hx_fields.specs.FirstBytes.{begins_in, first_byte};
+ghost use Rattle.hx_fields.specs.FirstBytes.{begins_with_one_of, first_byte};
 
 use std::marker::Model;
 
@@ -57,8 +57,8 @@ impl FirstBytes {
     }
 
     /// Whether a text begins with one of them.
-    pub fn has_first_of(&self, text: &[u8]) -> bool
-        ensures { result ≡ begins_in self.now text.now }
+    pub fn has_first_byte_of(&self, text: &[u8]) -> bool
+        ensures { result ≡ begins_with_one_of self.now text.now }
     {
         self.are[usize::from(first_byte(text))]
     }

@@ -3,7 +3,7 @@
 ghost use Rattle.std.specs.Prelude.{◌≡◌, [], IfOk, OnOk, OnErr, Some, bytes_eq, refl};
 ghost use Rattle.std.specs.Cmp.{partial_equiv_from_equiv, partial_order_from_agreeing_total};
 ghost use Rattle.std.specs.Cmp.Lexicographic.{nat_list_eq_equiv};
-ghost use Rattle.hx_fields.specs.Folded.{folded, folded_cmp, folded_cmp_total, folded_ties, number_of};
+ghost use Rattle.hx_fields.specs.Folded.{folded, folded_cmp, folded_cmp_total, folded_cmp_ties_are_equal, number_of};
 
 use std::alloc::{AllocError, Global};
 use std::cmp::Ordering;
@@ -96,7 +96,8 @@ impl Eq for FoldedName {
 impl PartialOrd for FoldedName {
     ghost partial_cmp = { λ a b. Some (folded_cmp a b) };
 
-    ghost laws = { partial_order_from_agreeing_total folded_cmp folded_cmp_total (λ _ _. refl) folded_ties };
+    ghost laws = { partial_order_from_agreeing_total folded_cmp folded_cmp_total
+        (λ _ _. refl) folded_cmp_ties_are_equal };
 
     fn partial_cmp(&self, other: &FoldedName) -> Option<Ordering> {
         Some(self.cmp(other))
@@ -110,7 +111,7 @@ impl Ord for FoldedName {
 
     ghost matches_partial_cmp = { λ _ _. refl };
 
-    ghost matches_eq = { folded_ties };
+    ghost matches_eq = { folded_cmp_ties_are_equal };
 
     fn cmp(&self, other: &FoldedName) -> Ordering {
         self.number

@@ -1,7 +1,7 @@
 //! What the definitions give on values that can be judged by eye.
 ghost use Rattle.std.specs.Prelude.{◌≡◌, ◌∷◌, [], codes, Some, None};
 ghost use Rattle.hx_fields.specs.FieldLines.{members_of, combined_of, only_value};
-ghost use Rattle.hx_fields.specs.Names.{cut_at};
+ghost use Rattle.hx_fields.specs.Names.{split_at_first_byte};
 ghost use Rattle.hx_fields.specs.Examples.{line};
 
 /// Commas in quotes and behind a backslash in quotes separate nothing; empty members don't count.
@@ -13,7 +13,7 @@ pub fn members_are_cut_outside_quotes()
 {}
 
 /// Several lines of a name are one value.
-pub fn values_are_joined()
+pub fn worked_combined_values()
     ensures two { combined_of (line (codes "Accept-Language") (codes "de") ∷ line (codes "accept-language") (codes "en")
         ∷ []) (codes "Accept-Language") ≡ Some (codes "de, en") }
     ensures absent { combined_of (line (codes "Accept") (codes "de") ∷ []) (codes "Accept-Language") ≡ None }
@@ -21,15 +21,15 @@ pub fn values_are_joined()
 {}
 
 /// A name has an only value where exactly one line has it.
-pub fn one_line_has_the_only_value()
+pub fn worked_only_values()
     ensures one { only_value (line (codes "etag") (codes "\"a\"") ∷ line (codes "Date") [] ∷ []) (codes "ETag") ≡ Some (codes "\"a\"") }
     ensures two { only_value (line (codes "ETag") (codes "\"a\"") ∷ line (codes "etag") (codes "\"b\"") ∷ []) (codes "ETag") ≡ None }
     ensures absent { only_value (line (codes "Date") [] ∷ []) (codes "ETag") ≡ None }
 {}
 
 /// A text is cut at the first of the bytes that are looked for.
-pub fn a_text_is_cut_at_the_first_of_a_byte()
-    ensures first { cut_at 58 (codes "a:b:c") ≡ Some (codes "a", codes "b:c") }
-    ensures alone { cut_at 58 (codes ":") ≡ Some ([], []) }
-    ensures absent { cut_at 58 (codes "abc") ≡ None }
+pub fn worked_cuts_at_a_byte()
+    ensures first { split_at_first_byte 58 (codes "a:b:c") ≡ Some (codes "a", codes "b:c") }
+    ensures alone { split_at_first_byte 58 (codes ":") ≡ Some ([], []) }
+    ensures absent { split_at_first_byte 58 (codes "abc") ≡ None }
 {}

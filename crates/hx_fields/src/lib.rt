@@ -22,7 +22,8 @@ mod tokens;
 
 pub use crate::byte_string::Bytes;
 pub use crate::cutting::{
-    cut_at, is_same_name, next_long_member, next_member, next_member_beginning_in, trim_blanks,
+    is_same_name, next_long_member, next_member, next_member_beginning_in, split_at_first_byte,
+    trim_blanks,
 };
 pub use crate::digits::{digit_value, number_up_to};
 pub use crate::field_line::Field;

@@ -4,7 +4,7 @@
 
 ghost use Rattle.std.specs.Prelude.{◌≡◌, ◌<◌, false, true, length, replicate, slice_set};
 ghost use Rattle.hx_fields.specs.Folded.{folded, number_of};
-ghost use Rattle.hx_fields.specs.NameBuckets.{bucket_of, falls_in};
+ghost use Rattle.hx_fields.specs.NameBuckets.{bucket_of_name, falls_in_marked_bucket};
 
 use std::marker::Model;
 
@@ -37,8 +37,8 @@ fn folded_number(name: &[u8]) -> u64
     })
 }
 
-fn bucket_of(name: &[u8]) -> usize
-    ensures value { result ≡ bucket_of name.now }
+fn bucket_of_name(name: &[u8]) -> usize
+    ensures value { result ≡ bucket_of_name name.now }
     ensures small { result < 4096 }
 {
     (folded_number(name).wrapping_mul(SPREAD) >> 52) as usize
@@ -54,11 +54,11 @@ impl NameBuckets {
 
     /// Adds that of a name. Whether it was there before.
     pub fn add(&mut self, name: &[u8]) -> bool
-        ensures before { result ≡ falls_in self.old name.now }
-        ensures added { self.new ≡ slice_set self.old (bucket_of name.now) true }
-        ensures inside { bucket_of name.now < length self.old }
+        ensures before { result ≡ falls_in_marked_bucket self.old name.now }
+        ensures added { self.new ≡ slice_set self.old (bucket_of_name name.now) true }
+        ensures inside { bucket_of_name name.now < length self.old }
     {
-        let bucket = bucket_of(name);
+        let bucket = bucket_of_name(name);
         let was_there = self.are[bucket];
         self.are[bucket] = true;
         was_there
@@ -66,16 +66,16 @@ impl NameBuckets {
 
     /// Takes out that of a name.
     pub fn remove(&mut self, name: &[u8])
-        ensures removed { self.new ≡ slice_set self.old (bucket_of name.now) false }
-        ensures inside { bucket_of name.now < length self.old }
+        ensures removed { self.new ≡ slice_set self.old (bucket_of_name name.now) false }
+        ensures inside { bucket_of_name name.now < length self.old }
     {
-        self.are[bucket_of(name)] = false;
+        self.are[bucket_of_name(name)] = false;
     }
 
     /// Whether a text falls into one of them.
     pub fn has(&self, text: &[u8]) -> bool
-        ensures { result ≡ falls_in self.now text.now }
+        ensures { result ≡ falls_in_marked_bucket self.now text.now }
     {
-        self.are[bucket_of(text)]
+        self.are[bucket_of_name(text)]
     }
 }

@@ -4,7 +4,7 @@
 
 ghost use Rattle.std.specs.Prelude.{◌≡◌, ◌==◌, ◌<◌, ℕ};
 ghost use Rattle.std.specs.Int.{bit_at};
-ghost use Rattle.hx_fields.specs.NamePlaces.{place_of_name};
+ghost use Rattle.hx_fields.specs.NamePlaces.{bit_place_of_name};
 
 use crate::first_bytes::first_byte;
 
@@ -15,8 +15,8 @@ pub(crate) struct NamePlaces {
 }
 
 /// The place of a name, without case.
-fn place_of_name(name: &[u8]) -> u32
-    ensures place { result ≡ place_of_name name.now }
+fn bit_place_of_name(name: &[u8]) -> u32
+    ensures place { result ≡ bit_place_of_name name.now }
     ensures within { result < 64 }
 {
     let turned = 8 * (name.len() % 8) as u32;
@@ -31,16 +31,16 @@ impl NamePlaces {
 
     /// Marks the place of a name.
     pub(crate) fn add(&mut self, name: &[u8])
-        ensures added { bit_at self.new.marks (place_of_name name.now) ≡ 1 }
+        ensures added { bit_at self.new.marks (bit_place_of_name name.now) ≡ 1 }
         ensures kept { (i : ℕ) → bit_at self.old.marks i ≡ 1 → bit_at self.new.marks i ≡ 1 }
     {
-        self.marks |= 1 << place_of_name(name);
+        self.marks |= 1 << bit_place_of_name(name);
     }
 
     /// Whether the place of a name is marked.
     pub(crate) fn has(self, name: &[u8]) -> bool
-        ensures { result ≡ (bit_at self.marks (place_of_name name.now) == 1) }
+        ensures { result ≡ (bit_at self.marks (bit_place_of_name name.now) == 1) }
     {
-        (self.marks >> place_of_name(name)) % 2 == 1
+        (self.marks >> bit_place_of_name(name)) % 2 == 1
     }
 }

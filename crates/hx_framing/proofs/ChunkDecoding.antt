@@ -7,56 +7,56 @@ use Rattle.hx_framing.specs.declared.contents.chunk_tokens.ChunkState.{ChunkStat
 use Rattle.hx_framing.specs.declared.contents.chunk_tokens.ChunkToken.TheVariants as token
 use Rattle.hx_framing.specs.declared.contents.chunk_tokens.ChunkProgress.TheVariants as chunk_progress
 use Rattle.hx_framing.specs.Body.{Whole}
-use Rattle.hx_framing.specs.Chunking.{Chunking, chunking_of_state}
-use Rattle.hx_framing.specs.Chunks.{content_from_chunking, chunking_after_bytes}
+use Rattle.hx_framing.specs.ChunkDecoder.{ChunkDecoder, decoder_of_state}
+use Rattle.hx_framing.specs.Chunks.{content_from_decoder, decoder_after_bytes}
 use Rattle.hx_framing.specs.Decoding.{ChunksAreDecoded}
-use Rattle.hx_framing.specs.ChunkTokens.{TokenIsTaken}
+use Rattle.hx_framing.specs.ChunkTokens.{ChunkTokenIsTaken}
 use Rattle.hx_framing.proofs.ChunkStreams.{chunks_behind, state_behind, state_waits}
 
 -- the bytes behind those that lead to a state
-led : (bytes more : List ℕ) (n : ℕ) (s t : Chunking) → chunking_after_bytes (take n bytes) s ≡ Some t
-    → content_from_chunking (bytes ++ more) s ≡ content_from_chunking (drop n bytes ++ more) t
+led : (bytes more : List ℕ) (n : ℕ) (s t : ChunkDecoder) → decoder_after_bytes (take n bytes) s ≡ Some t
+    → content_from_decoder (bytes ++ more) s ≡ content_from_decoder (drop n bytes ++ more) t
 led bytes more n s t leads =
-    ap (λ l. content_from_chunking (l ++ more) s) (sym (take-append-drop n bytes))
-    ∙ ap (λ l. content_from_chunking l s) (append_assoc (take n bytes) (drop n bytes) more)
+    ap (λ l. content_from_decoder (l ++ more) s) (sym (take-append-drop n bytes))
+    ∙ ap (λ l. content_from_decoder l s) (append_assoc (take n bytes) (drop n bytes) more)
     ∙ chunks_behind (take n bytes) (drop n bytes ++ more) s t leads
 
 -- a token more
-pub leads_on : (bytes : List ℕ) (taken n : ℕ) (s t u : Chunking) → chunking_after_bytes (take taken bytes) s ≡ Some t → chunking_after_bytes (take n (drop taken bytes)) t ≡ Some u
-    → chunking_after_bytes (take (taken + n) bytes) s ≡ Some u
+pub leads_on : (bytes : List ℕ) (taken n : ℕ) (s t u : ChunkDecoder) → decoder_after_bytes (take taken bytes) s ≡ Some t → decoder_after_bytes (take n (drop taken bytes)) t ≡ Some u
+    → decoder_after_bytes (take (taken + n) bytes) s ≡ Some u
 leads_on bytes taken n s t u leads on =
-    ap (λ l. chunking_after_bytes l s) (take-add taken n bytes)
+    ap (λ l. decoder_after_bytes l s) (take-add taken n bytes)
     ∙ state_behind (take taken bytes) (take n (drop taken bytes)) s t leads
     ∙ on
 
 -- no token more
-pub decodes_more : (old : Chunking) (place : ChunkState) (was content bytes : List ℕ) (taken : ℕ)
-    → taken ≤ length bytes → chunking_after_bytes (take taken bytes) old ≡ Some (chunking_of_state place was) → TokenIsTaken place was (drop taken bytes) content token.Incomplete
-    → ChunksAreDecoded old bytes (chunking_of_state place content) (chunk_progress.Incomplete taken)
+pub decodes_more : (old : ChunkDecoder) (place : ChunkState) (was content bytes : List ℕ) (taken : ℕ)
+    → taken ≤ length bytes → decoder_after_bytes (take taken bytes) old ≡ Some (decoder_of_state place was) → ChunkTokenIsTaken place was (drop taken bytes) content token.Incomplete
+    → ChunksAreDecoded old bytes (decoder_of_state place content) (chunk_progress.Incomplete taken)
 decodes_more old place was content bytes taken inside leads takes =
-    let t = chunking_of_state place was in
+    let t = decoder_of_state place was in
     let rest = drop taken bytes in
-    subst (λ (l : List ℕ). ChunksAreDecoded old bytes (chunking_of_state place l) (chunk_progress.Incomplete taken)) (sym takes.0) (
+    subst (λ (l : List ℕ). ChunksAreDecoded old bytes (decoder_of_state place l) (chunk_progress.Incomplete taken)) (sym takes.0) (
       inside,
       λ more. led bytes more taken old t leads,
       state_waits rest t (record t { line = rest }) takes.1.leads,
-      ap (λ l. chunking_after_bytes l old) (sym (take-append-drop taken bytes)) ∙ state_behind (take taken bytes) rest old t leads ∙ takes.1.leads,
+      ap (λ l. decoder_after_bytes l old) (sym (take-append-drop taken bytes)) ∙ state_behind (take taken bytes) rest old t leads ∙ takes.1.leads,
       takes.1,
     )
 
 -- the last token
-pub decodes_whole : (old : Chunking) (place : ChunkState) (was content bytes : List ℕ) (taken n : ℕ)
-    → taken ≤ length bytes → chunking_after_bytes (take taken bytes) old ≡ Some (chunking_of_state place was) → TokenIsTaken place was (drop taken bytes) content (token.Last n)
-    → ChunksAreDecoded old bytes (chunking_of_state place content) (chunk_progress.Whole (taken + n))
+pub decodes_whole : (old : ChunkDecoder) (place : ChunkState) (was content bytes : List ℕ) (taken n : ℕ)
+    → taken ≤ length bytes → decoder_after_bytes (take taken bytes) old ≡ Some (decoder_of_state place was) → ChunkTokenIsTaken place was (drop taken bytes) content (token.Last n)
+    → ChunksAreDecoded old bytes (decoder_of_state place content) (chunk_progress.Whole (taken + n))
 decodes_whole old place was content bytes taken n inside leads takes =
-    let t = chunking_of_state place was in (
+    let t = decoder_of_state place was in (
       omega (arith, takes.0, length-drop taken bytes),
       omega (arith, takes.1),
       λ more. led bytes more taken old t leads ∙ takes.2 more ∙ ap (λ l. Whole (Some content) (l ++ more)) (drop-drop n taken bytes),
     )
 
 -- a fault
-pub decodes_fault : (old : Chunking) (place new : ChunkState) (was content bytes : List ℕ) (taken : ℕ) (f : FrameFault)
-    → chunking_after_bytes (take taken bytes) old ≡ Some (chunking_of_state place was) → TokenIsTaken place was (drop taken bytes) content (token.Faulty f)
-    → ChunksAreDecoded old bytes (chunking_of_state new content) (chunk_progress.Faulty f)
-decodes_fault old place new was content bytes taken f leads takes = λ more. led bytes more taken old (chunking_of_state place was) leads ∙ takes more
+pub decodes_fault : (old : ChunkDecoder) (place new : ChunkState) (was content bytes : List ℕ) (taken : ℕ) (f : FrameFault)
+    → decoder_after_bytes (take taken bytes) old ≡ Some (decoder_of_state place was) → ChunkTokenIsTaken place was (drop taken bytes) content (token.Faulty f)
+    → ChunksAreDecoded old bytes (decoder_of_state new content) (chunk_progress.Faulty f)
+decodes_fault old place new was content bytes taken f leads takes = λ more. led bytes more taken old (decoder_of_state place was) leads ∙ takes more

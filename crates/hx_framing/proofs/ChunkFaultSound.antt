@@ -4,12 +4,12 @@ use Rattle.std.proofs.lemmas.Bool.{leb-false, ltb-true, ltb-false, eqb-true, eqb
 use Rattle.std.specs.List.{AllByRecursion}
 use Rattle.hx_framing.specs.declared.frame_fault.FrameFault.{FrameFault}
 use Rattle.hx_framing.specs.declared.frame_fault.FrameFault.TheVariants as fault
-use Rattle.hx_framing.specs.declared.contents.chunk_tokens.Phase.TheVariants as phase
+use Rattle.hx_framing.specs.declared.contents.chunk_tokens.ChunkPhase.TheVariants as phase
 use Rattle.hx_framing.specs.Body.{Bad}
-use Rattle.hx_framing.specs.Chunks.{most_trailer_bytes, Go, Stop, Fail, content_after_step, content_from_chunking, chunked_content, step_after_size_line, step_after_trailer_line}
-use Rattle.hx_framing.specs.SizeLine.{most_size_line_bytes, is_size, size_of, size_of_line, ends_in_cr, without_last_byte, number_at_most}
-use Rattle.hx_framing.specs.ChunkGrammar.{has_no_lf, IsSizeLineText, Chunk, IsChunk, chunks_text, data_of_chunks, IsTrailerLine}
-use Rattle.hx_framing.specs.ChunkFaults.{cannot_become_crlf, IsSizeLine, EndsWithReturn, trailer_lines_text, trailer_lines_length, ChunkDeviation, NoSize, NoEnd, Large, BadEnd, BadTrailer, LongTrailers, IsBegunTrailerSection, BytesDeviateAtOnce, BytesDeviate}
+use Rattle.hx_framing.specs.Chunks.{most_trailer_bytes, Go, Stop, Fail, content_after_step, content_from_decoder, chunked_content, step_after_size_line, step_after_trailer_line}
+use Rattle.hx_framing.specs.SizeLine.{most_chunk_size_line_bytes, is_chunk_size_text, chunk_size_of, chunk_size_of_line, ends_in_cr, without_last_byte, number_at_most}
+use Rattle.hx_framing.specs.ChunkGrammar.{has_no_lf, ChunkSizeLineSpellsSize, Chunk, IsChunk, chunks_text, data_of_chunks, IsTrailerLine}
+use Rattle.hx_framing.specs.ChunkFaults.{cannot_become_crlf, IsSizeLineWithCr, LineEndsInCr, trailer_lines_text, trailer_lines_length, ChunkDeviation, NoSize, NoEnd, Large, BadEnd, BadTrailer, LongTrailers, IsBegunTrailerSection, BytesStartWithChunkDeviation, DeviatesFromChunks}
 use Rattle.hx_framing.proofs.ChunkSteps.{in_phase, cr_last, cr_off}
 use Rattle.hx_framing.proofs.ChunkSound.{no_lf_push, no_lf_take, cr_line, size_says, with_lf}
 
@@ -23,7 +23,7 @@ record AtSize (left : ℕ) (l bytes : List ℕ) (f : FrameFault) : Type 0 where
   whole : AllByRecursion IsChunk chunks
   fits : length (data_of_chunks chunks) ≤ left
   kind : ChunkDeviation
-  breaks : BytesDeviateAtOnce left (length (data_of_chunks chunks)) tail kind f
+  breaks : BytesStartWithChunkDeviation left (length (data_of_chunks chunks)) tail kind f
 
 -- what follows data
 record OnEnd (left : ℕ) (text : List ℕ) (f : FrameFault) : Type 0 where
@@ -44,7 +44,7 @@ record AtData (need left : ℕ) (bytes : List ℕ) (f : FrameFault) : Type 0 whe
 -- a trailer line that is wrong, or trailers that are too long
 abbrev IsWrong : ℕ → List ℕ → List ℕ → Type 0
 IsWrong used line rest =
-    ((more : List ℕ) × (rest ≡ 10 ∷ more) × ¬ (EndsWithReturn line))
+    ((more : List ℕ) × (rest ≡ 10 ∷ more) × ¬ (LineEndsInCr line))
     ⊎ ((b : ℕ) × (more : List ℕ) × (rest ≡ b ∷ more) × (most_trailer_bytes ≤ used + length line))
 
 record AtTrailers (used : ℕ) (l bytes : List ℕ) (f : FrameFault) : Type 0 where
@@ -58,18 +58,18 @@ record AtTrailers (used : ℕ) (l bytes : List ℕ) (f : FrameFault) : Type 0 wh
   wrong : IsWrong (used + trailer_lines_length lines) line rest
 
 record Refused (bytes : List ℕ) (f : FrameFault) : Type 0 where
-  size : (left : ℕ) (sofar l : List ℕ) → has_no_lf l ≡ true → content_from_chunking bytes (in_phase phase.Size 0 left 0 sofar l) ≡ Bad f → AtSize left l bytes f
-  dat : (need left : ℕ) (sofar : List ℕ) → 0 < need → content_from_chunking bytes (in_phase phase.Data need left 0 sofar []) ≡ Bad f → AtData need left bytes f
-  ends : (left : ℕ) (sofar : List ℕ) → content_from_chunking bytes (in_phase phase.DataEnd 0 left 0 sofar []) ≡ Bad f → AtEnd left bytes f
-  ends_cr : (left : ℕ) (sofar : List ℕ) → content_from_chunking bytes (in_phase phase.DataEnd 0 left 0 sofar (13 ∷ [])) ≡ Bad f → AtEnd left (13 ∷ bytes) f
-  trailers : (left used : ℕ) (sofar l : List ℕ) → has_no_lf l ≡ true → content_from_chunking bytes (in_phase phase.Trailers 0 left used sofar l) ≡ Bad f → AtTrailers used l bytes f
+  size : (left : ℕ) (sofar l : List ℕ) → has_no_lf l ≡ true → content_from_decoder bytes (in_phase phase.Size 0 left 0 sofar l) ≡ Bad f → AtSize left l bytes f
+  dat : (need left : ℕ) (sofar : List ℕ) → 0 < need → content_from_decoder bytes (in_phase phase.Data need left 0 sofar []) ≡ Bad f → AtData need left bytes f
+  ends : (left : ℕ) (sofar : List ℕ) → content_from_decoder bytes (in_phase phase.DataEnd 0 left 0 sofar []) ≡ Bad f → AtEnd left bytes f
+  ends_cr : (left : ℕ) (sofar : List ℕ) → content_from_decoder bytes (in_phase phase.DataEnd 0 left 0 sofar (13 ∷ [])) ≡ Bad f → AtEnd left (13 ∷ bytes) f
+  trailers : (left used : ℕ) (sofar l : List ℕ) → has_no_lf l ≡ true → content_from_decoder bytes (in_phase phase.Trailers 0 left used sofar l) ≡ Bad f → AtTrailers used l bytes f
 
 same_fault : (f g : FrameFault) → Bad f ≡ Bad g → g ≡ f
 same_fault f g e = cc
 
 -- the same behind one chunk more
 behind_chunk : (left n sum : ℕ) (bytes : List ℕ) (kind : ChunkDeviation) (f : FrameFault) → n ≤ left
-    → BytesDeviateAtOnce (left - n) sum bytes kind f → BytesDeviateAtOnce left (n + sum) bytes kind f
+    → BytesStartWithChunkDeviation (left - n) sum bytes kind f → BytesStartWithChunkDeviation left (n + sum) bytes kind f
 behind_chunk left n sum bytes NoSize f fits breaks = breaks
 behind_chunk left n sum bytes NoEnd f fits breaks = breaks
 behind_chunk left n sum bytes Large f fits (is, (size, k, rest, parts, text, above)) = (is, (size, k, rest, parts, text, omega (arith, above, fits)))
@@ -80,10 +80,10 @@ behind_chunk left n sum bytes LongTrailers f fits breaks = breaks
 -- ---- a byte of each phase
 
 on_data : (b : ℕ) (bytes : List ℕ) (f : FrameFault) → Refused bytes f → (need left : ℕ) (sofar : List ℕ) → 0 < need
-    → content_from_chunking (b ∷ bytes) (in_phase phase.Data need left 0 sofar []) ≡ Bad f → AtData need left (b ∷ bytes) f
+    → content_from_decoder (b ∷ bytes) (in_phase phase.Data need left 0 sofar []) ≡ Bad f → AtData need left (b ∷ bytes) f
 on_data b bytes f later need left sofar some h = by_test (nat_lt 1 need) refl h
   where
-    by_test : (t : Bool) → nat_lt 1 need ≡ t → content_from_chunking bytes (in_phase (cond t phase.Data phase.DataEnd) (need - 1) left 0 (sofar ++ b ∷ []) []) ≡ Bad f
+    by_test : (t : Bool) → nat_lt 1 need ≡ t → content_from_decoder bytes (in_phase (cond t phase.Data phase.DataEnd) (need - 1) left 0 (sofar ++ b ∷ []) []) ≡ Bad f
         → AtData need left (b ∷ bytes) f
     by_test true p h =
         let more : 1 < need = ltb-true _ _ p in
@@ -92,7 +92,7 @@ on_data b bytes f later need left sofar some h = by_test (nat_lt 1 need) refl h
     by_test false p h =
         let few : need ≤ 1 = ltb-false _ _ p in
         let none : need - 1 ≡ 0 = omega arith in
-        let a = later.ends left (sofar ++ b ∷ []) (subst (λ (n : ℕ). content_from_chunking bytes (in_phase phase.DataEnd n left 0 (sofar ++ b ∷ []) []) ≡ Bad f) none h) in
+        let a = later.ends left (sofar ++ b ∷ []) (subst (λ (n : ℕ). content_from_decoder bytes (in_phase phase.DataEnd n left 0 (sofar ++ b ∷ []) []) ≡ Bad f) none h) in
         record { d = b ∷ []; rest = bytes; long = omega arith; parts = refl; ends = a }
 
 no_first : (b : ℕ) (bytes : List ℕ) → (b == 13) ≡ false → cannot_become_crlf (b ∷ bytes) ≡ true
@@ -100,37 +100,37 @@ no_first b [] p = ap not p
 no_first b (c ∷ bytes) p = ap (λ t. not (t && (c == 10))) p
 
 on_end : (b : ℕ) (bytes : List ℕ) (f : FrameFault) → Refused bytes f → (left : ℕ) (sofar : List ℕ)
-    → content_from_chunking (b ∷ bytes) (in_phase phase.DataEnd 0 left 0 sofar []) ≡ Bad f → AtEnd left (b ∷ bytes) f
+    → content_from_decoder (b ∷ bytes) (in_phase phase.DataEnd 0 left 0 sofar []) ≡ Bad f → AtEnd left (b ∷ bytes) f
 on_end b bytes f later left sofar h = by_test (b == 13) refl h
   where
-    by_test : (t : Bool) → (b == 13) ≡ t → content_after_step (cond t (Go (in_phase phase.DataEnd 0 left 0 sofar (b ∷ []))) (Fail fault.Chunk)) (content_from_chunking bytes) bytes ≡ Bad f
+    by_test : (t : Bool) → (b == 13) ≡ t → content_after_step (cond t (Go (in_phase phase.DataEnd 0 left 0 sofar (b ∷ []))) (Fail fault.Chunk)) (content_from_decoder bytes) bytes ≡ Bad f
         → AtEnd left (b ∷ bytes) f
     by_test true p h =
         let is_cr : b ≡ 13 = eqb-true _ _ p in
-        let a = later.ends_cr left sofar (subst (λ (x : ℕ). content_from_chunking bytes (in_phase phase.DataEnd 0 left 0 sofar (x ∷ [])) ≡ Bad f) is_cr h) in
+        let a = later.ends_cr left sofar (subst (λ (x : ℕ). content_from_decoder bytes (in_phase phase.DataEnd 0 left 0 sofar (x ∷ [])) ≡ Bad f) is_cr h) in
         subst (λ (x : ℕ). AtEnd left (x ∷ bytes) f) (sym is_cr) a
     by_test false p h = inl (same_fault fault.Chunk f h, no_first b bytes p)
 
 on_end_cr : (b : ℕ) (bytes : List ℕ) (f : FrameFault) → Refused bytes f → (left : ℕ) (sofar : List ℕ)
-    → content_from_chunking (b ∷ bytes) (in_phase phase.DataEnd 0 left 0 sofar (13 ∷ [])) ≡ Bad f → AtEnd left (13 ∷ b ∷ bytes) f
+    → content_from_decoder (b ∷ bytes) (in_phase phase.DataEnd 0 left 0 sofar (13 ∷ [])) ≡ Bad f → AtEnd left (13 ∷ b ∷ bytes) f
 on_end_cr b bytes f later left sofar h = by_test (b == 10) refl h
   where
-    by_test : (t : Bool) → (b == 10) ≡ t → content_after_step (cond t (Go (in_phase phase.Size 0 left 0 sofar [])) (Fail fault.Chunk)) (content_from_chunking bytes) bytes ≡ Bad f
+    by_test : (t : Bool) → (b == 10) ≡ t → content_after_step (cond t (Go (in_phase phase.Size 0 left 0 sofar [])) (Fail fault.Chunk)) (content_from_decoder bytes) bytes ≡ Bad f
         → AtEnd left (13 ∷ b ∷ bytes) f
     by_test true p h = inr (record { more = bytes; parts = ap (λ x. 13 ∷ x ∷ bytes) (eqb-true _ _ p); next = later.size left sofar [] refl h })
     by_test false p h = inl (same_fault fault.Chunk f h, ap not p)
 
 -- a size line that is refused
 record IsRefusedSize (l : List ℕ) (left : ℕ) (f : FrameFault) : Type 0 where
-  is : ((f ≡ fault.Chunk) × ¬ (IsSizeLine l)) ⊎ ((f ≡ fault.TooLarge) × (ends_in_cr l ≡ true) × (is_size (without_last_byte l) ≡ true) × (left < size_of (without_last_byte l)))
+  is : ((f ≡ fault.Chunk) × ¬ (IsSizeLineWithCr l)) ⊎ ((f ≡ fault.TooLarge) × (ends_in_cr l ≡ true) × (is_chunk_size_text (without_last_byte l) ≡ true) × (left < chunk_size_of (without_last_byte l)))
 
-size_refused : (l : List ℕ) (left : ℕ) (f : FrameFault) → size_of_line l left ≡ Err f → IsRefusedSize l left f
-size_refused l left f h = by_test (ends_in_cr l) refl (is_size (without_last_byte l)) refl h
+size_refused : (l : List ℕ) (left : ℕ) (f : FrameFault) → chunk_size_of_line l left ≡ Err f → IsRefusedSize l left f
+size_refused l left f h = by_test (ends_in_cr l) refl (is_chunk_size_text (without_last_byte l)) refl h
   where
-    no_line : (e s : Bool) → ends_in_cr l ≡ e → is_size (without_last_byte l) ≡ s → (e && s) ≡ false → IsSizeLine l → ⊥
+    no_line : (e s : Bool) → ends_in_cr l ≡ e → is_chunk_size_text (without_last_byte l) ≡ s → (e && s) ≡ false → IsSizeLineWithCr l → ⊥
     no_line e s p q off line =
         let ends : ends_in_cr l ≡ true = ap ends_in_cr line.ends ∙ cr_last line.text in
-        let form : is_size (without_last_byte l) ≡ true = ap (λ k. is_size (without_last_byte k)) line.ends ∙ ap is_size (cr_off line.text) ∙ line.form in
+        let form : is_chunk_size_text (without_last_byte l) ≡ true = ap (λ k. is_chunk_size_text (without_last_byte k)) line.ends ∙ ap is_chunk_size_text (cr_off line.text) ∙ line.form in
         let on : (e && s) ≡ true = ap (λ t. t && s) (sym p ∙ ends) ∙ sym q ∙ form in
         let both : true ≡ false = sym on ∙ off in cc
 
@@ -141,34 +141,34 @@ size_refused l left f h = by_test (ends_in_cr l) refl (is_size (without_last_byt
     same_error : (g : FrameFault) → ◌≡◌ {A = Result ℕ FrameFault} (Err g) (Err f) → f ≡ g
     same_error g e = cc
 
-    by_test : (e : Bool) → ends_in_cr l ≡ e → (s : Bool) → is_size (without_last_byte l) ≡ s
-        → cond (e && s) (ok_or (number_at_most left (size_of (without_last_byte l))) fault.TooLarge) (Err fault.Chunk) ≡ Err f → IsRefusedSize l left f
+    by_test : (e : Bool) → ends_in_cr l ≡ e → (s : Bool) → is_chunk_size_text (without_last_byte l) ≡ s
+        → cond (e && s) (ok_or (number_at_most left (chunk_size_of (without_last_byte l))) fault.TooLarge) (Err fault.Chunk) ≡ Err f → IsRefusedSize l left f
     by_test true p true q h =
-        let large = by_size (size_of (without_last_byte l)) (nat_le (size_of (without_last_byte l)) left) refl h in
+        let large = by_size (chunk_size_of (without_last_byte l)) (nat_le (chunk_size_of (without_last_byte l)) left) refl h in
         record { is = inr (large.0, p, q, large.1) }
     by_test true p false q h = record { is = inl (same_error fault.Chunk h, no_line true false p q refl) }
     by_test false p s q h = record { is = inl (same_error fault.Chunk h, no_line false s p q refl) }
 
 on_size : (b : ℕ) (bytes : List ℕ) (f : FrameFault) → Refused bytes f → (left : ℕ) (sofar l : List ℕ) → has_no_lf l ≡ true
-    → content_from_chunking (b ∷ bytes) (in_phase phase.Size 0 left 0 sofar l) ≡ Bad f → AtSize left l (b ∷ bytes) f
-on_size b bytes f later left sofar l none h = by_test (b == 10) refl (nat_lt (length l) most_size_line_bytes) refl (size_of_line l left) refl h
+    → content_from_decoder (b ∷ bytes) (in_phase phase.Size 0 left 0 sofar l) ≡ Bad f → AtSize left l (b ∷ bytes) f
+on_size b bytes f later left sofar l none h = by_test (b == 10) refl (nat_lt (length l) most_chunk_size_line_bytes) refl (chunk_size_of_line l left) refl h
   where
     -- the bytes themselves deviate
-    here : (kind : ChunkDeviation) → BytesDeviateAtOnce left 0 (l ++ b ∷ bytes) kind f → AtSize left l (b ∷ bytes) f
+    here : (kind : ChunkDeviation) → BytesStartWithChunkDeviation left 0 (l ++ b ∷ bytes) kind f → AtSize left l (b ∷ bytes) f
     here kind breaks = record { chunks = []; tail = l ++ b ∷ bytes; parts = refl; whole = tt; fits = omega arith; kind = kind; breaks = breaks }
 
-    text_of : (ends_in_cr l ≡ true) → (is_size (without_last_byte l) ≡ true) → (n : ℕ) → n ≡ size_of (without_last_byte l) → IsSizeLineText (without_last_byte l) n
+    text_of : (ends_in_cr l ≡ true) → (is_chunk_size_text (without_last_byte l) ≡ true) → (n : ℕ) → n ≡ chunk_size_of (without_last_byte l) → ChunkSizeLineSpellsSize (without_last_byte l) n
     text_of ends form n is = record { form = form; size = is; one_line = no_lf_take (length l - 1) l none }
 
     by_refused : b ≡ 10 → (g : FrameFault) → f ≡ g → IsRefusedSize l left g → AtSize left l (b ∷ bytes) f
     by_refused is_lf g same r = by_is r.is
       where
-        by_is : ((g ≡ fault.Chunk) × ¬ (IsSizeLine l)) ⊎ ((g ≡ fault.TooLarge) × (ends_in_cr l ≡ true) × (is_size (without_last_byte l) ≡ true) × (left < size_of (without_last_byte l)))
+        by_is : ((g ≡ fault.Chunk) × ¬ (IsSizeLineWithCr l)) ⊎ ((g ≡ fault.TooLarge) × (ends_in_cr l ≡ true) × (is_chunk_size_text (without_last_byte l) ≡ true) × (left < chunk_size_of (without_last_byte l)))
             → AtSize left l (b ∷ bytes) f
         by_is (inl x) = here NoSize (same ∙ x.0, (l, bytes, ap (λ c. l ++ c ∷ bytes) is_lf, none, x.1))
-        by_is (inr x) = here Large (same ∙ x.0, (without_last_byte l, size_of (without_last_byte l), bytes, with_lf l bytes b x.1 is_lf, text_of x.1 x.2 (size_of (without_last_byte l)) refl, omega (arith, x.3)))
+        by_is (inr x) = here Large (same ∙ x.0, (without_last_byte l, chunk_size_of (without_last_byte l), bytes, with_lf l bytes b x.1 is_lf, text_of x.1 x.2 (chunk_size_of (without_last_byte l)) refl, omega (arith, x.3)))
 
-    by_end : (n : ℕ) → b ≡ 10 → ends_in_cr l ≡ true → is_size (without_last_byte l) ≡ true → n ≡ size_of (without_last_byte l) → n ≤ left → 0 < n
+    by_end : (n : ℕ) → b ≡ 10 → ends_in_cr l ≡ true → is_chunk_size_text (without_last_byte l) ≡ true → n ≡ chunk_size_of (without_last_byte l) → n ≤ left → 0 < n
         → (d rest : List ℕ) → length d ≡ n → bytes ≡ d ++ rest → AtEnd (left - n) rest f → AtSize left l (b ∷ bytes) f
     by_end n is_lf ends form is fits some d rest long parts (inl x) =
         let chunk : Chunk = record { size = without_last_byte l; bytes = d } in
@@ -194,11 +194,11 @@ on_size b bytes f later left sofar l none h = by_test (b == 10) refl (nat_lt (le
           whole = (record { size = text_of ends form (length d) (long ∙ is); some = omega (arith, long, some) }, a.whole);
           fits = omega (arith, sum, a.fits, fits);
           kind = a.kind;
-          breaks = subst (λ (k : ℕ). BytesDeviateAtOnce left k a.tail a.kind f) (sym sum)
+          breaks = subst (λ (k : ℕ). BytesStartWithChunkDeviation left k a.tail a.kind f) (sym sum)
               (behind_chunk left n (length (data_of_chunks a.chunks)) a.tail a.kind f fits a.breaks);
         }
 
-    by_trailers : b ≡ 10 → ends_in_cr l ≡ true → is_size (without_last_byte l) ≡ true → 0 ≡ size_of (without_last_byte l) → AtTrailers 0 [] bytes f → AtSize left l (b ∷ bytes) f
+    by_trailers : b ≡ 10 → ends_in_cr l ≡ true → is_chunk_size_text (without_last_byte l) ≡ true → 0 ≡ chunk_size_of (without_last_byte l) → AtTrailers 0 [] bytes f → AtSize left l (b ∷ bytes) f
     by_trailers is_lf ends form is a = by_wrong a.wrong
       where
         begins : (rest : List ℕ) → a.rest ≡ rest → IsBegunTrailerSection (l ++ b ∷ bytes) a.lines a.line rest
@@ -215,8 +215,8 @@ on_size b bytes f later left sofar l none h = by_test (b == 10) refl (nat_lt (le
         by_wrong (inl x) = here BadTrailer (a.is, (a.lines, a.line, x.0, begins (10 ∷ x.0) x.1, x.2))
         by_wrong (inr x) = here LongTrailers (a.is, (a.lines, a.line, x.0, x.1, begins (x.0 ∷ x.1) x.2, omega (arith, x.3)))
 
-    by_number : (n : ℕ) → size_of_line l left ≡ Ok n → b ≡ 10 → (z : Bool) → (n == 0) ≡ z
-        → content_after_step (cond z (Go (in_phase phase.Trailers 0 left 0 sofar [])) (Go (in_phase phase.Data n (left - n) 0 sofar []))) (content_from_chunking bytes) bytes ≡ Bad f
+    by_number : (n : ℕ) → chunk_size_of_line l left ≡ Ok n → b ≡ 10 → (z : Bool) → (n == 0) ≡ z
+        → content_after_step (cond z (Go (in_phase phase.Trailers 0 left 0 sofar [])) (Go (in_phase phase.Data n (left - n) 0 sofar []))) (content_from_decoder bytes) bytes ≡ Bad f
         → AtSize left l (b ∷ bytes) f
     by_number n says is_lf true z h =
         let said = size_says l left n says in
@@ -229,8 +229,8 @@ on_size b bytes f later left sofar l none h = by_test (b == 10) refl (nat_lt (le
         let a = later.dat n (left - n) sofar some h in
         by_end n is_lf said.0 said.1 said.2 said.3 some a.d a.rest a.long a.parts a.ends
 
-    by_test : (t : Bool) → (b == 10) ≡ t → (u : Bool) → nat_lt (length l) most_size_line_bytes ≡ u → (r : Result ℕ FrameFault) → size_of_line l left ≡ r
-        → content_after_step (cond t (step_after_size_line (in_phase phase.Size 0 left 0 sofar l) r) (cond u (Go (in_phase phase.Size 0 left 0 sofar (l ++ b ∷ []))) (Fail fault.Chunk))) (content_from_chunking bytes) bytes ≡ Bad f
+    by_test : (t : Bool) → (b == 10) ≡ t → (u : Bool) → nat_lt (length l) most_chunk_size_line_bytes ≡ u → (r : Result ℕ FrameFault) → chunk_size_of_line l left ≡ r
+        → content_after_step (cond t (step_after_size_line (in_phase phase.Size 0 left 0 sofar l) r) (cond u (Go (in_phase phase.Size 0 left 0 sofar (l ++ b ∷ []))) (Fail fault.Chunk))) (content_from_decoder bytes) bytes ≡ Bad f
         → AtSize left l (b ∷ bytes) f
     by_test true p u q (Ok n) says h = by_number n says (eqb-true _ _ p) (n == 0) refl h
     by_test true p u q (Err g) says h = by_refused (eqb-true _ _ p) g (same_fault g f h) (size_refused l left g says)
@@ -238,15 +238,15 @@ on_size b bytes f later left sofar l none h = by_test (b == 10) refl (nat_lt (le
         let a = later.size left sofar (l ++ b ∷ []) (no_lf_push l b none p) h in
         record { chunks = a.chunks; tail = a.tail; parts = sym (append_assoc l (b ∷ []) bytes) ∙ a.parts; whole = a.whole; fits = a.fits; kind = a.kind; breaks = a.breaks }
     by_test false p false q r says h =
-        let long : most_size_line_bytes ≤ length l = ltb-false _ _ q in
+        let long : most_chunk_size_line_bytes ≤ length l = ltb-false _ _ q in
         here NoEnd (same_fault fault.Chunk f h, (l ++ b ∷ [], bytes, sym (append_assoc l (b ∷ []) bytes), no_lf_push l b none p, omega (arith, long, length-append l (b ∷ []))))
 
 on_trailers : (b : ℕ) (bytes : List ℕ) (f : FrameFault) → Refused bytes f → (left used : ℕ) (sofar l : List ℕ) → has_no_lf l ≡ true
-    → content_from_chunking (b ∷ bytes) (in_phase phase.Trailers 0 left used sofar l) ≡ Bad f → AtTrailers used l (b ∷ bytes) f
+    → content_from_decoder (b ∷ bytes) (in_phase phase.Trailers 0 left used sofar l) ≡ Bad f → AtTrailers used l (b ∷ bytes) f
 on_trailers b bytes f later left used sofar l none h = by_room (nat_lt (used + length l) most_trailer_bytes) refl h
   where
     by_length : b ≡ 10 → ends_in_cr l ≡ true → (z : Bool) → (length l == 1) ≡ z
-        → content_after_step (cond z (Stop sofar) (Go (in_phase phase.Trailers 0 left (used + length l + 1) sofar []))) (content_from_chunking bytes) bytes ≡ Bad f
+        → content_after_step (cond z (Stop sofar) (Go (in_phase phase.Trailers 0 left (used + length l + 1) sofar []))) (content_from_decoder bytes) bytes ≡ Bad f
         → AtTrailers used l (b ∷ bytes) f
     by_length is_lf e true z h = absurd cc
     by_length is_lf e false z h =
@@ -271,7 +271,7 @@ on_trailers b bytes f later left used sofar l none h = by_room (nat_lt (used + l
     here is line rest one_line parts wrong = record { is = is; lines = []; line = line; rest = rest; each = tt; one_line = one_line; parts = parts; wrong = wrong }
 
     by_end : b ≡ 10 → (e : Bool) → ends_in_cr l ≡ e
-        → content_after_step (cond e (cond (length l == 1) (Stop sofar) (Go (in_phase phase.Trailers 0 left (used + length l + 1) sofar []))) (Fail fault.Chunk)) (content_from_chunking bytes) bytes ≡ Bad f
+        → content_after_step (cond e (cond (length l == 1) (Stop sofar) (Go (in_phase phase.Trailers 0 left (used + length l + 1) sofar []))) (Fail fault.Chunk)) (content_from_decoder bytes) bytes ≡ Bad f
         → AtTrailers used l (b ∷ bytes) f
     by_end is_lf true e h = by_length is_lf e (length l == 1) refl h
     by_end is_lf false e h =
@@ -279,7 +279,7 @@ on_trailers b bytes f later left used sofar l none h = by_room (nat_lt (used + l
         (inl (bytes, ap (λ c. c ∷ bytes) is_lf, λ line. absurd (let both : true ≡ false = sym (ap ends_in_cr line.ends ∙ cr_last line.text) ∙ e in cc)))
 
     by_lf : (t : Bool) → (b == 10) ≡ t
-        → content_after_step (cond t (step_after_trailer_line (in_phase phase.Trailers 0 left used sofar l)) (Go (in_phase phase.Trailers 0 left used sofar (l ++ b ∷ [])))) (content_from_chunking bytes) bytes ≡ Bad f
+        → content_after_step (cond t (step_after_trailer_line (in_phase phase.Trailers 0 left used sofar l)) (Go (in_phase phase.Trailers 0 left used sofar (l ++ b ∷ [])))) (content_from_decoder bytes) bytes ≡ Bad f
         → AtTrailers used l (b ∷ bytes) f
     by_lf true p h = by_end (eqb-true _ _ p) (ends_in_cr l) refl h
     by_lf false p h =
@@ -287,7 +287,7 @@ on_trailers b bytes f later left used sofar l none h = by_room (nat_lt (used + l
         record { is = a.is; lines = a.lines; line = a.line; rest = a.rest; each = a.each; one_line = a.one_line; parts = sym (append_assoc l (b ∷ []) bytes) ∙ a.parts; wrong = a.wrong }
 
     by_room : (r : Bool) → nat_lt (used + length l) most_trailer_bytes ≡ r
-        → content_after_step (cond r (cond (b == 10) (step_after_trailer_line (in_phase phase.Trailers 0 left used sofar l)) (Go (in_phase phase.Trailers 0 left used sofar (l ++ b ∷ [])))) (Fail fault.Chunk)) (content_from_chunking bytes) bytes ≡ Bad f
+        → content_after_step (cond r (cond (b == 10) (step_after_trailer_line (in_phase phase.Trailers 0 left used sofar l)) (Go (in_phase phase.Trailers 0 left used sofar (l ++ b ∷ [])))) (Fail fault.Chunk)) (content_from_decoder bytes) bytes ≡ Bad f
         → AtTrailers used l (b ∷ bytes) f
     by_room true p h = by_lf (b == 10) refl h
     by_room false p h =
@@ -301,7 +301,7 @@ refused (b ∷ bytes) f =
     record { size = on_size b bytes f later; dat = on_data b bytes f later; ends = on_end b bytes f later; ends_cr = on_end_cr b bytes f later; trailers = on_trailers b bytes f later }
 
 -- what is refused deviates
-pub refused_breaks : (max_body : ℕ) (bytes : List ℕ) (f : FrameFault) → chunked_content max_body bytes ≡ Bad f → BytesDeviate max_body bytes f
+pub refused_breaks : (max_body : ℕ) (bytes : List ℕ) (f : FrameFault) → chunked_content max_body bytes ≡ Bad f → DeviatesFromChunks max_body bytes f
 refused_breaks max_body bytes f h =
     let a = (refused bytes f).size max_body [] [] refl h in
     record { chunks = a.chunks; tail = a.tail; parts = a.parts; whole = a.whole; fits = a.fits; kind = a.kind; breaks = a.breaks }

@@ -6,13 +6,13 @@ use Rattle.hx_framing.specs.declared.frame_fault.FrameFault.TheVariants as fault
 use Rattle.hx_framing.specs.declared.contents.content.Content.{Content}
 use Rattle.hx_framing.specs.declared.contents.content.ContentProgress.{ContentProgress}
 use Rattle.hx_framing.specs.declared.contents.content.ContentProgress.TheVariants as content_progress
-use Rattle.hx_framing.specs.Body.{ContentFound, Short, Bad, Whole}
-use Rattle.hx_framing.specs.Contents.{content_rest}
-use Rattle.hx_framing.specs.ContentReading.{ContentGoesOn, ContentResumesAs}
+use Rattle.hx_framing.specs.Body.{ContentParseResult, Short, Bad, Whole}
+use Rattle.hx_framing.specs.Contents.{content_resumed}
+use Rattle.hx_framing.specs.ContentReading.{ContentIsReadFurther, ContentResumesAs}
 use Rattle.hx_framing.specs.declared.messages.Next.{Next}
-use Rattle.hx_framing.specs.Progress.{next_of_reading}
-use Rattle.hx_framing.specs.ReaderSteps.{answer_of, found_in_content}
-use Rattle.hx_framing.specs.Reading.{StreamReading, Incomplete, Continue, Over, Spelled, Faulty, reading_cut_off, reading_with_content}
+use Rattle.hx_framing.specs.Progress.{next_answer_of_reading}
+use Rattle.hx_framing.specs.ReaderSteps.{answer_of_progress, progress_in_content}
+use Rattle.hx_framing.specs.Reading.{StreamReading, Incomplete, Continue, Over, Spelled, Faulty, truncated_or_incomplete, reading_of_content}
 
 -- the fault of a reading that has one
 fault_in : {M : Type 0} → StreamReading M → FrameFault
@@ -30,8 +30,8 @@ unfolding fault_in
 same_fault {M} g f is = ap (λ (r : StreamReading (Option (List ℕ))). refused M (fault_in r)) is
 
 -- the fault that is told without the message
-pub body_faulty : {M : Type 0} (ended : Bool) (make : Option (List ℕ) → M) (body : ContentFound) (f : FrameFault)
-    → reading_with_content {M = Option (List ℕ)} ended (λ c. c) body ≡ Faulty f → reading_with_content ended make body ≡ Faulty f
+pub body_faulty : {M : Type 0} (ended : Bool) (make : Option (List ℕ) → M) (body : ContentParseResult) (f : FrameFault)
+    → reading_of_content {M = Option (List ℕ)} ended (λ c. c) body ≡ Faulty f → reading_of_content ended make body ≡ Faulty f
 body_faulty true make Short f is = same_fault fault.Truncated f is
 body_faulty false make Short f is = absurd cc
 body_faulty ended make (Bad g) f is = same_fault g f is
@@ -39,11 +39,11 @@ body_faulty ended make (Whole content rest) f is = absurd cc
 
 -- what was read of the unread bytes, as a function has it
 pub read_of : (closed : Bool → Bool) {e ended : Bool} {unread bytes : List ℕ} (left : List ℕ) (content new : Content) {t s : ContentProgress} → e ≡ ended → unread ≡ bytes → t ≡ s
-    → ContentGoesOn e (closed e) unread content t new left → ContentGoesOn ended (closed ended) bytes content s new left
+    → ContentIsReadFurther e (closed e) unread content t new left → ContentIsReadFurther ended (closed ended) bytes content s new left
 read_of closed {e} {ended} {unread} {bytes} left content new {t} {s} ends kept is h =
-    subst (λ (e : Bool). ContentGoesOn e (closed e) bytes content s new left) ends
-    (subst (λ (t : ContentProgress). ContentGoesOn e (closed e) bytes content t new left) is
-    (subst (λ (u : List ℕ). ContentGoesOn e (closed e) u content t new left) kept h))
+    subst (λ (e : Bool). ContentIsReadFurther e (closed e) bytes content s new left) ends
+    (subst (λ (t : ContentProgress). ContentIsReadFurther e (closed e) bytes content t new left) is
+    (subst (λ (u : List ℕ). ContentIsReadFurther e (closed e) u content t new left) kept h))
 
 -- what the bytes read as where that is found in the content
 abbrev pub reading_of : {M : Type 0} → (Option (List ℕ) → M) → List ℕ → ContentProgress → StreamReading M
@@ -53,37 +53,37 @@ reading_of make bytes (content_progress.Whole c n) = Spelled (make c) (drop n by
 
 -- it is what is answered
 pub found_answered : {H M : Type 0} (P : Next M → Type 0) (make : Option (List ℕ) → M) (head : H) (new : Content) (bytes : List ℕ) (found : ContentProgress)
-    → P (next_of_reading (reading_of make bytes found)) → P (answer_of (found_in_content make head new found))
+    → P (next_answer_of_reading (reading_of make bytes found)) → P (answer_of_progress (progress_in_content make head new found))
 found_answered P make head new bytes (content_progress.Incomplete n) x = x
 found_answered P make head new bytes (content_progress.Faulty f) x = x
 found_answered P make head new bytes (content_progress.Whole c n) x = x
 
 pub content_found : {M : Type 0} (make : Option (List ℕ) → M) (ended closed : Bool) (bytes left : List ℕ) (content new : Content) (s : ContentProgress)
-    → ContentGoesOn ended closed bytes content s new left → reading_with_content ended make (content_rest content closed bytes) ≡ reading_of make bytes s
+    → ContentIsReadFurther ended closed bytes content s new left → reading_of_content ended make (content_resumed content closed bytes) ≡ reading_of make bytes s
 content_found {M} make ended closed bytes left content new (content_progress.Incomplete n) k =
-    ap (λ (b : ContentFound). reading_with_content ended make b) k.1.1 ∙ ap (λ (e : Bool). reading_cut_off {M = M} e) k.0
-content_found make ended closed bytes left content new (content_progress.Faulty f) k = body_faulty ended make (content_rest content closed bytes) f k.0
-content_found make ended closed bytes left content new (content_progress.Whole c n) k = ap (λ (b : ContentFound). reading_with_content ended make b) k.0.1
+    ap (λ (b : ContentParseResult). reading_of_content ended make b) k.1.1 ∙ ap (λ (e : Bool). truncated_or_incomplete {M = M} e) k.0
+content_found make ended closed bytes left content new (content_progress.Faulty f) k = body_faulty ended make (content_resumed content closed bytes) f k.0
+content_found make ended closed bytes left content new (content_progress.Whole c n) k = ap (λ (b : ContentParseResult). reading_of_content ended make b) k.0.1
 
 -- ---- a content that resumes
 
 module _ {M : Type 0} (reads : Bool → List ℕ → StreamReading M → Type 0) (make : Option (List ℕ) → M) (closed : Bool → Bool) where
   -- nothing more has come
   pub resumes_now : (content : Content) (bytes unread : List ℕ) → ContentResumesAs reads make closed content bytes unread → (ended : Bool)
-      → reads ended bytes (reading_with_content ended make (content_rest content (closed ended) unread))
+      → reads ended bytes (reading_of_content ended make (content_resumed content (closed ended) unread))
   resumes_now content bytes unread on ended =
-      subst (λ (u : List ℕ). reads ended bytes (reading_with_content ended make (content_rest content (closed ended) u))) (append-nil unread)
-      (subst (λ (u : List ℕ). reads ended u (reading_with_content ended make (content_rest content (closed ended) (unread ++ [])))) (append-nil bytes) (on [] ended))
+      subst (λ (u : List ℕ). reads ended bytes (reading_of_content ended make (content_resumed content (closed ended) u))) (append-nil unread)
+      (subst (λ (u : List ℕ). reads ended u (reading_of_content ended make (content_resumed content (closed ended) (unread ++ [])))) (append-nil bytes) (on [] ended))
 
   -- a piece has come
   pub resumes_fed : (content : Content) (bytes unread w : List ℕ) → ContentResumesAs reads make closed content bytes unread
       → ContentResumesAs reads make closed content (bytes ++ w) (unread ++ w)
   resumes_fed content bytes unread w on = λ more ended.
-      subst (λ (u : List ℕ). reads ended u (reading_with_content ended make (content_rest content (closed ended) ((unread ++ w) ++ more)))) (sym (append_assoc bytes w more))
-      (subst (λ (u : List ℕ). reads ended (bytes ++ (w ++ more)) (reading_with_content ended make (content_rest content (closed ended) u))) (sym (append_assoc unread w more)) (on (w ++ more) ended))
+      subst (λ (u : List ℕ). reads ended u (reading_of_content ended make (content_resumed content (closed ended) ((unread ++ w) ++ more)))) (sym (append_assoc bytes w more))
+      (subst (λ (u : List ℕ). reads ended (bytes ++ (w ++ more)) (reading_of_content ended make (content_resumed content (closed ended) u))) (sym (append_assoc unread w more)) (on (w ++ more) ended))
 
   -- it has gone on
-  pub resumes_on : (content new : Content) (bytes unread left : List ℕ) → ((more : List ℕ) (e : Bool) → content_rest content e (unread ++ more) ≡ content_rest new e (left ++ more))
+  pub resumes_on : (content new : Content) (bytes unread left : List ℕ) → ((more : List ℕ) (e : Bool) → content_resumed content e (unread ++ more) ≡ content_resumed new e (left ++ more))
       → ContentResumesAs reads make closed content bytes unread → ContentResumesAs reads make closed new bytes left
   resumes_on content new bytes unread left same on = λ more ended.
-      subst (λ (body : ContentFound). reads ended (bytes ++ more) (reading_with_content ended make body)) (same more (closed ended)) (on more ended)
+      subst (λ (body : ContentParseResult). reads ended (bytes ++ more) (reading_of_content ended make body)) (same more (closed ended)) (on more ended)

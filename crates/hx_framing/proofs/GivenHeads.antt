@@ -16,25 +16,25 @@ use Rattle.hx_framing.specs.declared.heads.request_head.Head.{Head}
 use Rattle.hx_framing.specs.declared.heads.status_head.StatusHead.{StatusHead}
 use Rattle.hx_framing.specs.declared.messages.Request.{Request}
 use Rattle.hx_framing.specs.declared.messages.Response.{Response}
-use Rattle.hx_framing.specs.declared.lengths.framing.RequestBody.{RequestBody}
+use Rattle.hx_framing.specs.declared.lengths.framing.RequestFraming.{RequestFraming}
 use Rattle.hx_framing.specs.declared.lengths.framing.Framing.{Framing}
 use Rattle.hx_framing.specs.declared.frame_fault.FrameFault.{FrameFault}
 use Rattle.hx_framing.specs.declared.frame_fault.FrameFault.TheVariants as fault
 use Rattle.hx_framing.specs.HeadEnd.{empty_lines_length, head_length, most_head_bytes}
-use Rattle.hx_framing.specs.Version.{start_line, without_return}
-use Rattle.hx_framing.specs.Head.{IsHeadOfRequest, RequestHeadIsJudged, field_of_grammar, head_of_grammar}
+use Rattle.hx_framing.specs.Version.{start_line, without_trailing_cr}
+use Rattle.hx_framing.specs.Head.{IsHeadOfRequest, RequestHeadIsJudged, field_of_parsed_line, head_of_parsed_request}
 use Rattle.hx_framing.specs.StatusHead as status
 use Rattle.hx_framing.specs.StatusHead.{IsStatusHead, status_head_of}
-use Rattle.hx_framing.specs.Body.{ContentFound, Short, Bad, Whole}
-use Rattle.hx_framing.specs.Contents.{content_at}
+use Rattle.hx_framing.specs.Body.{ContentParseResult, Short, Bad, Whole}
+use Rattle.hx_framing.specs.Contents.{content_by_framing}
 use Rattle.hx_framing.specs.ContentLength.{content_length_name}
-use Rattle.hx_framing.specs.Lengths.{transfer_encoding_name, request_body_of, framing_of_response, without_lengths}
-use Rattle.hx_framing.specs.Reading.{Continue, Over, Spelled, Faulty, reading_cut_off, reading_with_content}
-use Rattle.hx_framing.specs.RequestReading.{Reads, RequestReadsByLength, request_of_head, reading_with_request_body}
+use Rattle.hx_framing.specs.Lengths.{transfer_encoding_name, request_framing_of, framing_of_response, without_length_fields}
+use Rattle.hx_framing.specs.Reading.{Continue, Over, Spelled, Faulty, truncated_or_incomplete, reading_of_content}
+use Rattle.hx_framing.specs.RequestReading.{ReadsAs, RequestReadsByHeadLength, request_of_head, reading_with_request_body}
 use Rattle.hx_framing.specs.ResponseReading as response
-use Rattle.hx_framing.specs.ResponseReading.{FrontReadsByLength, PassesInterimResponses, response_of_head, reading_with_framing}
+use Rattle.hx_framing.specs.ResponseReading.{FinalReadsByHeadLength, SkipsInterimResponses, response_of_head, reading_with_framing}
 use Rattle.hx_framing.specs.GivenFields.{HeadGivesFields, LineSpellsRequestLine, LineSpellsStatusLine, reason_phrase_text, is_request_target_byte}
-use Rattle.hx_framing.proofs.HeadLineLemmas.{IsNo, each, token_byte, uri_byte, digit_byte, token, first_at, with_return, without_return-is, text_of, blank_is, lines_of, one_line, section_lines, empty_end, version}
+use Rattle.hx_framing.proofs.HeadLineLemmas.{IsNo, each, token_byte, uri_byte, digit_byte, token, first_at, with_return, without_trailing_cr-is, text_of, blank_is, lines_of, one_line, section_lines, empty_end, version}
 use Rattle.hx_framing.proofs.GivenLemmas.{spell_all}
 
 -- a first line behind empty lines, and field lines behind it
@@ -62,7 +62,7 @@ behind_empty_lines bytes line end fields last s =
     ap (λ n. drop n bytes) blank ∙ ap (drop (length (print_blank s.ends))) s.parts ∙ drop-append_seam (print_blank s.ends) rest
 
 gives : (bytes line : List ℕ) (end : LineEnd) (fields : List Field) (last : LineEnd) → Split bytes line end fields last
-    → HeadGivesFields bytes (map field_of_grammar fields)
+    → HeadGivesFields bytes (map field_of_parsed_line fields)
 gives bytes line end fields last s = record {
   lines = map text_of fields;
   last = with_return [] last;
@@ -85,11 +85,11 @@ first_line line rest crlf none =
 first_line line rest lf none = up_to_feed line rest none
 
 starts : (bytes line : List ℕ) (end : LineEnd) (fields : List Field) (last : LineEnd) → Split bytes line end fields last
-    → without_return (start_line bytes) ≡ line
+    → without_trailing_cr (start_line bytes) ≡ line
 starts bytes line end fields last s =
-    ap (λ l. without_return (before_first (λ b. b == 10) l)) (behind_empty_lines bytes line end fields last s)
-    ∙ ap without_return (first_line line (print_section fields last) end s.none)
-    ∙ without_return-is line end s.returns
+    ap (λ l. without_trailing_cr (before_first (λ b. b == 10) l)) (behind_empty_lines bytes line end fields last s)
+    ∙ ap without_trailing_cr (first_line line (print_section fields last) end s.none)
+    ∙ without_trailing_cr-is line end s.returns
 
 -- ---- the bytes of a first line
 
@@ -136,7 +136,7 @@ split_request bytes h head = by_method h.method refl head.0.0.method
               ∙ ap (λ t. print_blank h.blank ++ t) (regroup h.method h.target (print_version h.minor) (print_end h.line_end) (print_section h.fields h.last));
         }
 
-request_starts : (bytes : List ℕ) (h : RequestHead) → IsHeadOfRequest bytes h → LineSpellsRequestLine (start_line bytes) (head_of_grammar h)
+request_starts : (bytes : List ℕ) (h : RequestHead) → IsHeadOfRequest bytes h → LineSpellsRequestLine (start_line bytes) (head_of_parsed_request h)
 request_starts bytes h head = record {
   parts = starts bytes (request_line h) h.line_end h.fields h.last (split_request bytes h head);
   method = token h.method head.0.0.method;
@@ -213,7 +213,7 @@ response_first bytes head judged =
 -- ---- what is read
 
 -- a message that is read was made with a content
-body_makes : {M : Type 0} (e : Bool) (make : Option (List ℕ) → M) (body : ContentFound) (m : M) (rest : List ℕ) → Spelled m rest ≡ reading_with_content e make body
+body_makes : {M : Type 0} (e : Bool) (make : Option (List ℕ) → M) (body : ContentParseResult) (m : M) (rest : List ℕ) → Spelled m rest ≡ reading_of_content e make body
     → (content : Option (List ℕ)) × (m ≡ make content)
 body_makes true make Short m rest is = absurd cc
 body_makes false make Short m rest is = absurd cc
@@ -223,57 +223,57 @@ body_makes e make (Whole content behind) m rest is = (content, cc)
 abbrev RequestLines : List ℕ → Request → Type 0
 RequestLines bytes given =
     (n : ℕ) × (head_length (take most_head_bytes bytes) ≡ Some n)
-    × ((fields : List Line) × HeadGivesFields (take n bytes) fields × (given.fields ≡ without_lengths fields))
+    × ((fields : List Line) × HeadGivesFields (take n bytes) fields × (given.fields ≡ without_length_fields fields))
 
-request_body_makes : (max : ℕ) (e t : Bool) (head : Head) (bytes : List ℕ) (m : Request) (rest : List ℕ) (f : Result RequestBody FrameFault)
-    → Spelled m rest ≡ reading_with_request_body max e t head bytes f → m.fields ≡ without_lengths head.fields
+request_body_makes : (max : ℕ) (e t : Bool) (head : Head) (bytes : List ℕ) (m : Request) (rest : List ℕ) (f : Result RequestFraming FrameFault)
+    → Spelled m rest ≡ reading_with_request_body max e t head bytes f → m.fields ≡ without_length_fields head.fields
 request_body_makes max e t head bytes m rest (Err f) is = absurd cc
 request_body_makes max e t head bytes m rest (Ok request_body) is = by_wish (request_body.wants_continue && not t) is
   where
-    by_wish : (w : Bool) → Spelled m rest ≡ cond w Continue (reading_with_content e (request_of_head head) (content_at max request_body.framing false bytes))
-        → m.fields ≡ without_lengths head.fields
+    by_wish : (w : Bool) → Spelled m rest ≡ cond w Continue (reading_of_content e (request_of_head head) (content_by_framing max request_body.framing false bytes))
+        → m.fields ≡ without_length_fields head.fields
     by_wish true is = absurd cc
     by_wish false is =
-        let made = body_makes e (request_of_head head) (content_at max request_body.framing false bytes) m rest is in ap (λ (r : Request). r.fields) made.1
+        let made = body_makes e (request_of_head head) (content_by_framing max request_body.framing false bytes) m rest is in ap (λ (r : Request). r.fields) made.1
 
-no_request : (e over blank : Bool) (m : Request) (r : List ℕ) → Spelled m r ≡ cond over (Faulty fault.Head) (cond (e && blank) Over (reading_cut_off e)) → ⊥
+no_request : (e over blank : Bool) (m : Request) (r : List ℕ) → Spelled m r ≡ cond over (Faulty fault.Head) (cond (e && blank) Over (truncated_or_incomplete e)) → ⊥
 no_request e true blank m r is = cc
 no_request true false true m r is = cc
 no_request true false false m r is = cc
 no_request false false blank m r is = cc
 
-pub request_lines_given : (max : ℕ) (e t : Bool) (bytes : List ℕ) (given : Request) (rest : List ℕ) → Reads max e t bytes (Spelled given rest)
+pub request_lines_given : (max : ℕ) (e t : Bool) (bytes : List ℕ) (given : Request) (rest : List ℕ) → ReadsAs max e t bytes (Spelled given rest)
     → RequestLines bytes given
 request_lines_given max e t bytes given rest reads = by_place (head_length (take most_head_bytes bytes)) refl reads
   where
-    by_place : (o : Option ℕ) → head_length (take most_head_bytes bytes) ≡ o → RequestReadsByLength max e t bytes o (Spelled given rest) → RequestLines bytes given
+    by_place : (o : Option ℕ) → head_length (take most_head_bytes bytes) ≡ o → RequestReadsByHeadLength max e t bytes o (Spelled given rest) → RequestLines bytes given
     by_place None place is = absurd (no_request e (nat_lt most_head_bytes (length bytes)) (empty_lines_length bytes == length bytes) given rest is)
     by_place (Some n) place (Err f, judged, is) = absurd cc
     by_place (Some n) place (Ok head, judged, is) =
-        (n, place, (head.fields, request_gives (take n bytes) head judged, request_body_makes max e t head (drop n bytes) given rest (request_body_of max head) is))
+        (n, place, (head.fields, request_gives (take n bytes) head judged, request_body_makes max e t head (drop n bytes) given rest (request_framing_of max head) is))
 
 abbrev ResponseLines : List ℕ → Response → Type 0
 ResponseLines front given =
     (n : ℕ) × (head_length (take most_head_bytes front) ≡ Some n)
-    × ((fields : List Line) × HeadGivesFields (take n front) fields × (given.fields ≡ without_lengths fields))
+    × ((fields : List Line) × HeadGivesFields (take n front) fields × (given.fields ≡ without_length_fields fields))
 
 framing_makes : (max : ℕ) (h e : Bool) (head : StatusHead) (bytes : List ℕ) (m : Response) (rest : List ℕ) (f : Result Framing FrameFault)
-    → Spelled m rest ≡ reading_with_framing max h e head bytes f → m.fields ≡ without_lengths head.fields
+    → Spelled m rest ≡ reading_with_framing max h e head bytes f → m.fields ≡ without_length_fields head.fields
 framing_makes max h e head bytes m rest (Err f) is = absurd cc
 framing_makes max h e head bytes m rest (Ok framing) is =
-    let made = body_makes e (response_of_head h head) (content_at max framing e bytes) m rest is in ap (λ (r : Response). r.fields) made.1
+    let made = body_makes e (response_of_head h head) (content_by_framing max framing e bytes) m rest is in ap (λ (r : Response). r.fields) made.1
 
-no_response : (e over : Bool) (m : Response) (r : List ℕ) → Spelled m r ≡ cond over (Faulty fault.Head) (reading_cut_off e) → ⊥
+no_response : (e over : Bool) (m : Response) (r : List ℕ) → Spelled m r ≡ cond over (Faulty fault.Head) (truncated_or_incomplete e) → ⊥
 no_response e true m r is = cc
 no_response true false m r is = cc
 no_response false false m r is = cc
 
-pub response_lines_given : (max : ℕ) (h e : Bool) (bytes : List ℕ) (given : Response) (rest : List ℕ) → response.Reads max h e bytes (Spelled given rest)
-    → (sizes : List ℕ) × (front : List ℕ) × PassesInterimResponses bytes sizes front × ResponseLines front given
+pub response_lines_given : (max : ℕ) (h e : Bool) (bytes : List ℕ) (given : Response) (rest : List ℕ) → response.ReadsAs max h e bytes (Spelled given rest)
+    → (sizes : List ℕ) × (front : List ℕ) × SkipsInterimResponses bytes sizes front × ResponseLines front given
 response_lines_given max h e bytes given rest (sizes, front, passes, reads) =
     (sizes, front, passes, by_place (head_length (take most_head_bytes front)) refl reads)
   where
-    by_place : (o : Option ℕ) → head_length (take most_head_bytes front) ≡ o → FrontReadsByLength max h e front o (Spelled given rest) → ResponseLines front given
+    by_place : (o : Option ℕ) → head_length (take most_head_bytes front) ≡ o → FinalReadsByHeadLength max h e front o (Spelled given rest) → ResponseLines front given
     by_place None place is = absurd (no_response e (nat_lt most_head_bytes (length front)) given rest is)
     by_place (Some n) place (Err f, judged, final, is) = absurd cc
     by_place (Some n) place (Ok head, judged, final, is) =
@@ -286,33 +286,33 @@ pub record IsMadeRequest (given : Request) : Type 0 where
   pub head : Head
   pub judged : RequestHeadIsJudged text (Ok head)
   pub minor : given.minor ≡ head.minor
-  pub fields : given.fields ≡ without_lengths head.fields
+  pub fields : given.fields ≡ without_length_fields head.fields
 
-request_body_minor : (max : ℕ) (e t : Bool) (head : Head) (bytes : List ℕ) (m : Request) (rest : List ℕ) (f : Result RequestBody FrameFault)
+request_body_minor : (max : ℕ) (e t : Bool) (head : Head) (bytes : List ℕ) (m : Request) (rest : List ℕ) (f : Result RequestFraming FrameFault)
     → Spelled m rest ≡ reading_with_request_body max e t head bytes f → m.minor ≡ head.minor
 request_body_minor max e t head bytes m rest (Err f) is = absurd cc
 request_body_minor max e t head bytes m rest (Ok request_body) is = by_wish (request_body.wants_continue && not t) is
   where
-    by_wish : (w : Bool) → Spelled m rest ≡ cond w Continue (reading_with_content e (request_of_head head) (content_at max request_body.framing false bytes)) → m.minor ≡ head.minor
+    by_wish : (w : Bool) → Spelled m rest ≡ cond w Continue (reading_of_content e (request_of_head head) (content_by_framing max request_body.framing false bytes)) → m.minor ≡ head.minor
     by_wish true is = absurd cc
     by_wish false is =
-        let made = body_makes e (request_of_head head) (content_at max request_body.framing false bytes) m rest is in ap (λ (r : Request). r.minor) made.1
+        let made = body_makes e (request_of_head head) (content_by_framing max request_body.framing false bytes) m rest is in ap (λ (r : Request). r.minor) made.1
 
-request_made : (max : ℕ) (e t : Bool) (bytes : List ℕ) (given : Request) (rest : List ℕ) → Reads max e t bytes (Spelled given rest) → IsMadeRequest given
+request_made : (max : ℕ) (e t : Bool) (bytes : List ℕ) (given : Request) (rest : List ℕ) → ReadsAs max e t bytes (Spelled given rest) → IsMadeRequest given
 request_made max e t bytes given rest reads = by_place (head_length (take most_head_bytes bytes)) reads
   where
-    by_place : (o : Option ℕ) → RequestReadsByLength max e t bytes o (Spelled given rest) → IsMadeRequest given
+    by_place : (o : Option ℕ) → RequestReadsByHeadLength max e t bytes o (Spelled given rest) → IsMadeRequest given
     by_place None is = absurd (no_request e (nat_lt most_head_bytes (length bytes)) (empty_lines_length bytes == length bytes) given rest is)
     by_place (Some n) (Err f, judged, is) = absurd cc
     by_place (Some n) (Ok head, judged, is) = record {
       text = take n bytes;
       head = head;
       judged = judged;
-      minor = request_body_minor max e t head (drop n bytes) given rest (request_body_of max head) is;
-      fields = request_body_makes max e t head (drop n bytes) given rest (request_body_of max head) is;
+      minor = request_body_minor max e t head (drop n bytes) given rest (request_framing_of max head) is;
+      fields = request_body_makes max e t head (drop n bytes) given rest (request_framing_of max head) is;
     }
 
-pub request_minor : (max : ℕ) (e t : Bool) (bytes : List ℕ) (given : Request) (rest : List ℕ) → Reads max e t bytes (Spelled given rest) → given.minor ≤ 1
+pub request_minor : (max : ℕ) (e t : Bool) (bytes : List ℕ) (given : Request) (rest : List ℕ) → ReadsAs max e t bytes (Spelled given rest) → given.minor ≤ 1
 request_minor max e t bytes given rest reads =
     let made = request_made max e t bytes given rest reads in
     omega (arith, made.minor, (request_first made.text made.head made.judged).minor)
@@ -339,7 +339,7 @@ none_back (f ∷ fields) name other none =
     by_test true later p = later
     by_test false later p = or_from (is_named name f) (has_field (without_named fields other) name) p later
 
-pub no_lengths : (fields : List Line) → (has_field (without_lengths fields) content_length_name ≡ false) × (has_field (without_lengths fields) transfer_encoding_name ≡ false)
+pub no_lengths : (fields : List Line) → (has_field (without_length_fields fields) content_length_name ≡ false) × (has_field (without_length_fields fields) transfer_encoding_name ≡ false)
 no_lengths fields = (
   none_back (without_named fields content_length_name) content_length_name transfer_encoding_name (none_named fields content_length_name),
   none_named (without_named fields content_length_name) transfer_encoding_name,
@@ -348,13 +348,13 @@ no_lengths fields = (
 abbrev HasNoLengths : List Line → Type 0
 HasNoLengths fields = (has_field fields content_length_name ≡ false) × (has_field fields transfer_encoding_name ≡ false)
 
-pub request_without_lengths : (max : ℕ) (e t : Bool) (bytes : List ℕ) (given : Request) (rest : List ℕ) → Reads max e t bytes (Spelled given rest)
+pub request_without_lengths : (max : ℕ) (e t : Bool) (bytes : List ℕ) (given : Request) (rest : List ℕ) → ReadsAs max e t bytes (Spelled given rest)
     → HasNoLengths given.fields
 request_without_lengths max e t bytes given rest reads =
     let made = request_made max e t bytes given rest reads in
     subst (λ (fs : List Line). HasNoLengths fs) (sym made.fields) (no_lengths made.head.fields)
 
-pub response_without_lengths : (max : ℕ) (h e : Bool) (bytes : List ℕ) (given : Response) (rest : List ℕ) → response.Reads max h e bytes (Spelled given rest)
+pub response_without_lengths : (max : ℕ) (h e : Bool) (bytes : List ℕ) (given : Response) (rest : List ℕ) → response.ReadsAs max h e bytes (Spelled given rest)
     → HasNoLengths given.fields
 response_without_lengths max h e bytes given rest reads =
     let lines = (response_lines_given max h e bytes given rest reads).3 in

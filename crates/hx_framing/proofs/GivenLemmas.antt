@@ -11,10 +11,10 @@ use Rattle.httparse.proofs.TrimLemmas.{AllPass-trim_ows, AllPass-reverse}
 use Rattle.hx_fields.specs.Line.{Field as Line}
 use Rattle.hx_fields.specs.Names.{is_blank, is_nonempty}
 use Rattle.hx_fields.specs.Tokens as tokens
-use Rattle.hx_framing.specs.Head.{field_of_grammar}
+use Rattle.hx_framing.specs.Head.{field_of_parsed_line}
 use Rattle.hx_framing.specs.HeadLines.{is_colon}
-use Rattle.hx_framing.specs.GivenFields.{is_content_byte, IsTrimmed, LineSpellsField, LinesSpellFields, HeadGivesFields}
-use Rattle.hx_framing.proofs.HeadLineLemmas.{IsNo, each, value_byte, token_byte, token_no_colon, same_token_byte, token, first_at, without_return-is, text_of}
+use Rattle.hx_framing.specs.GivenFields.{is_field_value_byte, TextIsTrimmed, LineSpellsField, LinesSpellFields, HeadGivesFields}
+use Rattle.hx_framing.proofs.HeadLineLemmas.{IsNo, each, value_byte, token_byte, token_no_colon, same_token_byte, token, first_at, without_trailing_cr-is, text_of}
 
 -- ---- white space
 
@@ -76,7 +76,7 @@ record Trims (raw value : List ℕ) : Type 0 where
   before : List ℕ
   behind : List ℕ
   parts : raw ≡ before ++ (value ++ behind)
-  trimmed : IsTrimmed value
+  trimmed : TextIsTrimmed value
   white : (list_all is_blank before ≡ true) × (list_all is_blank behind ≡ true)
 
 trims : (raw : List ℕ) → Trims raw (trim_ows raw)
@@ -131,19 +131,19 @@ no_return f field =
     let raw = each is_value_byte (IsNo 13) f.raw (λ b v. (value_byte b v).0) field.raw in
     All-append (IsNo 13) f.name (58 ∷ f.raw) name (All-cons (IsNo 13) 58 f.raw refl raw)
 
-spells : (f : Field) → IsField f → LineSpellsField (text_of f) (field_of_grammar f)
+spells : (f : Field) → IsField f → LineSpellsField (text_of f) (field_of_parsed_line f)
 spells f field =
     let t = trims f.raw in record {
       before = t.before;
       behind = t.behind;
-      parts = without_return-is (f.name ++ 58 ∷ f.raw) f.end (no_return f field) ∙ ap (λ l. f.name ++ 58 ∷ l) t.parts;
+      parts = without_trailing_cr-is (f.name ++ 58 ∷ f.raw) f.end (no_return f field) ∙ ap (λ l. f.name ++ 58 ∷ l) t.parts;
       name = token f.name field.name;
-      value = list_all-from_AllPass is_content_byte (field_value f) (AllPass-trim_ows is_value_byte f.raw field.raw);
+      value = list_all-from_AllPass is_field_value_byte (field_value f) (AllPass-trim_ows is_value_byte f.raw field.raw);
       trimmed = t.trimmed;
       white = t.white;
     }
 
-pub spell_all : (fields : List Field) → All IsField fields → LinesSpellFields (map text_of fields) (map field_of_grammar fields)
+pub spell_all : (fields : List Field) → All IsField fields → LinesSpellFields (map text_of fields) (map field_of_parsed_line fields)
 spell_all [] fine = tt
 spell_all (f ∷ fields) fine = (spells f (All-head IsField f fields fine), spell_all fields (All-tail IsField f fields fine))
 
@@ -165,8 +165,8 @@ cut_once a b r q first second same =
     = sym (drop-append_seam a (58 ∷ r)) ∙ ap (drop (length a)) same ∙ ap (λ n. drop n (b ++ 58 ∷ q)) long ∙ drop-append_seam b (58 ∷ q) in
     (names, ap (drop 1) behind)
 
-pub a_stream_spells_one_list : (line : List ℕ) (f g : Line) → LineSpellsField line f → LineSpellsField line g → f ≡ g
-a_stream_spells_one_list line f g x y =
+pub messages_spelled_by_a_stream_are_unique : (line : List ℕ) (f g : Line) → LineSpellsField line f → LineSpellsField line g → f ≡ g
+messages_spelled_by_a_stream_are_unique line f g x y =
     let rest : List ℕ = x.before ++ (f.value ++ x.behind) in
     let cut = cut_once f.name g.name rest (y.before ++ (g.value ++ y.behind)) x.name y.name (sym x.parts ∙ y.parts) in
     let first : f.value ≡ trim_ows rest
@@ -183,7 +183,7 @@ all_once [] (f ∷ fs) gs x y = absurd x
 all_once (line ∷ lines) [] gs x y = absurd x
 all_once (line ∷ lines) (f ∷ fs) [] x y = absurd y
 all_once (line ∷ lines) (f ∷ fs) (g ∷ gs) x y =
-    let first = a_stream_spells_one_list line f g x.0 y.0 in
+    let first = messages_spelled_by_a_stream_are_unique line f g x.0 y.0 in
     let later = all_once lines fs gs x.1 y.1 in
     λ i. first i ∷ later i
 

@@ -18,14 +18,14 @@ use Rattle.hx_framing.specs.StatusHead.{IsStatusHead}
 abbrev BeginsOrNot : {A : Type 0} → Piece A → List ℕ → Type 0
 BeginsOrNot G text = Begins G text ⊎ (Begins G text → ⊥)
 
-abbrev ContentIsDecided : {A : Type 0} → Piece A → Type 0
-ContentIsDecided G = (text : List ℕ) → BeginsOrNot G text
+abbrev ContentIsWholeOrFaulty : {A : Type 0} → Piece A → Type 0
+ContentIsWholeOrFaulty G = (text : List ℕ) → BeginsOrNot G text
 
 first_same : (a b : ℕ) (xs ys : List ℕ) → a ∷ xs ≡ b ∷ ys → (a ≡ b) × (xs ≡ ys)
 first_same a b xs ys e = (cc, cc)
 
 -- one piece and then another
-both : {A B : Type 0} (G : Piece A) (H : Piece B) → IsDeterministic G → ContentIsDecided G → ContentIsDecided H → ContentIsDecided (Then G H)
+both : {A B : Type 0} (G : Piece A) (H : Piece B) → IsDeterministic G → ContentIsWholeOrFaulty G → ContentIsWholeOrFaulty H → ContentIsWholeOrFaulty (Then G H)
 both {A} {B} G H det g h text = by_first (g text)
   where
     by_second : (a : A) (rest : List ℕ) → G a text rest → BeginsOrNot H rest → BeginsOrNot (Then G H) text
@@ -40,7 +40,7 @@ both {A} {B} G H det g h text = by_first (g text)
 
 -- ---- line ends
 
-newline_decided : ContentIsDecided Newline
+newline_decided : ContentIsWholeOrFaulty Newline
 newline_decided [] = inr (λ t. nothing t.0 t.1 t.2)
   where
     nothing : (end : LineEnd) (rest : List ℕ) → [] ≡ print_end end ++ rest → ⊥
@@ -88,7 +88,7 @@ stops_decided (b ∷ text) = by_test (is_newline b) refl
 abbrev IsDecidedBelow : {A : Type 0} → Piece A → List ℕ → Type 0
 IsDecidedBelow G text = (rest : List ℕ) → length rest < length text → BeginsOrNot G rest
 
-by_length : {A : Type 0} (G : Piece A) → ((text : List ℕ) → IsDecidedBelow G text → BeginsOrNot G text) → ContentIsDecided G
+by_length : {A : Type 0} (G : Piece A) → ((text : List ℕ) → IsDecidedBelow G text → BeginsOrNot G text) → ContentIsWholeOrFaulty G
 by_length G step text = go (length text) text (omega arith)
   where
     go : (n : ℕ) (text : List ℕ) → length text ≤ n → BeginsOrNot G text
@@ -120,12 +120,12 @@ blank_step text later = by_newline (newline_decided text)
     by_newline (inl x) = longer x.0 x.1 x.2 (later x.1 (shorter x.0 text x.1 x.2))
     by_newline (inr none) = by_stop none (stops_decided text)
 
-blank_decided : ContentIsDecided Blank
+blank_decided : ContentIsWholeOrFaulty Blank
 blank_decided = by_length Blank blank_step
 
 -- ---- bytes
 
-bytes_decided : (bytes : List ℕ) → ContentIsDecided (Bytes bytes)
+bytes_decided : (bytes : List ℕ) → ContentIsWholeOrFaulty (Bytes bytes)
 bytes_decided [] text = inl (tt, text, refl)
 bytes_decided (b ∷ bytes) [] = inr (λ t. absurd (let e = t.2 in cc))
 bytes_decided (b ∷ bytes) (c ∷ text) = by_byte (c == b) refl (bytes_decided bytes text)
@@ -135,7 +135,7 @@ bytes_decided (b ∷ bytes) (c ∷ text) = by_byte (c == b) refl (bytes_decided 
     by_byte true p (inr none) = inr (λ t. none (tt, t.1, (first_same c b text (bytes ++ t.1) t.2).1))
     by_byte false p later = inr (λ t. eqb-false c b p (first_same c b text (bytes ++ t.1) t.2).0)
 
-version_decided : ContentIsDecided Version
+version_decided : ContentIsWholeOrFaulty Version
 version_decided text = by_both (bytes_decided (print_version 0) text) (bytes_decided (print_version 1) text)
   where
     by_both : BeginsOrNot (Bytes (print_version 0)) text → BeginsOrNot (Bytes (print_version 1)) text → BeginsOrNot Version text
@@ -148,7 +148,7 @@ version_decided text = by_both (bytes_decided (print_version 0) text) (bytes_dec
         by_minor (suc zero) rest x = not_1 (tt, rest, x.1)
         by_minor (suc (suc minor)) rest x = absurd (omega (arith, x.0))
 
-digit_decided : ContentIsDecided Digit
+digit_decided : ContentIsWholeOrFaulty Digit
 digit_decided [] = inr (λ t. absurd (let e = t.2.1 in cc))
 digit_decided (b ∷ text) = by_test (is_ascii_digit b) refl
   where
@@ -159,7 +159,7 @@ digit_decided (b ∷ text) = by_test (is_ascii_digit b) refl
         let h : false ≡ true = sym p ∙ ap is_ascii_digit same ∙ t.2.0 in cc
         ))
 
-code_decided : ContentIsDecided Code
+code_decided : ContentIsWholeOrFaulty Code
 code_decided = both Digit (Then Digit Digit) Digit_deterministic digit_decided (both Digit Digit Digit_deterministic digit_decided digit_decided)
 
 -- ---- words and texts
@@ -188,7 +188,7 @@ all_pass : (test : ℕ → Bool) (text run word behind : List ℕ) → AllPass t
 all_pass test text run word behind pass parts e stops =
     run_unstopped test word behind (subst (AllPass test) (sym (append-nil run) ∙ sym parts ∙ e) pass) stops
 
-word_decided : (test : ℕ → Bool) (stop : ℕ) → test stop ≡ false → ContentIsDecided (Word test stop)
+word_decided : (test : ℕ → Bool) (stop : ℕ) → test stop ≡ false → ContentIsWholeOrFaulty (Word test stop)
 word_decided test stop off text = let f = front test text in by_rest f.run f.rest f.pass f.parts f.stops
   where
     by_parts : (run : List ℕ) (b : ℕ) (rest : List ℕ) → AllPass test run → text ≡ run ++ b ∷ rest → test b ≡ false
@@ -207,7 +207,7 @@ word_decided test stop off text = let f = front test text in by_rest f.run f.res
     by_rest run (b ∷ rest) pass parts (inl e) = absurd cc
     by_rest run (b ∷ rest) pass parts (inr s) = by_parts run b rest pass parts s (nat_lt 0 (length run)) refl (b == stop) refl
 
-target_decided : ContentIsDecided Target
+target_decided : ContentIsWholeOrFaulty Target
 target_decided text = by_word (word_decided is_uri_byte 32 refl text)
   where
     by_text : (word rest : List ℕ) → Word is_uri_byte 32 word text rest → (t : Bool) → is_utf8 word ≡ t → BeginsOrNot Target text
@@ -221,7 +221,7 @@ target_decided text = by_word (word_decided is_uri_byte 32 refl text)
     by_word (inl x) = by_text x.0 x.1 x.2 (is_utf8 x.0) refl
     by_word (inr none) = inr (λ t. none (t.0, t.1, t.2.0))
 
-text_decided : ContentIsDecided Text
+text_decided : ContentIsWholeOrFaulty Text
 text_decided text = let f = front is_value_byte text in by_rest f.run f.rest f.pass f.parts f.stops (newline_decided f.rest)
   where
     by_rest : (run rest : List ℕ) → AllPass is_value_byte run → text ≡ run ++ rest → ((rest ≡ []) ⊎ Stops is_value_byte rest)
@@ -233,7 +233,7 @@ text_decided text = let f = front is_value_byte text in by_rest f.run f.rest f.p
         let same = run_unique is_value_byte t.0.0 run (print_end t.0.1 ++ t.1) rest t.2.0 pass (Stops_value t.0.1 t.1) s (sym t.2.1 ∙ parts) in
         none (t.0.1, t.1, sym same.1))
 
-reason_decided : ContentIsDecided Reason
+reason_decided : ContentIsWholeOrFaulty Reason
 reason_decided text = by_both (newline_decided text) (both (Bytes (32 ∷ [])) Text (Bytes_deterministic (32 ∷ [])) (bytes_decided (32 ∷ [])) text_decided text)
   where
     by_both : BeginsOrNot Newline text → BeginsOrNot (Then (Bytes (32 ∷ [])) Text) text → BeginsOrNot Reason text
@@ -247,7 +247,7 @@ reason_decided text = by_both (newline_decided text) (both (Bytes (32 ∷ [])) T
 
 -- ---- field lines
 
-field_decided : ContentIsDecided FieldLine
+field_decided : ContentIsWholeOrFaulty FieldLine
 field_decided text = by_parts (both (Word is_token_byte 58) Text (Word_deterministic is_token_byte 58 colon_ends_token) (word_decided is_token_byte 58 colon_ends_token) text_decided text)
   where
     by_parts : BeginsOrNot (Then (Word is_token_byte 58) Text) text → BeginsOrNot FieldLine text
@@ -299,12 +299,12 @@ section_step text later = by_newline (newline_decided text)
     by_newline (inl x) = inl (([], x.0), x.1, (All-nil IsField, x.2))
     by_newline (inr none) = by_line none (field_decided text)
 
-section_decided : ContentIsDecided Section
+section_decided : ContentIsWholeOrFaulty Section
 section_decided = by_length Section section_step
 
 -- ---- heads
 
-request_start_decided : ContentIsDecided RequestStart
+request_start_decided : ContentIsWholeOrFaulty RequestStart
 request_start_decided =
     let method_det = Word_deterministic is_token_byte 32 space_ends_token in
     both Blank (Then Method (Then Target (Then Version Newline))) Blank_deterministic blank_decided
@@ -312,7 +312,7 @@ request_start_decided =
     (both Target (Then Version Newline) Target_deterministic target_decided
     (both Version Newline Version_deterministic version_decided newline_decided)))
 
-response_start_decided : ContentIsDecided ResponseStart
+response_start_decided : ContentIsWholeOrFaulty ResponseStart
 response_start_decided =
     both Blank (Then Version (Then (Bytes (32 ∷ [])) (Then Code Reason))) Blank_deterministic blank_decided
     (both Version (Then (Bytes (32 ∷ [])) (Then Code Reason)) Version_deterministic version_decided

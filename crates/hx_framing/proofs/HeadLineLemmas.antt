@@ -16,13 +16,13 @@ use Rattle.httparse.proofs.TrimLemmas.{AllPass-trim_ows}
 use Rattle.hx_fields.specs.Line.{Field as Line}
 use Rattle.hx_fields.specs.Tokens as tokens
 use Rattle.hx_framing.specs.HeadEnd.{empty_lines_from, empty_lines_length}
-use Rattle.hx_framing.specs.Version.{without_return}
+use Rattle.hx_framing.specs.Version.{without_trailing_cr}
 use Rattle.hx_framing.specs.declared.heads.request_head.Head.{Head}
 use Rattle.hx_framing.specs.declared.heads.status_head.StatusHead.{StatusHead}
-use Rattle.hx_framing.specs.Head.{IsHeadOfRequest, RequestHeadIsJudged, field_of_grammar}
+use Rattle.hx_framing.specs.Head.{IsHeadOfRequest, RequestHeadIsJudged, field_of_parsed_line}
 use Rattle.hx_framing.specs.StatusHead as status
 use Rattle.hx_framing.specs.StatusHead.{IsStatusHead}
-use Rattle.hx_framing.specs.HeadLines.{is_colon, is_line_end, name_before_colon, is_field_line, is_empty_line, HasFieldLines, is_sound_field}
+use Rattle.hx_framing.specs.HeadLines.{is_colon, is_line_end, name_before_colon, is_field_line, is_empty_line, HeadHasFieldLines, is_wellformed_field}
 
 -- ---- bytes
 
@@ -68,8 +68,8 @@ abbrev pub with_return : List ℕ → LineEnd → List ℕ
 with_return text crlf = text ++ 13 ∷ []
 with_return text lf = text
 
-without_return-cr : (text : List ℕ) → without_return (text ++ 13 ∷ []) ≡ text
-without_return-cr text =
+without_trailing_cr-cr : (text : List ℕ) → without_trailing_cr (text ++ 13 ∷ []) ≡ text
+without_trailing_cr-cr text =
     let long : length (text ++ 13 ∷ []) ≡ length text + 1 = length-append text (13 ∷ []) in
     let place : length (text ++ 13 ∷ []) - 1 ≡ length text = omega arith in
     let last : get_or (text ++ 13 ∷ []) (length (text ++ 13 ∷ []) - 1) 0 ≡ 13
@@ -77,15 +77,15 @@ without_return-cr text =
     ap (λ b. take (length (text ++ 13 ∷ []) - cond (b == 13) 1 0) (text ++ 13 ∷ [])) last
     ∙ ap (λ n. take n (text ++ 13 ∷ [])) place ∙ take-append_seam text (13 ∷ [])
 
-without_return-none : (text : List ℕ) → All (IsNo 13) text → without_return text ≡ text
-without_return-none [] none = refl
-without_return-none (b ∷ text) none =
+without_trailing_cr-none : (text : List ℕ) → All (IsNo 13) text → without_trailing_cr text ≡ text
+without_trailing_cr-none [] none = refl
+without_trailing_cr-none (b ∷ text) none =
     let last : (get_or (b ∷ text) (length (b ∷ text) - 1) 0 == 13) ≡ false = none (length (b ∷ text) - 1) 0 (omega arith) in
     ap (λ t. take (length (b ∷ text) - cond t 1 0) (b ∷ text)) last ∙ take_all (length (b ∷ text) - 0) (b ∷ text) (omega arith)
 
-pub without_return-is : (text : List ℕ) (end : LineEnd) → All (IsNo 13) text → without_return (with_return text end) ≡ text
-without_return-is text crlf none = without_return-cr text
-without_return-is text lf none = without_return-none text none
+pub without_trailing_cr-is : (text : List ℕ) (end : LineEnd) → All (IsNo 13) text → without_trailing_cr (with_return text end) ≡ text
+without_trailing_cr-is text crlf none = without_trailing_cr-cr text
+without_trailing_cr-is text lf none = without_trailing_cr-none text none
 
 -- a line and its end are the first line of what is left
 abbrev pub lines_of : List ℕ → List (List ℕ)
@@ -158,11 +158,11 @@ is_field_line-is f field =
     let some : 1 ≤ length (58 ∷ with_return f.raw f.end) = omega arith in
     let inside : nat_lt (position_or_len is_colon (text_of f)) (length (text_of f)) ≡ true
     = lt-ltb (position_or_len is_colon (text_of f)) (length (text_of f)) (omega (arith, colon_at f field, long, some)) in
-    let plain : list_all (λ b. not (is_line_end b)) (without_return (text_of f)) ≡ true
-    = ap (list_all (λ b. not (is_line_end b))) (without_return-is text f.end (λ k d i. (none k d i).0))
+    let plain : list_all (λ b. not (is_line_end b)) (without_trailing_cr (text_of f)) ≡ true
+    = ap (list_all (λ b. not (is_line_end b))) (without_trailing_cr-is text f.end (λ k d i. (none k d i).0))
     ∙ list_all-from_AllPass (λ b. not (is_line_end b)) text (λ k d i. no_line_end (get_or text k d) (none k d i)) in
     and_from (tokens.is_token (name_before_colon (text_of f)) && nat_lt (position_or_len is_colon (text_of f)) (length (text_of f)))
-    (list_all (λ b. not (is_line_end b)) (without_return (text_of f)))
+    (list_all (λ b. not (is_line_end b)) (without_trailing_cr (text_of f)))
     (and_from (tokens.is_token (name_before_colon (text_of f))) (nat_lt (position_or_len is_colon (text_of f)) (length (text_of f)))
     (ap tokens.is_token (name_of-is f field) ∙ token f.name field.name) inside)
     plain
@@ -173,7 +173,7 @@ field_lines_text (f ∷ fields) fine =
     and_from (is_field_line (text_of f)) (list_all is_field_line (map text_of fields)) (is_field_line-is f (All-head IsField f fields fine))
     (field_lines_text fields (All-tail IsField f fields fine))
 
-names_of : (fields : List Field) → All IsField fields → map name_before_colon (map text_of fields) ≡ map (λ (g : Line). g.name) (map field_of_grammar fields)
+names_of : (fields : List Field) → All IsField fields → map name_before_colon (map text_of fields) ≡ map (λ (g : Line). g.name) (map field_of_parsed_line fields)
 names_of [] fine = refl
 names_of (f ∷ fields) fine =
     let first = name_of-is f (All-head IsField f fields fine) in
@@ -208,7 +208,7 @@ blank_is (lf ∷ ends) x rest at other = by_rest (print_blank ends ++ x ∷ rest
 -- a start line behind empty lines, and a section
 whole : (bytes : List ℕ) (ends : List LineEnd) (x : ℕ) (start : List ℕ) (end : LineEnd) (fields : List Field) (last : LineEnd)
     → is_newline x ≡ false → All (IsNo 10) (x ∷ start) → All IsField fields
-    → bytes ≡ print_blank ends ++ ((x ∷ start) ++ (print_end end ++ print_section fields last)) → HasFieldLines bytes (map field_of_grammar fields)
+    → bytes ≡ print_blank ends ++ ((x ∷ start) ++ (print_end end ++ print_section fields last)) → HeadHasFieldLines bytes (map field_of_parsed_line fields)
 whole bytes ends x start end fields last other none fine is = record {
   lines = map text_of fields;
   last = with_return [] last;
@@ -234,7 +234,7 @@ version minor small =
     All-append (IsNo 10) (codes "HTTP/1.") ((48 + minor) ∷ []) name_of_version
     (All-cons (IsNo 10) (48 + minor) [] (ne_eqb (48 + minor) 10 (λ e. omega arith)) (All-nil (IsNo 10)))
 
-request_lines : (bytes : List ℕ) (h : RequestHead) → IsHeadOfRequest bytes h → HasFieldLines bytes (map field_of_grammar h.fields)
+request_lines : (bytes : List ℕ) (h : RequestHead) → IsHeadOfRequest bytes h → HeadHasFieldLines bytes (map field_of_parsed_line h.fields)
 request_lines bytes h head = by_method h.method head.0.0.method (head.0.1 ∙ print_request-append h [])
   where
     regroup : (m t v e s : List ℕ) → m ++ 32 ∷ (t ++ 32 ∷ (v ++ (e ++ (s ++ [])))) ≡ (m ++ 32 ∷ (t ++ 32 ∷ v)) ++ (e ++ s)
@@ -243,7 +243,7 @@ request_lines bytes h head = by_method h.method head.0.0.method (head.0.1 ∙ pr
     by_method : (method : List ℕ) → IsToken method
         → bytes ≡ print_blank h.blank ++ (method ++ 32 ∷ (h.target ++ 32 ∷ (print_version h.minor
         ++ (print_end h.line_end ++ (print_section h.fields h.last ++ [])))))
-        → HasFieldLines bytes (map field_of_grammar h.fields)
+        → HeadHasFieldLines bytes (map field_of_parsed_line h.fields)
     by_method [] word is = absurd (omega (arith, word.0))
     by_method (x ∷ method) word is =
         let name = each is_token_byte (IsNo 10) (x ∷ method) (λ b token. (token_byte b token).1) word.1 in
@@ -257,7 +257,7 @@ request_lines bytes h head = by_method h.method head.0.0.method (head.0.1 ∙ pr
         (token_is_no_newline x (All-head (λ b. is_token_byte b ≡ true) x method word.1)) none head.0.0.fields
         (is ∙ ap (λ t. print_blank h.blank ++ t) (regroup (x ∷ method) h.target (print_version h.minor) (print_end h.line_end) (print_section h.fields h.last)))
 
-response_lines : (bytes : List ℕ) (h : ResponseHead) → IsStatusHead bytes h → HasFieldLines bytes (map field_of_grammar h.fields)
+response_lines : (bytes : List ℕ) (h : ResponseHead) → IsStatusHead bytes h → HeadHasFieldLines bytes (map field_of_parsed_line h.fields)
 response_lines bytes h head =
     let reason = by_reason h.reason head.0.0.reason in
     let digits = each is_ascii_digit (IsNo 10) h.digits digit_byte head.0.0.digits.1 in
@@ -277,32 +277,32 @@ response_lines bytes h head =
     by_reason None pass = All-nil (IsNo 10)
     by_reason (Some phrase) pass = All-cons (IsNo 10) 32 phrase refl (each is_value_byte (IsNo 10) phrase (λ b value. (value_byte b value).1) pass)
 
-sound_field : (f : Field) → IsField f → is_sound_field (field_of_grammar f) ≡ true
+sound_field : (f : Field) → IsField f → is_wellformed_field (field_of_parsed_line f) ≡ true
 sound_field f field =
     let value = AllPass-trim_ows is_value_byte f.raw field.raw in
     and_from (tokens.is_token f.name) (list_all (λ b. not (is_line_end b)) (field_value f)) (token f.name field.name)
     (list_all-from_AllPass (λ b. not (is_line_end b)) (field_value f) (λ k d inside. let b : ℕ = get_or (field_value f) k d in no_line_end b (value_byte b (value k d inside))))
 
-sound : (fields : List Field) → All IsField fields → list_all is_sound_field (map field_of_grammar fields) ≡ true
+sound : (fields : List Field) → All IsField fields → list_all is_wellformed_field (map field_of_parsed_line fields) ≡ true
 sound [] fine = refl
 sound (f ∷ fields) fine =
-    and_from (is_sound_field (field_of_grammar f)) (list_all is_sound_field (map field_of_grammar fields)) (sound_field f (All-head IsField f fields fine))
+    and_from (is_wellformed_field (field_of_parsed_line f)) (list_all is_wellformed_field (map field_of_parsed_line fields)) (sound_field f (All-head IsField f fields fine))
     (sound fields (All-tail IsField f fields fine))
 
 -- ---- judged heads
 
-pub request_has_lines : (bytes : List ℕ) (head : Head) → RequestHeadIsJudged bytes (Ok head) → HasFieldLines bytes head.fields
+pub request_has_lines : (bytes : List ℕ) (head : Head) → RequestHeadIsJudged bytes (Ok head) → HeadHasFieldLines bytes head.fields
 request_has_lines bytes head judged =
-    subst (λ (k : Head). HasFieldLines bytes k.fields) (sym judged.2) (request_lines bytes judged.0 judged.1)
+    subst (λ (k : Head). HeadHasFieldLines bytes k.fields) (sym judged.2) (request_lines bytes judged.0 judged.1)
 
-pub request_is_sound : (bytes : List ℕ) (head : Head) → RequestHeadIsJudged bytes (Ok head) → list_all is_sound_field head.fields ≡ true
+pub request_is_sound : (bytes : List ℕ) (head : Head) → RequestHeadIsJudged bytes (Ok head) → list_all is_wellformed_field head.fields ≡ true
 request_is_sound bytes head judged =
-    ap (λ (k : Head). list_all is_sound_field k.fields) judged.2 ∙ sound judged.0.fields judged.1.0.0.fields
+    ap (λ (k : Head). list_all is_wellformed_field k.fields) judged.2 ∙ sound judged.0.fields judged.1.0.0.fields
 
-pub response_has_lines : (bytes : List ℕ) (head : StatusHead) → status.ResponseHeadIsJudged bytes (Ok head) → HasFieldLines bytes head.fields
+pub response_has_lines : (bytes : List ℕ) (head : StatusHead) → status.ResponseHeadIsJudged bytes (Ok head) → HeadHasFieldLines bytes head.fields
 response_has_lines bytes head judged =
-    subst (λ (k : StatusHead). HasFieldLines bytes k.fields) (sym judged.2) (response_lines bytes judged.0 judged.1)
+    subst (λ (k : StatusHead). HeadHasFieldLines bytes k.fields) (sym judged.2) (response_lines bytes judged.0 judged.1)
 
-pub response_is_sound : (bytes : List ℕ) (head : StatusHead) → status.ResponseHeadIsJudged bytes (Ok head) → list_all is_sound_field head.fields ≡ true
+pub response_is_sound : (bytes : List ℕ) (head : StatusHead) → status.ResponseHeadIsJudged bytes (Ok head) → list_all is_wellformed_field head.fields ≡ true
 response_is_sound bytes head judged =
-    ap (λ (k : StatusHead). list_all is_sound_field k.fields) judged.2 ∙ sound judged.0.fields judged.1.0.0.fields
+    ap (λ (k : StatusHead). list_all is_wellformed_field k.fields) judged.2 ∙ sound judged.0.fields judged.1.0.0.fields

@@ -4,9 +4,9 @@ use Rattle.std.proofs.lemmas.Bool.{leb-true, leb-false}
 use Rattle.std.proofs.lemmas.List.{append-nil, drop-append-le, drop-drop, take-append-le, take_all}
 use Rattle.std.proofs.Math.Seq.{take-append-add}
 use Rattle.hx_framing.specs.declared.heads.head_end.HeadSearch.{HeadSearch}
-use Rattle.hx_framing.specs.declared.heads.head_end.Searched.TheVariants as searched
-use Rattle.hx_framing.specs.HeadEnd.{empty_lines_from, empty_lines_length, head_end_at, head_end_from, head_length, most_head_bytes, IsOpenHead}
-use Rattle.hx_framing.specs.Searching.{SearchReaches, IsSearchResult}
+use Rattle.hx_framing.specs.declared.heads.head_end.HeadSearchResult.TheVariants as searched
+use Rattle.hx_framing.specs.HeadEnd.{empty_lines_from, empty_lines_length, head_end_at, head_end_from, head_length, most_head_bytes, IsUnfinishedHead}
+use Rattle.hx_framing.specs.Searching.{NoHeadEndsBeforeSearch, IsHeadSearchResult}
 use Rattle.hx_framing.proofs.HeadEnds.{empty_lines_stable, empty_line_ends}
 
 -- ---- the empty lines in front
@@ -79,7 +79,7 @@ empty_on (b ∷ c ∷ d ∷ us) more at (suc k) long none = by_test (head_end_at
 -- ---- searches
 
 -- before the first byte
-pub reaches_start : (bytes : List ℕ) → SearchReaches bytes (record { at = 0; in_lines = false })
+pub reaches_start : (bytes : List ℕ) → NoHeadEndsBeforeSearch bytes (record { at = 0; is_past_empty_lines = false })
 reaches_start bytes = record {
   within = omega arith;
   empty_lines = λ e more. refl;
@@ -88,7 +88,7 @@ reaches_start bytes = record {
 }
 
 -- more bytes have come
-reaches_append : (bytes w : List ℕ) (s : HeadSearch) → SearchReaches bytes s → SearchReaches (bytes ++ w) s
+reaches_append : (bytes w : List ℕ) (s : HeadSearch) → NoHeadEndsBeforeSearch bytes s → NoHeadEndsBeforeSearch (bytes ++ w) s
 reaches_append bytes w s r = record {
   within = omega (arith, r.within, length_append);
   empty_lines = λ e more. ap empty_lines_length (append_assoc bytes w more) ∙ r.empty_lines e (w ++ more) ∙ ap (λ u. empty_lines_from s.at (drop s.at u)) (sym (append_assoc bytes w more));
@@ -99,21 +99,21 @@ reaches_append bytes w s r = record {
     length_append : length (bytes ++ w) ≡ length bytes + length w
     length_append = length-append bytes w
 
-pub reaches_fed : (k : ℕ) (bytes w : List ℕ) (s : HeadSearch) → SearchReaches (take k bytes) s → SearchReaches (take k (bytes ++ w)) s
+pub reaches_fed : (k : ℕ) (bytes w : List ℕ) (s : HeadSearch) → NoHeadEndsBeforeSearch (take k bytes) s → NoHeadEndsBeforeSearch (take k (bytes ++ w)) s
 reaches_fed k bytes w s r = by_length (leb k (length bytes)) refl
   where
-    by_length : (t : Bool) → leb k (length bytes) ≡ t → SearchReaches (take k (bytes ++ w)) s
-    by_length true p = subst (λ (u : List ℕ). SearchReaches u s) (sym (take-append-le k bytes w (leb-true k (length bytes) p))) r
+    by_length : (t : Bool) → leb k (length bytes) ≡ t → NoHeadEndsBeforeSearch (take k (bytes ++ w)) s
+    by_length true p = subst (λ (u : List ℕ). NoHeadEndsBeforeSearch u s) (sym (take-append-le k bytes w (leb-true k (length bytes) p))) r
     by_length false p =
         let long : length bytes ≤ k = omega (arith, leb-false k (length bytes) p) in
         let more : length bytes + (k - length bytes) ≡ k = omega arith in
-        subst (λ (j : ℕ). SearchReaches (take j (bytes ++ w)) s) more
-        (subst (λ (u : List ℕ). SearchReaches u s) (sym (take-append-add bytes w (k - length bytes)))
-        (reaches_append bytes (take (k - length bytes) w) s (subst (λ (u : List ℕ). SearchReaches u s) (take_all k bytes long) r)))
+        subst (λ (j : ℕ). NoHeadEndsBeforeSearch (take j (bytes ++ w)) s) more
+        (subst (λ (u : List ℕ). NoHeadEndsBeforeSearch u s) (sym (take-append-add bytes w (k - length bytes)))
+        (reaches_append bytes (take (k - length bytes) w) s (subst (λ (u : List ℕ). NoHeadEndsBeforeSearch u s) (take_all k bytes long) r)))
 
 -- the empty lines in front end where the bytes end, or one byte before that
 pub searched_empty_lines : (bytes : List ℕ) (at : ℕ) → at ≡ empty_lines_length bytes → at ≤ length bytes → length bytes - at < 2
-    → IsSearchResult bytes (searched.Open (record { at = at; in_lines = false }))
+    → IsHeadSearchResult bytes (searched.Open (record { at = at; is_past_empty_lines = false }))
 searched_empty_lines bytes at is within short = (
   ap (λ (k : ℕ). head_end_from k (drop k bytes)) (sym is) ∙ short_none (drop at bytes) at (omega (arith, length-drop at bytes)),
   record {
@@ -134,13 +134,13 @@ pub lines_begin : (bytes : List ℕ) (at : ℕ) → at ≡ empty_lines_length by
 lines_begin bytes at is room more = ap (λ (k : ℕ). head_end_from k (drop k (bytes ++ more))) (empty_lines_stable bytes more 0 (omega (arith, is)) ∙ sym is)
 
 pub searched_end : (bytes : List ℕ) (at n : ℕ) → ((more : List ℕ) → head_length (bytes ++ more) ≡ head_end_from at (drop at (bytes ++ more)))
-    → head_end_from at (drop at bytes) ≡ Some n → IsSearchResult bytes (searched.Ended n)
+    → head_end_from at (drop at bytes) ≡ Some n → IsHeadSearchResult bytes (searched.Ended n)
 searched_end bytes at n on found =
     ap head_length (sym (append-nil bytes)) ∙ on [] ∙ ap (λ u. head_end_from at (drop at u)) (append-nil bytes) ∙ found
 
 pub searched_lines : (bytes : List ℕ) (at to : ℕ) → ((more : List ℕ) → head_length (bytes ++ more) ≡ head_end_from at (drop at (bytes ++ more)))
     → at + 2 ≤ length bytes → to + 2 ≡ length bytes → head_end_from at (drop at bytes) ≡ None
-    → IsSearchResult bytes (searched.Open (record { at = to; in_lines = true }))
+    → IsHeadSearchResult bytes (searched.Open (record { at = to; is_past_empty_lines = true }))
 searched_lines bytes at to on room end none = (
   ap head_length (sym (append-nil bytes)) ∙ on [] ∙ ap (λ u. head_end_from at (drop at u)) (append-nil bytes) ∙ none,
   record {
@@ -156,7 +156,7 @@ searched_lines bytes at to on room end none = (
 )
 
 -- the empty lines in front, from where the search stood
-pub empty_lines_reached : (bytes : List ℕ) (s : HeadSearch) (at : ℕ) → SearchReaches bytes s → s.in_lines ≡ false → at ≡ empty_lines_from s.at (drop s.at bytes) → at ≡ empty_lines_length bytes
+pub empty_lines_reached : (bytes : List ℕ) (s : HeadSearch) (at : ℕ) → NoHeadEndsBeforeSearch bytes s → s.is_past_empty_lines ≡ false → at ≡ empty_lines_from s.at (drop s.at bytes) → at ≡ empty_lines_length bytes
 empty_lines_reached bytes s at r outside is =
     is ∙ ap (λ u. empty_lines_from s.at (drop s.at u)) (sym (append-nil bytes)) ∙ sym (r.empty_lines outside []) ∙ ap empty_lines_length (append-nil bytes)
 
@@ -165,5 +165,5 @@ pub head_some : (u : List ℕ) (n : ℕ) → head_length u ≡ Some n → 0 < n
 head_some u n found = omega (arith, (empty_line_ends (drop (empty_lines_length u) u) (empty_lines_length u) n found).two)
 
 -- no head ends there, and the limit isn't reached
-pub open_head : (bytes : List ℕ) → length bytes ≤ most_head_bytes → head_length (take most_head_bytes bytes) ≡ None → IsOpenHead bytes
+pub open_head : (bytes : List ℕ) → length bytes ≤ most_head_bytes → head_length (take most_head_bytes bytes) ≡ None → IsUnfinishedHead bytes
 open_head bytes short none = record { none = ap head_length (sym (take_all most_head_bytes bytes short)) ∙ none; bounded = short }

@@ -8,25 +8,25 @@ use Rattle.std.proofs.lemmas.List.Folds.{list_all-append, list_all-map}
 use Rattle.hx_fields.specs.Line.{Field}
 use Rattle.hx_fields.specs.Names.{joined_lists, is_nonempty}
 use Rattle.hx_fields.specs.FieldLines.{is_named, has_field, values_of}
-use Rattle.hx_framing.specs.ContentLength.{content_length_name, comma_pieces, is_digits, is_text_of_number, is_number, without_leading_zeros, agreed_number, length_pieces, announced_length}
+use Rattle.hx_framing.specs.ContentLength.{content_length_name, texts_between_commas, is_digits, is_text_of_number, is_text_of_same_number, without_leading_zeros, number_of_equal_texts, listed_lengths, announced_length}
 use Rattle.hx_framing.proofs.NumberLemmas.{same_number, significant_value}
 
 -- a test of all the pieces goes line by line
 all_pieces : (test : List ℕ → Bool) (values : List (List ℕ))
-    → list_all test (joined_lists (map comma_pieces values)) ≡ list_all (λ v. list_all test (comma_pieces v)) values
+    → list_all test (joined_lists (map texts_between_commas values)) ≡ list_all (λ v. list_all test (texts_between_commas v)) values
 all_pieces test [] = refl
 all_pieces test (v ∷ values) =
-    list_all-append test (comma_pieces v) (joined_lists (map comma_pieces values)) ∙ ap (λ b. list_all test (comma_pieces v) && b) (all_pieces test values)
+    list_all-append test (texts_between_commas v) (joined_lists (map texts_between_commas values)) ∙ ap (λ b. list_all test (texts_between_commas v) && b) (all_pieces test values)
 
 pub by_lines : (test : List ℕ → Bool) (fields : List Field)
-    → list_all test (length_pieces fields) ≡ list_all (λ (line : Field). list_all test (comma_pieces line.value)) (filter (is_named content_length_name) fields)
+    → list_all test (listed_lengths fields) ≡ list_all (λ (line : Field). list_all test (texts_between_commas line.value)) (filter (is_named content_length_name) fields)
 by_lines test fields =
     all_pieces test (values_of fields content_length_name)
-    ∙ list_all-map (λ v. list_all test (comma_pieces v)) (λ (line : Field). line.value) (filter (is_named content_length_name) fields)
+    ∙ list_all-map (λ v. list_all test (texts_between_commas v)) (λ (line : Field). line.value) (filter (is_named content_length_name) fields)
 
 -- a piece is compared by its digits
-is_number-has_value : (text piece : List ℕ) → is_digits text ≡ true → is_number (without_leading_zeros text) piece ≡ (is_digits piece && is_text_of_number (digits_value 10 text) piece)
-is_number-has_value text piece digits = by_test (is_digits piece) refl
+is_text_of_same_number-has_value : (text piece : List ℕ) → is_digits text ≡ true → is_text_of_same_number (without_leading_zeros text) piece ≡ (is_digits piece && is_text_of_number (digits_value 10 text) piece)
+is_text_of_same_number-has_value text piece digits = by_test (is_digits piece) refl
   where
     by_test : (t : Bool) → is_digits piece ≡ t → (t && bytes_eq (without_leading_zeros piece) (without_leading_zeros text)) ≡ (t && is_text_of_number (digits_value 10 text) piece)
     by_test true shown =
@@ -41,15 +41,15 @@ both_tests true false false d = refl
 both_tests false b c d = refl
 
 are_numbers : (text : List ℕ) (pieces : List (List ℕ)) → is_digits text ≡ true
-    → list_all (is_number (without_leading_zeros text)) pieces ≡ (list_all is_digits pieces && list_all (is_text_of_number (digits_value 10 text)) pieces)
+    → list_all (is_text_of_same_number (without_leading_zeros text)) pieces ≡ (list_all is_digits pieces && list_all (is_text_of_number (digits_value 10 text)) pieces)
 are_numbers text [] digits = refl
 are_numbers text (piece ∷ pieces) digits =
-    ap (λ t. t && list_all (is_number (without_leading_zeros text)) pieces) (is_number-has_value text piece digits)
+    ap (λ t. t && list_all (is_text_of_same_number (without_leading_zeros text)) pieces) (is_text_of_same_number-has_value text piece digits)
     ∙ ap (λ t. (is_digits piece && is_text_of_number (digits_value 10 text) piece) && t) (are_numbers text pieces digits)
     ∙ both_tests (is_digits piece) (is_text_of_number (digits_value 10 text) piece) (list_all is_digits pieces) (list_all (is_text_of_number (digits_value 10 text)) pieces)
 
 one_number-all : (text : List ℕ) (texts : List (List ℕ)) → is_digits text ≡ true
-    → agreed_number (text ∷ texts) ≡ cond (list_all (is_number (without_leading_zeros text)) (text ∷ texts)) (Some (digits_value 10 text)) None
+    → number_of_equal_texts (text ∷ texts) ≡ cond (list_all (is_text_of_same_number (without_leading_zeros text)) (text ∷ texts)) (Some (digits_value 10 text)) None
 one_number-all text texts digits =
     let same : is_text_of_number (digits_value 10 text) text ≡ true = eq-eqb (digits_value 10 text) (digits_value 10 text) refl in
     sym (ap (λ t. cond t (Some (digits_value 10 text)) None)
@@ -57,7 +57,7 @@ one_number-all text texts digits =
     ∙ ap (λ t. list_all is_digits (text ∷ texts) && (t && list_all (is_text_of_number (digits_value 10 text)) texts)) same))
 
 -- the first piece of a text stands before its first comma
-first_of_pieces : (text : List ℕ) → slice_get (comma_pieces text) 0 ≡ Some (before_first (λ b. b == 44) text)
+first_of_pieces : (text : List ℕ) → slice_get (texts_between_commas text) 0 ≡ Some (before_first (λ b. b == 44) text)
 first_of_pieces [] = refl
 first_of_pieces (b ∷ text) = by_test (first_of_pieces text) (b == 44)
   where
@@ -65,13 +65,13 @@ first_of_pieces (b ∷ text) = by_test (first_of_pieces text) (b == 44)
     by_front [] front e = absurd cc
     by_front (p ∷ pieces) front e = cc
 
-    by_test : slice_get (comma_pieces text) 0 ≡ Some (before_first (λ b. b == 44) text) → (t : Bool)
-        → slice_get (cond t ([] ∷ comma_pieces text) (onto_first b (comma_pieces text))) 0
+    by_test : slice_get (texts_between_commas text) 0 ≡ Some (before_first (λ b. b == 44) text) → (t : Bool)
+        → slice_get (cond t ([] ∷ texts_between_commas text) (onto_first b (texts_between_commas text))) 0
         ≡ Some (take (cond (not t) (1 + position_or_len (λ b. b == 44) text) 0) (b ∷ text))
     by_test later true = refl
     by_test later false =
         let one : suc (position_or_len (λ b. b == 44) text) ≡ 1 + position_or_len (λ b. b == 44) text = omega arith in
-        by_front (comma_pieces text) (before_first (λ b. b == 44) text) later ∙ ap (λ n. Some (take n (b ∷ text))) one
+        by_front (texts_between_commas text) (before_first (λ b. b == 44) text) later ∙ ap (λ n. Some (take n (b ∷ text))) one
 
 -- the pieces begin with the first one of the first line
 record Begins (text : List ℕ) (pieces : List (List ℕ)) : Type 0 where
@@ -79,7 +79,7 @@ record Begins (text : List ℕ) (pieces : List (List ℕ)) : Type 0 where
   are : pieces ≡ text ∷ texts
 
 begins : (fields : List Field) (value text : List ℕ) → slice_get (values_of fields content_length_name) 0 ≡ Some value
-    → text ≡ before_first (λ b. b == 44) value → Begins text (length_pieces fields)
+    → text ≡ before_first (λ b. b == 44) value → Begins text (listed_lengths fields)
 begins fields value text first front = by_values (values_of fields content_length_name) first
   where
     by_pieces : (pieces rest : List (List ℕ)) → slice_get pieces 0 ≡ Some text → Begins text (pieces ++ rest)
@@ -89,32 +89,32 @@ begins fields value text first front = by_values (values_of fields content_lengt
         same : (p : List ℕ) → Some p ≡ Some text → p ≡ text
         same p e = cc
 
-    by_values : (values : List (List ℕ)) → slice_get values 0 ≡ Some value → Begins text (joined_lists (map comma_pieces values))
+    by_values : (values : List (List ℕ)) → slice_get values 0 ≡ Some value → Begins text (joined_lists (map texts_between_commas values))
     by_values [] e = absurd cc
     by_values (v ∷ values) e =
         let same : v ≡ value = cc in
-        by_pieces (comma_pieces v) (joined_lists (map comma_pieces values))
+        by_pieces (texts_between_commas v) (joined_lists (map texts_between_commas values))
         (first_of_pieces v ∙ ap (λ (w : List ℕ). Some (before_first (λ b. b == 44) w)) same ∙ ap Some (sym front))
 
 module _ (fields : List Field) (value text : List ℕ)
     (first : slice_get (values_of fields content_length_name) 0 ≡ Some value) (front : text ≡ before_first (λ b. b == 44) value) where
   pub shown_by_digits : is_digits text ≡ true
-      → announced_length fields ≡ cond (list_all (λ (line : Field). list_all (is_number (without_leading_zeros text)) (comma_pieces line.value)) (filter (is_named content_length_name) fields)) (Some (digits_value 10 (without_leading_zeros text))) None
+      → announced_length fields ≡ cond (list_all (λ (line : Field). list_all (is_text_of_same_number (without_leading_zeros text)) (texts_between_commas line.value)) (filter (is_named content_length_name) fields)) (Some (digits_value 10 (without_leading_zeros text))) None
   shown_by_digits digits =
       let b = begins fields value text first front in
-      ap agreed_number b.are ∙ one_number-all text b.texts digits
-      ∙ ap (λ t. cond t (Some (digits_value 10 text)) None) (ap (list_all (is_number (without_leading_zeros text))) (sym b.are) ∙ by_lines (is_number (without_leading_zeros text)) fields)
-      ∙ ap (λ n. cond (list_all (λ (line : Field). list_all (is_number (without_leading_zeros text)) (comma_pieces line.value)) (filter (is_named content_length_name) fields)) (Some n) None) (sym (significant_value text))
+      ap number_of_equal_texts b.are ∙ one_number-all text b.texts digits
+      ∙ ap (λ t. cond t (Some (digits_value 10 text)) None) (ap (list_all (is_text_of_same_number (without_leading_zeros text))) (sym b.are) ∙ by_lines (is_text_of_same_number (without_leading_zeros text)) fields)
+      ∙ ap (λ n. cond (list_all (λ (line : Field). list_all (is_text_of_same_number (without_leading_zeros text)) (texts_between_commas line.value)) (filter (is_named content_length_name) fields)) (Some n) None) (sym (significant_value text))
 
   pub shown_without_digits : is_digits text ≡ false → announced_length fields ≡ None
   shown_without_digits other =
       let b = begins fields value text first front in
-      ap agreed_number b.are
+      ap number_of_equal_texts b.are
       ∙ ap (λ t. cond ((t && list_all is_digits b.texts) && list_all (is_text_of_number (digits_value 10 text)) b.texts) (Some (digits_value 10 text)) None) other
 
 -- each piece of these lines is the number of these digits
 abbrev pub all_are : List ℕ → List Field → Bool
-all_are digits lines = list_all (λ (line : Field). list_all (is_number digits) (comma_pieces line.value)) (filter (is_named content_length_name) lines)
+all_are digits lines = list_all (λ (line : Field). list_all (is_text_of_same_number digits) (texts_between_commas line.value)) (filter (is_named content_length_name) lines)
 
 pub shown_by_test : (fields lines : List Field) (value text digits : List ℕ) (all : Bool) → slice_get (values_of fields content_length_name) 0 ≡ Some value
     → text ≡ before_first (λ b. b == 44) value → is_digits text ≡ true → digits ≡ without_leading_zeros text → lines ≡ fields
@@ -129,7 +129,7 @@ shown_by_test fields lines value text digits all first front test digits_are lin
 pub none_shown : (fields : List Field) → slice_get (values_of fields content_length_name) 0 ≡ None → announced_length fields ≡ None
 none_shown fields none = by_values (values_of fields content_length_name) none
   where
-    by_values : (values : List (List ℕ)) → slice_get values 0 ≡ None → agreed_number (joined_lists (map comma_pieces values)) ≡ None
+    by_values : (values : List (List ℕ)) → slice_get values 0 ≡ None → number_of_equal_texts (joined_lists (map texts_between_commas values)) ≡ None
     by_values [] e = refl
     by_values (v ∷ values) e = absurd cc
 

@@ -6,8 +6,8 @@ use Rattle.std.proofs.lemmas.List.{drop_all, take_all}
 use Rattle.hx_framing.specs.declared.contents.content.Content.TheVariants as content
 use Rattle.hx_framing.specs.declared.frame_fault.FrameFault.TheVariants as fault
 use Rattle.hx_framing.specs.declared.contents.content.ContentProgress.TheVariants as content_progress
-use Rattle.hx_framing.specs.Body.{ContentFound, Short, Bad, Whole}
-use Rattle.hx_framing.specs.Contents.{ContentAdvances, announced_content_rest, content_until_close_rest}
+use Rattle.hx_framing.specs.Body.{ContentParseResult, Short, Bad, Whole}
+use Rattle.hx_framing.specs.Contents.{ContentAdvances, announced_content_resumed, content_until_close_resumed}
 use Rattle.hx_framing.specs.PlainContent.{PlainContent, plain_content_with}
 
 -- behind some bytes the test is that of the others
@@ -25,21 +25,21 @@ above_behind bytes more left within = by_test (nat_lt (left - length bytes) (len
     by_test true p = lt-ltb _ _ (omega (arith, ltb-true (left - length bytes) (length more) p, length-append bytes more))
     by_test false p = le-ltb _ _ (omega (arith, ltb-false (left - length bytes) (length more) p, length-append bytes more))
 
-announced_behind : (s : PlainContent) (bytes more : List ℕ) → length bytes ≤ s.left → announced_content_rest s (bytes ++ more) ≡ announced_content_rest (plain_content_with s bytes) more
+announced_behind : (s : PlainContent) (bytes more : List ℕ) → length bytes ≤ s.left → announced_content_resumed s (bytes ++ more) ≡ announced_content_resumed (plain_content_with s bytes) more
 announced_behind s bytes more within =
     let k = s.left - length bytes in
     let all : s.left ≡ length bytes + k = omega arith in
     let taken : take s.left (bytes ++ more) ≡ bytes ++ take k more = ap (λ (n : ℕ). take n (bytes ++ more)) all ∙ take-append-add bytes more k in
     let dropped : drop s.left (bytes ++ more) ≡ drop k more = ap (λ (n : ℕ). drop n (bytes ++ more)) all ∙ drop-append-add bytes more k in
-    ap (λ (t : Bool). cond {A = ContentFound} t Short (Whole (Some (s.content ++ take s.left (bytes ++ more))) (drop s.left (bytes ++ more)))) (lt_behind bytes more s.left within)
-    ∙ ap (λ (c : List ℕ). cond {A = ContentFound} (nat_lt (length more) k) Short (Whole (Some c) (drop s.left (bytes ++ more))))
+    ap (λ (t : Bool). cond {A = ContentParseResult} t Short (Whole (Some (s.content ++ take s.left (bytes ++ more))) (drop s.left (bytes ++ more)))) (lt_behind bytes more s.left within)
+    ∙ ap (λ (c : List ℕ). cond {A = ContentParseResult} (nat_lt (length more) k) Short (Whole (Some c) (drop s.left (bytes ++ more))))
     (ap (λ (c : List ℕ). s.content ++ c) taken ∙ sym (append_assoc s.content bytes (take k more)))
-    ∙ ap (λ (r : List ℕ). cond {A = ContentFound} (nat_lt (length more) k) Short (Whole (Some ((s.content ++ bytes) ++ take k more)) r)) dropped
+    ∙ ap (λ (r : List ℕ). cond {A = ContentParseResult} (nat_lt (length more) k) Short (Whole (Some ((s.content ++ bytes) ++ take k more)) r)) dropped
 
-closed_behind : (s : PlainContent) (e : Bool) (bytes more : List ℕ) → length bytes ≤ s.left → content_until_close_rest s e (bytes ++ more) ≡ content_until_close_rest (plain_content_with s bytes) e more
+closed_behind : (s : PlainContent) (e : Bool) (bytes more : List ℕ) → length bytes ≤ s.left → content_until_close_resumed s e (bytes ++ more) ≡ content_until_close_resumed (plain_content_with s bytes) e more
 closed_behind s e bytes more within =
-    ap (λ (t : Bool). cond {A = ContentFound} t (Bad fault.TooLarge) (cond {A = ContentFound} e (Whole (Some (s.content ++ (bytes ++ more))) []) Short)) (above_behind bytes more s.left within)
-    ∙ ap (λ (c : List ℕ). cond {A = ContentFound} (nat_lt (s.left - length bytes) (length more)) (Bad fault.TooLarge) (cond {A = ContentFound} e (Whole (Some c) []) Short))
+    ap (λ (t : Bool). cond {A = ContentParseResult} t (Bad fault.TooLarge) (cond {A = ContentParseResult} e (Whole (Some (s.content ++ (bytes ++ more))) []) Short)) (above_behind bytes more s.left within)
+    ∙ ap (λ (c : List ℕ). cond {A = ContentParseResult} (nat_lt (s.left - length bytes) (length more)) (Bad fault.TooLarge) (cond {A = ContentParseResult} e (Whole (Some c) []) Short))
     (sym (append_assoc s.content bytes more))
 
 -- ---- as the functions have it
@@ -53,9 +53,9 @@ announced_more e s new bytes run n is ran all less =
     let whole : run ≡ bytes = all_taken bytes run n ran (omega arith) in
     let none : drop n bytes ≡ [] = drop_all n bytes (omega arith) in (
       omega arith,
-      ap (λ (t : Bool). cond {A = ContentFound} t Short (Whole (Some (s.content ++ take s.left bytes)) (drop s.left bytes))) (lt-ltb _ _ (omega arith)),
-      λ more d. announced_behind s bytes more (omega arith) ∙ ap (λ (b : List ℕ). announced_content_rest (plain_content_with s b) more) (sym whole) ∙ ap (λ (p : PlainContent). announced_content_rest p more) (sym is)
-          ∙ ap (λ (u : List ℕ). announced_content_rest new (u ++ more)) (sym none),
+      ap (λ (t : Bool). cond {A = ContentParseResult} t Short (Whole (Some (s.content ++ take s.left bytes)) (drop s.left bytes))) (lt-ltb _ _ (omega arith)),
+      λ more d. announced_behind s bytes more (omega arith) ∙ ap (λ (b : List ℕ). announced_content_resumed (plain_content_with s b) more) (sym whole) ∙ ap (λ (p : PlainContent). announced_content_resumed p more) (sym is)
+          ∙ ap (λ (u : List ℕ). announced_content_resumed new (u ++ more)) (sym none),
       none,
     )
 
@@ -64,24 +64,24 @@ pub announced_whole : (e : Bool) (s mid new : PlainContent) (bytes run c : List 
 announced_whole e s mid new bytes run c n is ran all within same =
     let given : c ≡ s.content ++ take s.left bytes = same ∙ ap (λ (p : PlainContent). p.content) is ∙ ap (λ (r : List ℕ). s.content ++ r) (ran ∙ ap (λ (k : ℕ). take k bytes) all) in (
       within,
-      ap (λ (t : Bool). cond {A = ContentFound} t Short (Whole (Some (s.content ++ take s.left bytes)) (drop s.left bytes))) (le-ltb _ _ (omega arith))
+      ap (λ (t : Bool). cond {A = ContentParseResult} t Short (Whole (Some (s.content ++ take s.left bytes)) (drop s.left bytes))) (le-ltb _ _ (omega arith))
           ∙ ap (λ (c : List ℕ). Whole (Some c) (drop s.left bytes)) (sym given)
           ∙ ap (λ (k : ℕ). Whole (Some c) (drop k bytes)) (sym all),
     )
 
 pub closed_bad : (e : Bool) (s new : PlainContent) (bytes : List ℕ) → s.left < length bytes → ContentAdvances e bytes (content.UntilClose s) (content_progress.Faulty fault.TooLarge) (content.UntilClose new)
 closed_bad e s new bytes over =
-    ap (λ (t : Bool). cond {A = ContentFound} t (Bad fault.TooLarge) (cond {A = ContentFound} e (Whole (Some (s.content ++ bytes)) []) Short)) (lt-ltb _ _ over)
+    ap (λ (t : Bool). cond {A = ContentParseResult} t (Bad fault.TooLarge) (cond {A = ContentParseResult} e (Whole (Some (s.content ++ bytes)) []) Short)) (lt-ltb _ _ over)
 
 pub closed_more : (e : Bool) (s new : PlainContent) (bytes : List ℕ) → e ≡ false → new ≡ plain_content_with s bytes → length bytes ≤ s.left
     → ContentAdvances e bytes (content.UntilClose s) (content_progress.Incomplete (length bytes)) (content.UntilClose new)
 closed_more e s new bytes open_still is within =
     let none : drop (length bytes) bytes ≡ [] = drop_all (length bytes) bytes (omega arith) in (
       omega arith,
-      ap (λ (t : Bool). cond {A = ContentFound} t (Bad fault.TooLarge) (cond {A = ContentFound} e (Whole (Some (s.content ++ bytes)) []) Short)) (le-ltb _ _ within)
-          ∙ ap (λ (t : Bool). cond {A = ContentFound} t (Whole (Some (s.content ++ bytes)) []) Short) open_still,
-      λ more d. closed_behind s d bytes more within ∙ ap (λ (p : PlainContent). content_until_close_rest p d more) (sym is)
-          ∙ ap (λ (u : List ℕ). content_until_close_rest new d (u ++ more)) (sym none),
+      ap (λ (t : Bool). cond {A = ContentParseResult} t (Bad fault.TooLarge) (cond {A = ContentParseResult} e (Whole (Some (s.content ++ bytes)) []) Short)) (le-ltb _ _ within)
+          ∙ ap (λ (t : Bool). cond {A = ContentParseResult} t (Whole (Some (s.content ++ bytes)) []) Short) open_still,
+      λ more d. closed_behind s d bytes more within ∙ ap (λ (p : PlainContent). content_until_close_resumed p d more) (sym is)
+          ∙ ap (λ (u : List ℕ). content_until_close_resumed new d (u ++ more)) (sym none),
       none,
     )
 
@@ -91,8 +91,8 @@ closed_whole e s mid new bytes c ends is within same =
     let none : drop (length bytes) bytes ≡ [] = drop_all (length bytes) bytes (omega arith) in
     let given : c ≡ s.content ++ bytes = same ∙ ap (λ (p : PlainContent). p.content) is in (
       omega arith,
-      ap (λ (t : Bool). cond {A = ContentFound} t (Bad fault.TooLarge) (cond {A = ContentFound} e (Whole (Some (s.content ++ bytes)) []) Short)) (le-ltb _ _ within)
-          ∙ ap (λ (t : Bool). cond {A = ContentFound} t (Whole (Some (s.content ++ bytes)) []) Short) ends
+      ap (λ (t : Bool). cond {A = ContentParseResult} t (Bad fault.TooLarge) (cond {A = ContentParseResult} e (Whole (Some (s.content ++ bytes)) []) Short)) (le-ltb _ _ within)
+          ∙ ap (λ (t : Bool). cond {A = ContentParseResult} t (Whole (Some (s.content ++ bytes)) []) Short) ends
           ∙ ap (λ (c : List ℕ). Whole (Some c) []) (sym given)
           ∙ ap (λ (r : List ℕ). Whole (Some c) r) (sym none),
     )

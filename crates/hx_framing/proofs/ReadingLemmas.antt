@@ -11,13 +11,13 @@ use Rattle.httparse.specs.Grammar.{crlf, Field, IsField, IsToken, RequestHead, I
 use Rattle.hx_framing.specs.declared.messages.Request.{Request}
 use Rattle.hx_framing.specs.declared.messages.Response.{Response}
 use Rattle.hx_framing.specs.HeadEnd.{head_length, most_head_bytes, most_field_lines}
-use Rattle.hx_framing.specs.Head.{IsHeadOfRequest, head_of_grammar}
+use Rattle.hx_framing.specs.Head.{IsHeadOfRequest, head_of_parsed_request}
 use Rattle.hx_framing.specs.StatusHead.{IsStatusHead, status_head_of}
 use Rattle.hx_framing.specs.Lengths.{is_interim}
 use Rattle.hx_framing.specs.Reading.{StreamReading}
-use Rattle.hx_framing.specs.RequestReading.{Reads, RequestReadsByLength, reading_behind_request_head, reading_without_request_head}
+use Rattle.hx_framing.specs.RequestReading.{ReadsAs, RequestReadsByHeadLength, reading_behind_request_head, reading_without_request_head}
 use Rattle.hx_framing.specs.ResponseReading as response
-use Rattle.hx_framing.specs.ResponseReading.{FrontReads, FrontReadsByLength, IsInterimHead}
+use Rattle.hx_framing.specs.ResponseReading.{FinalResponseReadsAs, FinalReadsByHeadLength, IsInterimHead}
 
 -- ---- trees
 
@@ -112,17 +112,17 @@ fine_response bytes h fine is =
 
 pub reads_request : (max : ℕ) (ended continue_sent : Bool) (bytes : List ℕ) (h : RequestHead) (n : ℕ) (reading : StreamReading Request)
     → head_length (take most_head_bytes bytes) ≡ Some n → is_fine_request h ≡ true → take n bytes ≡ print_request h ++ []
-    → reading ≡ reading_behind_request_head max ended continue_sent (drop n bytes) (Ok (head_of_grammar h)) → Reads max ended continue_sent bytes reading
+    → reading ≡ reading_behind_request_head max ended continue_sent (drop n bytes) (Ok (head_of_parsed_request h)) → ReadsAs max ended continue_sent bytes reading
 reads_request max ended continue_sent bytes h n reading place fine text is =
-    subst (λ (o : Option ℕ). RequestReadsByLength max ended continue_sent bytes o reading) (sym place) (Ok (head_of_grammar h), (h, fine_request (take n bytes) h fine text, refl), is)
+    subst (λ (o : Option ℕ). RequestReadsByHeadLength max ended continue_sent bytes o reading) (sym place) (Ok (head_of_parsed_request h), (h, fine_request (take n bytes) h fine text, refl), is)
 
 pub reads_response : (max : ℕ) (to_head ended : Bool) (bytes : List ℕ) (h : ResponseHead) (n : ℕ) (reading : StreamReading Response)
     → head_length (take most_head_bytes bytes) ≡ Some n → is_fine_response h ≡ true → take n bytes ≡ print_response h ++ []
     → is_interim (status_head_of h).status ≡ false
-    → reading ≡ response.reading_behind_response_head max to_head ended (drop n bytes) (Ok (status_head_of h)) → response.Reads max to_head ended bytes reading
+    → reading ≡ response.reading_behind_response_head max to_head ended (drop n bytes) (Ok (status_head_of h)) → response.ReadsAs max to_head ended bytes reading
 reads_response max to_head ended bytes h n reading place fine text final is =
-    let front : FrontReads max to_head ended bytes reading
-    = subst (λ (o : Option ℕ). FrontReadsByLength max to_head ended bytes o reading) (sym place)
+    let front : FinalResponseReadsAs max to_head ended bytes reading
+    = subst (λ (o : Option ℕ). FinalReadsByHeadLength max to_head ended bytes o reading) (sym place)
     (Ok (status_head_of h), (h, fine_response (take n bytes) h fine text, refl), final, is) in
     ([], bytes, refl, front)
 
@@ -130,7 +130,7 @@ reads_response max to_head ended bytes h n reading place fine text final is =
 pub passes_interim : (max : ℕ) (to_head ended : Bool) (bytes : List ℕ) (h : ResponseHead) (n : ℕ) (reading : StreamReading Response)
     → head_length (take most_head_bytes bytes) ≡ Some n → is_fine_response h ≡ true → take n bytes ≡ print_response h ++ []
     → is_interim (status_head_of h).status ≡ true
-    → response.Reads max to_head ended (drop n bytes) reading → response.Reads max to_head ended bytes reading
+    → response.ReadsAs max to_head ended (drop n bytes) reading → response.ReadsAs max to_head ended bytes reading
 passes_interim max to_head ended bytes h n reading place fine text interim (sizes, rest, passes, front) =
     let first : IsInterimHead bytes n
     = record { place = place; head = status_head_of h; judged = (h, fine_response (take n bytes) h fine text, refl); interim = interim } in
@@ -138,12 +138,12 @@ passes_interim max to_head ended bytes h n reading place fine text interim (size
 
 -- without a head
 pub reads_no_request : (max : ℕ) (ended continue_sent : Bool) (bytes : List ℕ) (reading : StreamReading Request)
-    → head_length (take most_head_bytes bytes) ≡ None → reading ≡ reading_without_request_head ended bytes → Reads max ended continue_sent bytes reading
-reads_no_request max ended continue_sent bytes reading none is = subst (λ (o : Option ℕ). RequestReadsByLength max ended continue_sent bytes o reading) (sym none) is
+    → head_length (take most_head_bytes bytes) ≡ None → reading ≡ reading_without_request_head ended bytes → ReadsAs max ended continue_sent bytes reading
+reads_no_request max ended continue_sent bytes reading none is = subst (λ (o : Option ℕ). RequestReadsByHeadLength max ended continue_sent bytes o reading) (sym none) is
 
 pub reads_no_response : (max : ℕ) (to_head ended : Bool) (bytes : List ℕ) (reading : StreamReading Response)
-    → head_length (take most_head_bytes bytes) ≡ None → reading ≡ response.reading_without_response_head ended bytes → response.Reads max to_head ended bytes reading
+    → head_length (take most_head_bytes bytes) ≡ None → reading ≡ response.reading_without_response_head ended bytes → response.ReadsAs max to_head ended bytes reading
 reads_no_response max to_head ended bytes reading none is =
-    let front : FrontReads max to_head ended bytes reading
-    = subst (λ (o : Option ℕ). FrontReadsByLength max to_head ended bytes o reading) (sym none) is in
+    let front : FinalResponseReadsAs max to_head ended bytes reading
+    = subst (λ (o : Option ℕ). FinalReadsByHeadLength max to_head ended bytes o reading) (sym none) is in
     ([], bytes, refl, front)

@@ -10,32 +10,32 @@ use Rattle.hx_framing.specs.declared.readers.progress.HeadProgress.{HeadProgress
 use Rattle.hx_framing.specs.declared.readers.progress.HeadProgress.TheVariants as head_progress
 use Rattle.hx_framing.specs.declared.readers.progress.ReaderPhase.{ReaderPhase}
 use Rattle.hx_framing.specs.declared.readers.progress.ReaderPhase.TheVariants as phase
-use Rattle.hx_framing.specs.HeadEnd.{IsOpenHead}
-use Rattle.hx_framing.specs.Contents.{content_rest}
-use Rattle.hx_framing.specs.ContentReading.{ContentGoesOn}
-use Rattle.hx_framing.specs.Progress.{Progress, next_of_reading, stream_after_answer, cost_of_answer}
+use Rattle.hx_framing.specs.HeadEnd.{IsUnfinishedHead}
+use Rattle.hx_framing.specs.Contents.{content_resumed}
+use Rattle.hx_framing.specs.ContentReading.{ContentIsReadFurther}
+use Rattle.hx_framing.specs.Progress.{Progress, next_answer_of_reading, progress_after_answer, cost_of_answer}
 use Rattle.hx_framing.specs.Reading.{StreamReading, Incomplete, Continue, Over, Spelled, Faulty}
-use Rattle.hx_framing.specs.ReaderSteps.{answer_of, bytes_taken, state_behind, found_in_content, state_with_piece, ReaderLaws}
-use Rattle.hx_framing.specs.ReaderState.{IsUnfinished}
-use Rattle.hx_framing.specs.RequestReading.{request_of_head, Reads}
-use Rattle.hx_framing.specs.RequestHeadProgress.{RequestContentResumes, IsHeadProgress}
+use Rattle.hx_framing.specs.ReaderSteps.{answer_of_progress, bytes_taken, state_after_progress, progress_in_content, state_with_piece, ReaderLaws}
+use Rattle.hx_framing.specs.ReaderState.{KeepsOnlyUnfinished}
+use Rattle.hx_framing.specs.RequestReading.{request_of_head, ReadsAs}
+use Rattle.hx_framing.specs.RequestHeadProgress.{RequestContentResumes, IsProgressOfBytes}
 use Rattle.hx_framing.specs.RequestState.{State, RepresentsStream, RequestReaderKeeps, begun_message_weight, weight, request_kind}
 use Rattle.hx_framing.specs.RequestStream.{Answers}
 use Rattle.hx_framing.proofs.BodyLemmas.{open_bounded}
 use Rattle.hx_framing.proofs.ContentReadings.{reading_of, content_found, found_answered, resumes_on}
-use Rattle.hx_framing.proofs.RequestMemory.{head_needs, content_needs}
+use Rattle.hx_framing.proofs.RequestMemory.{head_needs, content_may_run_out_of_memory}
 use Rattle.hx_framing.proofs.RequestStreams.{answers_by, before, inside, kept_reads, content_reads, represents_on, represents_given, represents_fed, represents_finished}
 
 -- ---- before a head
 
 module _ (s : State) (waiting : s.phase ≡ phase.BeforeHead) where
-  front_answers : (p : Progress Request) (found : HeadProgress Head Request) → IsHeadProgress s.max_body s.ended s.unread found → RepresentsStream s p → Answers p (answer_of found)
+  front_answers : (p : Progress Request) (found : HeadProgress Head Request) → IsProgressOfBytes s.max_body s.ended s.unread found → RepresentsStream s p → Answers p (answer_of_progress found)
   front_answers p found k represents = by_case found k
     where
-      by_reading : (r : StreamReading Request) → Reads s.max_body s.ended false s.unread r → Answers p (next_of_reading r)
+      by_reading : (r : StreamReading Request) → ReadsAs s.max_body s.ended false s.unread r → Answers p (next_answer_of_reading r)
       by_reading r reads = answers_by p s r represents (kept_reads s p r waiting represents reads)
 
-      by_case : (found : HeadProgress Head Request) → IsHeadProgress s.max_body s.ended s.unread found → Answers p (answer_of found)
+      by_case : (found : HeadProgress Head Request) → IsProgressOfBytes s.max_body s.ended s.unread found → Answers p (answer_of_progress found)
       by_case (head_progress.Incomplete n) k = by_reading Incomplete k.1
       by_case (head_progress.NeedsContinue head content n) k = by_reading Continue k.1
       by_case (head_progress.InContent head content n) k = by_reading Incomplete k.1
@@ -50,8 +50,8 @@ module _ (s : State) (waiting : s.phase ≡ phase.BeforeHead) where
       subst (λ (m : ℕ). RequestContentResumes m sent head content represents.rest left) represents.max_body
       (subst (λ (u : List ℕ). RequestContentResumes s.max_body sent head content u left) (before s p waiting represents).0 on)
 
-  front_represents : (p : Progress Request) (found : HeadProgress Head Request) (spare : ℕ) → IsHeadProgress s.max_body s.ended s.unread found → RepresentsStream s p
-      → RepresentsStream (state_behind request_kind s spare found) (stream_after_answer p (answer_of found))
+  front_represents : (p : Progress Request) (found : HeadProgress Head Request) (spare : ℕ) → IsProgressOfBytes s.max_body s.ended s.unread found → RepresentsStream s p
+      → RepresentsStream (state_after_progress request_kind s spare found) (progress_after_answer p (answer_of_progress found))
   front_represents p (head_progress.Incomplete n) spare k represents =
       subst (λ (n : ℕ). RepresentsStream (record s { unread = drop n s.unread; spare = spare; phase = phase.BeforeHead }) p) (sym k.0)
       (represents_on s p s.unread spare phase.BeforeHead represents (before s p waiting represents))
@@ -70,8 +70,8 @@ module _ (s : State) (waiting : s.phase ≡ phase.BeforeHead) where
   front_represents p (head_progress.Faulty f) spare k represents = represents_on s p s.unread spare (phase.Faulty f) represents (kept_reads s p _ waiting represents k)
   front_represents p head_progress.Ended spare k represents = represents_on s p s.unread spare phase.BeforeHead represents (before s p waiting represents)
 
-  front_weight : (found : HeadProgress Head Request) (spare : ℕ) → IsHeadProgress s.max_body s.ended s.unread found
-      → (bytes_taken found ≤ length s.unread) × (weight (state_behind request_kind s spare found) + cost_of_answer (answer_of found) ≤ weight s)
+  front_weight : (found : HeadProgress Head Request) (spare : ℕ) → IsProgressOfBytes s.max_body s.ended s.unread found
+      → (bytes_taken found ≤ length s.unread) × (weight (state_after_progress request_kind s spare found) + cost_of_answer (answer_of_progress found) ≤ weight s)
   front_weight (head_progress.Incomplete n) spare k = (omega (arith, k.0), omega (arith, ap begun_message_weight waiting, length-drop n s.unread))
   front_weight (head_progress.NeedsContinue head content n) spare k = (k.0.1, omega (arith, ap begun_message_weight waiting, length-drop n s.unread, k.0.0, k.0.1))
   front_weight (head_progress.InContent head content n) spare k = (k.0.1, omega (arith, ap begun_message_weight waiting, length-drop n s.unread, k.0.0, k.0.1))
@@ -79,10 +79,10 @@ module _ (s : State) (waiting : s.phase ≡ phase.BeforeHead) where
   front_weight (head_progress.Faulty f) spare k = (omega arith, omega (arith, ap begun_message_weight waiting))
   front_weight head_progress.Ended spare k = (omega arith, omega (arith, ap begun_message_weight waiting))
 
-  front_unfinished : (found : HeadProgress Head Request) (spare : ℕ) → IsHeadProgress s.max_body s.ended s.unread found → answer_of found ≡ next.More
-      → IsUnfinished (state_behind request_kind s spare found)
+  front_unfinished : (found : HeadProgress Head Request) (spare : ℕ) → IsProgressOfBytes s.max_body s.ended s.unread found → answer_of_progress found ≡ next.More
+      → KeepsOnlyUnfinished (state_after_progress request_kind s spare found)
   front_unfinished (head_progress.Incomplete n) spare k more =
-      let open_still : IsOpenHead (drop n s.unread) = subst (λ (n : ℕ). IsOpenHead (drop n s.unread)) (sym k.0) k.2 in
+      let open_still : IsUnfinishedHead (drop n s.unread) = subst (λ (n : ℕ). IsUnfinishedHead (drop n s.unread)) (sym k.0) k.2 in
       record { begun = open_still; bounded = open_still.bounded }
   front_unfinished (head_progress.NeedsContinue head content n) spare k more = absurd cc
   front_unfinished (head_progress.InContent head content n) spare k more = record { begun = k.3; bounded = open_bounded content (drop n s.unread) k.3 }
@@ -93,41 +93,41 @@ module _ (s : State) (waiting : s.phase ≡ phase.BeforeHead) where
 -- ---- in a content
 
 module _ (s : State) (head : Head) (old new : Content) (left : List ℕ) (going : s.phase ≡ phase.InContent head old) where
-  found_reads : (p : Progress Request) (found : ContentProgress) → ContentGoesOn s.ended false s.unread old found new left → (represents : RepresentsStream s p)
-      → Reads p.max_body p.ended p.continue_sent represents.rest (reading_of (request_of_head head) s.unread found)
+  found_reads : (p : Progress Request) (found : ContentProgress) → ContentIsReadFurther s.ended false s.unread old found new left → (represents : RepresentsStream s p)
+      → ReadsAs p.max_body p.ended p.continue_sent represents.rest (reading_of (request_of_head head) s.unread found)
   found_reads p found k represents =
-      subst (λ (r : StreamReading Request). Reads p.max_body p.ended p.continue_sent represents.rest r)
+      subst (λ (r : StreamReading Request). ReadsAs p.max_body p.ended p.continue_sent represents.rest r)
       (content_found (request_of_head head) s.ended false s.unread left old new found k)
-      (content_reads s p head old (content_rest old false s.unread) going represents refl)
+      (content_reads s p head old (content_resumed old false s.unread) going represents refl)
 
-  content_represents : (p : Progress Request) (found : ContentProgress) (spare : ℕ) → ContentGoesOn s.ended false s.unread old found new left → RepresentsStream s p
-      → RepresentsStream (state_behind request_kind s spare (found_in_content (request_of_head head) head new found)) (stream_after_answer p (answer_of (found_in_content (request_of_head head) head new found)))
+  content_represents : (p : Progress Request) (found : ContentProgress) (spare : ℕ) → ContentIsReadFurther s.ended false s.unread old found new left → RepresentsStream s p
+      → RepresentsStream (state_after_progress request_kind s spare (progress_in_content (request_of_head head) head new found)) (progress_after_answer p (answer_of_progress (progress_in_content (request_of_head head) head new found)))
   content_represents p (content_progress.Incomplete n) spare k represents =
       represents_on s p (drop n s.unread) spare (phase.InContent head new) represents
-      (resumes_on (λ (e : Bool). Reads p.max_body e p.continue_sent) (request_of_head head) (λ (e : Bool). false) old new represents.rest s.unread (drop n s.unread) k.1.2
+      (resumes_on (λ (e : Bool). ReadsAs p.max_body e p.continue_sent) (request_of_head head) (λ (e : Bool). false) old new represents.rest s.unread (drop n s.unread) k.1.2
       (inside s p head old going represents))
   content_represents p (content_progress.Faulty f) spare k represents = represents_on s p s.unread spare (phase.Faulty f) represents (found_reads p (content_progress.Faulty f) k represents)
   content_represents p (content_progress.Whole c n) spare k represents = represents_given s p (request_of_head head c) (drop n s.unread) spare represents (found_reads p (content_progress.Whole c n) k represents)
 
   content_weight : (found : ContentProgress) (spare : ℕ)
-      → weight (state_behind request_kind s spare (found_in_content (request_of_head head) head new found)) + cost_of_answer (answer_of (found_in_content (request_of_head head) head new found)) ≤ weight s
+      → weight (state_after_progress request_kind s spare (progress_in_content (request_of_head head) head new found)) + cost_of_answer (answer_of_progress (progress_in_content (request_of_head head) head new found)) ≤ weight s
   content_weight (content_progress.Incomplete n) spare = omega (arith, ap begun_message_weight going, length-drop n s.unread)
   content_weight (content_progress.Faulty f) spare = omega (arith, ap begun_message_weight going)
   content_weight (content_progress.Whole c n) spare = omega (arith, ap begun_message_weight going, length-drop n s.unread)
 
-  content_unfinished : (found : ContentProgress) (spare : ℕ) → ContentGoesOn s.ended false s.unread old found new left
-      → answer_of (found_in_content (request_of_head head) head new found) ≡ next.More → IsUnfinished (state_behind request_kind s spare (found_in_content (request_of_head head) head new found))
+  content_unfinished : (found : ContentProgress) (spare : ℕ) → ContentIsReadFurther s.ended false s.unread old found new left
+      → answer_of_progress (progress_in_content (request_of_head head) head new found) ≡ next.More → KeepsOnlyUnfinished (state_after_progress request_kind s spare (progress_in_content (request_of_head head) head new found))
   content_unfinished (content_progress.Incomplete n) spare k more = record { begun = k.1.3; bounded = open_bounded new (drop n s.unread) k.1.3 }
   content_unfinished (content_progress.Faulty f) spare k more = absurd cc
   content_unfinished (content_progress.Whole c n) spare k more = absurd cc
 
 -- ---- a piece has come
 
-fed_weight : (s : State) (piece : List ℕ) (spare : ℕ) (f : ReaderPhase Head) → weight (state_with_piece s f piece spare) ≤ weight s + 2 * length piece
-fed_weight s piece spare phase.BeforeHead = omega (arith, length-append s.unread piece)
-fed_weight s piece spare (phase.InContent head content) = omega (arith, length-append s.unread piece)
-fed_weight s piece spare phase.Given = omega arith
-fed_weight s piece spare (phase.Faulty f) = omega arith
+weight_after_feeding : (s : State) (piece : List ℕ) (spare : ℕ) (f : ReaderPhase Head) → weight (state_with_piece s f piece spare) ≤ weight s + 2 * length piece
+weight_after_feeding s piece spare phase.BeforeHead = omega (arith, length-append s.unread piece)
+weight_after_feeding s piece spare (phase.InContent head content) = omega (arith, length-append s.unread piece)
+weight_after_feeding s piece spare phase.Given = omega arith
+weight_after_feeding s piece spare (phase.Faulty f) = omega arith
 
 -- ---- all of it
 
@@ -135,12 +135,12 @@ pub request_laws : ReaderLaws request_kind
 request_laws = record {
   ended = λ s p represents. represents.ended;
   fed = represents_fed;
-  fed_weight = λ s piece spare. fed_weight s piece spare s.phase;
+  weight_after_feeding = λ s piece spare. weight_after_feeding s piece spare s.phase;
   finished = represents_finished;
-  finished_weight = λ s. omega arith;
+  weight_after_finishing = λ s. omega arith;
   quiet = λ s p waiting none open_still represents.
       answers_by p s Incomplete represents (kept_reads s p Incomplete waiting represents
-      (subst (λ (u : List ℕ). Reads s.max_body s.ended false u Incomplete) (sym none) (subst (λ (e : Bool). Reads s.max_body e false [] Incomplete) (sym open_still) refl)));
+      (subst (λ (u : List ℕ). ReadsAs s.max_body s.ended false u Incomplete) (sym none) (subst (λ (e : Bool). ReadsAs s.max_body e false [] Incomplete) (sym open_still) refl)));
   front = λ s found waiting k. record {
     within = (front_weight s waiting found s.spare k).0;
     steps = λ spare. record {
@@ -151,7 +151,7 @@ request_laws = record {
       unfinished = front_unfinished s waiting found spare k;
     };
   };
-  front_needs = head_needs;
+  front_may_run_out_of_memory = head_needs;
   content = λ s head old new found left spare going k. record {
     answers = λ p represents. found_answered (Answers p) (request_of_head head) head new s.unread found (answers_by p s _ represents (found_reads s head old new left going p found k represents));
     represents = λ p represents. content_represents s head old new left going p found spare k represents;
@@ -159,7 +159,7 @@ request_laws = record {
     due = tt;
     unfinished = content_unfinished s head old new left going found spare k;
   };
-  content_needs = content_needs;
+  content_may_run_out_of_memory = content_may_run_out_of_memory;
   given = λ s is. record {
     answers = λ p represents. absurd (subst (λ (f : ReaderPhase Head). RequestReaderKeeps s p represents.rest f) is represents.keeps);
     represents = λ p represents. represents;

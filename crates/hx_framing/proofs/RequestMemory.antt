@@ -1,50 +1,50 @@
 -- Behind the head of a request, and in its content, the answer may want memory.
 use Rattle.std.proofs.Common.{◌≡◌, ℕ, ◌&&◌, Bool, true, false, not, cond, List, drop, refl, sym, ap, subst, ◌∙◌, Option, Result, Ok, Err}
 use Rattle.hx_framing.specs.declared.frame_fault.FrameFault.{FrameFault}
-use Rattle.hx_framing.specs.declared.lengths.framing.RequestBody.{RequestBody}
+use Rattle.hx_framing.specs.declared.lengths.framing.RequestFraming.{RequestFraming}
 use Rattle.hx_framing.specs.declared.heads.request_head.Head.{Head}
 use Rattle.hx_framing.specs.declared.messages.Request.{Request}
 use Rattle.hx_framing.specs.declared.contents.content.Content.{Content}
 use Rattle.hx_framing.specs.declared.readers.progress.ReaderPhase.TheVariants as phase
 use Rattle.hx_framing.specs.declared.messages.Next.{Next}
-use Rattle.hx_framing.specs.Lengths.{request_body_of}
-use Rattle.hx_framing.specs.Contents.{content_at, content_rest}
-use Rattle.hx_framing.specs.Reading.{StreamReading, Continue, reading_with_content}
-use Rattle.hx_framing.specs.RequestReading.{request_of_head, reading_with_request_body, reading_behind_request_head, Reads, RequestReadsByLength}
-use Rattle.hx_framing.specs.RequestHeadProgress.{RequestHeadStands}
+use Rattle.hx_framing.specs.Lengths.{request_framing_of}
+use Rattle.hx_framing.specs.Contents.{content_by_framing, content_resumed}
+use Rattle.hx_framing.specs.Reading.{StreamReading, Continue, reading_of_content}
+use Rattle.hx_framing.specs.RequestReading.{request_of_head, reading_with_request_body, reading_behind_request_head, ReadsAs, RequestReadsByHeadLength}
+use Rattle.hx_framing.specs.RequestHeadProgress.{BytesBeginWithRequestHead}
 use Rattle.hx_framing.specs.RequestState.{State, RepresentsStream}
-use Rattle.hx_framing.specs.RequestStream.{NeedsMemory}
-use Rattle.hx_framing.specs.Progress.{Progress, answer_needs_memory, next_of_reading}
+use Rattle.hx_framing.specs.RequestStream.{OutOfMemoryIsAllowed}
+use Rattle.hx_framing.specs.Progress.{Progress, out_of_memory_may_replace, next_answer_of_reading}
 use Rattle.hx_framing.proofs.MemoryLemmas.{IsBehindHead, request_body_behind, body_behind, rest_behind, body_needs}
 use Rattle.hx_framing.proofs.RequestOnce.{answered_once_lem}
 use Rattle.hx_framing.proofs.RequestStreams.{answers_by, kept_reads, content_reads}
 
-wish_needs : (w : Bool) (r : StreamReading Request) → answer_needs_memory (next_of_reading r) ≡ true → answer_needs_memory (next_of_reading (cond w Continue r)) ≡ true
+wish_needs : (w : Bool) (r : StreamReading Request) → out_of_memory_may_replace (next_answer_of_reading r) ≡ true → out_of_memory_may_replace (next_answer_of_reading (cond w Continue r)) ≡ true
 wish_needs true r x = refl
 wish_needs false r x = x
 
-request_body_needs : (max : ℕ) (e t : Bool) (head : Head) (bytes : List ℕ) (r : Result RequestBody FrameFault) → IsBehindHead r → answer_needs_memory (next_of_reading (reading_with_request_body max e t head bytes r)) ≡ true
+request_body_needs : (max : ℕ) (e t : Bool) (head : Head) (bytes : List ℕ) (r : Result RequestFraming FrameFault) → IsBehindHead r → out_of_memory_may_replace (next_answer_of_reading (reading_with_request_body max e t head bytes r)) ≡ true
 request_body_needs max e t head bytes (Err f) x = ap not x
 request_body_needs max e t head bytes (Ok request_body) x =
-    wish_needs (request_body.wants_continue && not t) _ (body_needs e (request_of_head head) (content_at max request_body.framing false bytes) (body_behind max request_body.framing false bytes))
+    wish_needs (request_body.wants_continue && not t) _ (body_needs e (request_of_head head) (content_by_framing max request_body.framing false bytes) (body_behind max request_body.framing false bytes))
 
 -- the answer of a stream is one
-needs_by : (p : Progress Request) (s : State) (r : StreamReading Request) → (represents : RepresentsStream s p) → Reads p.max_body p.ended p.continue_sent represents.rest r
-    → answer_needs_memory (next_of_reading r) ≡ true → NeedsMemory p
+needs_by : (p : Progress Request) (s : State) (r : StreamReading Request) → (represents : RepresentsStream s p) → ReadsAs p.max_body p.ended p.continue_sent represents.rest r
+    → out_of_memory_may_replace (next_answer_of_reading r) ≡ true → OutOfMemoryIsAllowed p
 needs_by p s r represents reads needs = λ answer x.
-    ap (λ (a : Next Request). answer_needs_memory a) (answered_once_lem p answer (next_of_reading r) x (answers_by p s r represents reads)) ∙ needs
+    ap (λ (a : Next Request). out_of_memory_may_replace a) (answered_once_lem p answer (next_answer_of_reading r) x (answers_by p s r represents reads)) ∙ needs
 
-head_reads : (max : ℕ) (e t : Bool) (bytes : List ℕ) → (has : RequestHeadStands bytes) → Reads max e t bytes (reading_behind_request_head max e t (drop has.0 bytes) (Ok has.1))
-head_reads max e t bytes has = subst (λ (o : Option ℕ). RequestReadsByLength max e t bytes o (reading_behind_request_head max e t (drop has.0 bytes) (Ok has.1))) (sym has.2) (Ok has.1, has.3, refl)
+head_reads : (max : ℕ) (e t : Bool) (bytes : List ℕ) → (has : BytesBeginWithRequestHead bytes) → ReadsAs max e t bytes (reading_behind_request_head max e t (drop has.0 bytes) (Ok has.1))
+head_reads max e t bytes has = subst (λ (o : Option ℕ). RequestReadsByHeadLength max e t bytes o (reading_behind_request_head max e t (drop has.0 bytes) (Ok has.1))) (sym has.2) (Ok has.1, has.3, refl)
 
-pub head_needs : (s : State) (p : Progress Request) → s.phase ≡ phase.BeforeHead → RequestHeadStands s.unread → RepresentsStream s p → NeedsMemory p
+pub head_needs : (s : State) (p : Progress Request) → s.phase ≡ phase.BeforeHead → BytesBeginWithRequestHead s.unread → RepresentsStream s p → OutOfMemoryIsAllowed p
 head_needs s p waiting has represents =
     needs_by p s (reading_behind_request_head s.max_body s.ended false (drop has.0 s.unread) (Ok has.1)) represents
     (kept_reads s p _ waiting represents (head_reads s.max_body s.ended false s.unread has))
-    (request_body_needs s.max_body s.ended false has.1 (drop has.0 s.unread) (request_body_of s.max_body has.1) (request_body_behind s.max_body has.1))
+    (request_body_needs s.max_body s.ended false has.1 (drop has.0 s.unread) (request_framing_of s.max_body has.1) (request_body_behind s.max_body has.1))
 
-pub content_needs : (s : State) (p : Progress Request) (head : Head) (content : Content) → s.phase ≡ phase.InContent head content → RepresentsStream s p → NeedsMemory p
-content_needs s p head content going represents =
-    needs_by p s (reading_with_content s.ended (request_of_head head) (content_rest content false s.unread)) represents
-    (content_reads s p head content (content_rest content false s.unread) going represents refl)
-    (body_needs s.ended (request_of_head head) (content_rest content false s.unread) (rest_behind content false s.unread))
+pub content_may_run_out_of_memory : (s : State) (p : Progress Request) (head : Head) (content : Content) → s.phase ≡ phase.InContent head content → RepresentsStream s p → OutOfMemoryIsAllowed p
+content_may_run_out_of_memory s p head content going represents =
+    needs_by p s (reading_of_content s.ended (request_of_head head) (content_resumed content false s.unread)) represents
+    (content_reads s p head content (content_resumed content false s.unread) going represents refl)
+    (body_needs s.ended (request_of_head head) (content_resumed content false s.unread) (rest_behind content false s.unread))

@@ -4,14 +4,14 @@ use Rattle.std.proofs.lemmas.List.{drop-append-le, take-append-le}
 use Rattle.hx_framing.specs.declared.heads.head_end.HeadSearch.{HeadSearch}
 use Rattle.hx_framing.specs.ChunkGrammar.{has_no_lf}
 use Rattle.hx_framing.specs.HeadEnd.{most_head_bytes}
-use Rattle.hx_framing.specs.Searching.{SearchReaches}
+use Rattle.hx_framing.specs.Searching.{NoHeadEndsBeforeSearch}
 use Rattle.hx_framing.proofs.HeadSearches.{reaches_fed}
 
 -- a piece stands behind them
 pub searched_fed : (bytes piece all : List ℕ) (taken : ℕ) (s : HeadSearch) → taken ≤ length bytes → all ≡ bytes ++ piece
-    → SearchReaches (take most_head_bytes (drop taken bytes)) s → SearchReaches (take most_head_bytes (drop taken all)) s
+    → NoHeadEndsBeforeSearch (take most_head_bytes (drop taken bytes)) s → NoHeadEndsBeforeSearch (take most_head_bytes (drop taken all)) s
 searched_fed bytes piece all taken s within is r =
-    subst (λ (u : List ℕ). SearchReaches (take most_head_bytes u) s) (sym (ap (drop taken) is ∙ drop-append-le taken bytes piece within))
+    subst (λ (u : List ℕ). NoHeadEndsBeforeSearch (take most_head_bytes u) s) (sym (ap (drop taken) is ∙ drop-append-le taken bytes piece within))
     (reaches_fed most_head_bytes (drop taken bytes) piece s r)
 
 -- what is known of the front stays so

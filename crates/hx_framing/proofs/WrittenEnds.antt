@@ -100,16 +100,16 @@ lines_end [] l at all = let e : at + 3 ≡ at + 1 + 0 + 2 = omega arith in ap So
 lines_end (f ∷ fs) l at all =
     let writable = All-head FieldIsWritable f fs all in
     let rest : List ℕ = field_lines_text fs ++ 13 ∷ 10 ∷ l in
-    let no_stream : ℕ = at + 1 + length (front f) + 1 in
+    let empty_stream_progress : ℕ = at + 1 + length (front f) + 1 in
     let lines : length (field_lines_text (f ∷ fs)) ≡ length (front f) + 2 + length (field_lines_text fs)
     = ap (λ t. length (t ++ field_lines_text fs)) (line_parts f) ∙ length-append (front f ++ 13 ∷ 10 ∷ []) (field_lines_text fs) ∙ ap (λ k. k + length (field_lines_text fs)) (length-append (front f) (13 ∷ 10 ∷ [])) in
-    let size : no_stream + 1 + length (field_lines_text fs) + 2 ≡ at + 1 + length (field_lines_text (f ∷ fs)) + 2 = omega (arith, lines) in
+    let size : empty_stream_progress + 1 + length (field_lines_text fs) + 2 ≡ at + 1 + length (field_lines_text (f ∷ fs)) + 2 = omega (arith, lines) in
     ap (λ t. head_end_from at (10 ∷ (t ++ field_lines_text fs ++ 13 ∷ 10 ∷ l))) (line_parts f)
     ∙ ap (λ t. head_end_from at (10 ∷ t)) (regroup (front f) (field_lines_text fs) (13 ∷ 10 ∷ l))
     ∙ line_end (front f ++ 13 ∷ 10 ∷ rest) at (line_stops f (13 ∷ 10 ∷ rest) writable)
     ∙ run (front f) (13 ∷ 10 ∷ rest) (at + 1) (front_inside f writable)
     ∙ step 13 (10 ∷ rest) (at + 1 + length (front f)) refl
-    ∙ lines_end fs l no_stream (All-tail FieldIsWritable f fs all)
+    ∙ lines_end fs l empty_stream_progress (All-tail FieldIsWritable f fs all)
     ∙ ap Some size
   where
     regroup : (a b c : List ℕ) → ((a ++ 13 ∷ 10 ∷ []) ++ b) ++ c ≡ a ++ 13 ∷ 10 ∷ (b ++ c)
@@ -125,10 +125,10 @@ empty_lines_none (b ∷ c ∷ l) stops =
     rw (other, more) refl
 
 -- the request line before its end
-abbrev no_stream : Request → List ℕ
-no_stream r = ((r.method ++ 32 ∷ []) ++ r.target) ++ codes " HTTP/1.1"
+abbrev empty_stream_progress : Request → List ℕ
+empty_stream_progress r = ((r.method ++ 32 ∷ []) ++ r.target) ++ codes " HTTP/1.1"
 
-start_inside : (r : Request) → RequestIsWritable r → AreInside (no_stream r)
+start_inside : (r : Request) → RequestIsWritable r → AreInside (empty_stream_progress r)
 start_inside r writable =
     inside_append ((r.method ++ 32 ∷ []) ++ r.target) (codes " HTTP/1.1")
     (inside_append (r.method ++ 32 ∷ []) r.target
@@ -136,7 +136,7 @@ start_inside r writable =
     (inside_by is_uri_byte refl r.target writable.target.1))
     refl
 
-start_stops : (r : Request) (l : List ℕ) → RequestIsWritable r → Stops is_newline (no_stream r ++ l)
+start_stops : (r : Request) (l : List ℕ) → RequestIsWritable r → Stops is_newline (empty_stream_progress r ++ l)
 start_stops r l writable =
     subst (Stops is_newline) (regroup r.method (32 ∷ []) r.target (codes " HTTP/1.1") l)
     (Stops_token r.method (32 ∷ [] ++ (r.target ++ (codes " HTTP/1.1" ++ l))) writable.method.0 writable.method.1)
@@ -146,10 +146,10 @@ start_stops r l writable =
 
 -- the head's text, line by line
 abbrev whole : Request → List ℕ
-whole r = no_stream r ++ 13 ∷ 10 ∷ (field_lines_text (request_fields_sent r) ++ 13 ∷ 10 ∷ [])
+whole r = empty_stream_progress r ++ 13 ∷ 10 ∷ (field_lines_text (request_fields_sent r) ++ 13 ∷ 10 ∷ [])
 
 whole-is : (r : Request) → request_head_text r ≡ whole r
-whole-is r = sent_lines r ∙ regroup (no_stream r) (field_lines_text (request_fields_sent r))
+whole-is r = sent_lines r ∙ regroup (empty_stream_progress r) (field_lines_text (request_fields_sent r))
   where
     regroup : (a b : List ℕ) → (a ++ 13 ∷ 10 ∷ []) ++ (b ++ 13 ∷ 10 ∷ []) ≡ a ++ 13 ∷ 10 ∷ (b ++ 13 ∷ 10 ∷ [])
     regroup a b = simp append_assoc refl
@@ -158,11 +158,11 @@ whole_end : (r : Request) → RequestIsWritable r → head_length (whole r) ≡ 
 whole_end r writable =
     let fs = request_fields_sent r in
     let tail : List ℕ = field_lines_text fs ++ 13 ∷ 10 ∷ [] in
-    let at : ℕ = 0 + length (no_stream r) + 1 in
+    let at : ℕ = 0 + length (empty_stream_progress r) + 1 in
     let size : at + 1 + length (field_lines_text fs) + 2 ≡ length (whole r)
-    = omega (arith, length-append (no_stream r) (13 ∷ 10 ∷ tail), length-append (field_lines_text fs) (13 ∷ 10 ∷ [])) in
+    = omega (arith, length-append (empty_stream_progress r) (13 ∷ 10 ∷ tail), length-append (field_lines_text fs) (13 ∷ 10 ∷ [])) in
     let found : head_end_from 0 (whole r) ≡ Some (length (whole r))
-    = run (no_stream r) (13 ∷ 10 ∷ tail) 0 (start_inside r writable) ∙ step 13 (10 ∷ tail) (0 + length (no_stream r)) refl
+    = run (empty_stream_progress r) (13 ∷ 10 ∷ tail) 0 (start_inside r writable) ∙ step 13 (10 ∷ tail) (0 + length (empty_stream_progress r)) refl
     ∙ lines_end fs [] at (sent_writable r writable) ∙ ap Some size in
     let zero : empty_lines_length (whole r) ≡ 0 = empty_lines_none (whole r) (start_stops r (13 ∷ 10 ∷ tail) writable) in
     subst (λ k. head_end_from k (drop k (whole r)) ≡ Some (length (whole r))) (sym zero) found

@@ -17,7 +17,7 @@ use Rattle.httparse.specs.Grammar.{crlf, print_field, print_end, print_version, 
 use Rattle.httparse.proofs.GrammarLemmas.{print_request-append}
 use Rattle.hx_fields.specs.Line.{Field}
 use Rattle.hx_framing.specs.declared.messages.Request.{Request}
-use Rattle.hx_framing.specs.Head.{field_of_grammar, head_of_grammar, IsHeadOfRequest}
+use Rattle.hx_framing.specs.Head.{field_of_parsed_line, head_of_parsed_request, IsHeadOfRequest}
 use Rattle.hx_framing.specs.Text as text
 use Rattle.hx_framing.specs.Text.{field_line_text, field_lines_text, content_length_line, connection_close_line, length_of_content, content_bytes, request_line_text, request_text}
 use Rattle.hx_framing.specs.Written.{request_head_text, content_length_fields, connection_close_field, request_fields_sent, request_head_sent, FieldIsWritable, RequestIsWritable}
@@ -125,13 +125,13 @@ unfolding trim_ows
 trim_space v trimmed = trimmed
 
 -- what a written line gives back
-line_back : (f : Field) → FieldIsWritable f → field_of_grammar (written_field f) ≡ f
+line_back : (f : Field) → FieldIsWritable f → field_of_parsed_line (written_field f) ≡ f
 line_back f writable = λ i. record { name = f.name; value = trim_space f.value writable.trimmed i }
 
-pub lines_back : (fs : List Field) → All FieldIsWritable fs → map field_of_grammar (map written_field fs) ≡ fs
+pub lines_back : (fs : List Field) → All FieldIsWritable fs → map field_of_parsed_line (map written_field fs) ≡ fs
 lines_back [] all = refl
 lines_back (f ∷ fs) all =
-    ap (λ g. g ∷ map field_of_grammar (map written_field fs)) (line_back f (All-head FieldIsWritable f fs all))
+    ap (λ g. g ∷ map field_of_parsed_line (map written_field fs)) (line_back f (All-head FieldIsWritable f fs all))
     ∙ ap (λ gs. f ∷ gs) (lines_back fs (All-tail FieldIsWritable f fs all))
 
 -- it is a line of the grammar
@@ -182,7 +182,7 @@ sent_writable r writable =
     close_writable
 
 -- the head that is written is one of the grammar, within its limits, and gives what was sent
-pub head_written : (r : Request) → RequestIsWritable r → IsHeadOfRequest (request_head_text r) (written_head r) × (head_of_grammar (written_head r) ≡ request_head_sent r)
+pub head_written : (r : Request) → RequestIsWritable r → IsHeadOfRequest (request_head_text r) (written_head r) × (head_of_parsed_request (written_head r) ≡ request_head_sent r)
 head_written r writable =
     let all = sent_writable r writable in
     let head : IsRequestHead (written_head r) = record {

@@ -14,15 +14,15 @@ use Rattle.hx_fields.specs.FieldLines.{is_named, has_field, values_of, without_n
 use Rattle.hx_framing.specs.declared.frame_fault.FrameFault.TheVariants as fault
 use Rattle.hx_framing.specs.declared.lengths.framing.Framing.{Framing}
 use Rattle.hx_framing.specs.declared.lengths.framing.Framing.TheVariants as framing
-use Rattle.hx_framing.specs.declared.lengths.framing.RequestBody.{RequestBody}
+use Rattle.hx_framing.specs.declared.lengths.framing.RequestFraming.{RequestFraming}
 use Rattle.hx_framing.specs.declared.messages.Request.{Request}
 use Rattle.hx_framing.specs.Head.{RequestHeadIsJudged}
-use Rattle.hx_framing.specs.ContentLength.{comma_pieces, is_digits, announced_length, agreed_number}
-use Rattle.hx_framing.specs.Lengths.{transfer_encoding_name, expect_name, codings, last_coding_is_chunked, is_only_chunked, exceeds, announced_framing_or, expected_of_server, framing_of_request, with_expectation, request_body_of, without_lengths}
+use Rattle.hx_framing.specs.ContentLength.{texts_between_commas, is_digits, announced_length, number_of_equal_texts}
+use Rattle.hx_framing.specs.Lengths.{transfer_encoding_name, expect_name, codings, last_coding_is_chunked, is_only_chunked, exceeds, announced_framing_or, expectation_of_head, framing_by_request_fields, framing_with_expectation, request_framing_of, without_length_fields}
 use Rattle.hx_framing.specs.Body.{Short, Whole}
-use Rattle.hx_framing.specs.Contents.{content_at}
-use Rattle.hx_framing.specs.Reading.{StreamReading, Spelled, reading_with_content}
-use Rattle.hx_framing.specs.RequestReading.{request_of_head, Reads}
+use Rattle.hx_framing.specs.Contents.{content_by_framing}
+use Rattle.hx_framing.specs.Reading.{StreamReading, Spelled, reading_of_content}
+use Rattle.hx_framing.specs.RequestReading.{request_of_head, ReadsAs}
 use Rattle.hx_framing.specs.Text.{length_of_content, content_bytes, request_text}
 use Rattle.hx_framing.specs.Written.{request_head_text, request_fields_sent, request_head_sent, connection_close_field, request_as_read_back, RequestIsWritable}
 use Rattle.hx_framing.proofs.LengthShown.{values_of-absent}
@@ -41,19 +41,19 @@ no_comma (d ∷ ds) digits =
 
 -- and a length that is told
 pub one_piece : (ds : List ℕ) (n : ℕ) → 0 < length ds → list_all is_ascii_digit ds ≡ true → digits_value 10 ds ≡ n
-    → agreed_number (joined_lists (map comma_pieces (ds ∷ []))) ≡ Some n
+    → number_of_equal_texts (joined_lists (map texts_between_commas (ds ∷ []))) ≡ Some n
 one_piece ds n some digits value =
-    let one : comma_pieces ds ≡ ds ∷ [] = slice_split_none (λ b. b == 44) ds (no_comma ds digits) in
+    let one : texts_between_commas ds ≡ ds ∷ [] = slice_split_none (λ b. b == 44) ds (no_comma ds digits) in
     let test : is_digits ds ≡ true = and_from (is_nonempty ds) (list_all is_ascii_digit ds) (lt-ltb 0 (length ds) some) digits in
-    ap (λ ps. agreed_number (ps ++ [])) one ∙ ap (λ t. cond ((t && true) && true) (Some (digits_value 10 ds)) None) test ∙ ap Some value
+    ap (λ ps. number_of_equal_texts (ps ++ [])) one ∙ ap (λ t. cond ((t && true) && true) (Some (digits_value 10 ds)) None) test ∙ ap Some value
 
 -- the length that is told is the content's
 shown_sent : (r : Request) (c : Option (List ℕ)) → RequestIsWritable r → r.content ≡ c → announced_length (request_fields_sent r) ≡ length_of_content c
-shown_sent r None writable is = ap (λ vs. agreed_number (joined_lists (map comma_pieces vs))) (lengths_none r writable is)
+shown_sent r None writable is = ap (λ vs. number_of_equal_texts (joined_lists (map texts_between_commas vs))) (lengths_none r writable is)
 shown_sent r (Some bytes) writable is =
     let small : length bytes < 2 ^ 64 = subst (λ c. length (content_bytes c) < 2 ^ 64) is writable.content in
     let back = decimal_back (length bytes) small in
-    ap (λ vs. agreed_number (joined_lists (map comma_pieces vs))) (lengths_some r bytes writable is)
+    ap (λ vs. number_of_equal_texts (joined_lists (map texts_between_commas vs))) (lengths_some r bytes writable is)
     ∙ one_piece (decimal (length bytes)) (length bytes) back.0 back.1 back.2
 
 -- where a name has no value no line has it
@@ -99,7 +99,7 @@ abbrev sent_framing : Option (List ℕ) → Framing
 sent_framing c = announced_framing_or framing.Nothing (length_of_content c)
 
 framing_sent : (r : Request) (c : Option (List ℕ)) (max : ℕ) → RequestIsWritable r → r.content ≡ c → length (content_bytes c) ≤ max
-    → framing_of_request max (request_head_sent r) ≡ Ok (sent_framing c)
+    → framing_by_request_fields max (request_head_sent r) ≡ Ok (sent_framing c)
 framing_sent r c max writable is small =
     let fields = request_fields_sent r in
     let shown = shown_sent r c writable is in
@@ -107,19 +107,19 @@ framing_sent r c max writable is small =
     (announced_length fields) (codings_none r writable) (length_sent r c writable is) (ap (exceeds max) shown ∙ within_sent max c small)
     ∙ ap (λ n. Ok (announced_framing_or framing.Nothing n)) shown
 
-abbrev sent_request_body : Option (List ℕ) → RequestBody
+abbrev sent_request_body : Option (List ℕ) → RequestFraming
 sent_request_body c = record { framing = sent_framing c; wants_continue = false }
 
 -- no continue is wanted
 request_body_sent : (r : Request) (c : Option (List ℕ)) (max : ℕ) → RequestIsWritable r → r.content ≡ c → length (content_bytes c) ≤ max
-    → request_body_of max (request_head_sent r) ≡ Ok (sent_request_body c)
+    → request_framing_of max (request_head_sent r) ≡ Ok (sent_request_body c)
 request_body_sent r c max writable is small =
-    let none : expected_of_server (request_head_sent r) ≡ None = ap joined (values_of-absent (request_fields_sent r) expect_name (expectations_none r writable)) in
-    ap (λ expected. with_expectation expected (framing_of_request max (request_head_sent r))) none
-    ∙ ap (with_expectation None) (framing_sent r c max writable is small)
+    let none : expectation_of_head (request_head_sent r) ≡ None = ap joined (values_of-absent (request_fields_sent r) expect_name (expectations_none r writable)) in
+    ap (λ expected. framing_with_expectation expected (framing_by_request_fields max (request_head_sent r))) none
+    ∙ ap (framing_with_expectation None) (framing_sent r c max writable is small)
 
 -- the content and what follows it
-body_sent : (max : ℕ) (c : Option (List ℕ)) (rest : List ℕ) → content_at max (sent_framing c) false (content_bytes c ++ rest) ≡ Whole c rest
+body_sent : (max : ℕ) (c : Option (List ℕ)) (rest : List ℕ) → content_by_framing max (sent_framing c) false (content_bytes c ++ rest) ≡ Whole c rest
 body_sent max None rest = refl
 body_sent max (Some bytes) rest =
     let n = length bytes in
@@ -131,7 +131,7 @@ body_sent max (Some bytes) rest =
 -- the request, without its length field
 request_sent : (r : Request) → RequestIsWritable r → request_of_head (request_head_sent r) r.content ≡ request_as_read_back r
 request_sent r writable =
-    let fields : without_lengths (request_fields_sent r) ≡ r.fields ++ connection_close_field ∷ []
+    let fields : without_length_fields (request_fields_sent r) ≡ r.fields ++ connection_close_field ∷ []
     = ap (λ fs. without_named fs transfer_encoding_name) (without_length r writable) ∙ without_coding r writable in
     λ i. record { method = r.method; target = r.target; minor = 1; fields = fields i; content = r.content }
 
@@ -145,13 +145,13 @@ begins_sent r max rest writable small =
     }
 
 pub request_back : (r : Request) (max : ℕ) (e t : Bool) (rest : List ℕ) → RequestIsWritable r → length (content_bytes r.content) ≤ max
-    → Reads max e t (request_text r ++ rest) (Spelled (request_as_read_back r) rest)
+    → ReadsAs max e t (request_text r ++ rest) (Spelled (request_as_read_back r) rest)
 request_back r max e t rest writable small =
     let head = request_head_sent r in
     let request_body = sent_request_body r.content in
     let bytes = request_text r ++ rest in
     let at = length (request_head_text r) in
-    subst (λ (reading : StreamReading Request). Reads max e t bytes reading)
-    (ap (λ u. reading_with_content e (request_of_head head) (content_at max request_body.framing false u)) (content_behind r rest)
-    ∙ ap (reading_with_content e (request_of_head head)) (body_sent max r.content rest) ∙ ap (λ m. Spelled m rest) (request_sent r writable))
+    subst (λ (reading : StreamReading Request). ReadsAs max e t bytes reading)
+    (ap (λ u. reading_of_content e (request_of_head head) (content_by_framing max request_body.framing false u)) (content_behind r rest)
+    ∙ ap (reading_of_content e (request_of_head head)) (body_sent max r.content rest) ∙ ap (λ m. Spelled m rest) (request_sent r writable))
     (reads_content max e t bytes at head request_body (begins_sent r max rest writable small) refl)

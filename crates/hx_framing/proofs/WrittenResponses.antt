@@ -25,12 +25,12 @@ use Rattle.hx_framing.specs.declared.lengths.framing.Framing.{Framing}
 use Rattle.hx_framing.specs.declared.lengths.framing.Framing.TheVariants as framing
 use Rattle.hx_framing.specs.declared.heads.status_head.StatusHead.{StatusHead}
 use Rattle.hx_framing.specs.Body.{Short, Whole}
-use Rattle.hx_framing.specs.ContentLength.{announced_within, comma_pieces, announced_length, agreed_number}
-use Rattle.hx_framing.specs.Contents.{content_at}
-use Rattle.hx_framing.specs.Lengths.{announced_length_to_head, codings, framing_of_final, framing_of_response, announced_framing_or, exceeds, is_interim, is_only_chunked, is_accepted_status, response_has_no_content, transfer_encoding_name, framing_if_accepted_status, without_lengths}
+use Rattle.hx_framing.specs.ContentLength.{announced_length_within, texts_between_commas, announced_length, number_of_equal_texts}
+use Rattle.hx_framing.specs.Contents.{content_by_framing}
+use Rattle.hx_framing.specs.Lengths.{announced_length_in_answer_to_head, codings, framing_of_final_response, framing_of_response, announced_framing_or, exceeds, is_interim, is_only_chunked, is_accepted_status, response_has_no_content, transfer_encoding_name, framing_if_accepted_status, without_length_fields}
 use Rattle.hx_framing.specs.HeadEnd.{empty_lines_length, head_end_from, head_length, most_head_bytes}
-use Rattle.hx_framing.specs.Reading.{Spelled, reading_with_content}
-use Rattle.hx_framing.specs.ResponseReading.{FrontReadsByLength, Reads, content_bytes_of, response_of_head, reading_with_framing}
+use Rattle.hx_framing.specs.Reading.{Spelled, reading_of_content}
+use Rattle.hx_framing.specs.ResponseReading.{FinalReadsByHeadLength, ReadsAs, content_bytes_of, response_of_head, reading_with_framing}
 use Rattle.hx_framing.specs.StatusHead.{IsStatusHead, ResponseHeadIsJudged, status_head_of}
 use Rattle.hx_framing.specs.Text as text
 use Rattle.hx_framing.specs.Text.{connection_close_line, field_line_text, field_lines_text, content_length_line, status_line_text}
@@ -115,10 +115,10 @@ head_written h m writable =
 
 -- ---- where the head ends
 
-abbrev no_stream : SentResponse → List ℕ
-no_stream m = (codes "HTTP/1.1 " ++ decimal m.status) ++ codes " "
+abbrev empty_stream_progress : SentResponse → List ℕ
+empty_stream_progress m = (codes "HTTP/1.1 " ++ decimal m.status) ++ codes " "
 
-start_inside : (h : Bool) (m : SentResponse) → ResponseIsWritable h m → AreInside (no_stream m)
+start_inside : (h : Bool) (m : SentResponse) → ResponseIsWritable h m → AreInside (empty_stream_progress m)
 start_inside h m writable =
     let digits = (decimal_back m.status (omega (arith, writable.status.1))).1 in
     inside_append (codes "HTTP/1.1 " ++ decimal m.status) (codes " ")
@@ -126,10 +126,10 @@ start_inside h m writable =
 
 -- the head's text, line by line
 abbrev whole : SentResponse → List ℕ
-whole m = no_stream m ++ 13 ∷ 10 ∷ (field_lines_text (response_fields_sent m) ++ 13 ∷ 10 ∷ [])
+whole m = empty_stream_progress m ++ 13 ∷ 10 ∷ (field_lines_text (response_fields_sent m) ++ 13 ∷ 10 ∷ [])
 
 whole-is : (m : SentResponse) → sent_response_head_text m ≡ whole m
-whole-is m = sent_lines m ∙ regroup (no_stream m) (field_lines_text (response_fields_sent m))
+whole-is m = sent_lines m ∙ regroup (empty_stream_progress m) (field_lines_text (response_fields_sent m))
   where
     regroup : (a b : List ℕ) → (a ++ 13 ∷ 10 ∷ []) ++ (b ++ 13 ∷ 10 ∷ []) ≡ a ++ 13 ∷ 10 ∷ (b ++ 13 ∷ 10 ∷ [])
     regroup a b = simp append_assoc refl
@@ -138,11 +138,11 @@ whole_end : (h : Bool) (m : SentResponse) → ResponseIsWritable h m → head_le
 whole_end h m writable =
     let fs = response_fields_sent m in
     let tail : List ℕ = field_lines_text fs ++ 13 ∷ 10 ∷ [] in
-    let at : ℕ = 0 + length (no_stream m) + 1 in
+    let at : ℕ = 0 + length (empty_stream_progress m) + 1 in
     let size : at + 1 + length (field_lines_text fs) + 2 ≡ length (whole m)
-    = omega (arith, length-append (no_stream m) (13 ∷ 10 ∷ tail), length-append (field_lines_text fs) (13 ∷ 10 ∷ [])) in
+    = omega (arith, length-append (empty_stream_progress m) (13 ∷ 10 ∷ tail), length-append (field_lines_text fs) (13 ∷ 10 ∷ [])) in
     let found : head_end_from 0 (whole m) ≡ Some (length (whole m))
-    = run (no_stream m) (13 ∷ 10 ∷ tail) 0 (start_inside h m writable) ∙ step 13 (10 ∷ tail) (0 + length (no_stream m)) refl
+    = run (empty_stream_progress m) (13 ∷ 10 ∷ tail) 0 (start_inside h m writable) ∙ step 13 (10 ∷ tail) (0 + length (empty_stream_progress m)) refl
     ∙ lines_end fs [] at (all_writable h m writable) ∙ ap Some size in
     let zero : empty_lines_length (whole m) ≡ 0 = empty_lines_none (whole m) refl in
     subst (λ k. head_end_from k (drop k (whole m)) ≡ Some (length (whole m))) (sym zero) found
@@ -192,10 +192,10 @@ no_lengths false = refl
 
 shown_sent : (m : SentResponse) (o : Option ℕ) → has_field m.fields (codes "content-length") ≡ false → IfSome o (λ n. n < 2 ^ 64) → m.shown ≡ o
     → announced_length (response_fields_sent m) ≡ o
-shown_sent m None none small is = ap (λ vs. agreed_number (joined_lists (map comma_pieces vs))) (lengths_sent m None none is ∙ no_lengths m.close)
+shown_sent m None none small is = ap (λ vs. number_of_equal_texts (joined_lists (map texts_between_commas vs))) (lengths_sent m None none is ∙ no_lengths m.close)
 shown_sent m (Some n) none small is =
     let back = decimal_back n small in
-    ap (λ vs. agreed_number (joined_lists (map comma_pieces vs))) (lengths_sent m (Some n) none is ∙ own_lengths n m.close)
+    ap (λ vs. number_of_equal_texts (joined_lists (map texts_between_commas vs))) (lengths_sent m (Some n) none is ∙ own_lengths n m.close)
     ∙ one_piece (decimal n) n back.0 back.1 back.2
 
 length_sent : (m : SentResponse) (o : Option ℕ) → has_field m.fields (codes "content-length") ≡ false → IfSome o (λ n. n < 2 ^ 64) → m.shown ≡ o
@@ -267,10 +267,10 @@ framing_sent h m max writable small = by_test (response_has_no_content h m.statu
     judged shown = ap (λ t. cond t (Ok shown) (Err fault.Status)) (taken_status m.status writable.status.0 writable.status.1)
 
     final : Result Framing FrameFault
-    final = framing_of_final max (request_head_sent m)
+    final = framing_of_final_response max (request_head_sent m)
 
     without_switch : framing_of_response max h (request_head_sent m) ≡ framing_if_accepted_status m.status (cond (response_has_no_content h m.status) (Ok framing.Nothing) final)
-    without_switch = ap (λ t. framing_if_accepted_status m.status (cond (t || response_has_no_content h m.status) (Ok framing.Nothing) (framing_of_final max (request_head_sent m)))) (no_switch m.status writable.status.0)
+    without_switch = ap (λ t. framing_if_accepted_status m.status (cond (t || response_has_no_content h m.status) (Ok framing.Nothing) (framing_of_final_response max (request_head_sent m)))) (no_switch m.status writable.status.0)
 
     by_test : (t : Bool) → response_has_no_content h m.status ≡ t → framing_of_response max h (request_head_sent m) ≡ Ok (sent_framing t m.content)
     by_test true p = without_switch ∙ ap (λ t. framing_if_accepted_status m.status (cond t (Ok framing.Nothing) final)) p ∙ judged framing.Nothing
@@ -290,7 +290,7 @@ framing_sent h m max writable small = by_test (response_has_no_content h m.statu
 record Behind (max : ℕ) (h : Bool) (m : SentResponse) (rest : List ℕ) : Type 0 where
   content : Option (List ℕ)
   same : content_bytes_of content ≡ m.content
-  body : (ended : Bool) → content_at max (sent_framing (response_has_no_content h m.status) m.content) ended (m.content ++ rest) ≡ Whole content rest
+  body : (ended : Bool) → content_by_framing max (sent_framing (response_has_no_content h m.status) m.content) ended (m.content ++ rest) ≡ Whole content rest
 
 body_sent : (max : ℕ) (h : Bool) (m : SentResponse) (rest : List ℕ) → ResponseIsWritable h m → Behind max h m rest
 body_sent max h m rest writable = by_test (response_has_no_content h m.status) refl
@@ -299,14 +299,14 @@ body_sent max h m rest writable = by_test (response_has_no_content h m.status) r
     by_test true p = record {
       content = None;
       same = sym (writable.without p);
-      body = λ ended. ap (λ t. content_at max (sent_framing t m.content) ended (m.content ++ rest)) p ∙ ap (λ c. Whole None (c ++ rest)) (writable.without p);
+      body = λ ended. ap (λ t. content_by_framing max (sent_framing t m.content) ended (m.content ++ rest)) p ∙ ap (λ c. Whole None (c ++ rest)) (writable.without p);
     }
     by_test false p =
         let n = length m.content in
         let enough : nat_lt (length (m.content ++ rest)) n ≡ false = le-ltb (length (m.content ++ rest)) n (omega (arith, length-append m.content rest)) in record {
           content = Some m.content;
           same = refl;
-          body = λ ended. ap (λ t. content_at max (sent_framing t m.content) ended (m.content ++ rest)) p
+          body = λ ended. ap (λ t. content_by_framing max (sent_framing t m.content) ended (m.content ++ rest)) p
               ∙ ap (λ t. cond t Short (Whole (Some (take n (m.content ++ rest))) (drop n (m.content ++ rest)))) enough
               ∙ ap (λ front. Whole (Some front) (drop n (m.content ++ rest))) (take-append_seam m.content rest)
               ∙ ap (Whole (Some m.content)) (drop-append_seam m.content rest);
@@ -314,31 +314,31 @@ body_sent max h m rest writable = by_test (response_has_no_content h m.status) r
 
 -- ---- the response
 
-announced_sent : (h : Bool) (m : SentResponse) → ResponseIsWritable h m → announced_length_to_head h (request_head_sent m) ≡ cond h m.shown None
+announced_sent : (h : Bool) (m : SentResponse) → ResponseIsWritable h m → announced_length_in_answer_to_head h (request_head_sent m) ≡ cond h m.shown None
 announced_sent h m writable = by_head h
   where
     shown : announced_length (response_fields_sent m) ≡ m.shown
     shown = shown_sent m m.shown writable.lengths writable.small refl
 
-    kept : (o : Option ℕ) → IfSome o (λ n. n < 2 ^ 64) → announced_within (2 ^ 64 - 1) o ≡ o
+    kept : (o : Option ℕ) → IfSome o (λ n. n < 2 ^ 64) → announced_length_within (2 ^ 64 - 1) o ≡ o
     kept None small = refl
     kept (Some n) small = ap (λ t. cond t (Some n) None) (le-leb n (2 ^ 64 - 1) (omega arith))
 
-    by_head : (t : Bool) → announced_length_to_head t (request_head_sent m) ≡ cond t m.shown None
+    by_head : (t : Bool) → announced_length_in_answer_to_head t (request_head_sent m) ≡ cond t m.shown None
     by_head true =
-        ap (λ t. cond (true && not t) (announced_within (2 ^ 64 - 1) (announced_length (response_fields_sent m))) None) (codings_sent m writable.codings)
-        ∙ ap (announced_within (2 ^ 64 - 1)) shown ∙ kept m.shown writable.small
+        ap (λ t. cond (true && not t) (announced_length_within (2 ^ 64 - 1) (announced_length (response_fields_sent m))) None) (codings_sent m writable.codings)
+        ∙ ap (announced_length_within (2 ^ 64 - 1)) shown ∙ kept m.shown writable.small
     by_head false = refl
 
 response_sent : (h : Bool) (m : SentResponse) (content : Option (List ℕ)) → ResponseIsWritable h m → content_bytes_of content ≡ m.content → response_of_head h (request_head_sent m) content ≡ response_as_read_back h m
 response_sent h m content writable same =
-    let fields : without_lengths (response_fields_sent m) ≡ m.fields ++ connection_close_fields m.close
+    let fields : without_length_fields (response_fields_sent m) ≡ m.fields ++ connection_close_fields m.close
     = ap (λ fs. without_named fs transfer_encoding_name) (without_length m writable.lengths) ∙ without_coding m writable.codings in
     let announced = announced_sent h m writable in
     λ i. record { status = m.status; fields = fields i; content = same i; announced = announced i }
 
 pub response_is_read_back : (h : Bool) (m : SentResponse) (max : ℕ) (ended : Bool) (rest : List ℕ) → ResponseIsWritable h m → length m.content ≤ max
-    → Reads max h ended (sent_response_text m ++ rest) (Spelled (response_as_read_back h m) rest)
+    → ReadsAs max h ended (sent_response_text m ++ rest) (Spelled (response_as_read_back h m) rest)
 response_is_read_back h m max ended rest writable small =
     let bytes = sent_response_text m ++ rest in
     let at = length (sent_response_head_text m) in
@@ -348,13 +348,13 @@ response_is_read_back h m max ended rest writable small =
     let left : drop at bytes ≡ m.content ++ rest = ap (drop at) (append_assoc (sent_response_head_text m) m.content rest) ∙ drop-append_seam (sent_response_head_text m) (m.content ++ rest) in
     let reading : reading_with_framing max h ended (request_head_sent m) (drop at bytes) (framing_of_response max h (request_head_sent m)) ≡ Spelled (response_as_read_back h m) rest
     = ap (reading_with_framing max h ended (request_head_sent m) (drop at bytes)) (framing_sent h m max writable small)
-    ∙ ap (λ u. reading_with_content ended (response_of_head h (request_head_sent m)) (content_at max (sent_framing (response_has_no_content h m.status) m.content) ended u)) left
-    ∙ ap (reading_with_content ended (response_of_head h (request_head_sent m))) (behind.body ended)
+    ∙ ap (λ u. reading_of_content ended (response_of_head h (request_head_sent m)) (content_by_framing max (sent_framing (response_has_no_content h m.status) m.content) ended u)) left
+    ∙ ap (reading_of_content ended (response_of_head h (request_head_sent m))) (behind.body ended)
     ∙ ap (λ r. Spelled r rest) (response_sent h m behind.content writable behind.same) in (
       [],
       bytes,
       refl,
-      subst (λ (o : Option ℕ). FrontReadsByLength max h ended bytes o (Spelled (response_as_read_back h m) rest)) (sym (head_ends h m writable rest)) (
+      subst (λ (o : Option ℕ). FinalReadsByHeadLength max h ended bytes o (Spelled (response_as_read_back h m) rest)) (sym (head_ends h m writable rest)) (
         Ok (request_head_sent m),
         subst (λ (u : List ℕ). ResponseHeadIsJudged u (Ok (request_head_sent m))) (sym front) (written_head m, read.0, sym read.1),
         final_status m.status writable.status.0,

@@ -4,7 +4,7 @@
 -- data_of_chunks: the data of the chunks in order
 use Rattle.std.specs.Prelude.{◌≡◌, ℕ, ◌+◌, ◌<◌, ◌≤◌, Bool, true, not, List, [], ◌∷◌, ◌++◌, length, ◌==◌}
 use Rattle.std.specs.List.{list_all, AllByRecursion}
-use Rattle.hx_framing.specs.SizeLine.{is_size, size_of}
+use Rattle.hx_framing.specs.SizeLine.{is_chunk_size_text, chunk_size_of}
 use Rattle.hx_framing.specs.Chunks.{most_trailer_bytes}
 
 -- no line ends within
@@ -12,9 +12,9 @@ abbrev pub has_no_lf : List ℕ → Bool
 has_no_lf text = list_all (λ b. not (b == 10)) text
 
 -- chunk-size [ chunk-ext ] that spells this size
-pub record IsSizeLineText (text : List ℕ) (number : ℕ) : Type 0 where
-  pub form : is_size text ≡ true
-  pub size : number ≡ size_of text
+pub record ChunkSizeLineSpellsSize (text : List ℕ) (number : ℕ) : Type 0 where
+  pub form : is_chunk_size_text text ≡ true
+  pub size : number ≡ chunk_size_of text
   pub one_line : has_no_lf text ≡ true
 
 -- chunk = chunk-size [ chunk-ext ] CRLF chunk-data CRLF: the text of its size line, and its data
@@ -23,7 +23,7 @@ pub record Chunk : Type 0 where
   pub bytes : List ℕ
 
 pub record IsChunk (chunk : Chunk) : Type 0 where
-  pub size : IsSizeLineText chunk.size (length chunk.bytes)
+  pub size : ChunkSizeLineSpellsSize chunk.size (length chunk.bytes)
   pub some : 0 < length chunk.bytes
 
 abbrev pub chunks_text : List Chunk → List ℕ → List ℕ
@@ -59,7 +59,7 @@ pub record ChunkedBody : Type 0 where
 -- own: at most max_body bytes of content, and of trailers most_trailer_bytes
 pub record IsChunkedBody (max_body : ℕ) (body : ChunkedBody) : Type 0 where
   pub chunks : AllByRecursion IsChunk body.chunks
-  pub last : IsSizeLineText body.last 0
+  pub last : ChunkSizeLineSpellsSize body.last 0
   pub trailers : AllByRecursion IsTrailerLine body.trailers
   pub trailers_fit : trailer_section_length body.trailers ≤ most_trailer_bytes
   pub content_fits : length (data_of_chunks body.chunks) ≤ max_body

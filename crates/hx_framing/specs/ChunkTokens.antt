@@ -5,42 +5,42 @@ use Rattle.hx_framing.specs.declared.contents.chunk_tokens.ChunkToken.{ChunkToke
 use Rattle.hx_framing.specs.declared.contents.chunk_tokens.ChunkToken.TheVariants as token
 use Rattle.hx_framing.specs.Body.{Bad, Whole}
 use Rattle.hx_framing.specs.ChunkGrammar.{has_no_lf}
-use Rattle.hx_framing.specs.Chunking.{Chunking, StillNeedsData, chunking_of_state}
-use Rattle.hx_framing.specs.Chunks.{most_trailer_bytes, content_from_chunking, chunking_after_bytes}
+use Rattle.hx_framing.specs.ChunkDecoder.{ChunkDecoder, DataPhaseNeedsBytes, decoder_of_state}
+use Rattle.hx_framing.specs.Chunks.{most_trailer_bytes, content_from_decoder, decoder_after_bytes}
 
 -- the first LF stands at this index, below the limit
-pub record IsFirstLineFeed (bytes : List ℕ) (limit at : ℕ) : Type 0 where
+pub record IsIndexOfFirstLineFeed (bytes : List ℕ) (limit at : ℕ) : Type 0 where
   pub below : at < limit
   pub inside : at < length bytes
   pub first : has_no_lf (take at bytes) ≡ true
   pub here : slice_index bytes at ≡ 10
 
 -- all the bytes belong to a line, or to the CRLF behind data, that was begun and isn't whole
-pub record IsUnfinishedLine (s : Chunking) (bytes : List ℕ) : Type 0 where
-  pub leads : chunking_after_bytes bytes s ≡ Some (record s { line = bytes })
+pub record IsUnfinishedLine (s : ChunkDecoder) (bytes : List ℕ) : Type 0 where
+  pub leads : decoder_after_bytes bytes s ≡ Some (record s { line = bytes })
   pub one_line : has_no_lf bytes ≡ true
   pub bounded : length bytes ≤ most_trailer_bytes
 
 -- in a state, with the content old; new is the content behind the token
-abbrev pub TokenIsTaken : ChunkState → List ℕ → List ℕ → List ℕ → ChunkToken → Type 0
-TokenIsTaken place old bytes new token.Incomplete =
-    (new ≡ old) × IsUnfinishedLine (chunking_of_state place old) bytes
-TokenIsTaken place old bytes new (token.Whole n next) =
+abbrev pub ChunkTokenIsTaken : ChunkState → List ℕ → List ℕ → List ℕ → ChunkToken → Type 0
+ChunkTokenIsTaken place old bytes new token.Incomplete =
+    (new ≡ old) × IsUnfinishedLine (decoder_of_state place old) bytes
+ChunkTokenIsTaken place old bytes new (token.Whole n next) =
     (n ≤ length bytes)
     × (0 < n)
-    × StillNeedsData next.phase next.need
-    × (chunking_after_bytes (take n bytes) (chunking_of_state place old) ≡ Some (chunking_of_state next new))
-TokenIsTaken place old bytes new (token.Last n) =
+    × DataPhaseNeedsBytes next.phase next.need
+    × (decoder_after_bytes (take n bytes) (decoder_of_state place old) ≡ Some (decoder_of_state next new))
+ChunkTokenIsTaken place old bytes new (token.Last n) =
     (n ≤ length bytes)
     × (0 < n)
-    × ((more : List ℕ) → content_from_chunking (bytes ++ more) (chunking_of_state place old) ≡ Whole (Some new)
+    × ((more : List ℕ) → content_from_decoder (bytes ++ more) (decoder_of_state place old) ≡ Whole (Some new)
     (drop n bytes ++ more))
-TokenIsTaken place old bytes new (token.Faulty f) =
-    (more : List ℕ) → content_from_chunking (bytes ++ more) (chunking_of_state place old) ≡ Bad f
+ChunkTokenIsTaken place old bytes new (token.Faulty f) =
+    (more : List ℕ) → content_from_decoder (bytes ++ more) (decoder_of_state place old) ≡ Bad f
 
 -- how many bytes were taken
-abbrev pub bytes_of_token : ChunkToken → ℕ
-bytes_of_token token.Incomplete = 0
-bytes_of_token (token.Whole n next) = n
-bytes_of_token (token.Last n) = n
-bytes_of_token (token.Faulty f) = 0
+abbrev pub chunk_token_length : ChunkToken → ℕ
+chunk_token_length token.Incomplete = 0
+chunk_token_length (token.Whole n next) = n
+chunk_token_length (token.Last n) = n
+chunk_token_length (token.Faulty f) = 0

@@ -3,8 +3,8 @@ use Rattle.std.specs.Prelude.{◌≡◌, ℕ, ◌<◌, ◌≤◌, ◌++◌, Bool
 use Rattle.hx_framing.specs.declared.contents.content.Content.{Content}
 use Rattle.hx_framing.specs.declared.contents.content.ContentProgress.{ContentProgress}
 use Rattle.hx_framing.specs.declared.contents.content.ContentProgress.TheVariants as content_progress
-use Rattle.hx_framing.specs.Contents.{content_rest, ContentAdvances}
-use Rattle.hx_framing.specs.Reading.{StreamReading, Faulty, reading_with_content}
+use Rattle.hx_framing.specs.Contents.{content_resumed, ContentAdvances}
+use Rattle.hx_framing.specs.Reading.{StreamReading, Faulty, reading_of_content}
 
 -- the bytes behind what was taken
 abbrev pub bytes_behind_content : ContentProgress → List ℕ → List ℕ
@@ -14,13 +14,13 @@ bytes_behind_content (content_progress.Whole c n) bytes = drop n bytes
 
 -- ended: no more bytes come, so that a content that goes on is cut off; closed: they end a content until the close
 -- left: the bytes behind what was taken
-abbrev pub ContentGoesOn : Bool → Bool → List ℕ → Content → ContentProgress → Content → List ℕ → Type 0
-ContentGoesOn ended closed bytes old (content_progress.Incomplete n) new left =
+abbrev pub ContentIsReadFurther : Bool → Bool → List ℕ → Content → ContentProgress → Content → List ℕ → Type 0
+ContentIsReadFurther ended closed bytes old (content_progress.Incomplete n) new left =
     (ended ≡ false) × ContentAdvances closed bytes old (content_progress.Incomplete n) new × (left ≡ drop n bytes)
-ContentGoesOn ended closed bytes old (content_progress.Faulty f) new left =
-    (reading_with_content {M = Option (List ℕ)} ended (λ content. content) (content_rest old closed bytes) ≡ Faulty f)
+ContentIsReadFurther ended closed bytes old (content_progress.Faulty f) new left =
+    (reading_of_content {M = Option (List ℕ)} ended (λ content. content) (content_resumed old closed bytes) ≡ Faulty f)
     × (left ≡ bytes)
-ContentGoesOn ended closed bytes old (content_progress.Whole c n) new left =
+ContentIsReadFurther ended closed bytes old (content_progress.Whole c n) new left =
     ContentAdvances closed bytes old (content_progress.Whole c n) new × (left ≡ drop n bytes)
 
 -- an index behind at least one of the bytes, and within them
@@ -33,5 +33,5 @@ abbrev pub ContentResumesAs : {M : Type 0} → (Bool → List ℕ → StreamRead
     (Bool → Bool)
     → Content → List ℕ → List ℕ → Type 0
 ContentResumesAs reads make closed content bytes unread = (more : List ℕ) (ended : Bool)
-    → reads ended (bytes ++ more) (reading_with_content ended make (content_rest content (closed ended)
+    → reads ended (bytes ++ more) (reading_of_content ended make (content_resumed content (closed ended)
     (unread ++ more)))

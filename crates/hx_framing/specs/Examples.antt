@@ -18,15 +18,15 @@ first_forwarded_request = record {
   content = None;
 }
 
-abbrev pub date_101 : List ℕ
-date_101 = codes "Thu, 01 Jan 1970 00:01:41 GMT"
+abbrev pub date_at_101 : List ℕ
+date_at_101 = codes "Thu, 01 Jan 1970 00:01:41 GMT"
 
 abbrev pub response_lines : List Field → List Field
 response_lines more =
-    line (codes "Date") date_101 ∷ line (codes "Cache-Control") (codes "max-age=60") ∷ line (codes "ETag") (codes "\"v1\"") ∷ more
+    line (codes "Date") date_at_101 ∷ line (codes "Cache-Control") (codes "max-age=60") ∷ line (codes "ETag") (codes "\"v1\"") ∷ more
 
-abbrev pub stored_fields : List Field
-stored_fields = response_lines (line (codes "Cache-Status") (codes "edge;fwd=uri-miss;ttl=59;stored") ∷ [])
+abbrev pub stored_response_fields : List Field
+stored_response_fields = response_lines (line (codes "Cache-Status") (codes "edge;fwd=uri-miss;ttl=59;stored") ∷ [])
 
-abbrev pub hit_fields : List Field
-hit_fields = response_lines (line (codes "Age") (codes "30") ∷ line (codes "Cache-Status") (codes "edge;hit;ttl=30") ∷ [])
+abbrev pub hit_response_fields : List Field
+hit_response_fields = response_lines (line (codes "Age") (codes "30") ∷ line (codes "Cache-Status") (codes "edge;hit;ttl=30") ∷ [])

@@ -14,15 +14,15 @@ use Rattle.hx_fields.specs.Names.{is_blank}
 use Rattle.hx_fields.specs.Tokens.{is_token}
 use Rattle.hx_framing.specs.declared.heads.request_head.Head.{Head}
 use Rattle.hx_framing.specs.declared.heads.status_head.StatusHead.{StatusHead}
-use Rattle.hx_framing.specs.Version.{without_return}
+use Rattle.hx_framing.specs.Version.{without_trailing_cr}
 use Rattle.hx_framing.specs.HeadLines.{lines_behind_start_line, is_empty_line}
 
 -- VCHAR, obs-text, SP or HTAB (RFC 9110, section 5.5)
-abbrev pub is_content_byte : ℕ → Bool
-is_content_byte b = b == 9 || (nat_le 32 b && not (b == 127))
+abbrev pub is_field_value_byte : ℕ → Bool
+is_field_value_byte b = b == 9 || (nat_le 32 b && not (b == 127))
 
 -- it neither begins nor ends with a space or a tab; a byte past the end reads as 0, which is neither
-pub record IsTrimmed (text : List ℕ) : Type 0 where
+pub record TextIsTrimmed (text : List ℕ) : Type 0 where
   pub starts : is_blank (slice_index text 0) ≡ false
   pub ends : is_blank (slice_index text (length text - 1)) ≡ false
 
@@ -30,10 +30,10 @@ pub record IsTrimmed (text : List ℕ) : Type 0 where
 pub record LineSpellsField (line : List ℕ) (field : Field) : Type 0 where
   pub before : List ℕ
   pub behind : List ℕ
-  pub parts : without_return line ≡ field.name ++ 58 ∷ (before ++ (field.value ++ behind))
+  pub parts : without_trailing_cr line ≡ field.name ++ 58 ∷ (before ++ (field.value ++ behind))
   pub name : is_token field.name ≡ true
-  pub value : list_all is_content_byte field.value ≡ true
-  pub trimmed : IsTrimmed field.value
+  pub value : list_all is_field_value_byte field.value ≡ true
+  pub trimmed : TextIsTrimmed field.value
   pub white : (list_all is_blank before ≡ true) × (list_all is_blank behind ≡ true)
 
 -- one line a field, in order
@@ -62,7 +62,7 @@ is_request_target_byte b = nat_le 33 b && not (b == 127)
 
 -- request-line = method SP request-target SP HTTP-version (RFC 9112, section 3)
 pub record LineSpellsRequestLine (line : List ℕ) (head : Head) : Type 0 where
-  pub parts : without_return line ≡ head.method ++ 32 ∷ (head.target ++ 32 ∷ version_text head.minor)
+  pub parts : without_trailing_cr line ≡ head.method ++ 32 ∷ (head.target ++ 32 ∷ version_text head.minor)
   pub method : is_token head.method ≡ true
   pub target : (0 < length head.target) × (list_all is_request_target_byte head.target ≡ true)
   pub minor : head.minor ≤ 1
@@ -77,7 +77,7 @@ reason_phrase_text (Some phrase) = 32 ∷ phrase
 pub record LineSpellsStatusLine (line : List ℕ) (head : StatusHead) : Type 0 where
   pub digits : List ℕ
   pub phrase : Option (List ℕ)
-  pub parts : without_return line ≡ version_text head.minor ++ 32 ∷ (digits ++ reason_phrase_text phrase)
+  pub parts : without_trailing_cr line ≡ version_text head.minor ++ 32 ∷ (digits ++ reason_phrase_text phrase)
   pub three : length digits ≡ 3
   pub are_digits : list_all is_ascii_digit digits ≡ true
   pub status : head.status ≡ digits_value 10 digits

@@ -10,19 +10,19 @@ use Rattle.hx_framing.specs.declared.heads.request_head.Head.{Head}
 use Rattle.hx_framing.specs.declared.frame_fault.FrameFault.{FrameFault}
 use Rattle.hx_framing.specs.declared.frame_fault.FrameFault.TheVariants as fault
 use Rattle.hx_framing.specs.HeadEnd.{most_field_lines}
-use Rattle.hx_framing.specs.Version.{start_line, without_return, ends_with_other_version}
+use Rattle.hx_framing.specs.Version.{start_line, without_trailing_cr, ends_with_unsupported_version}
 
 -- a line's name, and its value without the white space around it
-abbrev pub field_of_grammar : grammar.Field → Field
-field_of_grammar f = record { name = f.name; value = field_value f }
+abbrev pub field_of_parsed_line : grammar.Field → Field
+field_of_parsed_line f = record { name = f.name; value = field_value f }
 
 -- what a head of the grammar gives
-abbrev pub head_of_grammar : RequestHead → Head
-head_of_grammar h = record {
+abbrev pub head_of_parsed_request : RequestHead → Head
+head_of_parsed_request h = record {
   method = h.method;
   target = h.target;
   minor = h.minor;
-  fields = map field_of_grammar h.fields;
+  fields = map field_of_parsed_line h.fields;
 }
 
 -- the line that a header's spans cover
@@ -46,9 +46,9 @@ IsHeadOfRequest bytes h = ReadsRequest bytes h [] × (length h.fields ≤ most_f
 -- own: whatever else is wrong with the head
 abbrev pub request_head_fault : List ℕ → FrameFault
 request_head_fault bytes
-    = if ends_with_other_version (without_return (start_line bytes)) then fault.Version else fault.Head
+    = if ends_with_unsupported_version (without_trailing_cr (start_line bytes)) then fault.Version else fault.Head
 
 -- how the bytes of a whole head are judged
 abbrev pub RequestHeadIsJudged : List ℕ → Result Head FrameFault → Type 0
-RequestHeadIsJudged bytes (Ok head) = (h : RequestHead) × IsHeadOfRequest bytes h × (head ≡ head_of_grammar h)
+RequestHeadIsJudged bytes (Ok head) = (h : RequestHead) × IsHeadOfRequest bytes h × (head ≡ head_of_parsed_request h)
 RequestHeadIsJudged bytes (Err f) = ((h : RequestHead) → ¬ (IsHeadOfRequest bytes h)) × (f ≡ request_head_fault bytes)

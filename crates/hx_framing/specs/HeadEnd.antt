@@ -44,7 +44,7 @@ abbrev pub most_head_bytes : ℕ
 most_head_bytes = 32768
 
 -- no head ends in the bytes, and one may still end within the limit
-pub record IsOpenHead (bytes : List ℕ) : Type 0 where
+pub record IsUnfinishedHead (bytes : List ℕ) : Type 0 where
   pub none : head_length bytes ≡ None
   pub bounded : length bytes ≤ most_head_bytes
 

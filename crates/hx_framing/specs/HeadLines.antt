@@ -5,7 +5,7 @@ use Rattle.std.specs.List.{list_all, before_first, position_or_len, slice_split}
 use Rattle.hx_fields.specs.Line.{Field}
 use Rattle.hx_fields.specs.Tokens.{is_token}
 use Rattle.hx_framing.specs.HeadEnd.{empty_lines_length}
-use Rattle.hx_framing.specs.Version.{without_return}
+use Rattle.hx_framing.specs.Version.{without_trailing_cr}
 
 abbrev pub is_colon : ℕ → Bool
 is_colon b = b == 58
@@ -27,13 +27,13 @@ name_before_colon line = before_first is_colon line
 abbrev pub is_field_line : List ℕ → Bool
 is_field_line line =
     is_token (name_before_colon line) && nat_lt (position_or_len is_colon line) (length line)
-    && list_all (λ b. not (is_line_end b)) (without_return line)
+    && list_all (λ b. not (is_line_end b)) (without_trailing_cr line)
 
 abbrev pub is_empty_line : List ℕ → Bool
-is_empty_line line = bytes_eq (without_return line) []
+is_empty_line line = bytes_eq (without_trailing_cr line) []
 
 -- behind the start line stand the field lines, in order, and an empty line that ends the head
-pub record HasFieldLines (bytes : List ℕ) (fields : List Field) : Type 0 where
+pub record HeadHasFieldLines (bytes : List ℕ) (fields : List Field) : Type 0 where
   pub lines : List (List ℕ)
   pub last : List ℕ
   pub are : lines_behind_start_line bytes ≡ lines ++ last ∷ [] ∷ []
@@ -42,5 +42,5 @@ pub record HasFieldLines (bytes : List ℕ) (fields : List Field) : Type 0 where
   pub names : map name_before_colon lines ≡ map (λ (f : Field). f.name) fields
 
 -- a name is a token, and a value stands on one line
-abbrev pub is_sound_field : Field → Bool
-is_sound_field f = is_token f.name && list_all (λ b. not (is_line_end b)) f.value
+abbrev pub is_wellformed_field : Field → Bool
+is_wellformed_field f = is_token f.name && list_all (λ b. not (is_line_end b)) f.value

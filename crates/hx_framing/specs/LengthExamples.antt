@@ -5,10 +5,10 @@ use Rattle.hx_fields.specs.Examples.{line}
 use Rattle.hx_framing.specs.declared.frame_fault.FrameFault.{FrameFault}
 use Rattle.hx_framing.specs.declared.lengths.framing.Framing.{Framing}
 use Rattle.hx_framing.specs.declared.lengths.framing.Framing.TheVariants as framing
-use Rattle.hx_framing.specs.declared.lengths.framing.RequestBody.{RequestBody}
+use Rattle.hx_framing.specs.declared.lengths.framing.RequestFraming.{RequestFraming}
 use Rattle.hx_framing.specs.declared.heads.request_head.Head.{Head}
 use Rattle.hx_framing.specs.declared.heads.status_head.StatusHead.{StatusHead}
-use Rattle.hx_framing.specs.Lengths.{request_body_of, framing_of_response}
+use Rattle.hx_framing.specs.Lengths.{request_framing_of, framing_of_response}
 
 abbrev pub length_line : List ℕ → Field
 length_line value = line (codes "Content-Length") value
@@ -28,22 +28,22 @@ abbrev pub response_head : ℕ → ℕ → List Field → StatusHead
 response_head status minor fields = record { status = status; minor = minor; fields = fields }
 
 -- judged with at most 1000 bytes of content
-abbrev pub judged_request_body : ℕ → List Field → Result RequestBody FrameFault
-judged_request_body minor fields = request_body_of 1000 (request_head minor fields)
+abbrev pub request_framing_of_put : ℕ → List Field → Result RequestFraming FrameFault
+request_framing_of_put minor fields = request_framing_of 1000 (request_head minor fields)
 
-abbrev pub judged_framing : ℕ → ℕ → List Field → Result Framing FrameFault
-judged_framing status minor fields = framing_of_response 1000 false (response_head status minor fields)
+abbrev pub framing_of_status : ℕ → ℕ → List Field → Result Framing FrameFault
+framing_of_status status minor fields = framing_of_response 1000 false (response_head status minor fields)
 
-abbrev pub judged_framing_to_head : ℕ → List Field → Result Framing FrameFault
-judged_framing_to_head status fields = framing_of_response 1000 true (response_head status 1 fields)
+abbrev pub framing_of_answer_to_head : ℕ → List Field → Result Framing FrameFault
+framing_of_answer_to_head status fields = framing_of_response 1000 true (response_head status 1 fields)
 
 -- a content that waits for no continue
-abbrev pub without_continue : Framing → Result RequestBody FrameFault
-without_continue shown = Ok (record { framing = shown; wants_continue = false })
+abbrev pub framing_without_continue : Framing → Result RequestFraming FrameFault
+framing_without_continue shown = Ok (record { framing = shown; wants_continue = false })
 
-abbrev pub body_of_length : ℕ → Result RequestBody FrameFault
-body_of_length n = without_continue (framing.Announced n)
+abbrev pub framing_of_length : ℕ → Result RequestFraming FrameFault
+framing_of_length n = framing_without_continue (framing.Announced n)
 
 -- a content that waits for a continue
-abbrev pub with_continue : Framing → Result RequestBody FrameFault
-with_continue shown = Ok (record { framing = shown; wants_continue = true })
+abbrev pub framing_with_continue : Framing → Result RequestFraming FrameFault
+framing_with_continue shown = Ok (record { framing = shown; wants_continue = true })

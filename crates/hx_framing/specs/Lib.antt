@@ -31,7 +31,7 @@ pub mod Text
 pub mod Examples
 pub mod Body
 pub mod SizeLine
-pub mod Chunking
+pub mod ChunkDecoder
 pub mod Chunks
 pub mod ChunkGrammar
 pub mod ChunkFaults

@@ -7,8 +7,8 @@ pub record PlainContent : Type 0 where
   pub content : List ℕ
 
 -- before the first byte
-abbrev pub no_plain_content : ℕ → PlainContent
-no_plain_content left = record { left = left; content = [] }
+abbrev pub empty_plain_content : ℕ → PlainContent
+empty_plain_content left = record { left = left; content = [] }
 
 -- a run of its bytes has come
 abbrev pub plain_content_with : PlainContent → List ℕ → PlainContent

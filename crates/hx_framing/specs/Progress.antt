@@ -1,12 +1,12 @@
 -- A stream of messages as far as it has come, and what a reader answers of it.
 --
 -- Progress: a stream so far and what was given of it
--- no_stream, stream_with_piece, stream_finished, stream_after_answer: how it goes on
--- next_of_reading: the answer to a reading
+-- empty_stream_progress, progress_after_piece, progress_after_end, progress_after_answer: how it goes on
+-- next_answer_of_reading: the answer to a reading
 -- AnswerIsDue: there is something to do
 -- cost_of_answer: what an answer takes of what is to come
--- answer_needs_memory: out of memory may stand in place of the answer
--- fault_is_of_no_head: the fault is that of bytes that are no head
+-- out_of_memory_may_replace: out of memory may stand in place of the answer
+-- is_head_or_version_fault: the fault is that of bytes that are no head
 use Rattle.std.specs.Prelude.{ℕ, Bool, true, false, not, List, [], ◌∷◌, ◌++◌}
 use Rattle.hx_framing.specs.declared.messages.Next.{Next}
 use Rattle.hx_framing.specs.declared.messages.Next.TheVariants as next
@@ -25,33 +25,33 @@ pub record Progress (M : Type 0) : Type 0 where
   pub given : List M
   pub continue_sent : Bool
 
-abbrev pub no_stream : {M : Type 0} → ℕ → Bool → Progress M
-no_stream max_body to_head =
+abbrev pub empty_stream_progress : {M : Type 0} → ℕ → Bool → Progress M
+empty_stream_progress max_body to_head =
     record { max_body = max_body; to_head = to_head; stream = []; ended = false; given = []; continue_sent = false }
 
 -- a piece has come
-abbrev pub stream_with_piece : {M : Type 0} → Progress M → List ℕ → Progress M
-stream_with_piece p piece = record p { stream = p.stream ++ piece }
+abbrev pub progress_after_piece : {M : Type 0} → Progress M → List ℕ → Progress M
+progress_after_piece p piece = record p { stream = p.stream ++ piece }
 
 -- the stream has ended
-abbrev pub stream_finished : {M : Type 0} → Progress M → Progress M
-stream_finished p = record p { ended = true }
+abbrev pub progress_after_end : {M : Type 0} → Progress M → Progress M
+progress_after_end p = record p { ended = true }
 
 -- what is answered where that is read
-abbrev pub next_of_reading : {M : Type 0} → StreamReading M → Next M
-next_of_reading Incomplete = next.More
-next_of_reading Continue = next.NeedsContinue
-next_of_reading Over = next.End
-next_of_reading (Spelled m rest) = next.Message m
-next_of_reading (Faulty f) = next.Refused f
+abbrev pub next_answer_of_reading : {M : Type 0} → StreamReading M → Next M
+next_answer_of_reading Incomplete = next.More
+next_answer_of_reading Continue = next.NeedsContinue
+next_answer_of_reading Over = next.End
+next_answer_of_reading (Spelled m rest) = next.Message m
+next_answer_of_reading (Faulty f) = next.Refused f
 
 -- after that answer
-abbrev pub stream_after_answer : {M : Type 0} → Progress M → Next M → Progress M
-stream_after_answer p next.More = p
-stream_after_answer p next.NeedsContinue = record p { continue_sent = true }
-stream_after_answer p (next.Message m) = record p { given = p.given ++ m ∷ []; continue_sent = false }
-stream_after_answer p (next.Refused f) = p
-stream_after_answer p next.End = p
+abbrev pub progress_after_answer : {M : Type 0} → Progress M → Next M → Progress M
+progress_after_answer p next.More = p
+progress_after_answer p next.NeedsContinue = record p { continue_sent = true }
+progress_after_answer p (next.Message m) = record p { given = p.given ++ m ∷ []; continue_sent = false }
+progress_after_answer p (next.Refused f) = p
+progress_after_answer p next.End = p
 
 -- there is something to do
 abbrev pub AnswerIsDue : {M : Type 0} → Next M → Type 0
@@ -70,23 +70,23 @@ cost_of_answer (next.Refused f) = 0
 cost_of_answer next.End = 0
 
 -- no head stands there, or one of another version: the bytes tell, before anything is copied
-abbrev pub fault_is_of_no_head : FrameFault → Bool
-fault_is_of_no_head fault.Head = true
-fault_is_of_no_head fault.Version = true
-fault_is_of_no_head fault.BothLengths = false
-fault_is_of_no_head fault.Length = false
-fault_is_of_no_head fault.Coding = false
-fault_is_of_no_head fault.Chunk = false
-fault_is_of_no_head fault.TooLarge = false
-fault_is_of_no_head fault.Expect = false
-fault_is_of_no_head fault.Truncated = false
-fault_is_of_no_head fault.Status = false
+abbrev pub is_head_or_version_fault : FrameFault → Bool
+is_head_or_version_fault fault.Head = true
+is_head_or_version_fault fault.Version = true
+is_head_or_version_fault fault.BothLengths = false
+is_head_or_version_fault fault.Length = false
+is_head_or_version_fault fault.Coding = false
+is_head_or_version_fault fault.Chunk = false
+is_head_or_version_fault fault.TooLarge = false
+is_head_or_version_fault fault.Expect = false
+is_head_or_version_fault fault.Truncated = false
+is_head_or_version_fault fault.Status = false
 
 -- out of memory may stand in place of this answer: not of the end, nor of a refusal of bytes that are no head
 -- own: a fault behind a head may stay hidden, since the head is copied before its content is judged
-abbrev pub answer_needs_memory : {M : Type 0} → Next M → Bool
-answer_needs_memory next.More = true
-answer_needs_memory next.NeedsContinue = true
-answer_needs_memory (next.Message m) = true
-answer_needs_memory (next.Refused f) = not (fault_is_of_no_head f)
-answer_needs_memory next.End = false
+abbrev pub out_of_memory_may_replace : {M : Type 0} → Next M → Bool
+out_of_memory_may_replace next.More = true
+out_of_memory_may_replace next.NeedsContinue = true
+out_of_memory_may_replace (next.Message m) = true
+out_of_memory_may_replace (next.Refused f) = not (is_head_or_version_fault f)
+out_of_memory_may_replace next.End = false

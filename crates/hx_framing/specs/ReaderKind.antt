@@ -8,20 +8,20 @@ use Rattle.hx_framing.specs.ReaderState.{ReaderState}
 
 -- H: its heads; M: its messages
 -- RepresentsStream: the reader stands for the stream    Answers: the answer is due on the stream
--- NeedsMemory: out of memory may stand in its place
+-- OutOfMemoryIsAllowed: out of memory may stand in its place
 -- weight: a bound on what is still to come              DueIsWeighed: what is due is part of it
 -- FrontIsFound: what stands at the front of bytes, by max_body, to_head and whether they end
--- HeadStands: a head stands there                       message_of: a head with its content
+-- WholeHeadIsThere: a head stands there                       message_of: a head with its content
 -- is_closed_by: whether a content until the close has ended, by whether the stream has
 -- behind_message: where the reader is behind a message
 pub record ReaderKind (H M : Type 0) : Type 1 where
   pub RepresentsStream : ReaderState H → Progress M → Type 0
   pub Answers : Progress M → Next M → Type 0
-  pub NeedsMemory : Progress M → Type 0
+  pub OutOfMemoryIsAllowed : Progress M → Type 0
   pub weight : ReaderState H → ℕ
   pub DueIsWeighed : ℕ → Next M → Type 0
   pub FrontIsFound : ℕ → Bool → Bool → List ℕ → HeadProgress H M → Type 0
-  pub HeadStands : List ℕ → Type 0
+  pub WholeHeadIsThere : List ℕ → Type 0
   pub message_of : Bool → H → Option (List ℕ) → M
   pub is_closed_by : Bool → Bool
   pub behind_message : ReaderPhase H

@@ -2,7 +2,7 @@
 use Rattle.std.specs.Prelude.{ℕ, ◌≤◌, Bool, List, length}
 use Rattle.hx_framing.specs.declared.readers.progress.ReaderPhase.{ReaderPhase}
 use Rattle.hx_framing.specs.declared.readers.progress.ReaderPhase.TheVariants as phase
-use Rattle.hx_framing.specs.HeadEnd.{IsOpenHead, most_head_bytes}
+use Rattle.hx_framing.specs.HeadEnd.{IsUnfinishedHead, most_head_bytes}
 use Rattle.hx_framing.specs.Contents.{IsUnfinishedContent}
 
 -- what contracts see of a reader; H: the heads of its messages
@@ -20,14 +20,14 @@ abbrev pub kept : {H : Type 0} → ReaderState H → List ℕ
 kept s = s.unread
 
 -- what is begun there: a head, or a line of a content or the CRLF behind data; whatever was whole is taken
-abbrev pub PartIsBegun : {H : Type 0} → ReaderPhase H → List ℕ → Type 0
-PartIsBegun phase.BeforeHead bytes = IsOpenHead bytes
-PartIsBegun (phase.InContent head content) bytes = IsUnfinishedContent content bytes
-PartIsBegun phase.Given bytes = ⊥
-PartIsBegun (phase.Faulty f) bytes = ⊥
+abbrev pub BytesAreUnfinishedPart : {H : Type 0} → ReaderPhase H → List ℕ → Type 0
+BytesAreUnfinishedPart phase.BeforeHead bytes = IsUnfinishedHead bytes
+BytesAreUnfinishedPart (phase.InContent head content) bytes = IsUnfinishedContent content bytes
+BytesAreUnfinishedPart phase.Given bytes = ⊥
+BytesAreUnfinishedPart (phase.Faulty f) bytes = ⊥
 
 -- no message, head, interim or not, size line, data byte, CRLF behind data or trailer line is whole in what is kept,
 -- so it is bounded
-pub record IsUnfinished {H : Type 0} (s : ReaderState H) : Type 0 where
-  pub begun : PartIsBegun s.phase (kept s)
+pub record KeepsOnlyUnfinished {H : Type 0} (s : ReaderState H) : Type 0 where
+  pub begun : BytesAreUnfinishedPart s.phase (kept s)
   pub bounded : length (kept s) ≤ most_head_bytes

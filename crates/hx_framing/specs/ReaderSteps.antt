@@ -1,6 +1,6 @@
 -- How a reader of any kind goes on.
 --
--- StepsTo, LeadsOn: a reader has answered, and is left as another
+-- StepsTo, HeadProgressLeadsReaderOn: a reader has answered, and is left as another
 -- ReaderLaws: what the proofs of a reader need of its kind
 use Rattle.std.specs.Prelude.{◌≡◌, ℕ, ◌+◌, ◌*◌, ◌≤◌, ◌++◌, true, false, List, [], Option, length, drop}
 use Rattle.hx_framing.specs.declared.contents.content.Content.{Content}
@@ -13,21 +13,22 @@ use Rattle.hx_framing.specs.declared.readers.progress.HeadProgress.{HeadProgress
 use Rattle.hx_framing.specs.declared.readers.progress.HeadProgress.TheVariants as head_progress
 use Rattle.hx_framing.specs.declared.readers.progress.ReaderPhase.{ReaderPhase}
 use Rattle.hx_framing.specs.declared.readers.progress.ReaderPhase.TheVariants as phase
-use Rattle.hx_framing.specs.ContentReading.{ContentGoesOn}
-use Rattle.hx_framing.specs.Progress.{Progress, stream_with_piece, stream_finished, stream_after_answer, cost_of_answer}
+use Rattle.hx_framing.specs.ContentReading.{ContentIsReadFurther}
+use Rattle.hx_framing.specs.Progress.{Progress, progress_after_piece, progress_after_end, progress_after_answer}
+use Rattle.hx_framing.specs.Progress.{cost_of_answer}
 use Rattle.hx_framing.specs.ReaderKind.{ReaderKind}
-use Rattle.hx_framing.specs.ReaderState.{ReaderState, IsUnfinished}
+use Rattle.hx_framing.specs.ReaderState.{ReaderState, KeepsOnlyUnfinished}
 
 -- ---- what was found
 
 -- what is answered
-abbrev pub answer_of : {H M : Type 0} → HeadProgress H M → Next M
-answer_of (head_progress.Incomplete n) = next.More
-answer_of (head_progress.NeedsContinue head content n) = next.NeedsContinue
-answer_of (head_progress.InContent head content n) = next.More
-answer_of (head_progress.Message m n) = next.Message m
-answer_of (head_progress.Faulty f) = next.Refused f
-answer_of head_progress.Ended = next.End
+abbrev pub answer_of_progress : {H M : Type 0} → HeadProgress H M → Next M
+answer_of_progress (head_progress.Incomplete n) = next.More
+answer_of_progress (head_progress.NeedsContinue head content n) = next.NeedsContinue
+answer_of_progress (head_progress.InContent head content n) = next.More
+answer_of_progress (head_progress.Message m n) = next.Message m
+answer_of_progress (head_progress.Faulty f) = next.Refused f
+answer_of_progress head_progress.Ended = next.End
 
 -- how many of the unread bytes are taken
 abbrev pub bytes_taken : {H M : Type 0} → HeadProgress H M → ℕ
@@ -39,26 +40,27 @@ bytes_taken (head_progress.Faulty f) = 0
 bytes_taken head_progress.Ended = 0
 
 -- where the reader is then
-abbrev pub phase_behind : {H M : Type 0} → ReaderPhase H → HeadProgress H M → ReaderPhase H
-phase_behind behind_message (head_progress.Incomplete n) = phase.BeforeHead
-phase_behind behind_message (head_progress.NeedsContinue head content n) = phase.InContent head content
-phase_behind behind_message (head_progress.InContent head content n) = phase.InContent head content
-phase_behind behind_message (head_progress.Message m n) = behind_message
-phase_behind behind_message (head_progress.Faulty f) = phase.Faulty f
-phase_behind behind_message head_progress.Ended = phase.BeforeHead
+abbrev pub phase_after_progress : {H M : Type 0} → ReaderPhase H → HeadProgress H M → ReaderPhase H
+phase_after_progress behind_message (head_progress.Incomplete n) = phase.BeforeHead
+phase_after_progress behind_message (head_progress.NeedsContinue head content n) = phase.InContent head content
+phase_after_progress behind_message (head_progress.InContent head content n) = phase.InContent head content
+phase_after_progress behind_message (head_progress.Message m n) = behind_message
+phase_after_progress behind_message (head_progress.Faulty f) = phase.Faulty f
+phase_after_progress behind_message head_progress.Ended = phase.BeforeHead
 
-abbrev pub state_behind : {H M : Type 0} → ReaderKind H M → ReaderState H → ℕ → HeadProgress H M → ReaderState H
-state_behind kind s spare found = record s {
+abbrev pub state_after_progress : {H M : Type 0} → ReaderKind H M → ReaderState H → ℕ → HeadProgress H M → ReaderState H
+state_after_progress kind s spare found = record s {
   unread = drop (bytes_taken found) s.unread;
   spare = spare;
-  phase = phase_behind kind.behind_message found;
+  phase = phase_after_progress kind.behind_message found;
 }
 
 -- what was found in a content, as what is found from its head on
-abbrev pub found_in_content : {H M : Type 0} → (Option (List ℕ) → M) → H → Content → ContentProgress → HeadProgress H M
-found_in_content make head new (content_progress.Incomplete n) = head_progress.InContent head new n
-found_in_content make head new (content_progress.Faulty f) = head_progress.Faulty f
-found_in_content make head new (content_progress.Whole content n) = head_progress.Message (make content) n
+abbrev pub progress_in_content : {H M : Type 0} → (Option (List ℕ) → M) → H → Content → ContentProgress
+    → HeadProgress H M
+progress_in_content make head new (content_progress.Incomplete n) = head_progress.InContent head new n
+progress_in_content make head new (content_progress.Faulty f) = head_progress.Faulty f
+progress_in_content make head new (content_progress.Whole content n) = head_progress.Message (make content) n
 
 -- a piece has come; behind the only message, and from a fault on, it doesn't count
 abbrev pub state_with_piece : {H : Type 0} → ReaderState H → ReaderPhase H → List ℕ → ℕ → ReaderState H
@@ -75,42 +77,44 @@ pub record StepsTo {H M : Type 0} (kind : ReaderKind H M) (s : ReaderState H) (a
     : Type 0 where
   pub answers : (p : Progress M) → kind.RepresentsStream s p → kind.Answers p answer
   pub represents : (p : Progress M) → kind.RepresentsStream s p
-      → kind.RepresentsStream t (stream_after_answer p answer)
+      → kind.RepresentsStream t (progress_after_answer p answer)
   pub weight : kind.weight t + cost_of_answer answer ≤ kind.weight s
   pub due : kind.DueIsWeighed (kind.weight t) answer
-  pub unfinished : answer ≡ next.More → IsUnfinished t
+  pub unfinished : answer ≡ next.More → KeepsOnlyUnfinished t
 
 -- what was found before a head leads the reader on
-pub record LeadsOn {H M : Type 0} (kind : ReaderKind H M) (s : ReaderState H) (found : HeadProgress H M) : Type 0 where
+pub record HeadProgressLeadsReaderOn {H M : Type 0} (kind : ReaderKind H M) (s : ReaderState H)
+    (found : HeadProgress H M) : Type 0 where
   pub within : bytes_taken found ≤ length s.unread
-  pub steps : (spare : ℕ) → StepsTo kind s (answer_of found) (state_behind kind s spare found)
+  pub steps : (spare : ℕ) → StepsTo kind s (answer_of_progress found) (state_after_progress kind s spare found)
 
 pub record ReaderLaws {H M : Type 0} (kind : ReaderKind H M) : Type 0 where
   pub ended : (s : ReaderState H) (p : Progress M) → kind.RepresentsStream s p → s.ended ≡ p.ended
   -- a piece has come
   pub fed : (s : ReaderState H) (p : Progress M) (piece : List ℕ) (spare : ℕ) → kind.RepresentsStream s p
-      → p.ended ≡ false → kind.RepresentsStream (state_with_piece s s.phase piece spare) (stream_with_piece p piece)
-  pub fed_weight : (s : ReaderState H) (piece : List ℕ) (spare : ℕ)
+      → p.ended ≡ false → kind.RepresentsStream (state_with_piece s s.phase piece spare) (progress_after_piece p piece)
+  pub weight_after_feeding : (s : ReaderState H) (piece : List ℕ) (spare : ℕ)
       → kind.weight (state_with_piece s s.phase piece spare) ≤ kind.weight s + 2 * length piece
   -- the stream has ended
   pub finished : (s : ReaderState H) (p : Progress M) → kind.RepresentsStream s p
-      → kind.RepresentsStream (record s { ended = true }) (stream_finished p)
-  pub finished_weight : (s : ReaderState H) → kind.weight (record s { ended = true }) ≤ kind.weight s + 1
+      → kind.RepresentsStream (record s { ended = true }) (progress_after_end p)
+  pub weight_after_finishing : (s : ReaderState H) → kind.weight (record s { ended = true }) ≤ kind.weight s + 1
   -- before a head
   pub quiet : (s : ReaderState H) (p : Progress M) → s.phase ≡ phase.BeforeHead → s.unread ≡ [] → s.ended ≡ false
       → kind.RepresentsStream s p → kind.Answers p next.More
   pub front : (s : ReaderState H) (found : HeadProgress H M) → s.phase ≡ phase.BeforeHead
-      → kind.FrontIsFound s.max_body s.to_head s.ended s.unread found → LeadsOn kind s found
-  pub front_needs : (s : ReaderState H) (p : Progress M) → s.phase ≡ phase.BeforeHead → kind.HeadStands s.unread
-      → kind.RepresentsStream s p → kind.NeedsMemory p
+      → kind.FrontIsFound s.max_body s.to_head s.ended s.unread found → HeadProgressLeadsReaderOn kind s found
+  pub front_may_run_out_of_memory : (s : ReaderState H) (p : Progress M) → s.phase ≡ phase.BeforeHead
+      → kind.WholeHeadIsThere s.unread
+      → kind.RepresentsStream s p → kind.OutOfMemoryIsAllowed p
   -- in a content
   pub content : (s : ReaderState H) (head : H) (old new : Content) (found : ContentProgress) (left : List ℕ)
       (spare : ℕ) → s.phase ≡ phase.InContent head old
-      → ContentGoesOn s.ended (kind.is_closed_by s.ended) s.unread old found new left
-      → StepsTo kind s (answer_of (found_in_content (kind.message_of s.to_head head) head new found))
-      (state_behind kind s spare (found_in_content (kind.message_of s.to_head head) head new found))
-  pub content_needs : (s : ReaderState H) (p : Progress M) (head : H) (content : Content)
-      → s.phase ≡ phase.InContent head content → kind.RepresentsStream s p → kind.NeedsMemory p
+      → ContentIsReadFurther s.ended (kind.is_closed_by s.ended) s.unread old found new left
+      → StepsTo kind s (answer_of_progress (progress_in_content (kind.message_of s.to_head head) head new found))
+      (state_after_progress kind s spare (progress_in_content (kind.message_of s.to_head head) head new found))
+  pub content_may_run_out_of_memory : (s : ReaderState H) (p : Progress M) (head : H) (content : Content)
+      → s.phase ≡ phase.InContent head content → kind.RepresentsStream s p → kind.OutOfMemoryIsAllowed p
   -- behind the only message, and from a fault on
   pub given : (s : ReaderState H) → s.phase ≡ phase.Given → StepsTo kind s next.End s
   pub faulty : (s : ReaderState H) (f : FrameFault) → s.phase ≡ phase.Faulty f → StepsTo kind s (next.Refused f) s

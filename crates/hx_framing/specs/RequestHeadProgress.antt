@@ -7,34 +7,34 @@ use Rattle.hx_framing.specs.declared.readers.progress.HeadProgress.{HeadProgress
 use Rattle.hx_framing.specs.declared.readers.progress.HeadProgress.TheVariants as head_progress
 use Rattle.hx_framing.specs.Contents.{IsUnfinishedContent}
 use Rattle.hx_framing.specs.ContentReading.{IsIndexBehindBytes, ContentResumesAs}
-use Rattle.hx_framing.specs.HeadEnd.{head_length, most_head_bytes, IsOpenHead}
+use Rattle.hx_framing.specs.HeadEnd.{head_length, most_head_bytes, IsUnfinishedHead}
 use Rattle.hx_framing.specs.Head.{RequestHeadIsJudged}
 use Rattle.hx_framing.specs.Reading.{Incomplete, Continue, Over, Spelled, Faulty}
-use Rattle.hx_framing.specs.RequestReading.{request_of_head, Reads}
+use Rattle.hx_framing.specs.RequestReading.{request_of_head, ReadsAs}
 
 -- whatever comes, the bytes read as this head with what the unread ones make of its content
 abbrev pub RequestContentResumes : ℕ → Bool → Head → Content → List ℕ → List ℕ → Type 0
 RequestContentResumes max_body continue_sent head content bytes unread = ContentResumesAs {M = Request}
-    (λ ended. Reads max_body ended continue_sent) (request_of_head head) (λ ended. false) content bytes unread
+    (λ ended. ReadsAs max_body ended continue_sent) (request_of_head head) (λ ended. false) content bytes unread
 
 -- it is what the bytes read as, before a continue was given
-abbrev pub IsHeadProgress : ℕ → Bool → List ℕ → HeadProgress Head Request → Type 0
-IsHeadProgress max_body ended bytes (head_progress.Incomplete n) =
-    (n ≡ 0) × Reads max_body ended false bytes Incomplete × IsOpenHead bytes
-IsHeadProgress max_body ended bytes (head_progress.NeedsContinue head content n) =
-    IsIndexBehindBytes bytes n × Reads max_body ended false bytes Continue
+abbrev pub IsProgressOfBytes : ℕ → Bool → List ℕ → HeadProgress Head Request → Type 0
+IsProgressOfBytes max_body ended bytes (head_progress.Incomplete n) =
+    (n ≡ 0) × ReadsAs max_body ended false bytes Incomplete × IsUnfinishedHead bytes
+IsProgressOfBytes max_body ended bytes (head_progress.NeedsContinue head content n) =
+    IsIndexBehindBytes bytes n × ReadsAs max_body ended false bytes Continue
     × RequestContentResumes max_body true head content bytes (drop n bytes)
-IsHeadProgress max_body ended bytes (head_progress.InContent head content n) =
-    IsIndexBehindBytes bytes n × Reads max_body ended false bytes Incomplete
+IsProgressOfBytes max_body ended bytes (head_progress.InContent head content n) =
+    IsIndexBehindBytes bytes n × ReadsAs max_body ended false bytes Incomplete
     × RequestContentResumes max_body false head content bytes (drop n bytes)
     × IsUnfinishedContent content (drop n bytes)
-IsHeadProgress max_body ended bytes (head_progress.Message m n) =
-    IsIndexBehindBytes bytes n × Reads max_body ended false bytes (Spelled m (drop n bytes))
-IsHeadProgress max_body ended bytes (head_progress.Faulty f) = Reads max_body ended false bytes (Faulty f)
-IsHeadProgress max_body ended bytes head_progress.Ended = Reads max_body ended false bytes Over
+IsProgressOfBytes max_body ended bytes (head_progress.Message m n) =
+    IsIndexBehindBytes bytes n × ReadsAs max_body ended false bytes (Spelled m (drop n bytes))
+IsProgressOfBytes max_body ended bytes (head_progress.Faulty f) = ReadsAs max_body ended false bytes (Faulty f)
+IsProgressOfBytes max_body ended bytes head_progress.Ended = ReadsAs max_body ended false bytes Over
 
 -- a head stands at the front of the bytes, so that what is due is told behind it
-abbrev pub RequestHeadStands : List ℕ → Type 0
-RequestHeadStands bytes =
+abbrev pub BytesBeginWithRequestHead : List ℕ → Type 0
+BytesBeginWithRequestHead bytes =
     (n : ℕ) × (head : Head) × (head_length (take most_head_bytes bytes) ≡ Some n) × RequestHeadIsJudged (take n bytes)
     (Ok head)

@@ -3,14 +3,14 @@ use Rattle.std.specs.Prelude.{◌≡◌, ℕ, ◌&&◌, Bool, false, not, cond, 
 use Rattle.std.specs.Prelude.{take, drop, nat_lt, ◌==◌}
 use Rattle.hx_framing.specs.declared.heads.request_head.Head.{Head}
 use Rattle.hx_framing.specs.declared.messages.Request.{Request}
-use Rattle.hx_framing.specs.declared.lengths.framing.RequestBody.{RequestBody}
+use Rattle.hx_framing.specs.declared.lengths.framing.RequestFraming.{RequestFraming}
 use Rattle.hx_framing.specs.declared.frame_fault.FrameFault.{FrameFault}
 use Rattle.hx_framing.specs.declared.frame_fault.FrameFault.TheVariants as fault
 use Rattle.hx_framing.specs.HeadEnd.{head_length, empty_lines_length, most_head_bytes}
 use Rattle.hx_framing.specs.Head.{RequestHeadIsJudged}
-use Rattle.hx_framing.specs.Lengths.{request_body_of, without_lengths}
-use Rattle.hx_framing.specs.Contents.{content_at}
-use Rattle.hx_framing.specs.Reading.{StreamReading, Continue, Over, Faulty, reading_cut_off, reading_with_content}
+use Rattle.hx_framing.specs.Lengths.{request_framing_of, without_length_fields}
+use Rattle.hx_framing.specs.Contents.{content_by_framing}
+use Rattle.hx_framing.specs.Reading.{StreamReading, Continue, Over, Faulty, truncated_or_incomplete, reading_of_content}
 
 -- a head with its content, without its length fields
 abbrev pub request_of_head : Head → Option (List ℕ) → Request
@@ -18,39 +18,39 @@ request_of_head head content = record {
   method = head.method;
   target = head.target;
   minor = head.minor;
-  fields = without_lengths head.fields;
+  fields = without_length_fields head.fields;
   content = content;
 }
 
 -- behind a head that tells its content; a continue comes before all that may follow (RFC 9110, section 10.1.1)
 -- no request's content runs until the close, so it is the same whether the stream ends
-abbrev pub reading_with_request_body : ℕ → Bool → Bool → Head → List ℕ → Result RequestBody FrameFault
+abbrev pub reading_with_request_body : ℕ → Bool → Bool → Head → List ℕ → Result RequestFraming FrameFault
     → StreamReading Request
 reading_with_request_body max_body ended continue_sent head bytes (Err f) = Faulty f
 reading_with_request_body max_body ended continue_sent head bytes (Ok body) =
     cond (body.wants_continue && not continue_sent) Continue
-    (reading_with_content ended (request_of_head head) (content_at max_body body.framing false bytes))
+    (reading_of_content ended (request_of_head head) (content_by_framing max_body body.framing false bytes))
 
 -- behind a judged head
 abbrev pub reading_behind_request_head : ℕ → Bool → Bool → List ℕ → Result Head FrameFault → StreamReading Request
 reading_behind_request_head max_body ended continue_sent bytes (Err f) = Faulty f
 reading_behind_request_head max_body ended continue_sent bytes (Ok head) =
-    reading_with_request_body max_body ended continue_sent head bytes (request_body_of max_body head)
+    reading_with_request_body max_body ended continue_sent head bytes (request_framing_of max_body head)
 
 -- no head ends within the limit; empty lines alone are no message
 abbrev pub reading_without_request_head : Bool → List ℕ → StreamReading Request
 reading_without_request_head ended bytes =
     cond (nat_lt most_head_bytes (length bytes)) (Faulty fault.Head)
-    (cond (ended && (empty_lines_length bytes == length bytes)) Over (reading_cut_off ended))
+    (cond (ended && (empty_lines_length bytes == length bytes)) Over (truncated_or_incomplete ended))
 
-abbrev pub RequestReadsByLength : ℕ → Bool → Bool → List ℕ → Option ℕ → StreamReading Request → Type 0
-RequestReadsByLength max_body ended continue_sent bytes None reading = reading
+abbrev pub RequestReadsByHeadLength : ℕ → Bool → Bool → List ℕ → Option ℕ → StreamReading Request → Type 0
+RequestReadsByHeadLength max_body ended continue_sent bytes None reading = reading
     ≡ reading_without_request_head ended bytes
-RequestReadsByLength max_body ended continue_sent bytes (Some n) reading =
+RequestReadsByHeadLength max_body ended continue_sent bytes (Some n) reading =
     (judged : Result Head FrameFault) × RequestHeadIsJudged (take n bytes) judged
     × (reading ≡ reading_behind_request_head max_body ended continue_sent (drop n bytes) judged)
 
 -- ended: the stream ends behind these bytes; told: the continue of this message was given
-abbrev pub Reads : ℕ → Bool → Bool → List ℕ → StreamReading Request → Type 0
-Reads max_body ended continue_sent bytes reading =
-    RequestReadsByLength max_body ended continue_sent bytes (head_length (take most_head_bytes bytes)) reading
+abbrev pub ReadsAs : ℕ → Bool → Bool → List ℕ → StreamReading Request → Type 0
+ReadsAs max_body ended continue_sent bytes reading =
+    RequestReadsByHeadLength max_body ended continue_sent bytes (head_length (take most_head_bytes bytes)) reading

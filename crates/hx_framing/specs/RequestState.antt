@@ -7,9 +7,9 @@ use Rattle.hx_framing.specs.declared.readers.progress.ReaderPhase.TheVariants as
 use Rattle.hx_framing.specs.Reading.{Faulty}
 use Rattle.hx_framing.specs.ReaderKind.{ReaderKind}
 use Rattle.hx_framing.specs.ReaderState.{ReaderState}
-use Rattle.hx_framing.specs.RequestReading.{request_of_head, Reads}
-use Rattle.hx_framing.specs.RequestHeadProgress.{RequestContentResumes, IsHeadProgress, RequestHeadStands}
-use Rattle.hx_framing.specs.RequestStream.{StreamSpells, Answers, NeedsMemory}
+use Rattle.hx_framing.specs.RequestReading.{request_of_head, ReadsAs}
+use Rattle.hx_framing.specs.RequestHeadProgress.{RequestContentResumes, IsProgressOfBytes, BytesBeginWithRequestHead}
+use Rattle.hx_framing.specs.RequestStream.{StreamSpells, Answers, OutOfMemoryIsAllowed}
 use Rattle.hx_framing.specs.Progress.{Progress}
 
 -- what contracts see of a reader
@@ -23,7 +23,7 @@ RequestReaderKeeps s p rest phase.BeforeHead = (s.unread ≡ rest) × (p.continu
 RequestReaderKeeps s p rest (phase.InContent head content)
     = RequestContentResumes p.max_body p.continue_sent head content rest s.unread
 RequestReaderKeeps s p rest phase.Given = ⊥
-RequestReaderKeeps s p rest (phase.Faulty f) = Reads p.max_body p.ended p.continue_sent rest (Faulty f)
+RequestReaderKeeps s p rest (phase.Faulty f) = ReadsAs p.max_body p.ended p.continue_sent rest (Faulty f)
 
 -- the reader stands for the stream
 pub record RepresentsStream (s : State) (p : Progress Request) : Type 0 where
@@ -49,11 +49,11 @@ abbrev pub request_kind : ReaderKind Head Request
 request_kind = record {
   RepresentsStream = RepresentsStream;
   Answers = Answers;
-  NeedsMemory = NeedsMemory;
+  OutOfMemoryIsAllowed = OutOfMemoryIsAllowed;
   weight = weight;
   DueIsWeighed = λ left answer. Unit {0};
-  FrontIsFound = λ max_body to_head. IsHeadProgress max_body;
-  HeadStands = RequestHeadStands;
+  FrontIsFound = λ max_body to_head. IsProgressOfBytes max_body;
+  WholeHeadIsThere = BytesBeginWithRequestHead;
   message_of = λ to_head. request_of_head;
   is_closed_by = λ ended. false;
   behind_message = phase.BeforeHead;

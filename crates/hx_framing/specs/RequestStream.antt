@@ -3,12 +3,12 @@ use Rattle.std.specs.Prelude.{◌≡◌, ℕ, true, false, List, [], ◌∷◌}
 use Rattle.hx_framing.specs.declared.messages.Request.{Request}
 use Rattle.hx_framing.specs.declared.messages.Next.{Next}
 use Rattle.hx_framing.specs.Reading.{StreamReading, Spelled}
-use Rattle.hx_framing.specs.RequestReading.{Reads}
-use Rattle.hx_framing.specs.Progress.{Progress, next_of_reading, answer_needs_memory}
+use Rattle.hx_framing.specs.RequestReading.{ReadsAs}
+use Rattle.hx_framing.specs.Progress.{Progress, next_answer_of_reading, out_of_memory_may_replace}
 
 -- the bytes begin with this request; what follows is rest
 abbrev pub SpellsRequest : ℕ → List ℕ → Request → List ℕ → Type 0
-SpellsRequest max_body bytes message rest = Reads max_body false true bytes (Spelled message rest)
+SpellsRequest max_body bytes message rest = ReadsAs max_body false true bytes (Spelled message rest)
 
 -- the stream spells these requests, and then comes rest
 abbrev pub StreamSpells : ℕ → List ℕ → List Request → List ℕ → Type 0
@@ -21,9 +21,9 @@ pub record Answers (p : Progress Request) (answer : Next Request) : Type 0 where
   pub rest : List ℕ
   pub reading : StreamReading Request
   pub spells : StreamSpells p.max_body p.stream p.given rest
-  pub reads : Reads p.max_body p.ended p.continue_sent rest reading
-  pub answer_is : answer ≡ next_of_reading reading
+  pub reads : ReadsAs p.max_body p.ended p.continue_sent rest reading
+  pub answer_is : answer ≡ next_answer_of_reading reading
 
 -- out of memory may stand in place of the answer
-abbrev pub NeedsMemory : Progress Request → Type 0
-NeedsMemory p = (answer : Next Request) → Answers p answer → answer_needs_memory answer ≡ true
+abbrev pub OutOfMemoryIsAllowed : Progress Request → Type 0
+OutOfMemoryIsAllowed p = (answer : Next Request) → Answers p answer → out_of_memory_may_replace answer ≡ true

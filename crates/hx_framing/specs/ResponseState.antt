@@ -7,9 +7,10 @@ use Rattle.hx_framing.specs.declared.readers.progress.ReaderPhase.TheVariants as
 use Rattle.hx_framing.specs.Reading.{Faulty}
 use Rattle.hx_framing.specs.ReaderKind.{ReaderKind}
 use Rattle.hx_framing.specs.ReaderState.{ReaderState}
-use Rattle.hx_framing.specs.ResponseReading.{response_of_head, PassesInterimResponses, Reads}
-use Rattle.hx_framing.specs.ResponseHeadProgress.{ResponseContentResumes, IsHeadProgress, FinalHeadStands}
-use Rattle.hx_framing.specs.ResponseStream.{OneResponseIsGiven, Answers, NeedsMemory}
+use Rattle.hx_framing.specs.ResponseReading.{response_of_head, SkipsInterimResponses, ReadsAs}
+use Rattle.hx_framing.specs.ResponseHeadProgress.{ResponseContentResumes, IsProgressOfBytes}
+use Rattle.hx_framing.specs.ResponseHeadProgress.{FinalHeadFollowsInterimResponses}
+use Rattle.hx_framing.specs.ResponseStream.{StreamSpellsGivenResponse, Answers, OutOfMemoryIsAllowed}
 use Rattle.hx_framing.specs.Progress.{Progress, AnswerIsDue, cost_of_answer}
 
 -- what contracts see of a reader
@@ -19,14 +20,14 @@ State = ReaderState StatusHead
 -- before the head the reader keeps the stream but for interim responses, in the content what is still to come of it;
 -- behind the message, or from a fault on, what comes doesn't count
 abbrev pub ResponseReaderKeeps : State → Progress Response → ReaderPhase StatusHead → List Response → Type 0
-ResponseReaderKeeps s p phase.BeforeHead [] = (sizes : List ℕ) × PassesInterimResponses p.stream sizes s.unread
+ResponseReaderKeeps s p phase.BeforeHead [] = (sizes : List ℕ) × SkipsInterimResponses p.stream sizes s.unread
 ResponseReaderKeeps s p phase.BeforeHead (message ∷ more) = ⊥
 ResponseReaderKeeps s p (phase.InContent head content) []
     = ResponseContentResumes p.max_body p.to_head head content p.stream s.unread
 ResponseReaderKeeps s p (phase.InContent head content) (message ∷ more) = ⊥
 ResponseReaderKeeps s p phase.Given [] = ⊥
 ResponseReaderKeeps s p phase.Given (message ∷ more) = Unit {0}
-ResponseReaderKeeps s p (phase.Faulty f) [] = Reads p.max_body p.to_head p.ended p.stream (Faulty f)
+ResponseReaderKeeps s p (phase.Faulty f) [] = ReadsAs p.max_body p.to_head p.ended p.stream (Faulty f)
 ResponseReaderKeeps s p (phase.Faulty f) (message ∷ more) = ⊥
 
 -- the reader stands for the stream
@@ -34,7 +35,7 @@ pub record RepresentsStream (s : State) (p : Progress Response) : Type 0 where
   pub max_body : s.max_body ≡ p.max_body
   pub to_head : s.to_head ≡ p.to_head
   pub ended : s.ended ≡ p.ended
-  pub spells : OneResponseIsGiven p p.given
+  pub spells : StreamSpellsGivenResponse p p.given
   pub keeps : ResponseReaderKeeps s p s.phase p.given
 
 -- what may still be due, by where the reader is
@@ -53,11 +54,11 @@ abbrev pub response_kind : ReaderKind StatusHead Response
 response_kind = record {
   RepresentsStream = RepresentsStream;
   Answers = Answers;
-  NeedsMemory = NeedsMemory;
+  OutOfMemoryIsAllowed = OutOfMemoryIsAllowed;
   weight = weight;
   DueIsWeighed = λ left answer. AnswerIsDue answer → 1 ≤ left + cost_of_answer answer;
-  FrontIsFound = IsHeadProgress;
-  HeadStands = FinalHeadStands;
+  FrontIsFound = IsProgressOfBytes;
+  WholeHeadIsThere = FinalHeadFollowsInterimResponses;
   message_of = response_of_head;
   is_closed_by = λ ended. ended;
   behind_message = phase.Given;

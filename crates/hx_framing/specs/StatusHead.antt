@@ -9,13 +9,13 @@ use Rattle.hx_framing.specs.declared.heads.status_head.Judged.TheVariants as jud
 use Rattle.hx_framing.specs.declared.frame_fault.FrameFault.{FrameFault}
 use Rattle.hx_framing.specs.declared.frame_fault.FrameFault.TheVariants as fault
 use Rattle.hx_framing.specs.HeadEnd.{most_field_lines}
-use Rattle.hx_framing.specs.Version.{start_line, begins_with_other_version}
-use Rattle.hx_framing.specs.Head.{field_of_grammar, field_at_span}
+use Rattle.hx_framing.specs.Version.{start_line, begins_with_unsupported_version}
+use Rattle.hx_framing.specs.Head.{field_of_parsed_line, field_at_span}
 use Rattle.hx_framing.specs.Lengths.{is_interim}
 
 -- what a head of the grammar gives; its reason phrase is dropped
 abbrev pub status_head_of : ResponseHead → StatusHead
-status_head_of h = record { status = status_code h; minor = h.minor; fields = map field_of_grammar h.fields }
+status_head_of h = record { status = status_code h; minor = h.minor; fields = map field_of_parsed_line h.fields }
 
 -- the head that the spans cover
 abbrev pub status_head_at : List ℕ → List HeaderSpan → ResponseSpans → StatusHead
@@ -30,7 +30,7 @@ IsStatusHead bytes h = ReadsResponse bytes h [] × (length h.fields ≤ most_fie
 -- with another version
 -- own: whatever else is wrong with the head
 abbrev pub status_head_fault : List ℕ → FrameFault
-status_head_fault bytes = if begins_with_other_version (start_line bytes) then fault.Version else fault.Head
+status_head_fault bytes = if begins_with_unsupported_version (start_line bytes) then fault.Version else fault.Head
 
 -- how the bytes of a whole head are judged
 abbrev pub ResponseHeadIsJudged : List ℕ → Result StatusHead FrameFault → Type 0

@@ -12,7 +12,7 @@
 //! | | and the one answer that is due behind them | |
 //! | `ResponseStream` | the same of a response, and the end behind it | 9112, 4, 6 and 9.3 |
 //! | `Progress` | a stream so far, what was given of it, and which answers out of memory may hide | |
-//! | `Reading`, `ContentFound` | what may stand at the front of bytes, and behind a head | 9112, 8 |
+//! | `Reading`, `Body` | what may stand at the front of bytes, and behind a head | 9112, 8 |
 //! | `RequestReading` | a head, what it says of its content, its content: | 9112, 2 and 6 |
 //! | | what stands at the front of requests | |
 //! | `ResponseReading` | the same of a response, behind the interim ones | 9112, 4 and 6; 9110, 15.2 |
@@ -22,11 +22,11 @@
 //! | `Version` | which start lines name another version | 9112, 2.3 |
 //! | `Lengths` | how long the content is by the fields, each fault, the continue | 9112, 6; 9110, 10.1.1 |
 //! | `ContentLength` | which length Content-Length lines tell | 9110, 8.6; 9112, 6.3 |
-//! | `Contents` | the content by its framing (`content_at`) | 9112, 6 |
-//! | `Chunks`, `Chunking` | content in chunks, a byte at a time, each fault at its byte | 9112, 7.1 |
+//! | `Contents` | the content by its framing (`content_by_framing`) | 9112, 6 |
+//! | `Chunks`, `ChunkDecoder` | content in chunks, a byte at a time, each fault at its byte | 9112, 7.1 |
 //! | `SizeLine` | which lines are sizes of chunks, and their limits | 9112, 7.1 and 7.1.1 |
 //! | `Fault` | the faults' numbers | |
-//! | `ReaderState` | what `kept` counts, and what is unfinished (`IsUnfinished`), | |
+//! | `ReaderState` | what `kept` counts, and what is unfinished (`KeepsOnlyUnfinished`), | |
 //! | | by `IsUnfinishedContent` of `Contents` and `IsUnfinishedLine` of `ChunkTokens` | |
 //! | `RequestState`, `ResponseState` | what `weight` counts, and what a reader's contracts say of its kind | |
 //! | | (`request_kind`, `response_kind`), in the words of `ReaderKind` | |
@@ -36,7 +36,7 @@
 //! `GivenFields`, `FaultOrder`, `Written`, `WrittenResponse`, `Examples`, `LengthExamples` and
 //! `ReadingExamples`. The rest serves the proofs alone and needs no trust: `RequestHeadProgress`,
 //! `ResponseHeadProgress`, `ReaderSteps`, `ContentReading`, `Decoding`, `PlainContent`,
-//! `ByteQueue`, `Searching`, what else is in `ChunkTokens`; and so does `RepresentsStream`, which
+//! `Queue`, `Searching`, what else is in `ChunkTokens`; and so does `RepresentsStream`, which
 //! may be any relation that holds of a new reader and that each call keeps.
 #![tactic(auto)]
 

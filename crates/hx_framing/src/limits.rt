@@ -11,20 +11,22 @@ pub(crate) const MOST_FIELD_LINES: usize = 100;
 
 /// Field lines for which there is room at first: a short head seldom has more, and room for all
 /// would be cleared each time.
-pub(crate) const FEW_FIELD_LINES: usize = 32;
+pub(crate) const INITIAL_FIELD_LINES: usize = 32;
 
 /// Bytes of a short head. To clear room for all the lines of a longer one costs little beside reading it.
 pub(crate) const SHORT_HEAD_BYTES: usize = 2048;
 
 /// Hexadecimal digits of a chunk's size, leading zeros counted. A size of more is refused as `Chunk`.
-pub(crate) const MOST_SIZE_DIGITS: usize = 15;
+pub(crate) const MOST_CHUNK_SIZE_DIGITS: usize = 15;
 
 /// Bytes behind the digits of a chunk's size, without the CRLF. A line with more is refused as `Chunk`.
-pub(crate) const MOST_EXTENSION_BYTES: usize = 256;
+pub(crate) const MOST_CHUNK_EXTENSION_BYTES: usize = 256;
 
 /// Bytes of a size line, with its CRLF. A line that hasn't ended by then is refused as `Chunk` at
 /// the first byte past it.
-pub(crate) const MOST_SIZE_LINE_BYTES: usize = MOST_SIZE_DIGITS + MOST_EXTENSION_BYTES + 2;
+pub(crate) const MOST_CHUNK_SIZE_LINE_BYTES: usize = MOST_CHUNK_SIZE_DIGITS
+    + MOST_CHUNK_EXTENSION_BYTES
+    + 2;
 
 /// Bytes of all trailer lines of a content, with the empty line behind them. The first byte past it
 /// is refused as `Chunk`.

@@ -5,7 +5,7 @@ ghost use Rattle.std.specs.List.{position_or_len, before_first};
 use memchr::memchr;
 
 /// The bytes from an index on.
-pub(crate) fn rest_from(bytes: &[u8], at: usize) -> &[u8]
+pub(crate) fn bytes_from_index(bytes: &[u8], at: usize) -> &[u8]
     requires { at ≤ length bytes.now }
     ensures { result.now ≡ drop at bytes.now }
 {
@@ -36,7 +36,7 @@ fn index_of_byte(text: &[u8], byte: u8) -> usize
 }
 
 /// What stands before a byte, or all where it doesn't stand.
-pub(crate) fn before_byte(text: &[u8], byte: u8) -> &[u8]
+pub(crate) fn text_before_byte(text: &[u8], byte: u8) -> &[u8]
     ensures { result.now ≡ before_first (λ b. b == byte) text.now }
 {
     first_bytes(text, index_of_byte(text, byte))

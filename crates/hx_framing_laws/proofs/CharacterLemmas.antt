@@ -8,10 +8,10 @@ use Rattle.httparse.specs.Grammar.{AllPass, IsToken, is_token_byte, is_uri_byte,
 use Rattle.hx_fields.specs.Names.{is_blank, is_nonempty}
 use Rattle.hx_fields.specs.Tokens as tokens
 use Rattle.hx_framing.proofs.HeadLineLemmas.{same_token_byte}
-use Rattle.hx_framing_laws.specs.Characters.{is_octet, AreOctets, is_vchar, is_obs_text, is_field_vchar, is_text_byte}
+use Rattle.hx_framing_laws.specs.Characters.{is_octet, BytesAreOctets, is_vchar, is_obs_text, is_field_vchar, is_field_text_byte}
 
 -- octets of a text that is made of two
-pub octets_parts : (a b : List ℕ) → AreOctets (a ++ b) → AreOctets a × AreOctets b
+pub octets_parts : (a b : List ℕ) → BytesAreOctets (a ++ b) → BytesAreOctets a × BytesAreOctets b
 octets_parts a b all = and_parts (list_all is_octet a) (list_all is_octet b) (sym (list_all-append is_octet a b) ∙ all)
 
 -- ---- single characters
@@ -19,8 +19,8 @@ octets_parts a b all = and_parts (list_all is_octet a) (list_all is_octet b) (sy
 uri_is_vchar : (b : ℕ) → is_octet b ≡ true → is_uri_byte b ≡ true → is_field_vchar b ≡ true
 uri_is_vchar b octet uri = sym (agree_below_at is_uri_byte is_field_vchar 256 b refl (ltb-true b 256 octet)) ∙ uri
 
-value_is_text : (b : ℕ) → is_octet b ≡ true → is_value_byte b ≡ true → is_text_byte b ≡ true
-value_is_text b octet value = sym (agree_below_at is_value_byte is_text_byte 256 b refl (ltb-true b 256 octet)) ∙ value
+value_is_text : (b : ℕ) → is_octet b ≡ true → is_value_byte b ≡ true → is_field_text_byte b ≡ true
+value_is_text b octet value = sym (agree_below_at is_value_byte is_field_text_byte 256 b refl (ltb-true b 256 octet)) ∙ value
 
 pub vchar_is_octet : (b : ℕ) → is_field_vchar b ≡ true → b < 256
 vchar_is_octet b vchar = by_class (or_cases (is_vchar b) (is_obs_text b) vchar)
@@ -42,11 +42,11 @@ blank_is_octet b blank = by_class (or_cases (b == 32) (b == 9) blank)
     by_class (inl space) = let is = eq_is b 32 space in omega (arith, is)
     by_class (inr tab) = let is = eq_is b 9 tab in omega (arith, is)
 
-text_is_value : (b : ℕ) → is_text_byte b ≡ true → is_value_byte b ≡ true
+text_is_value : (b : ℕ) → is_field_text_byte b ≡ true → is_value_byte b ≡ true
 text_is_value b text = by_class (or_cases (is_blank b) (is_field_vchar b) text)
   where
     same : b < 256 → is_value_byte b ≡ true
-    same small = agree_below_at is_value_byte is_text_byte 256 b refl small ∙ text
+    same small = agree_below_at is_value_byte is_field_text_byte 256 b refl small ∙ text
 
     by_class : (is_blank b ≡ true) ⊎ (is_field_vchar b ≡ true) → is_value_byte b ≡ true
     by_class (inl blank) = same (blank_is_octet b blank)
@@ -58,24 +58,24 @@ blank_is_value b blank = text_is_value b (or_left (is_blank b) (is_field_vchar b
 -- ---- texts
 
 -- each octet of one class is of another
-from_octets : (p q : ℕ → Bool) (text : List ℕ) → ((b : ℕ) → is_octet b ≡ true → p b ≡ true → q b ≡ true) → AreOctets text → AllPass p text → list_all q text ≡ true
+from_octets : (p q : ℕ → Bool) (text : List ℕ) → ((b : ℕ) → is_octet b ≡ true → p b ≡ true → q b ≡ true) → BytesAreOctets text → AllPass p text → list_all q text ≡ true
 from_octets p q text step octets pass =
     list_all-from_AllPass q text (λ k d inside. step (get_or text k d) (AllPass-from_list_all is_octet text octets k d inside) (pass k d inside))
 
 into : (p q : ℕ → Bool) (text : List ℕ) → ((b : ℕ) → p b ≡ true → q b ≡ true) → list_all p text ≡ true → AllPass q text
 into p q text step all = λ k d inside. step (get_or text k d) (AllPass-from_list_all p text all k d inside)
 
-pub target_characters : (text : List ℕ) → AreOctets text → AllPass is_uri_byte text → list_all is_field_vchar text ≡ true
+pub target_characters : (text : List ℕ) → BytesAreOctets text → AllPass is_uri_byte text → list_all is_field_vchar text ≡ true
 target_characters text = from_octets is_uri_byte is_field_vchar text uri_is_vchar
 
-pub text_characters : (text : List ℕ) → AreOctets text → AllPass is_value_byte text → list_all is_text_byte text ≡ true
-text_characters text = from_octets is_value_byte is_text_byte text value_is_text
+pub text_characters : (text : List ℕ) → BytesAreOctets text → AllPass is_value_byte text → list_all is_field_text_byte text ≡ true
+text_characters text = from_octets is_value_byte is_field_text_byte text value_is_text
 
 pub characters_of_target : (text : List ℕ) → list_all is_field_vchar text ≡ true → AllPass is_uri_byte text
 characters_of_target text = into is_field_vchar is_uri_byte text vchar_is_uri
 
-pub characters_of_text : (text : List ℕ) → list_all is_text_byte text ≡ true → AllPass is_value_byte text
-characters_of_text text = into is_text_byte is_value_byte text text_is_value
+pub characters_of_text : (text : List ℕ) → list_all is_field_text_byte text ≡ true → AllPass is_value_byte text
+characters_of_text text = into is_field_text_byte is_value_byte text text_is_value
 
 pub characters_of_blanks : (text : List ℕ) → list_all is_blank text ≡ true → AllPass is_value_byte text
 characters_of_blanks text = into is_blank is_value_byte text blank_is_value

@@ -6,9 +6,9 @@ use Rattle.std.proofs.lemmas.Bool.{agree_below_at, and_from, and_parts, or_right
 use Rattle.std.proofs.lemmas.List.Elements.{All-cons, All-nil, All-head, All-tail}
 use Rattle.std.proofs.lemmas.List.Folds.{list_all-append}
 use Rattle.hx_fields.specs.Names.{is_blank}
-use Rattle.hx_framing.specs.GivenFields.{IsTrimmed}
-use Rattle.hx_framing_laws.specs.Characters.{is_field_vchar, is_text_byte}
-use Rattle.hx_framing_laws.specs.Lines.{FieldContent, one, several, content_text, IsFieldContent, IsFieldValue}
+use Rattle.hx_framing.specs.GivenFields.{TextIsTrimmed}
+use Rattle.hx_framing_laws.specs.Characters.{is_field_vchar, is_field_text_byte}
+use Rattle.hx_framing_laws.specs.Lines.{FieldContent, one, several, field_content_text, IsFieldContent, IsFieldValue}
 use Rattle.hx_framing_laws.proofs.CharacterLemmas.{vchar_is_octet}
 
 other_of_or : (x y : Bool) → (x || y) ≡ true → x ≡ false → y ≡ true
@@ -19,14 +19,14 @@ other_of_and : (x y : Bool) → (x && y) ≡ false → x ≡ true → y ≡ fals
 other_of_and true y e f = e
 other_of_and false y e f = absurd cc
 
-seen : (b : ℕ) → is_text_byte b ≡ true → is_blank b ≡ false → is_field_vchar b ≡ true
+seen : (b : ℕ) → is_field_text_byte b ≡ true → is_blank b ≡ false → is_field_vchar b ≡ true
 seen b text other = other_of_or (is_blank b) (is_field_vchar b) text other
 
 vchar_is_no_blank : (b : ℕ) → is_field_vchar b ≡ true → is_blank b ≡ false
 vchar_is_no_blank b vchar =
     other_of_and (is_field_vchar b) (is_blank b) (agree_below_at (λ c. is_field_vchar c && is_blank c) (λ c. false) 256 b refl (vchar_is_octet b vchar)) vchar
 
-vchar_is_text : (b : ℕ) → is_field_vchar b ≡ true → is_text_byte b ≡ true
+vchar_is_text : (b : ℕ) → is_field_vchar b ≡ true → is_field_text_byte b ≡ true
 vchar_is_text b vchar = or_right (is_blank b) (is_field_vchar b) vchar
 
 -- ---- the last byte
@@ -58,23 +58,23 @@ ends_append a (y ∷ ys) first second =
 
 -- ---- texts without white space at their ends are values
 
-pub value_of_trimmed : (value : List ℕ) → list_all is_text_byte value ≡ true → IsTrimmed value → IsFieldValue value
+pub value_of_trimmed : (value : List ℕ) → list_all is_field_text_byte value ≡ true → TextIsTrimmed value → IsFieldValue value
 value_of_trimmed [] all trimmed = record { contents = []; each = All-nil IsFieldContent; parts = refl }
 value_of_trimmed (b ∷ []) all trimmed = record {
   contents = one b ∷ [];
-  each = All-cons IsFieldContent (one b) [] (seen b (and_parts (is_text_byte b) true all).0 trimmed.starts) (All-nil IsFieldContent);
+  each = All-cons IsFieldContent (one b) [] (seen b (and_parts (is_field_text_byte b) true all).0 trimmed.starts) (All-nil IsFieldContent);
   parts = refl;
 }
 value_of_trimmed (b ∷ c ∷ rest) all trimmed =
     let end = ends_in c rest in
-    let first = and_parts (is_text_byte b) (list_all is_text_byte (c ∷ rest)) all in
-    let parts = and_parts (list_all is_text_byte end.front) (list_all is_text_byte (end.last ∷ []))
-    (sym (list_all-append is_text_byte end.front (end.last ∷ [])) ∙ ap (list_all is_text_byte) (sym end.is) ∙ first.1) in
+    let first = and_parts (is_field_text_byte b) (list_all is_field_text_byte (c ∷ rest)) all in
+    let parts = and_parts (list_all is_field_text_byte end.front) (list_all is_field_text_byte (end.last ∷ []))
+    (sym (list_all-append is_field_text_byte end.front (end.last ∷ [])) ∙ ap (list_all is_field_text_byte) (sym end.is) ∙ first.1) in
     let whole : b ∷ c ∷ rest ≡ (b ∷ end.front) ++ end.last ∷ [] = ap (λ l. b ∷ l) end.is in
     let last : is_blank end.last ≡ false = ap is_blank (sym (last_is (b ∷ end.front) end.last)) ∙ subst EndsSeen whole trimmed.ends in
-    subst IsFieldValue (sym whole) (by_front end.front end.last (seen b first.0 trimmed.starts) parts.0 (seen end.last (and_parts (is_text_byte end.last) true parts.1).0 last))
+    subst IsFieldValue (sym whole) (by_front end.front end.last (seen b first.0 trimmed.starts) parts.0 (seen end.last (and_parts (is_field_text_byte end.last) true parts.1).0 last))
   where
-    by_front : (middle : List ℕ) (last : ℕ) → is_field_vchar b ≡ true → list_all is_text_byte middle ≡ true → is_field_vchar last ≡ true → IsFieldValue (b ∷ (middle ++ last ∷ []))
+    by_front : (middle : List ℕ) (last : ℕ) → is_field_vchar b ≡ true → list_all is_field_text_byte middle ≡ true → is_field_vchar last ≡ true → IsFieldValue (b ∷ (middle ++ last ∷ []))
     by_front [] last first between end = record {
       contents = one b ∷ one last ∷ [];
       each = All-cons IsFieldContent (one b) (one last ∷ []) first (All-cons IsFieldContent (one last) [] end (All-nil IsFieldContent));
@@ -88,35 +88,35 @@ value_of_trimmed (b ∷ c ∷ rest) all trimmed =
 
 -- ---- and so are values
 
-content_characters : (c : FieldContent) → IsFieldContent c → list_all is_text_byte (content_text c) ≡ true
-content_characters (one b) is = and_from (is_text_byte b) true (vchar_is_text b is) refl
+content_characters : (c : FieldContent) → IsFieldContent c → list_all is_field_text_byte (field_content_text c) ≡ true
+content_characters (one b) is = and_from (is_field_text_byte b) true (vchar_is_text b is) refl
 content_characters (several b middle c) is =
-    and_from (is_text_byte b) (list_all is_text_byte (middle ++ c ∷ [])) (vchar_is_text b is.0)
-    (list_all-append is_text_byte middle (c ∷ [])
-    ∙ and_from (list_all is_text_byte middle) (list_all is_text_byte (c ∷ [])) is.2 (and_from (is_text_byte c) true (vchar_is_text c is.3) refl))
+    and_from (is_field_text_byte b) (list_all is_field_text_byte (middle ++ c ∷ [])) (vchar_is_text b is.0)
+    (list_all-append is_field_text_byte middle (c ∷ [])
+    ∙ and_from (list_all is_field_text_byte middle) (list_all is_field_text_byte (c ∷ [])) is.2 (and_from (is_field_text_byte c) true (vchar_is_text c is.3) refl))
 
-characters : (contents : List FieldContent) → All IsFieldContent contents → list_all is_text_byte (flat_map content_text contents) ≡ true
+characters : (contents : List FieldContent) → All IsFieldContent contents → list_all is_field_text_byte (flat_map field_content_text contents) ≡ true
 characters [] each = refl
 characters (c ∷ contents) each =
-    list_all-append is_text_byte (content_text c) (flat_map content_text contents)
-    ∙ and_from (list_all is_text_byte (content_text c)) (list_all is_text_byte (flat_map content_text contents))
+    list_all-append is_field_text_byte (field_content_text c) (flat_map field_content_text contents)
+    ∙ and_from (list_all is_field_text_byte (field_content_text c)) (list_all is_field_text_byte (flat_map field_content_text contents))
     (content_characters c (All-head IsFieldContent c contents each)) (characters contents (All-tail IsFieldContent c contents each))
 
-starts : (contents : List FieldContent) → All IsFieldContent contents → is_blank (get_or (flat_map content_text contents) 0 0) ≡ false
+starts : (contents : List FieldContent) → All IsFieldContent contents → is_blank (get_or (flat_map field_content_text contents) 0 0) ≡ false
 starts [] each = refl
 starts (one b ∷ contents) each = vchar_is_no_blank b (All-head IsFieldContent (one b) contents each)
 starts (several b middle c ∷ contents) each = vchar_is_no_blank b (All-head IsFieldContent (several b middle c) contents each).0
 
-content_ends : (c : FieldContent) → IsFieldContent c → EndsSeen (content_text c)
+content_ends : (c : FieldContent) → IsFieldContent c → EndsSeen (field_content_text c)
 content_ends (one b) is = vchar_is_no_blank b is
 content_ends (several b middle c) is = ap is_blank (last_is (b ∷ middle) c) ∙ vchar_is_no_blank c is.3
 
-ends : (contents : List FieldContent) → All IsFieldContent contents → EndsSeen (flat_map content_text contents)
+ends : (contents : List FieldContent) → All IsFieldContent contents → EndsSeen (flat_map field_content_text contents)
 ends [] each = refl
 ends (c ∷ contents) each =
-    ends_append (content_text c) (flat_map content_text contents) (content_ends c (All-head IsFieldContent c contents each)) (ends contents (All-tail IsFieldContent c contents each))
+    ends_append (field_content_text c) (flat_map field_content_text contents) (content_ends c (All-head IsFieldContent c contents each)) (ends contents (All-tail IsFieldContent c contents each))
 
-pub trimmed_of_value : (value : List ℕ) → IsFieldValue value → (list_all is_text_byte value ≡ true) × IsTrimmed value
+pub trimmed_of_value : (value : List ℕ) → IsFieldValue value → (list_all is_field_text_byte value ≡ true) × TextIsTrimmed value
 trimmed_of_value value is =
-    subst (λ (v : List ℕ). (list_all is_text_byte v ≡ true) × IsTrimmed v) (sym is.parts)
+    subst (λ (v : List ℕ). (list_all is_field_text_byte v ≡ true) × TextIsTrimmed v) (sym is.parts)
     (characters is.contents is.each, record { starts = starts is.contents is.each; ends = ends is.contents is.each })

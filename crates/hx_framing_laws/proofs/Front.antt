@@ -12,9 +12,9 @@ use Rattle.httparse.specs.Pieces.{Stops, is_newline}
 use Rattle.httparse.proofs.GrammarLemmas.{print_request-append, print_response-append}
 use Rattle.httparse.proofs.PieceLemmas.{Stops_token, token_is_no_newline}
 use Rattle.hx_framing.specs.HeadEnd.{empty_lines_length, head_end_from, head_length, most_head_bytes}
-use Rattle.hx_framing.specs.Version.{start_line, without_return, is_other_version, ends_with_other_version, begins_with_other_version}
+use Rattle.hx_framing.specs.Version.{start_line, without_trailing_cr, is_unsupported_version, ends_with_unsupported_version, begins_with_unsupported_version}
 use Rattle.hx_framing.proofs.HeadEnds.{front_stable, head_stable, head_within_bytes}
-use Rattle.hx_framing.proofs.HeadLineLemmas.{IsNo, first_at, with_return, without_return-is, blank_is}
+use Rattle.hx_framing.proofs.HeadLineLemmas.{IsNo, first_at, with_return, without_trailing_cr-is, blank_is}
 use Rattle.hx_framing.proofs.WrittenEnds.{step, run}
 use Rattle.hx_framing_laws.proofs.Written.{line_of, line_parts}
 
@@ -139,8 +139,8 @@ start_is text line s =
     ap (λ n. before_first (λ b. b == 10) (drop n text)) (skipped text line s) ∙ ap (before_first (λ b. b == 10)) (behind_front text line s)
     ∙ first_line line (print_section s.fields s.last) s.end s.feeds
 
-pub start_without_return : (text line : List ℕ) → IsSplit text line → without_return (start_line text) ≡ line
-start_without_return text line s = ap without_return (start_is text line s) ∙ without_return-is line s.end (each_is_no 13 line s.returns)
+pub start_without_return : (text line : List ℕ) → IsSplit text line → without_trailing_cr (start_line text) ≡ line
+start_without_return text line s = ap without_trailing_cr (start_is text line s) ∙ without_trailing_cr-is line s.end (each_is_no 13 line s.returns)
 
 -- ---- within the limit or not
 
@@ -170,7 +170,7 @@ version_without stop name zeros ones zero small = without_append stop (codes "HT
 version_without stop name zeros ones (suc zero) small = without_append stop (codes "HTTP/1.") (49 ∷ []) name (ap (λ t. not t && true) ones)
 version_without stop name zeros ones (suc (suc minor)) small = absurd (omega arith)
 
-known : (minor : ℕ) → minor ≤ 1 → is_other_version (print_version minor) ≡ false
+known : (minor : ℕ) → minor ≤ 1 → is_unsupported_version (print_version minor) ≡ false
 known zero small = refl
 known (suc zero) small = refl
 known (suc (suc minor)) small = absurd (omega arith)
@@ -211,14 +211,14 @@ split_request text h reads = by_method h.method refl reads.0.method
           ∙ ap (λ l. print_blank h.blank ++ l) (regroup h.method h.target (print_version h.minor) (print_end h.line_end) (print_section h.fields h.last));
     }
 
-pub request_version_known : (text : List ℕ) (h : RequestHead) → ReadsRequest text h [] → ends_with_other_version (without_return (start_line text)) ≡ false
+pub request_version_known : (text : List ℕ) (h : RequestHead) → ReadsRequest text h [] → ends_with_unsupported_version (without_trailing_cr (start_line text)) ≡ false
 request_version_known text h reads =
     let v : List ℕ = print_version h.minor in
     let front : List ℕ = h.method ++ 32 ∷ (h.target ++ 32 ∷ []) in
     let parts : request_line h ≡ front ++ v = sym (append_assoc h.method (32 ∷ (h.target ++ 32 ∷ [])) v ∙ ap (λ l. h.method ++ 32 ∷ l) (append_assoc h.target (32 ∷ []) v)) in
     let place : length (front ++ v) - 8 ≡ length front = omega (arith, length-append front v) in
-    ap ends_with_other_version (start_without_return text (request_line h) (split_request text h reads))
-    ∙ ap ends_with_other_version parts ∙ ap (λ n. is_other_version (drop n (front ++ v))) place ∙ ap is_other_version (drop-append_seam front v)
+    ap ends_with_unsupported_version (start_without_return text (request_line h) (split_request text h reads))
+    ∙ ap ends_with_unsupported_version parts ∙ ap (λ n. is_unsupported_version (drop n (front ++ v))) place ∙ ap is_unsupported_version (drop-append_seam front v)
     ∙ known h.minor reads.0.minor
 
 abbrev pub status_line : ResponseHead → List ℕ
@@ -255,12 +255,12 @@ split_response text h reads = record {
     regroup : (v d r e s : List ℕ) → v ++ 32 ∷ (d ++ (r ++ (e ++ (s ++ [])))) ≡ (v ++ 32 ∷ (d ++ r)) ++ (e ++ s)
     regroup v d r e s = simp (append_assoc, append-nil)
 
-pub response_version_known : (text : List ℕ) (h : ResponseHead) → ReadsResponse text h [] → begins_with_other_version (start_line text) ≡ false
+pub response_version_known : (text : List ℕ) (h : ResponseHead) → ReadsResponse text h [] → begins_with_unsupported_version (start_line text) ≡ false
 response_version_known text h reads =
     let s = split_response text h reads in
     let rest : List ℕ = 32 ∷ (h.digits ++ print_reason h.reason) in
-    ap begins_with_other_version (start_is text (status_line h) s) ∙ by_end s.end ∙ known h.minor reads.0.minor
+    ap begins_with_unsupported_version (start_is text (status_line h) s) ∙ by_end s.end ∙ known h.minor reads.0.minor
   where
-    by_end : (end : LineEnd) → begins_with_other_version (with_return (status_line h) end) ≡ is_other_version (print_version h.minor)
-    by_end crlf = ap is_other_version (ap (take 8) (append_assoc (print_version h.minor) (32 ∷ (h.digits ++ print_reason h.reason)) (13 ∷ [])) ∙ take-append_seam (print_version h.minor) ((32 ∷ (h.digits ++ print_reason h.reason)) ++ 13 ∷ []))
-    by_end lf = ap is_other_version (take-append_seam (print_version h.minor) (32 ∷ (h.digits ++ print_reason h.reason)))
+    by_end : (end : LineEnd) → begins_with_unsupported_version (with_return (status_line h) end) ≡ is_unsupported_version (print_version h.minor)
+    by_end crlf = ap is_unsupported_version (ap (take 8) (append_assoc (print_version h.minor) (32 ∷ (h.digits ++ print_reason h.reason)) (13 ∷ [])) ∙ take-append_seam (print_version h.minor) ((32 ∷ (h.digits ++ print_reason h.reason)) ++ 13 ∷ []))
+    by_end lf = ap is_unsupported_version (take-append_seam (print_version h.minor) (32 ∷ (h.digits ++ print_reason h.reason)))

@@ -12,12 +12,12 @@ use Rattle.hx_framing.specs.declared.frame_fault.FrameFault.{FrameFault}
 use Rattle.hx_framing.specs.declared.heads.request_head.Head.{Head}
 use Rattle.hx_framing.specs.declared.heads.status_head.StatusHead.{StatusHead}
 use Rattle.hx_framing.specs.HeadEnd.{most_field_lines}
-use Rattle.hx_framing.specs.GivenFields.{LineSpellsField, is_content_byte}
-use Rattle.hx_framing.specs.Head.{RequestHeadIsJudged, field_of_grammar, head_of_grammar}
+use Rattle.hx_framing.specs.GivenFields.{LineSpellsField, is_field_value_byte}
+use Rattle.hx_framing.specs.Head.{RequestHeadIsJudged, field_of_parsed_line, head_of_parsed_request}
 use Rattle.hx_framing.specs.StatusHead.{ResponseHeadIsJudged, status_head_of}
-use Rattle.hx_framing.proofs.HeadLineLemmas.{without_return-is, text_of}
-use Rattle.hx_framing.proofs.GivenLemmas.{spell_all, a_stream_spells_one_list}
-use Rattle.hx_framing_laws.specs.Lines.{IsLineEnd, IsReason, IsFieldLine, version_text, reason_text}
+use Rattle.hx_framing.proofs.HeadLineLemmas.{without_trailing_cr-is, text_of}
+use Rattle.hx_framing.proofs.GivenLemmas.{spell_all, messages_spelled_by_a_stream_are_unique}
+use Rattle.hx_framing_laws.specs.Lines.{IsLineEnd, IsReasonPhrase, IsFieldLine, version_text, reason_text}
 use Rattle.hx_framing_laws.specs.Heads.{AreFieldLines, AreEmptyLines, IsHead, IsRequestHead, IsResponseHead}
 use Rattle.hx_framing_laws.proofs.CharacterLemmas.{characters_of_target, characters_of_text, characters_of_blanks, some_is, token_of}
 use Rattle.hx_framing_laws.proofs.FieldValues.{trimmed_of_value}
@@ -35,7 +35,7 @@ record IsTaken (line : List ℕ) (end : LineEnd) (field : Line) : Type 0 where
   fine : IsField tree
   line_is : line ≡ line_of tree
   end_is : end ≡ tree.end
-  gives : field_of_grammar tree ≡ field
+  gives : field_of_parsed_line tree ≡ field
 
 line_taken : (line : List ℕ) (end : LineEnd) (field : Line) → IsFieldLine line field → IsTaken line end field
 line_taken line end field is =
@@ -46,13 +46,13 @@ line_taken line end field is =
       raw = All-append (λ b. is_value_byte b ≡ true) is.before (field.value ++ is.behind) (characters_of_blanks is.before is.white.0)
           (All-append (λ b. is_value_byte b ≡ true) field.value is.behind (characters_of_text field.value value.0) (characters_of_blanks is.behind is.white.1));
     } in
-    let one : LineSpellsField (text_of tree) (field_of_grammar tree) = (spell_all (tree ∷ []) (All-cons IsField tree [] fine (All-nil IsField))).0 in
+    let one : LineSpellsField (text_of tree) (field_of_parsed_line tree) = (spell_all (tree ∷ []) (All-cons IsField tree [] fine (All-nil IsField))).0 in
     let other : LineSpellsField (text_of tree) field = record {
       before = is.before;
       behind = is.behind;
-      parts = without_return-is (line_of tree) end (no_return tree fine);
+      parts = without_trailing_cr-is (line_of tree) end (no_return tree fine);
       name = is.name_is;
-      value = list_all-from_AllPass is_content_byte field.value (characters_of_text field.value value.0);
+      value = list_all-from_AllPass is_field_value_byte field.value (characters_of_text field.value value.0);
       trimmed = value.1;
       white = is.white;
     } in record {
@@ -60,14 +60,14 @@ line_taken line end field is =
       fine = fine;
       line_is = is.parts;
       end_is = refl;
-      gives = a_stream_spells_one_list (text_of tree) (field_of_grammar tree) field one other;
+      gives = messages_spelled_by_a_stream_are_unique (text_of tree) (field_of_parsed_line tree) field one other;
     }
 
 record AreTaken (lines : List ℕ) (fields : List Line) : Type 0 where
   trees : List Field
   fine : All IsField trees
   parts : lines ≡ flat_map print_field trees
-  gives : map field_of_grammar trees ≡ fields
+  gives : map field_of_parsed_line trees ≡ fields
 
 lines_taken : (lines : List ℕ) (fields : List Line) → AreFieldLines lines fields → AreTaken lines fields
 lines_taken lines [] none = record { trees = []; fine = All-nil IsField; parts = none; gives = refl }
@@ -104,7 +104,7 @@ record IsSplit (text start : List ℕ) (fields : List Line) : Type 0 where
   trees : List Field
   last : LineEnd
   fine : All IsField trees
-  gives : map field_of_grammar trees ≡ fields
+  gives : map field_of_parsed_line trees ≡ fields
   parts : text ≡ print_blank blank ++ (start ++ (print_end end ++ print_section trees last))
 
 head_taken : (text start : List ℕ) (fields : List Line) → IsHead text start fields → IsSplit text start fields
@@ -128,7 +128,7 @@ head_taken text start fields is =
 pub record IsTakenRequest (text : List ℕ) (head : Head) : Type 0 where
   pub tree : RequestHead
   pub reads : ReadsRequest text tree []
-  pub gives : head ≡ head_of_grammar tree
+  pub gives : head ≡ head_of_parsed_request tree
 
 pub request_taken : (text : List ℕ) (head : Head) → IsRequestHead text head → IsTakenRequest text head
 request_taken text head is =
@@ -157,7 +157,7 @@ request_taken text head is =
 
 few_of : (text : List ℕ) (head : Head) (t : IsTakenRequest text head) → length head.fields ≤ most_field_lines → length t.tree.fields ≤ most_field_lines
 few_of text head t few =
-    let same : length head.fields ≡ length t.tree.fields = ap (λ (h : Head). length h.fields) t.gives ∙ length-map t.tree.fields field_of_grammar in
+    let same : length head.fields ≡ length t.tree.fields = ap (λ (h : Head). length h.fields) t.gives ∙ length-map t.tree.fields field_of_parsed_line in
     omega (arith, same, few)
 
 pub request_judged : (text : List ℕ) (head : Head) → IsRequestHead text head → length head.fields ≤ most_field_lines → RequestHeadIsJudged text (Ok head)
@@ -171,7 +171,7 @@ pub request_once : (text : List ℕ) (head other : Head) → IsRequestHead text 
 request_once text head other x y =
     let a = request_taken text head x in
     let b = request_taken text other y in
-    a.gives ∙ ap head_of_grammar (request_unique text a.tree b.tree [] [] a.reads b.reads).0 ∙ sym b.gives
+    a.gives ∙ ap head_of_parsed_request (request_unique text a.tree b.tree [] [] a.reads b.reads).0 ∙ sym b.gives
 
 -- ---- responses
 
@@ -180,7 +180,7 @@ pub record IsTakenResponse (text : List ℕ) (head : StatusHead) : Type 0 where
   pub reads : ReadsResponse text tree []
   pub gives : head ≡ status_head_of tree
 
-reason_of : (r : Option (List ℕ)) → IsReason r → AllPass is_value_byte (reason_phrase r)
+reason_of : (r : Option (List ℕ)) → IsReasonPhrase r → AllPass is_value_byte (reason_phrase r)
 reason_of None is = All-nil (λ b. is_value_byte b ≡ true)
 reason_of (Some phrase) is = characters_of_text phrase is
 
@@ -216,7 +216,7 @@ response_taken text head is =
 pub response_judged : (text : List ℕ) (head : StatusHead) → IsResponseHead text head → length head.fields ≤ most_field_lines → ResponseHeadIsJudged text (Ok head)
 response_judged text head is few =
     let t = response_taken text head is in
-    let same : length head.fields ≡ length t.tree.fields = ap (λ (h : StatusHead). length h.fields) t.gives ∙ length-map t.tree.fields field_of_grammar in
+    let same : length head.fields ≡ length t.tree.fields = ap (λ (h : StatusHead). length h.fields) t.gives ∙ length-map t.tree.fields field_of_parsed_line in
     (t.tree, (t.reads, omega (arith, same, few)), t.gives)
 
 pub response_not_refused : (text : List ℕ) (fault : FrameFault) (head : StatusHead) → ResponseHeadIsJudged text (Err fault) → length head.fields ≤ most_field_lines

@@ -13,10 +13,10 @@ use Rattle.httparse.specs.Grammar.{AllPass, is_token_byte, is_uri_byte}
 use Rattle.hx_fields.specs.Line.{Field}
 use Rattle.hx_fields.specs.Names.{is_blank}
 use Rattle.hx_fields.specs.Tokens.{is_token}
-use Rattle.hx_framing.specs.GivenFields.{IsTrimmed}
+use Rattle.hx_framing.specs.GivenFields.{TextIsTrimmed}
 use Rattle.hx_framing.specs.HeadLines.{is_colon, name_before_colon}
 use Rattle.hx_framing.proofs.HeadLineLemmas.{each, first_at, token_no_colon}
-use Rattle.hx_framing_laws.specs.Characters.{is_text_byte}
+use Rattle.hx_framing_laws.specs.Characters.{is_field_text_byte}
 use Rattle.hx_framing_laws.specs.Lines.{IsFieldLine, IsRequestLine, version_text}
 use Rattle.hx_framing_laws.proofs.CharacterLemmas.{token_of, characters_of_target}
 use Rattle.hx_framing_laws.proofs.FieldValues.{value_of_trimmed, trimmed_of_value}
@@ -38,8 +38,8 @@ colon_at line f is =
     ap (position_or_len is_colon) is.parts
     ∙ first_at is_colon f.name 58 (is.before ++ (f.value ++ is.behind)) (each is_token_byte (λ b. is_colon b ≡ false) f.name token_no_colon (token_of f.name is.name_is).1) refl
 
-blanks_are_text : (text : List ℕ) → list_all is_blank text ≡ true → list_all is_text_byte text ≡ true
-blanks_are_text text all = list_all-from_AllPass is_text_byte text (λ k d inside. or_left _ _ (AllPass-from_list_all is_blank text all k d inside))
+blanks_are_text : (text : List ℕ) → list_all is_blank text ≡ true → list_all is_field_text_byte text ≡ true
+blanks_are_text text all = list_all-from_AllPass is_field_text_byte text (λ k d inside. or_left _ _ (AllPass-from_list_all is_blank text all k d inside))
 
 behind_is : (line : List ℕ) (f : Field) (is : IsFieldLine line f) → behind_colon line ≡ is.before ++ (f.value ++ is.behind)
 behind_is line f is =
@@ -51,18 +51,18 @@ behind_is line f is =
 
 abbrev pub may_be_field_line : List ℕ → Bool
 may_be_field_line line =
-    (nat_lt (position_or_len is_colon line) (length line) && is_token (name_before_colon line)) && list_all is_text_byte (behind_colon line)
+    (nat_lt (position_or_len is_colon line) (length line) && is_token (name_before_colon line)) && list_all is_field_text_byte (behind_colon line)
 
 may_be : (line : List ℕ) (f : Field) → IsFieldLine line f → may_be_field_line line ≡ true
 may_be line f is =
     let rest : List ℕ = is.before ++ (f.value ++ is.behind) in
     let long : position_or_len is_colon line < length line = omega (arith, colon_at line f is, ap length is.parts, length-append f.name (58 ∷ rest)) in
-    let texts : list_all is_text_byte rest ≡ true
-    = list_all-append is_text_byte is.before (f.value ++ is.behind)
+    let texts : list_all is_field_text_byte rest ≡ true
+    = list_all-append is_field_text_byte is.before (f.value ++ is.behind)
     ∙ and_from _ _ (blanks_are_text is.before is.white.0)
-    (list_all-append is_text_byte f.value is.behind ∙ and_from _ _ (trimmed_of_value f.value is.value_is).0 (blanks_are_text is.behind is.white.1)) in
+    (list_all-append is_field_text_byte f.value is.behind ∙ and_from _ _ (trimmed_of_value f.value is.value_is).0 (blanks_are_text is.behind is.white.1)) in
     and_from _ _ (and_from _ _ (lt-ltb (position_or_len is_colon line) (length line) long) (ap is_token (name_stands line f is) ∙ is.name_is))
-    (ap (list_all is_text_byte) (behind_is line f is) ∙ texts)
+    (ap (list_all is_field_text_byte) (behind_is line f is) ∙ texts)
 
 pub is_no_field_line : (line : List ℕ) → may_be_field_line line ≡ false → (f : Field) → ¬ (IsFieldLine line f)
 is_no_field_line line fails f = λ is. let h : false ≡ true = sym fails ∙ may_be line f is in cc
@@ -74,7 +74,7 @@ is_no_value line f fails = λ is.
     let h : true ≡ false = sym fails ∙ or_from _ _ trimmed.starts trimmed.ends in cc
 
 -- the line of a field with this white space round it
-pub spelled : (field : Field) (before behind : List ℕ) → is_token field.name ≡ true → list_all is_text_byte field.value ≡ true → IsTrimmed field.value
+pub spelled : (field : Field) (before behind : List ℕ) → is_token field.name ≡ true → list_all is_field_text_byte field.value ≡ true → TextIsTrimmed field.value
     → list_all is_blank before ≡ true → list_all is_blank behind ≡ true → IsFieldLine (field.name ++ 58 ∷ (before ++ (field.value ++ behind))) field
 spelled field before behind name value trimmed front end =
     record { before = before; behind = behind; parts = refl; name_is = name; value_is = value_of_trimmed field.value value trimmed; white = (front, end) }

@@ -8,12 +8,12 @@ use Rattle.httparse.specs.Grammar.{LineEnd, crlf, lf, print_end, print_blank, pr
 use Rattle.httparse.proofs.GrammarLemmas.{print_request-append, print_response-append}
 use Rattle.httparse.proofs.TrimLemmas.{AllPass-trim_ows}
 use Rattle.hx_framing.specs.GivenFields.{LineSpellsField}
-use Rattle.hx_framing.specs.Head.{IsHeadOfRequest, field_of_grammar, head_of_grammar}
+use Rattle.hx_framing.specs.Head.{IsHeadOfRequest, field_of_parsed_line, head_of_parsed_request}
 use Rattle.hx_framing.specs.StatusHead.{IsStatusHead, status_head_of}
-use Rattle.hx_framing.proofs.HeadLineLemmas.{IsNo, each, value_byte, token_byte, token, without_return-is, text_of}
+use Rattle.hx_framing.proofs.HeadLineLemmas.{IsNo, each, value_byte, token_byte, token, without_trailing_cr-is, text_of}
 use Rattle.hx_framing.proofs.GivenLemmas.{spell_all}
-use Rattle.hx_framing_laws.specs.Characters.{AreOctets, is_text_byte}
-use Rattle.hx_framing_laws.specs.Lines.{IsLineEnd, IsReason, IsFieldLine, version_text, reason_text}
+use Rattle.hx_framing_laws.specs.Characters.{BytesAreOctets, is_field_text_byte}
+use Rattle.hx_framing_laws.specs.Lines.{IsLineEnd, IsReasonPhrase, IsFieldLine, version_text, reason_text}
 use Rattle.hx_framing_laws.specs.Heads.{AreFieldLines, AreEmptyLines, IsHead, IsRequestHead, IsResponseHead}
 use Rattle.hx_framing_laws.proofs.CharacterLemmas.{octets_parts, target_characters, text_characters}
 use Rattle.hx_framing_laws.proofs.FieldValues.{value_of_trimmed}
@@ -33,15 +33,15 @@ no_return f field =
     let raw = each is_value_byte (IsNo 13) f.raw (λ b v. (value_byte b v).0) field.raw in
     All-append (IsNo 13) f.name (58 ∷ f.raw) name (All-cons (IsNo 13) 58 f.raw refl raw)
 
-line_is : (f : Field) → IsField f → AreOctets f.raw → IsFieldLine (line_of f) (field_of_grammar f)
+line_is : (f : Field) → IsField f → BytesAreOctets f.raw → IsFieldLine (line_of f) (field_of_parsed_line f)
 line_is f field octets =
-    let spelled : LineSpellsField (text_of f) (field_of_grammar f) = (spell_all (f ∷ []) (All-cons IsField f [] field (All-nil IsField))).0 in record {
+    let spelled : LineSpellsField (text_of f) (field_of_parsed_line f) = (spell_all (f ∷ []) (All-cons IsField f [] field (All-nil IsField))).0 in record {
       before = spelled.before;
       behind = spelled.behind;
-      parts = sym (without_return-is (line_of f) f.end (no_return f field)) ∙ spelled.parts;
+      parts = sym (without_trailing_cr-is (line_of f) f.end (no_return f field)) ∙ spelled.parts;
       name_is = spelled.name;
       value_is = value_of_trimmed (field_value f)
-          (list_all-from_AllPass is_text_byte (field_value f) (AllPass-trim_ows is_text_byte f.raw (AllPass-from_list_all is_text_byte f.raw (text_characters f.raw octets field.raw))))
+          (list_all-from_AllPass is_field_text_byte (field_value f) (AllPass-trim_ows is_field_text_byte f.raw (AllPass-from_list_all is_field_text_byte f.raw (text_characters f.raw octets field.raw))))
           spelled.trimmed;
       white = spelled.white;
     }
@@ -52,14 +52,14 @@ line_parts f behind = regroup f.name f.raw (print_end f.end)
     regroup : (n r e : List ℕ) → (n ++ 58 ∷ r ++ e) ++ behind ≡ (n ++ 58 ∷ r) ++ (e ++ behind)
     regroup n r e = simp append_assoc refl
 
-raw_octets : (f : Field) (behind : List ℕ) → AreOctets (line_of f ++ behind) → AreOctets f.raw
+raw_octets : (f : Field) (behind : List ℕ) → BytesAreOctets (line_of f ++ behind) → BytesAreOctets f.raw
 raw_octets f behind octets = (octets_parts (58 ∷ []) f.raw (octets_parts f.name (58 ∷ f.raw) (octets_parts (line_of f) behind octets).0).1).1
 
-pub lines_are : (fields : List Field) → All IsField fields → AreOctets (flat_map print_field fields) → AreFieldLines (flat_map print_field fields) (map field_of_grammar fields)
+pub lines_are : (fields : List Field) → All IsField fields → BytesAreOctets (flat_map print_field fields) → AreFieldLines (flat_map print_field fields) (map field_of_parsed_line fields)
 lines_are [] fine octets = refl
 lines_are (f ∷ fields) fine octets =
     let behind : List ℕ = flat_map print_field fields in
-    let all : AreOctets (line_of f ++ (print_end f.end ++ behind)) = subst AreOctets (line_parts f behind) octets in
+    let all : BytesAreOctets (line_of f ++ (print_end f.end ++ behind)) = subst BytesAreOctets (line_parts f behind) octets in
     let field = All-head IsField f fields fine in (
       line_of f,
       print_end f.end,
@@ -83,11 +83,11 @@ empty_lines ends = record { ends = map print_end ends; each = all ends; parts = 
     same [] = refl
     same (end ∷ ends) = ap (λ t. print_end end ++ t) (same ends)
 
-head_is : (text start : List ℕ) (blank : List LineEnd) (end : LineEnd) (fields : List Field) (last : LineEnd) → All IsField fields → AreOctets text
-    → text ≡ print_blank blank ++ (start ++ (print_end end ++ print_section fields last)) → IsHead text start (map field_of_grammar fields)
+head_is : (text start : List ℕ) (blank : List LineEnd) (end : LineEnd) (fields : List Field) (last : LineEnd) → All IsField fields → BytesAreOctets text
+    → text ≡ print_blank blank ++ (start ++ (print_end end ++ print_section fields last)) → IsHead text start (map field_of_parsed_line fields)
 head_is text start blank end fields last fine octets parts =
     let lines : List ℕ = flat_map print_field fields in
-    let all : AreOctets (print_blank blank ++ (start ++ (print_end end ++ (lines ++ print_end last)))) = subst AreOctets parts octets in
+    let all : BytesAreOctets (print_blank blank ++ (start ++ (print_end end ++ (lines ++ print_end last)))) = subst BytesAreOctets parts octets in
     let behind = (octets_parts (print_end end) (lines ++ print_end last) (octets_parts start (print_end end ++ (lines ++ print_end last)) (octets_parts (print_blank blank) _ all).1).1).1 in record {
       front = print_blank blank;
       end = print_end end;
@@ -100,9 +100,9 @@ head_is text start blank end fields last fine octets parts =
       last_is = end_is last;
     }
 
-start_octets : (text start : List ℕ) (blank : List LineEnd) (behind : List ℕ) → AreOctets text → text ≡ print_blank blank ++ (start ++ behind) → AreOctets start
+start_octets : (text start : List ℕ) (blank : List LineEnd) (behind : List ℕ) → BytesAreOctets text → text ≡ print_blank blank ++ (start ++ behind) → BytesAreOctets start
 start_octets text start blank behind octets parts =
-    (octets_parts start behind (octets_parts (print_blank blank) (start ++ behind) (subst AreOctets parts octets)).1).0
+    (octets_parts start behind (octets_parts (print_blank blank) (start ++ behind) (subst BytesAreOctets parts octets)).1).0
 
 -- ---- requests
 
@@ -118,7 +118,7 @@ request_parts bytes h head =
     regroup : (m t v e s : List ℕ) → m ++ 32 ∷ (t ++ 32 ∷ (v ++ (e ++ (s ++ [])))) ≡ (m ++ 32 ∷ (t ++ 32 ∷ v)) ++ (e ++ s)
     regroup m t v e s = simp (append_assoc, append-nil)
 
-pub request_is : (bytes : List ℕ) (h : RequestHead) → AreOctets bytes → IsHeadOfRequest bytes h → IsRequestHead bytes (head_of_grammar h)
+pub request_is : (bytes : List ℕ) (h : RequestHead) → BytesAreOctets bytes → IsHeadOfRequest bytes h → IsRequestHead bytes (head_of_parsed_request h)
 request_is bytes h octets head =
     let parts = request_parts bytes h head in
     let start = start_octets bytes (request_line h) h.blank (print_end h.line_end ++ print_section h.fields h.last) octets parts in
@@ -156,11 +156,11 @@ response_parts bytes h head =
     by_reason None = regroup (version_text 1 h.minor) h.digits [] (print_end h.line_end) (print_section h.fields h.last)
     by_reason (Some phrase) = regroup (version_text 1 h.minor) h.digits (32 ∷ phrase) (print_end h.line_end) (print_section h.fields h.last)
 
-reason_is : (r : Option (List ℕ)) → AreOctets (reason_text r) → AllPass is_value_byte (reason_phrase r) → IsReason r
+reason_is : (r : Option (List ℕ)) → BytesAreOctets (reason_text r) → AllPass is_value_byte (reason_phrase r) → IsReasonPhrase r
 reason_is None octets pass = tt
 reason_is (Some phrase) octets pass = text_characters phrase (octets_parts (32 ∷ []) phrase octets).1 pass
 
-pub response_is : (bytes : List ℕ) (h : ResponseHead) → AreOctets bytes → IsStatusHead bytes h → IsResponseHead bytes (status_head_of h)
+pub response_is : (bytes : List ℕ) (h : ResponseHead) → BytesAreOctets bytes → IsStatusHead bytes h → IsResponseHead bytes (status_head_of h)
 response_is bytes h octets head =
     let parts = response_parts bytes h head in
     let start = start_octets bytes (status_line h) h.blank (print_end h.line_end ++ print_section h.fields h.last) octets parts in

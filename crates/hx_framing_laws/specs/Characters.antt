@@ -8,8 +8,8 @@ use Rattle.hx_fields.specs.Names.{is_blank}
 abbrev pub is_octet : ℕ → Bool
 is_octet b = nat_lt b 256
 
-abbrev pub AreOctets : List ℕ → Type 0
-AreOctets text = list_all is_octet text ≡ true
+abbrev pub BytesAreOctets : List ℕ → Type 0
+BytesAreOctets text = list_all is_octet text ≡ true
 
 -- VCHAR = %x21-7E
 abbrev pub is_vchar : ℕ → Bool
@@ -24,5 +24,5 @@ abbrev pub is_field_vchar : ℕ → Bool
 is_field_vchar b = is_vchar b || is_obs_text b
 
 -- SP / HTAB / field-vchar: what may stand within a field value, and in a reason phrase
-abbrev pub is_text_byte : ℕ → Bool
-is_text_byte b = is_blank b || is_field_vchar b
+abbrev pub is_field_text_byte : ℕ → Bool
+is_field_text_byte b = is_blank b || is_field_vchar b

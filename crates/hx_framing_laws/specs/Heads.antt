@@ -47,6 +47,6 @@ pub record IsResponseHead (text : List ℕ) (head : StatusHead) : Type 0 where
   pub head_is : IsHead text line head.fields
 
 -- own: the limits of a reader (RFC 9110, section 5.4)
-pub record IsWithinLimits (text : List ℕ) (fields : List Field) : Type 0 where
+pub record HeadIsWithinLimits (text : List ℕ) (fields : List Field) : Type 0 where
   pub few : length fields ≤ most_field_lines
   pub short : length text ≤ most_head_bytes

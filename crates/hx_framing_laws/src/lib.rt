@@ -10,8 +10,8 @@ mod head_laws;
 mod line_cases;
 
 pub use crate::head_laws::{
-    a_request_begins_with_a_head, a_request_head_is_what_the_standard_writes,
-    a_response_begins_with_a_head, a_response_head_is_what_the_standard_writes,
-    field_values_have_no_blanks_at_their_ends,
+    a_read_request_begins_with_its_head, a_read_response_begins_with_its_head,
+    field_values_have_no_blanks_at_their_ends, request_heads_taken_are_those_of_the_grammar,
+    response_heads_taken_are_those_of_the_grammar,
 };
 pub use crate::line_cases::{worked_field_lines, worked_heads, worked_request_lines};

@@ -3,20 +3,22 @@ ghost use Rattle.std.specs.Prelude.{◌≡◌, ℕ, List, [], ◌∷◌, ◌++�
 ghost use Rattle.hx_fields.specs.Line.{Field};
 ghost use Rattle.hx_framing_laws.specs.Lines.{IsFieldLine, IsRequestLine, IsStatusLine};
 ghost use Rattle.hx_framing_laws.specs.Heads.{IsRequestHead, IsResponseHead};
-ghost use Rattle.hx_framing_laws.specs.Examples.{field_of, where_text, where_text_otherwise, where_head};
-ghost use Rattle.hx_framing_laws.specs.Examples.{length_text, length_head};
+ghost use Rattle.hx_framing_laws.specs.Examples.{field_of_name_and_value, example_request_text};
+ghost use Rattle.hx_framing_laws.specs.Examples.{example_request_text_with_bare_lf};
+ghost use Rattle.hx_framing_laws.specs.Examples.{example_request_head};
+ghost use Rattle.hx_framing_laws.specs.Examples.{example_response_text, example_response_head};
 
 /// Heads of RFC 9112 are heads, also with what this proxy takes beside it.
 pub fn worked_heads()
-    ensures request { IsRequestHead where_text where_head }
-    ensures otherwise { IsRequestHead where_text_otherwise where_head }
-    ensures response { IsResponseHead length_text length_head }
+    ensures request { IsRequestHead example_request_text example_request_head }
+    ensures otherwise { IsRequestHead example_request_text_with_bare_lf example_request_head }
+    ensures response { IsResponseHead example_response_text example_response_head }
 {}
 
 /// What is no field line by RFC 9112, sections 5.1 and 5.2, and RFC 9110, section 5.5.
 pub fn worked_field_lines()
-    ensures plain { IsFieldLine (codes "Accept: a, b") (field_of (codes "Accept") (codes "a, b")) }
-    ensures tight { IsFieldLine (codes "Accept:a:b") (field_of (codes "Accept") (codes "a:b")) }
+    ensures plain { IsFieldLine (codes "Accept: a, b") (field_of_name_and_value (codes "Accept") (codes "a, b")) }
+    ensures tight { IsFieldLine (codes "Accept:a:b") (field_of_name_and_value (codes "Accept") (codes "a:b")) }
     ensures blank_before_colon { (f : Field) → ¬ (IsFieldLine (codes "Host : a") f) }
     ensures folded { (f : Field) → ¬ (IsFieldLine (codes " folded: a") f) }
     ensures no_name { (f : Field) → ¬ (IsFieldLine (codes ": a") f) }
@@ -25,8 +27,8 @@ pub fn worked_field_lines()
     ensures bare_return { (f : Field) → ¬ (IsFieldLine (codes "Host: a\rb") f) }
     ensures feed { (f : Field) → ¬ (IsFieldLine (codes "Host: a\nb") f) }
     ensures delete { (f : Field) → ¬ (IsFieldLine (codes "Host: a" ++ 127 ∷ []) f) }
-    ensures blank_at_the_end { ¬ (IsFieldLine (codes "Host: a ") (field_of (codes "Host") (codes "a "))) }
-    ensures blank_in_front { ¬ (IsFieldLine (codes "Host: a") (field_of (codes "Host") (codes " a"))) }
+    ensures blank_at_the_end { ¬ (IsFieldLine (codes "Host: a ") (field_of_name_and_value (codes "Host") (codes "a "))) }
+    ensures blank_in_front { ¬ (IsFieldLine (codes "Host: a") (field_of_name_and_value (codes "Host") (codes " a"))) }
 {}
 
 /// What is no request line by RFC 9112, sections 2.3 and 3.

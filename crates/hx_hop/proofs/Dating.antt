@@ -5,14 +5,14 @@ use Rattle.std.proofs.lemmas.List.Elements.{filter-append}
 use Rattle.hx_fields.specs.declared.limits.TheConstants.{END_OF_TIME}
 use Rattle.hx_fields.specs.Line.{Field}
 use Rattle.hx_fields.specs.FieldLines.{is_named, values_of, without_named}
-use Rattle.hx_hop.specs.Answering.{dated_of, has_one_date, is_one_date}
+use Rattle.hx_hop.specs.Answering.{fields_with_valid_date, has_one_date, is_one_http_date}
 use Rattle.hx_hop.specs.Forwarding.{line}
-use Rattle.hx_hop.specs.PassedOnFields.{DatedHasOneDate, DatingTwiceIsOnce, DateShowsTheMoment}
+use Rattle.hx_hop.specs.PassedOnFields.{DatedHasOneDate, DatingIsIdempotent, DateTextReadsBackAsItsMoment}
 use Rattle.hx_hop.specs.Moments.{date_text_of}
 use Rattle.hx_hop.proofs.Lines.{filter_none, not_true}
 use Rattle.hx_hop.proofs.Moments.{parse_secs-date_text_of}
 
-pub shows_the_moment : DateShowsTheMoment
+pub shows_the_moment : DateTextReadsBackAsItsMoment
 shows_the_moment now early = parse_secs-date_text_of now early
 
 -- the one Date that is added is the only one
@@ -23,7 +23,7 @@ added fields text =
 
 replaced : (fields : List Field) (now : ℕ) → now < END_OF_TIME
     → has_one_date (without_named fields (codes "Date") ++ line (codes "Date") (date_text_of now) ∷ []) ≡ true
-replaced fields now early = ap is_one_date (added fields (date_text_of now)) ∙ ap is_some (shows_the_moment now early)
+replaced fields now early = ap is_one_http_date (added fields (date_text_of now)) ∙ ap is_some (shows_the_moment now early)
 
 by_date : (fields : List Field) (now : ℕ) → now < END_OF_TIME → (t : Bool) → has_one_date fields ≡ t
     → has_one_date (cond t fields (without_named fields (codes "Date") ++ line (codes "Date") (date_text_of now) ∷ [])) ≡ true
@@ -33,7 +33,7 @@ by_date fields now early false e = replaced fields now early
 pub has_one : DatedHasOneDate
 has_one fields now early = by_date fields now early (has_one_date fields) refl
 
-pub dates_once : DatingTwiceIsOnce
+pub dates_once : DatingIsIdempotent
 dates_once fields now later early =
-    ap (λ t. cond t (dated_of fields now) (without_named (dated_of fields now) (codes "Date") ++ line (codes "Date") (date_text_of later) ∷ []))
+    ap (λ t. cond t (fields_with_valid_date fields now) (without_named (fields_with_valid_date fields now) (codes "Date") ++ line (codes "Date") (date_text_of later) ∷ []))
     (has_one fields now early)

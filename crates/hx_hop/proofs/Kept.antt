@@ -3,9 +3,9 @@ use Rattle.std.proofs.Common.{◌≡◌, Bool, true, false, not, ◌||◌, List,
 use Rattle.std.specs.Prelude.{filter, ◌&&◌}
 use Rattle.hx_fields.specs.Line.{Field}
 use Rattle.hx_fields.specs.FieldLines.{is_named, members_of}
-use Rattle.hx_hop.specs.Stripping.{connection_names, is_hop_line, is_hop_name}
-use Rattle.hx_hop.specs.Asking.{fields_that_go_on_of}
-use Rattle.hx_hop.specs.LinesThatGoOn.{line_goes_on}
+use Rattle.hx_hop.specs.Stripping.{connection_names, is_hop_by_hop_line, is_hop_by_hop_name}
+use Rattle.hx_hop.specs.Asking.{fields_passed_on_of}
+use Rattle.hx_hop.specs.LinesThatGoOn.{line_is_passed_on}
 
 module _ {X : Type 0} (p q : X → Bool) where
   both_at : (t u : Bool) (x : X) (rest more : List X) → q x ≡ u → filter q rest ≡ more
@@ -37,13 +37,13 @@ order false false true false = refl
 order false false false true = refl
 order false false false false = refl
 
-pub kept_at_once : (fields : List Field) → filter (line_goes_on (members_of fields (codes "Connection"))) fields ≡ fields_that_go_on_of fields
+pub kept_at_once : (fields : List Field) → filter (line_is_passed_on (members_of fields (codes "Connection"))) fields ≡ fields_passed_on_of fields
 kept_at_once fields =
-    let goes : Field → Bool = λ line. not (is_hop_line fields line) in
+    let goes : Field → Bool = λ line. not (is_hop_by_hop_line fields line) in
     let host : Field → Bool = λ line. not (is_named (codes "Host") line) in
     let expect : Field → Bool = λ line. not (is_named (codes "Expect") line) in
     sym (
     ap (filter expect) (filter_both goes host fields)
     ∙ filter_both (λ line. goes line && host line) expect fields
-    ∙ ap (λ p. filter p fields) (λ i line. order (is_hop_name line.name) (connection_names fields line.name) (is_named (codes "Host") line) (is_named (codes "Expect") line) i)
+    ∙ ap (λ p. filter p fields) (λ i line. order (is_hop_by_hop_name line.name) (connection_names fields line.name) (is_named (codes "Host") line) (is_named (codes "Expect") line) i)
     )

@@ -7,12 +7,12 @@ use Rattle.std.proofs.Math.Seq.{drop-cons}
 use Rattle.std.proofs.lemmas.Bool.{false≢true, or_left, or_right}
 use Rattle.std.proofs.lemmas.List.Folds.{list_any-append}
 use Rattle.std.proofs.lemmas.Slice.Eq.{bytes_eq-Decides}
-use Rattle.hx_fields.specs.Folded.{folded, folded_cmp, folded_ties}
+use Rattle.hx_fields.specs.Folded.{folded, folded_cmp, folded_cmp_ties_are_equal}
 use Rattle.hx_fields.specs.FieldLines.{is_named, members_of}
 use Rattle.hx_fields.specs.Names.{is_same_name, joined_lists, members_of_value}
 use Rattle.hx_fields.specs.Line.{Field}
-use Rattle.hx_hop.specs.Stripping.{cache_names, connection_names, name_is_among, is_hop_line, is_hop_name, lists_cache_field, stripped}
-use Rattle.hx_hop.specs.NamedLines.{AreUnmarkedNames, NamesAreMarkedBy, gives_name, is_looked_for, is_present_and_marked, is_present_and_unmarked, mark_after_naming, names_in_connection, name_is_present}
+use Rattle.hx_hop.specs.Stripping.{caching_field_names, connection_names, name_is_among, is_hop_by_hop_line, is_hop_by_hop_name, lists_cache_field, stripped}
+use Rattle.hx_hop.specs.NamedLines.{AllSoughtNamesAreUnmarked, NamesAreMarkedBy, members_have_folded_name, is_name_sought_in_connection, is_present_and_marked, is_present_and_unmarked, mark_after_naming, names_in_connection, name_is_present}
 
 abbrev pub Marked : Type 0
 Marked = BTreeMap (List ℕ) Bool
@@ -20,7 +20,7 @@ Marked = BTreeMap (List ℕ) Bool
 -- ---- cache names among members, or members among cache names
 
 abbrev pub any_is_cache_name : List (List ℕ) → Bool
-any_is_cache_name members = list_any (λ member. list_any (is_same_name member) cache_names) members
+any_is_cache_name members = list_any (λ member. list_any (is_same_name member) caching_field_names) members
 
 none_of_all : {X : Type 0} (xs : List X) → list_any (λ x. false) xs ≡ false
 none_of_all [] = refl
@@ -43,7 +43,7 @@ swapped names (member ∷ members) =
     either_of (is_same_name member) (λ name. name_is_among members name) names ∙ ap (λ b. list_any (is_same_name member) names || b) (swapped names members)
 
 pub lists_by_members : (fields : List Field) → any_is_cache_name (members_of fields (codes "Connection")) ≡ lists_cache_field fields
-lists_by_members fields = sym (swapped cache_names (members_of fields (codes "Connection")))
+lists_by_members fields = sym (swapped caching_field_names (members_of fields (codes "Connection")))
 
 -- ---- the names of lines
 
@@ -53,7 +53,7 @@ one a b h = (bytes_eq-Decides a b).0 h
 pub at_name : {X : Type 0} (name : List ℕ) (v : X) (old new : BTreeMap (List ℕ) X) →
     ((q : List ℕ) → get folded_cmp new q ≡ cond (is_at (folded_cmp name) q) (Some v) (get folded_cmp old q)) →
     (q : List ℕ) → get folded_cmp new q ≡ cond (bytes_eq name q) (Some v) (get folded_cmp old q)
-at_name name v old new h q = h q ∙ ap (λ b. cond b (Some v) (get folded_cmp old q)) (sym (folded_ties name q))
+at_name name v old new h q = h q ∙ ap (λ b. cond b (Some v) (get folded_cmp old q)) (sym (folded_cmp_ties_are_equal name q))
 
 by_put : (s n c : Bool) (g : Option Bool) → g ≡ cond (s || c) (Some false) None → cond n (Some false) g ≡ cond ((s || (n || false)) || c) (Some false) None
 by_put true true c g h = refl
@@ -63,7 +63,7 @@ by_put false false c g h = h
 
 pub one_name_more : (done : List Field) (line : Field) (old new : Marked) →
     ((q : List ℕ) → get folded_cmp new q ≡ cond (is_at (folded_cmp (folded line.name)) q) (Some false) (get folded_cmp old q)) →
-    AreUnmarkedNames done old → AreUnmarkedNames (done ++ line ∷ []) new
+    AllSoughtNamesAreUnmarked done old → AllSoughtNamesAreUnmarked (done ++ line ∷ []) new
 one_name_more done line old new u h q =
     let close = bytes_eq (folded (codes "close")) q in
     at_name (folded line.name) false old new u q
@@ -71,7 +71,7 @@ one_name_more done line old new u h q =
     ∙ sym (ap (λ b. cond (b || close) (Some false) None) (list_any-append (λ (l : Field). bytes_eq (folded l.name) q) done (line ∷ [])))
 
 pub close_alone : (old new : Marked) → ((q : List ℕ) → get folded_cmp old q ≡ None) →
-    ((q : List ℕ) → get folded_cmp new q ≡ cond (is_at (folded_cmp (folded (codes "close"))) q) (Some false) (get folded_cmp old q)) → AreUnmarkedNames [] new
+    ((q : List ℕ) → get folded_cmp new q ≡ cond (is_at (folded_cmp (folded (codes "close"))) q) (Some false) (get folded_cmp old q)) → AllSoughtNamesAreUnmarked [] new
 close_alone old new none u q =
     at_name (folded (codes "close")) false old new u q
     ∙ ap (λ (g : Option Bool). cond (bytes_eq (folded (codes "close")) q) (Some false) g) (none q)
@@ -115,7 +115,7 @@ member_passes member old un q = sym (stays (bytes_eq (folded member) q) (get fol
     stays true (Some false) h = absurd (false≢true (sym (h refl)))
     stays false g h = nothing_marks g
 
-pub all_marked : (all : List ℕ → Bool) (start now : Marked) → MarksOn (gives_name []) now all start → NamesAreMarkedBy all start now
+pub all_marked : (all : List ℕ → Bool) (start now : Marked) → MarksOn (members_have_folded_name []) now all start → NamesAreMarkedBy all start now
 all_marked all start now h q = sym (nothing_marks (get folded_cmp now q)) ∙ h q
 
 twice : (a b : Bool) (g : Option Bool) → mark_after_naming b (mark_after_naming a g) ≡ mark_after_naming (a || b) g
@@ -127,16 +127,16 @@ twice false b (Some false) = refl
 
 -- one member marks before those behind it
 pub one_marks : (member : List ℕ) (behind : List (List ℕ)) (all : List ℕ → Bool) (start old new : Marked) → NamesAreMarkedBy (bytes_eq (folded member)) old new →
-    MarksOn (gives_name (member ∷ behind)) old all start → MarksOn (gives_name behind) new all start
+    MarksOn (members_have_folded_name (member ∷ behind)) old all start → MarksOn (members_have_folded_name behind) new all start
 one_marks member behind all start old new m h q =
-    ap (mark_after_naming (gives_name behind q)) (m q) ∙ twice (bytes_eq (folded member) q) (gives_name behind q) (get folded_cmp old q) ∙ h q
+    ap (mark_after_naming (members_have_folded_name behind q)) (m q) ∙ twice (bytes_eq (folded member) q) (members_have_folded_name behind q) (get folded_cmp old q) ∙ h q
 
 -- the members of a line mark before those behind it
-pub line_marks : (members behind : List (List ℕ)) (all : List ℕ → Bool) (start old new : Marked) → NamesAreMarkedBy (gives_name members) old new →
-    MarksOn (gives_name (members ++ behind)) old all start → MarksOn (gives_name behind) new all start
+pub line_marks : (members behind : List (List ℕ)) (all : List ℕ → Bool) (start old new : Marked) → NamesAreMarkedBy (members_have_folded_name members) old new →
+    MarksOn (members_have_folded_name (members ++ behind)) old all start → MarksOn (members_have_folded_name behind) new all start
 line_marks members behind all start old new m h q =
-    ap (mark_after_naming (gives_name behind q)) (m q)
-    ∙ twice (gives_name members q) (gives_name behind q) (get folded_cmp old q)
+    ap (mark_after_naming (members_have_folded_name behind q)) (m q)
+    ∙ twice (members_have_folded_name members q) (members_have_folded_name behind q) (get folded_cmp old q)
     ∙ ap (λ b. mark_after_naming b (get folded_cmp old q)) (sym (list_any-append (λ (n : List ℕ). bytes_eq (folded n) q) members behind))
     ∙ h q
 
@@ -163,28 +163,28 @@ marked_line : (there given : Bool) → there ≡ true → is_present_and_marked 
 marked_line true given h = refl
 marked_line false given h = absurd (false≢true h)
 
-kept_alike : (all rest : List Field) (names : Marked) → ((q : List ℕ) → get folded_cmp names q ≡ mark_after_naming (names_in_connection all q) (cond (is_looked_for all q) (Some false) None)) →
-    ((q : List ℕ) → name_is_present rest q ≡ true → is_looked_for all q ≡ true) →
-    filter (λ (line : Field). not (is_hop_name line.name || is_present_and_marked (get folded_cmp names (folded line.name)))) rest ≡ filter (λ line. not (is_hop_line all line)) rest
+kept_alike : (all rest : List Field) (names : Marked) → ((q : List ℕ) → get folded_cmp names q ≡ mark_after_naming (names_in_connection all q) (cond (is_name_sought_in_connection all q) (Some false) None)) →
+    ((q : List ℕ) → name_is_present rest q ≡ true → is_name_sought_in_connection all q ≡ true) →
+    filter (λ (line : Field). not (is_hop_by_hop_name line.name || is_present_and_marked (get folded_cmp names (folded line.name)))) rest ≡ filter (λ line. not (is_hop_by_hop_line all line)) rest
 kept_alike all [] names h within = refl
 kept_alike all (line ∷ lines) names h within =
     let q = folded line.name in
-    let p : Field → Bool = λ l. not (is_hop_name l.name || is_present_and_marked (get folded_cmp names (folded l.name))) in
+    let p : Field → Bool = λ l. not (is_hop_by_hop_name l.name || is_present_and_marked (get folded_cmp names (folded l.name))) in
     let more = kept_alike all lines names h (λ z e. within z (or_right (bytes_eq (folded line.name) z) (name_is_present lines z) e)) in
     let there = within q (or_left (bytes_eq q q) (name_is_present lines q) ((bytes_eq-Decides q q).1 refl)) in
-    let same : is_present_and_marked (get folded_cmp names q) ≡ connection_names all line.name = ap is_present_and_marked (h q) ∙ marked_line (is_looked_for all q) (names_in_connection all q) there in
-    ap (λ b. cond (not (is_hop_name line.name || b)) (line ∷ filter p lines) (filter p lines)) same
-    ∙ ap (λ zs. cond (not (is_hop_line all line)) (line ∷ zs) zs) more
+    let same : is_present_and_marked (get folded_cmp names q) ≡ connection_names all line.name = ap is_present_and_marked (h q) ∙ marked_line (is_name_sought_in_connection all q) (names_in_connection all q) there in
+    ap (λ b. cond (not (is_hop_by_hop_name line.name || b)) (line ∷ filter p lines) (filter p lines)) same
+    ∙ ap (λ zs. cond (not (is_hop_by_hop_line all line)) (line ∷ zs) zs) more
 
-module _ (fields : List Field) (start names : Marked) (l : AreUnmarkedNames fields start) (m : NamesAreMarkedBy (names_in_connection fields) start names) where
-  marked_at : (q : List ℕ) → get folded_cmp names q ≡ mark_after_naming (names_in_connection fields q) (cond (is_looked_for fields q) (Some false) None)
+module _ (fields : List Field) (start names : Marked) (l : AllSoughtNamesAreUnmarked fields start) (m : NamesAreMarkedBy (names_in_connection fields) start names) where
+  marked_at : (q : List ℕ) → get folded_cmp names q ≡ mark_after_naming (names_in_connection fields q) (cond (is_name_sought_in_connection fields q) (Some false) None)
   marked_at q = m q ∙ ap (mark_after_naming (names_in_connection fields q)) (l q)
 
-  pub keeps_stripped : filter (λ (line : Field). not (is_hop_name line.name || is_present_and_marked (get folded_cmp names (folded line.name)))) fields ≡ stripped fields
+  pub keeps_stripped : filter (λ (line : Field). not (is_hop_by_hop_name line.name || is_present_and_marked (get folded_cmp names (folded line.name)))) fields ≡ stripped fields
   keeps_stripped = kept_alike fields fields names marked_at (λ q e. or_left (name_is_present fields q) (bytes_eq (folded (codes "close")) q) e)
 
   pub tells_close : is_present_and_marked (get folded_cmp names (folded (codes "close"))) ≡ connection_names fields (codes "close")
   tells_close =
       let q = folded (codes "close") in
       ap is_present_and_marked (marked_at q)
-      ∙ marked_line (is_looked_for fields q) (names_in_connection fields q) (or_right (name_is_present fields q) (bytes_eq q q) ((bytes_eq-Decides q q).1 refl))
+      ∙ marked_line (is_name_sought_in_connection fields q) (names_in_connection fields q) (or_right (name_is_present fields q) (bytes_eq q q) ((bytes_eq-Decides q q).1 refl))

@@ -15,21 +15,22 @@ abbrev pub is_http_date : List ℕ → Bool
 is_http_date text = is_some (parse_secs text)
 
 -- one line, and it is a date
-abbrev pub is_one_date : List (List ℕ) → Bool
-is_one_date [] = false
-is_one_date (value ∷ []) = is_http_date value
-is_one_date (value ∷ other ∷ more) = false
+abbrev pub is_one_http_date : List (List ℕ) → Bool
+is_one_http_date [] = false
+is_one_http_date (value ∷ []) = is_http_date value
+is_one_http_date (value ∷ other ∷ more) = false
 
 abbrev pub has_one_date : List Field → Bool
-has_one_date fields = is_one_date (values_of fields (codes "Date"))
+has_one_date fields = is_one_http_date (values_of fields (codes "Date"))
 
 -- A response without Date gets the moment at which it was received (RFC 9110, section 6.6.1).
 -- own: so does one with several, or with one that is no date ("A Date that can't be read is replaced")
-abbrev pub dated_of : List Field → ℕ → List Field
-dated_of fields now =
+abbrev pub fields_with_valid_date : List Field → ℕ → List Field
+fields_with_valid_date fields now =
     if has_one_date fields then fields
     else without_named fields (codes "Date") ++ line (codes "Date") (date_text_of now) ∷ []
 
 -- the head of a response that was received at this moment
 abbrev pub answered_of : Response → ℕ → Answered
-answered_of response now = record { status = response.status; fields = dated_of (stripped response.fields) now }
+answered_of response now =
+    record { status = response.status; fields = fields_with_valid_date (stripped response.fields) now }

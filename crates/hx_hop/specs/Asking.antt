@@ -10,8 +10,8 @@ use Rattle.hx_hop.specs.declared.request_view.Asked.{Asked}
 use Rattle.hx_hop.specs.Stripping.{connection_names, stripped}
 
 -- The lines that go on: the target has taken in Host, and the reader has carried out Expect (RFC 9110, section 10.1.1).
-abbrev pub fields_that_go_on_of : List Field → List Field
-fields_that_go_on_of fields = without_named (without_named (stripped fields) (codes "Host")) (codes "Expect")
+abbrev pub fields_passed_on_of : List Field → List Field
+fields_passed_on_of fields = without_named (without_named (stripped fields) (codes "Host")) (codes "Expect")
 
 -- the client's connection closes after the answer (RFC 9112, section 9.6)
 -- own: that of an HTTP/1.0 client always does ("Connections of HTTP/1.0 close")
@@ -24,7 +24,7 @@ asked_with_target request target = record {
   method = request.method;
   minor = request.minor;
   target = target;
-  fields = fields_that_go_on_of request.fields;
+  fields = fields_passed_on_of request.fields;
   content = request.content;
   close = client_connection_closes request;
 }
@@ -34,7 +34,7 @@ asked_with_judged_target request (Ok target) = Ok (asked_with_target request tar
 asked_with_judged_target request (Err fault) = Err fault
 
 -- What is asked: the target is judged with the fields as received, and a request whose target is refused has its fault.
-abbrev pub IsAsked : Request → Result Asked TargetFault → Type 0
-IsAsked request r =
+abbrev pub RequestIsReadAsAsked : Request → Result Asked TargetFault → Type 0
+RequestIsReadAsAsked request r =
     (target : Result Target TargetFault) × TargetIsJudged request.target (values_of request.fields (codes "Host")) target
     × (r ≡ asked_with_judged_target request target)

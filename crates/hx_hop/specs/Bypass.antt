@@ -4,13 +4,13 @@ use Rattle.std.specs.Prelude.{ℕ, ◌==◌, Bool, false, not, ◌||◌, List, l
 use Rattle.hx_fields.specs.FieldLines.{has_field}
 use Rattle.hx_hop.specs.declared.request_view.Asked.{Asked}
 
-abbrev pub has_a_byte : Option (List ℕ) → Bool
-has_a_byte None = false
-has_a_byte (Some content) = not (length content == 0)
+abbrev pub content_has_a_byte : Option (List ℕ) → Bool
+content_has_a_byte None = false
+content_has_a_byte (Some content) = not (length content == 0)
 
 -- content of at least one byte
 abbrev pub request_has_content : Asked → Bool
-request_has_content asked = has_a_byte asked.content
+request_has_content asked = content_has_a_byte asked.content
 
 abbrev pub asks_for_range : Asked → Bool
 asks_for_range asked = has_field asked.fields (codes "Range") || has_field asked.fields (codes "If-Range")

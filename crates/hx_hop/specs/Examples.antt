@@ -8,8 +8,8 @@ use Rattle.hx_hop.specs.declared.request_view.Asked.{Asked}
 use Rattle.hx_hop.specs.declared.conditions.Conditions.{Conditions}
 use Rattle.hx_hop.specs.Forwarding.{line}
 
-abbrev pub first_asked : Asked
-first_asked = record {
+abbrev pub first_example_asked : Asked
+first_example_asked = record {
   method = codes "GET";
   minor = 1;
   target = record { key = record { host = codes "h"; port = 80; path_query = codes "/a" }; table_path = codes "/a" };
@@ -29,12 +29,12 @@ asked_by_old_client = record {
   close = true;
 }
 
-abbrev pub first_conditions : Conditions
-first_conditions = record { etag = Some (codes "\"v1\""); modified = None }
+abbrev pub first_example_conditions : Conditions
+first_example_conditions = record { etag = Some (codes "\"v1\""); modified = None }
 
 -- in absolute form, with a Host line that doesn't count and a member of Connection
-abbrev pub absolute_request : Request
-absolute_request = record {
+abbrev pub request_in_absolute_form : Request
+request_in_absolute_form = record {
   method = codes "GET";
   target = codes "http://H:80";
   minor = 1;
@@ -45,8 +45,9 @@ absolute_request = record {
 }
 
 -- its target
-abbrev pub absolute_target : Target
-absolute_target = record { key = record { host = codes "h"; port = 80; path_query = codes "/" }; table_path = codes "/" }
+abbrev pub target_of_absolute_form : Target
+target_of_absolute_form =
+    record { key = record { host = codes "h"; port = 80; path_query = codes "/" }; table_path = codes "/" }
 
 -- a response of these lines
 abbrev pub response_with_fields : List Field → Response
@@ -56,22 +57,22 @@ abbrev pub date_line : List ℕ → Field
 date_line text = line (codes "Date") text
 
 -- lines of one connection in any case beside some that only look like them
-abbrev pub mixed_fields : List Field
-mixed_fields =
+abbrev pub hop_by_hop_and_similar_fields : List Field
+hop_by_hop_and_similar_fields =
     line (codes "cONNECTION") (codes "close, x-a ,, \"b, c\"") ∷ line (codes "X-A") (codes "1") ∷ line (codes "pROXY-aUTHENTICATE") (codes "Basic")
     ∷ line (codes "Proxy-Authenticat") (codes "2") ∷ line (codes "Connection") (codes "ETag") ∷ line (codes "ETag") (codes "\"v1\"")
     ∷ line (codes "Keep-Alive") (codes "5") ∷ line (codes "B") (codes "3") ∷ []
 
 -- a request with one line more than the first
-abbrev pub first_asked_with_line : List ℕ → List ℕ → Asked
-first_asked_with_line name value = record first_asked { fields = line name value ∷ [] }
+abbrev pub first_example_asked_with_line : List ℕ → List ℕ → Asked
+first_example_asked_with_line name value = record first_example_asked { fields = line name value ∷ [] }
 
 abbrev pub asked_of_content : Option (List ℕ) → Asked
-asked_of_content content = record first_asked { content = content }
+asked_of_content content = record first_example_asked { content = content }
 
 -- a Connection line that names this
-abbrev pub connection_line : List ℕ → List Field
-connection_line member = line (codes "Connection") member ∷ []
+abbrev pub connection_fields_naming : List ℕ → List Field
+connection_fields_naming member = line (codes "Connection") member ∷ []
 
 abbrev pub conditions_by_tag_and_date : Conditions
 conditions_by_tag_and_date = record { etag = Some (codes "\"v1\""); modified = Some (codes "Thu, 01 Jan 1970 00:00:05 GMT") }

@@ -20,12 +20,12 @@ abbrev pub via_text : ℕ → List ℕ → List ℕ
 via_text minor name = (if minor == 0 then codes "1.0 " else codes "1.1 ") ++ name
 
 -- a line of the two conditions that the proxy sends in the client's place
-abbrev pub is_condition : Field → Bool
-is_condition f = is_named (codes "If-None-Match") f || is_named (codes "If-Modified-Since") f
+abbrev pub is_condition_line : Field → Bool
+is_condition_line f = is_named (codes "If-None-Match") f || is_named (codes "If-Modified-Since") f
 
 -- the client's lines, without its conditions where the proxy sends its own, or keeps them
-abbrev pub client_lines : Bool → List Field → List Field
-client_lines without fields = filter (λ f. not (without && is_condition f)) fields
+abbrev pub forwarded_client_lines : Bool → List Field → List Field
+forwarded_client_lines without fields = filter (λ f. not (without && is_condition_line f)) fields
 
 abbrev pub line_if_present : List ℕ → Option (List ℕ) → List Field
 line_if_present name None = []
@@ -41,7 +41,7 @@ condition_lines (Some conditions) =
 -- judged on what is sent to it (RFC 9111, section 4.3.2)
 abbrev pub forwarded_lines : Bool → Asked → List ℕ → Option Conditions → List Field
 forwarded_lines keeps asked name conditions =
-    line (codes "Host") (host_text asked.target.key) ∷ client_lines (keeps || is_some conditions) asked.fields
+    line (codes "Host") (host_text asked.target.key) ∷ forwarded_client_lines (keeps || is_some conditions) asked.fields
     ++ condition_lines conditions
     ++ line (codes "Via") (via_text asked.minor name) ∷ []
 

@@ -2,10 +2,10 @@
 use Rattle.std.specs.Prelude.{ℕ, Bool, not, ◌&&◌, List, codes}
 use Rattle.hx_fields.specs.Line.{Field}
 use Rattle.hx_fields.specs.FieldLines.{is_named}
-use Rattle.hx_hop.specs.Stripping.{name_is_among, is_hop_name}
+use Rattle.hx_hop.specs.Stripping.{name_is_among, is_hop_by_hop_name}
 
 -- where these are the members of Connection
-abbrev pub line_goes_on : List (List ℕ) → Field → Bool
-line_goes_on named line =
+abbrev pub line_is_passed_on : List (List ℕ) → Field → Bool
+line_is_passed_on named line =
     not (is_named (codes "Host") line) && not (is_named (codes "Expect") line)
-    && not (is_hop_name line.name) && not (name_is_among named line.name)
+    && not (is_hop_by_hop_name line.name) && not (name_is_among named line.name)

@@ -6,51 +6,53 @@ use Rattle.std.specs.Prelude.{Some, None}
 use Rattle.httpdate.specs.Date.{parse_secs}
 use Rattle.hx_fields.specs.declared.limits.TheConstants.{END_OF_TIME}
 use Rattle.hx_fields.specs.Line.{Field}
-use Rattle.hx_fields.specs.FieldLines.{count_of, has_field, values_of}
+use Rattle.hx_fields.specs.FieldLines.{line_count_of_name, has_field, values_of}
 use Rattle.hx_framing.specs.declared.messages.Request.{Request}
 use Rattle.hx_target.specs.declared.targets.Target.{Target}
 use Rattle.hx_hop.specs.declared.conditions.Conditions.{Conditions}
 use Rattle.hx_framing.specs.declared.messages.Response.{Response}
 use Rattle.hx_target.specs.declared.keys.Key.{Key}
-use Rattle.hx_hop.specs.Answering.{answered_of, dated_of, has_one_date}
+use Rattle.hx_hop.specs.Answering.{answered_of, fields_with_valid_date, has_one_date}
 use Rattle.hx_hop.specs.Asking.{asked_with_target}
 use Rattle.hx_hop.specs.declared.request_view.Asked.{Asked}
 use Rattle.hx_hop.specs.Forwarding.{forwarded_lines, forwarded_of, host_text, line, via_text}
 use Rattle.hx_hop.specs.Moments.{date_text_of}
-use Rattle.hx_hop.specs.Stripping.{connection_names, is_hop_name, stripped}
+use Rattle.hx_hop.specs.Stripping.{connection_names, is_hop_by_hop_name, stripped}
 
 -- a field of one connection doesn't go on, nor one that a member of Connection names
-abbrev pub HopFieldsAreTakenOut : Type 0
-HopFieldsAreTakenOut = (fields : List Field) (name : List ℕ) →
-    is_hop_name name || connection_names fields name ≡ true → has_field (stripped fields) name ≡ false
+abbrev pub HopByHopFieldsAreRemoved : Type 0
+HopByHopFieldsAreRemoved = (fields : List Field) (name : List ℕ) →
+    is_hop_by_hop_name name || connection_names fields name ≡ true → has_field (stripped fields) name ≡ false
 
 -- every other field goes on with all its lines
-abbrev pub OtherFieldsAreKept : Type 0
-OtherFieldsAreKept = (fields : List Field) (name : List ℕ) →
-    is_hop_name name || connection_names fields name ≡ false → values_of (stripped fields) name ≡ values_of fields name
+abbrev pub EndToEndFieldsAreKept : Type 0
+EndToEndFieldsAreKept = (fields : List Field) (name : List ℕ) →
+    is_hop_by_hop_name name || connection_names fields name ≡ false → values_of (stripped fields) name
+    ≡ values_of fields name
 
 -- what was stripped has nothing left to strip
-abbrev pub StrippingTwiceIsOnce : Type 0
-StrippingTwiceIsOnce = (fields : List Field) → stripped (stripped fields) ≡ stripped fields
+abbrev pub StrippingIsIdempotent : Type 0
+StrippingIsIdempotent = (fields : List Field) → stripped (stripped fields) ≡ stripped fields
 
 -- the text of a moment is the date of that moment
-abbrev pub DateShowsTheMoment : Type 0
-DateShowsTheMoment = (now : ℕ) → now < END_OF_TIME → parse_secs (date_text_of now) ≡ Some now
+abbrev pub DateTextReadsBackAsItsMoment : Type 0
+DateTextReadsBackAsItsMoment = (now : ℕ) → now < END_OF_TIME → parse_secs (date_text_of now) ≡ Some now
 
 -- what was dated has one valid Date
 abbrev pub DatedHasOneDate : Type 0
-DatedHasOneDate = (fields : List Field) (now : ℕ) → now < END_OF_TIME → has_one_date (dated_of fields now) ≡ true
+DatedHasOneDate = (fields : List Field) (now : ℕ) → now < END_OF_TIME
+    → has_one_date (fields_with_valid_date fields now) ≡ true
 
 -- so it isn't dated again
-abbrev pub DatingTwiceIsOnce : Type 0
-DatingTwiceIsOnce = (fields : List Field) (now later : ℕ) → now < END_OF_TIME
-    → dated_of (dated_of fields now) later ≡ dated_of fields now
+abbrev pub DatingIsIdempotent : Type 0
+DatingIsIdempotent = (fields : List Field) (now later : ℕ) → now < END_OF_TIME
+    → fields_with_valid_date (fields_with_valid_date fields now) later ≡ fields_with_valid_date fields now
 
 -- whatever a request had, one Host line goes forward
-abbrev pub OneHostIsForwarded : Type 0
-OneHostIsForwarded = (keeps : Bool) (request : Request) (target : Target) (name : List ℕ)
+abbrev pub ExactlyOneHostIsForwarded : Type 0
+ExactlyOneHostIsForwarded = (keeps : Bool) (request : Request) (target : Target) (name : List ℕ)
     (conditions : Option Conditions) →
-    count_of (forwarded_lines keeps (asked_with_target request target) name conditions) (codes "Host") ≡ 1
+    line_count_of_name (forwarded_lines keeps (asked_with_target request target) name conditions) (codes "Host") ≡ 1
 
 -- and the proxy's Via comes last
 abbrev pub ForwardEndsWithVia : Type 0
@@ -64,14 +66,14 @@ abbrev pub NoHopFieldIsForwarded : Type 0
 NoHopFieldIsForwarded =
     (keeps : Bool) (request : Request) (target : Target) (name : List ℕ) (conditions : Option Conditions)
     (field : List ℕ) →
-    is_hop_name field ≡ true
+    is_hop_by_hop_name field ≡ true
     → has_field (forwarded_lines keeps (asked_with_target request target) name conditions) field
     ≡ false
 
 -- where the proxy keeps the client's conditions, and has none of its own, none goes forward: so no 304 is asked for
 -- (RFC 9110, sections 13.1.2, 13.1.3 and 15.4.5)
-abbrev pub KeptConditionsStayBehind : Type 0
-KeptConditionsStayBehind = (asked : Asked) (name : List ℕ) →
+abbrev pub WithheldConditionsAreNotForwarded : Type 0
+WithheldConditionsAreNotForwarded = (asked : Asked) (name : List ℕ) →
     (has_field (forwarded_lines true asked name None) (codes "If-None-Match") ≡ false)
     × (has_field (forwarded_lines true asked name None) (codes "If-Modified-Since") ≡ false)
 
@@ -90,8 +92,8 @@ NoLengthFieldIsForwarded = (keeps : Bool) (request : Request) (target : Target) 
 
 -- method and content go forward as they came, with the path and query of the target, in the proxy's own version
 -- (RFC 9110, sections 2.5 and 7.6; RFC 9112, section 3.2.1)
-abbrev pub WhatWasAskedIsForwarded : Type 0
-WhatWasAskedIsForwarded = (keeps : Bool) (request : Request) (target : Target) (name : List ℕ)
+abbrev pub MethodTargetAndContentAreForwarded : Type 0
+MethodTargetAndContentAreForwarded = (keeps : Bool) (request : Request) (target : Target) (name : List ℕ)
     (conditions : Option Conditions) →
     let sent = forwarded_of keeps (asked_with_target request target) name conditions in
     (sent.method ≡ request.method) × (sent.content ≡ request.content) × (sent.target ≡ target.key.path_query)
@@ -101,8 +103,9 @@ WhatWasAskedIsForwarded = (keeps : Bool) (request : Request) (target : Target) (
 abbrev pub DefaultPortIsLeftOut : Type 0
 DefaultPortIsLeftOut = (key : Key) → key.port ≡ 80 → host_text key ≡ key.host
 
-abbrev pub OtherPortsAreWritten : Type 0
-OtherPortsAreWritten = (key : Key) → (key.port == 80) ≡ false → host_text key ≡ key.host ++ codes ":" ++ decimal key.port
+abbrev pub NonDefaultPortsAreWritten : Type 0
+NonDefaultPortsAreWritten = (key : Key) → (key.port == 80) ≡ false → host_text key ≡ key.host ++ codes ":"
+    ++ decimal key.port
 
 -- Via tells the version that was received, and the name (RFC 9110, section 7.6.3)
 abbrev pub ViaShowsTheVersion : Type 0
@@ -114,11 +117,11 @@ ConnectionClosesWhereAsked = (request : Request) (target : Target) →
     (request.minor ≡ 0) ⊎ (connection_names request.fields (codes "close") ≡ true) →
     (asked_with_target request target).close ≡ true
 
-abbrev pub ConnectionStaysOpen : Type 0
-ConnectionStaysOpen = (request : Request) (target : Target) →
+abbrev pub ConnectionStaysOpenWithoutClose : Type 0
+ConnectionStaysOpenWithoutClose = (request : Request) (target : Target) →
     request.minor ≡ 1 → connection_names request.fields (codes "close") ≡ false →
     (asked_with_target request target).close ≡ false
 
 -- an answer keeps its status
-abbrev pub StatusIsKept : Type 0
-StatusIsKept = (response : Response) (now : ℕ) → (answered_of response now).status ≡ response.status
+abbrev pub AnswerKeepsItsStatus : Type 0
+AnswerKeepsItsStatus = (response : Response) (now : ℕ) → (answered_of response now).status ≡ response.status

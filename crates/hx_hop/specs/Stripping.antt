@@ -1,7 +1,7 @@
 -- What concerns one connection alone and doesn't go on (RFC 9110, section 7.6.1).
 --
 -- connection_names: a member of Connection is this name
--- is_hop_name: such a name whatever Connection says     is_hop_line: a line that doesn't go on
+-- is_hop_by_hop_name: such a name whatever Connection says     is_hop_by_hop_line: a line that doesn't go on
 -- stripped: the lines that go on                        lists_cache_field: Connection names what a cache reads
 use Rattle.std.specs.Prelude.{ℕ, Bool, not, ◌||◌, List, [], ◌∷◌, filter, codes}
 use Rattle.std.specs.List.{list_any}
@@ -20,29 +20,29 @@ connection_names fields name = name_is_among (members_of fields (codes "Connecti
 -- a field of one connection, whether Connection names it or not
 -- own: Trailer and the three of proxy authentication, of which the standard leaves the choice
 -- ("Fields of one connection are taken out")
-abbrev pub hop_names : List (List ℕ)
-hop_names =
+abbrev pub hop_by_hop_names : List (List ℕ)
+hop_by_hop_names =
     codes "Connection" ∷ codes "Proxy-Connection" ∷ codes "Keep-Alive" ∷ codes "TE" ∷ codes "Transfer-Encoding"
     ∷ codes "Upgrade" ∷ codes "Trailer" ∷ codes "Proxy-Authenticate" ∷ codes "Proxy-Authentication-Info"
     ∷ codes "Proxy-Authorization" ∷ []
 
-abbrev pub is_hop_name : List ℕ → Bool
-is_hop_name name = name_is_among hop_names name
+abbrev pub is_hop_by_hop_name : List ℕ → Bool
+is_hop_by_hop_name name = name_is_among hop_by_hop_names name
 
 -- a line that concerns the connection on which the fields came
-abbrev pub is_hop_line : List Field → Field → Bool
-is_hop_line fields line = is_hop_name line.name || connection_names fields line.name
+abbrev pub is_hop_by_hop_line : List Field → Field → Bool
+is_hop_by_hop_line fields line = is_hop_by_hop_name line.name || connection_names fields line.name
 
 -- the lines that go on
 abbrev pub stripped : List Field → List Field
-stripped fields = filter (λ line. not (is_hop_line fields line)) fields
+stripped fields = filter (λ line. not (is_hop_by_hop_line fields line)) fields
 
 -- the fields by which a cache decides (RFC 9111, sections 3 and 4; RFC 9110, section 8.8)
-abbrev pub cache_names : List (List ℕ)
-cache_names =
+abbrev pub caching_field_names : List (List ℕ)
+caching_field_names =
     codes "Age" ∷ codes "Cache-Control" ∷ codes "Date" ∷ codes "ETag" ∷ codes "Expires" ∷ codes "Last-Modified"
     ∷ codes "Set-Cookie" ∷ codes "Vary" ∷ []
 
 -- Connection names one of them, so that what is left after stripping says less than the origin said
 abbrev pub lists_cache_field : List Field → Bool
-lists_cache_field fields = list_any (connection_names fields) cache_names
+lists_cache_field fields = list_any (connection_names fields) caching_field_names

@@ -4,7 +4,7 @@
 //! read: the moment of receipt is handed in.
 ghost use Rattle.std.specs.Prelude.{◌≡◌, ◌<◌, ◌++◌, ◌∷◌, [], codes, IfOk, OnOk};
 ghost use Rattle.hx_fields.specs.FieldLines.{values_of};
-ghost use Rattle.hx_hop.specs.Answering.{answered_of, dated_of, has_one_date, is_http_date};
+ghost use Rattle.hx_hop.specs.Answering.{answered_of, fields_with_valid_date, has_one_date, is_http_date};
 ghost use Rattle.hx_hop.specs.Forwarding.{line};
 ghost use Rattle.hx_hop.specs.Moments.{date_text_of};
 
@@ -47,7 +47,7 @@ pub fn date_text(now: u64) -> [u8; 29]
 /// of memory, which drops the fields: whoever needs them afterwards hands in a copy.
 pub fn dated(mut fields: Fields, now: u64) -> Result<Fields, AllocError>
     requires { now < 253_402_300_800 }
-    ensures { IfOk result (λ dated. dated ≡ dated_of fields now) }
+    ensures { IfOk result (λ dated. dated ≡ fields_with_valid_date fields now) }
 {
     if has_one_date(&fields) {
         return Ok(fields);

@@ -1,7 +1,8 @@
 //! From a request that rules saw to the one that goes to the origin.
 ghost use Rattle.std.specs.Prelude.{◌≡◌, ◌++◌, ◌∷◌, [], IfOk, OnOk, codes, is_some};
 ghost use Rattle.std.specs.Option.{option_copied};
-ghost use Rattle.hx_hop.specs.Forwarding.{host_text, via_text, is_condition, client_lines, line_if_present};
+ghost use Rattle.hx_hop.specs.Forwarding.{host_text, via_text, is_condition_line, forwarded_client_lines};
+ghost use Rattle.hx_hop.specs.Forwarding.{line_if_present};
 ghost use Rattle.hx_hop.specs.Forwarding.{condition_lines};
 ghost use Rattle.hx_hop.specs.Forwarding.{forwarded_lines, forwarded_of};
 
@@ -45,8 +46,8 @@ fn via_text(alloc: Global, minor: u8, name: &[u8]) -> Result<Vec<u8>, AllocError
 }
 
 /// Whether a line is one of the two conditions that the proxy sends in the client's place.
-fn is_condition(line: &Field) -> bool
-    ensures { result ≡ is_condition line.now }
+fn is_condition_line(line: &Field) -> bool
+    ensures { result ≡ is_condition_line line.now }
 {
     is_same_name(line.name(), b"If-None-Match") || is_same_name(line.name(), b"If-Modified-Since")
 }
@@ -58,10 +59,10 @@ fn push_client_lines(
     lines: &[Field],
     without_conditions: bool,
 ) -> Result<(), AllocError>
-    ensures { OnOk result (fields.new ≡ fields.old ++ client_lines without_conditions lines.now) }
+    ensures { OnOk result (fields.new ≡ fields.old ++ forwarded_client_lines without_conditions lines.now) }
 {
     for line in lines {
-        if !(without_conditions && is_condition(line)) {
+        if !(without_conditions && is_condition_line(line)) {
             fields.push_line(line.copy(alloc)?)?;
         }
     }
@@ -95,10 +96,10 @@ fn forwarded_lines(
     asked: &Asked,
     name: &[u8],
     conditions: Option<&Conditions>,
-    keeps_conditions: bool,
+    withholds_conditions: bool,
 ) -> Result<Fields, AllocError>
     ensures { IfOk result (λ fields. fields
-        ≡ forwarded_lines keeps_conditions asked.now name.now (option_copied conditions.entry)) }
+        ≡ forwarded_lines withholds_conditions asked.now name.now (option_copied conditions.entry)) }
 {
     let mut fields = Fields::new(alloc);
     let host = host_text(alloc, &asked.target.key)?;
@@ -107,7 +108,7 @@ fn forwarded_lines(
         alloc,
         &mut fields,
         asked.fields.as_slice(),
-        keeps_conditions || conditions.is_some(),
+        withholds_conditions || conditions.is_some(),
     )?;
     push_conditions(&mut fields, conditions)?;
     let via = via_text(alloc, asked.minor, name)?;
@@ -124,16 +125,16 @@ pub fn forward_request(
     asked: &Asked,
     name: &[u8],
     conditions: Option<&Conditions>,
-    keeps_conditions: bool,
+    withholds_conditions: bool,
 ) -> Result<Request, AllocError>
     ensures { IfOk result (λ request. request
-        ≡ forwarded_of keeps_conditions asked.now name.now (option_copied conditions.entry)) }
+        ≡ forwarded_of withholds_conditions asked.now name.now (option_copied conditions.entry)) }
 {
     Ok(Request {
         method: asked.method.clone()?,
         target: asked.target.key.path_query.copy(alloc)?,
         minor: 1,
-        fields: forwarded_lines(alloc, asked, name, conditions, keeps_conditions)?,
+        fields: forwarded_lines(alloc, asked, name, conditions, withholds_conditions)?,
         content: copy_content(alloc, asked.content.as_ref())?,
     })
 }

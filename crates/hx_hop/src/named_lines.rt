@@ -7,18 +7,19 @@ ghost use Rattle.std.specs.Prelude.{◌≡◌, ◌==◌, ◌||◌, not, ◌&&◌
 ghost use Rattle.std.specs.Prelude.{◌<◌, ℕ, Bool, true, false, List, if◌then◌else◌, slice_set};
 ghost use Rattle.std.specs.List.{list_any};
 ghost use Rattle.std.specs.BTreeMap.{get};
-ghost use Rattle.hx_fields.specs.FirstBytes.{begins_in, first_byte};
+ghost use Rattle.hx_fields.specs.FirstBytes.{begins_with_one_of, first_byte};
 ghost use Rattle.hx_fields.specs.Folded.{folded, folded_cmp};
-ghost use Rattle.hx_fields.specs.NameBuckets.{bucket_of, falls_in};
-ghost use Rattle.hx_fields.specs.FieldLines.{count_of, is_named};
+ghost use Rattle.hx_fields.specs.NameBuckets.{bucket_of_name, falls_in_marked_bucket};
+ghost use Rattle.hx_fields.specs.FieldLines.{line_count_of_name, is_named};
 ghost use Rattle.hx_fields.specs.Names.{members_of_value};
-ghost use Rattle.hx_hop.specs.Stripping.{connection_names, is_hop_name, stripped};
-ghost use Rattle.hx_hop.specs.NamedLines.{AreUnmarkedNames, NamesAreMarkedBy, is_present_and_marked};
-ghost use Rattle.hx_hop.specs.NamedLines.{is_looked_for, is_present_and_unmarked, has_many_members};
+ghost use Rattle.hx_hop.specs.Stripping.{connection_names, is_hop_by_hop_name, stripped};
+ghost use Rattle.hx_hop.specs.NamedLines.{AllSoughtNamesAreUnmarked, NamesAreMarkedBy, is_present_and_marked};
+ghost use Rattle.hx_hop.specs.NamedLines.{is_name_sought_in_connection, is_present_and_unmarked};
+ghost use Rattle.hx_hop.specs.NamedLines.{connection_has_many_members};
 ghost use Rattle.hx_hop.specs.NamedLines.{names_in_connection, names_in_value};
-ghost use Rattle.hx_hop.specs.NamedLines.{AreSignsOf, UnmarkedShow};
+ghost use Rattle.hx_hop.specs.NamedLines.{IsPrefilterOfNames, PrefilterPassesUnmarkedNames};
 
-use crate::stripping::is_hop_name;
+use crate::stripping::is_hop_by_hop_name;
 use hx_fields::{
     Field, Fields, FirstBytes, FoldedName, NameBuckets, is_same_name, next_member_beginning_in,
 };
@@ -29,8 +30,8 @@ use std::collections::BTreeMap;
 const MANY_BYTES: usize = 64;
 
 /// Whether Connection may have so many members that they are to be looked up.
-pub(crate) fn has_many_members(fields: &Fields) -> bool
-    ensures { result ≡ has_many_members fields.now }
+pub(crate) fn connection_has_many_members(fields: &Fields) -> bool
+    ensures { result ≡ connection_has_many_members fields.now }
 {
     match fields.count(b"Connection") {
         0 => false,
@@ -48,21 +49,22 @@ fn has_long_line(lines: &[Field]) -> bool
 
 /// What names begin with, and with which of these bytes more than one of them does.
 #[derive(Drop)]
-pub(crate) struct Beginnings {
+pub(crate) struct MarkedFirstBytes {
     taken: FirstBytes,
     shared: FirstBytes,
 }
 
-impl Beginnings {
+impl MarkedFirstBytes {
     /// Adds that of a name.
     fn add(&mut self, name: &[u8])
         ensures taken { self.new.taken ≡ slice_set self.old.taken (first_byte name.now) true }
         ensures within { first_byte name.now < length self.old.taken }
-        ensures shared { self.new.shared ≡ (if begins_in self.old.taken name.now
+        ensures shared { self.new.shared ≡ (if begins_with_one_of self.old.taken name.now
             then slice_set self.old.shared (first_byte name.now) true else self.old.shared) }
-        ensures inside { begins_in self.old.taken name.now ≡ true → first_byte name.now < length self.old.shared }
+        ensures inside { begins_with_one_of self.old.taken name.now ≡ true
+            → first_byte name.now < length self.old.shared }
     {
-        if self.taken.has_first_of(name) {
+        if self.taken.has_first_byte_of(name) {
             self.shared.add(name);
         }
         self.taken.add(name);
@@ -70,11 +72,11 @@ impl Beginnings {
 
     /// Takes out that of a name, where it isn't shared.
     fn remove(&mut self, name: &[u8])
-        ensures taken { self.new.taken ≡ (if begins_in self.old.shared name.now
+        ensures taken { self.new.taken ≡ (if begins_with_one_of self.old.shared name.now
             then self.old.taken else slice_set self.old.taken (first_byte name.now) false) }
         ensures shared { self.new.shared ≡ self.old.shared }
     {
-        if !self.shared.has_first_of(name) {
+        if !self.shared.has_first_byte_of(name) {
             self.taken.remove(name);
         }
     }
@@ -82,19 +84,20 @@ impl Beginnings {
 
 /// The buckets into which names fall, and into which of them more than one does.
 #[derive(Drop)]
-pub(crate) struct Falls {
+pub(crate) struct MarkedBuckets {
     taken: NameBuckets,
     shared: NameBuckets,
 }
 
-impl Falls {
+impl MarkedBuckets {
     /// Adds that of a name.
     fn add(&mut self, name: &[u8])
-        ensures taken { self.new.taken ≡ slice_set self.old.taken (bucket_of name.now) true }
-        ensures within { bucket_of name.now < length self.old.taken }
-        ensures shared { self.new.shared ≡ (if falls_in self.old.taken name.now
-            then slice_set self.old.shared (bucket_of name.now) true else self.old.shared) }
-        ensures inside { falls_in self.old.taken name.now ≡ true → bucket_of name.now < length self.old.shared }
+        ensures taken { self.new.taken ≡ slice_set self.old.taken (bucket_of_name name.now) true }
+        ensures within { bucket_of_name name.now < length self.old.taken }
+        ensures shared { self.new.shared ≡ (if falls_in_marked_bucket self.old.taken name.now
+            then slice_set self.old.shared (bucket_of_name name.now) true else self.old.shared) }
+        ensures inside { falls_in_marked_bucket self.old.taken name.now ≡ true
+            → bucket_of_name name.now < length self.old.shared }
     {
         if self.taken.add(name) {
             self.shared.add(name);
@@ -103,8 +106,8 @@ impl Falls {
 
     /// Takes out that of a name, where it isn't shared.
     fn remove(&mut self, name: &[u8])
-        ensures taken { self.new.taken ≡ (if falls_in self.old.shared name.now
-            then self.old.taken else slice_set self.old.taken (bucket_of name.now) false) }
+        ensures taken { self.new.taken ≡ (if falls_in_marked_bucket self.old.shared name.now
+            then self.old.taken else slice_set self.old.taken (bucket_of_name name.now) false) }
         ensures shared { self.new.shared ≡ self.old.shared }
     {
         if !self.shared.has(name) {
@@ -115,22 +118,22 @@ impl Falls {
 
 /// What a text has to show to be one of some names.
 #[derive(Drop)]
-pub(crate) struct Signs {
-    firsts: Beginnings,
-    buckets: Falls,
+pub(crate) struct NamePrefilter {
+    firsts: MarkedFirstBytes,
+    buckets: MarkedBuckets,
 }
 
-impl Signs {
+impl NamePrefilter {
     /// Those of no name.
-    fn none() -> Signs
-        ensures { AreSignsOf (λ q. false) result }
+    fn none() -> NamePrefilter
+        ensures { IsPrefilterOfNames (λ q. false) result }
     {
-        Signs {
-            firsts: Beginnings {
+        NamePrefilter {
+            firsts: MarkedFirstBytes {
                 taken: FirstBytes::none(),
                 shared: FirstBytes::none(),
             },
-            buckets: Falls {
+            buckets: MarkedBuckets {
                 taken: NameBuckets::none(),
                 shared: NameBuckets::none(),
             },
@@ -139,8 +142,8 @@ impl Signs {
 
     /// Adds those of a name.
     fn add(&mut self, name: &[u8])
-        ensures { (names : List ℕ → Bool) → AreSignsOf names self.old
-            → AreSignsOf (λ q. names q || bytes_eq (folded name.now) q) self.new }
+        ensures { (names : List ℕ → Bool) → IsPrefilterOfNames names self.old
+            → IsPrefilterOfNames (λ q. names q || bytes_eq (folded name.now) q) self.new }
     {
         self.firsts.add(name);
         self.buckets.add(name);
@@ -148,8 +151,8 @@ impl Signs {
 
     /// Takes out those of a name, but for what another name shows as well.
     fn remove(&mut self, name: &[u8])
-        ensures { (names : List ℕ → Bool) → names (folded name.now) ≡ true → AreSignsOf names self.old
-            → AreSignsOf (λ q. names q && not (bytes_eq (folded name.now) q)) self.new }
+        ensures { (names : List ℕ → Bool) → names (folded name.now) ≡ true → IsPrefilterOfNames names self.old
+            → IsPrefilterOfNames (λ q. names q && not (bytes_eq (folded name.now) q)) self.new }
     {
         self.firsts.remove(name);
         self.buckets.remove(name);
@@ -164,11 +167,14 @@ pub(crate) struct Stripped {
 }
 
 /// What goes on. Its only error is out of memory.
-pub(crate) fn strip_many(alloc: Global, fields: &Fields) -> Result<Stripped, AllocError>
+pub(crate) fn strip_with_many_members(
+    alloc: Global,
+    fields: &Fields,
+) -> Result<Stripped, AllocError>
     ensures lines { IfOk result (λ kept. kept.fields ≡ stripped fields.now) }
     ensures closes { IfOk result (λ kept. kept.closes ≡ connection_names fields.now (codes "close")) }
 {
-    let mut signs = Signs::none();
+    let mut signs = NamePrefilter::none();
     let mut names = names_looked_for(alloc, &mut signs, fields)?;
     mark_members(alloc, &mut names, &mut signs, fields)?;
     let closes = is_present_and_marked(&names, &FoldedName::of(alloc, b"close")?);
@@ -181,12 +187,12 @@ pub(crate) fn strip_many(alloc: Global, fields: &Fields) -> Result<Stripped, All
 /// The names of the lines and `close`, none of them marked yet, and their signs.
 fn names_looked_for(
     alloc: Global,
-    signs: &mut Signs,
+    signs: &mut NamePrefilter,
     fields: &Fields,
 ) -> Result<BTreeMap<FoldedName, bool>, AllocError>
-    requires { AreSignsOf (λ q. false) signs.old }
-    ensures names { IfOk result (λ names. AreUnmarkedNames fields.now names) }
-    ensures signs { OnOk result (AreSignsOf (is_looked_for fields.now) signs.new) }
+    requires { IsPrefilterOfNames (λ q. false) signs.old }
+    ensures names { IfOk result (λ names. AllSoughtNamesAreUnmarked fields.now names) }
+    ensures signs { OnOk result (IsPrefilterOfNames (is_name_sought_in_connection fields.now) signs.new) }
 {
     let mut names = BTreeMap::new(alloc);
     names.insert(FoldedName::of(alloc, b"close")?, false)?;
@@ -205,10 +211,10 @@ fn names_looked_for(
 fn mark_members(
     alloc: Global,
     names: &mut BTreeMap<FoldedName, bool>,
-    signs: &mut Signs,
+    signs: &mut NamePrefilter,
     fields: &Fields,
 ) -> Result<(), AllocError>
-    requires { UnmarkedShow signs.old names.old }
+    requires { PrefilterPassesUnmarkedNames signs.old names.old }
     ensures { OnOk result (NamesAreMarkedBy (names_in_connection fields.now) names.old names.new) }
 {
     let mut name = FoldedName::new(alloc);
@@ -224,13 +230,13 @@ fn mark_members(
 fn mark_value(
     alloc: Global,
     names: &mut BTreeMap<FoldedName, bool>,
-    signs: &mut Signs,
+    signs: &mut NamePrefilter,
     name: &mut FoldedName,
     value: &[u8],
 ) -> Result<(), AllocError>
-    requires { UnmarkedShow signs.old names.old }
+    requires { PrefilterPassesUnmarkedNames signs.old names.old }
     ensures marked { OnOk result (NamesAreMarkedBy (names_in_value value.now) names.old names.new) }
-    ensures signs { OnOk result (UnmarkedShow signs.new names.new) }
+    ensures signs { OnOk result (PrefilterPassesUnmarkedNames signs.new names.new) }
 {
     let mut rest = value;
     while let Some((member, behind)) = next_member_beginning_in(rest, &signs.firsts.taken) {
@@ -246,13 +252,13 @@ fn mark_value(
 fn mark_member(
     alloc: Global,
     names: &mut BTreeMap<FoldedName, bool>,
-    signs: &mut Signs,
+    signs: &mut NamePrefilter,
     name: &mut FoldedName,
     member: &[u8],
 ) -> Result<(), AllocError>
-    requires { UnmarkedShow signs.old names.old }
+    requires { PrefilterPassesUnmarkedNames signs.old names.old }
     ensures marked { OnOk result (NamesAreMarkedBy (bytes_eq (folded member.now)) names.old names.new) }
-    ensures signs { OnOk result (UnmarkedShow signs.new names.new) }
+    ensures signs { OnOk result (PrefilterPassesUnmarkedNames signs.new names.new) }
 {
     name.set(member)?;
     if is_present_and_unmarked(names, name) {
@@ -289,7 +295,7 @@ fn keep_unmarked(
     fields: &Fields,
 ) -> Result<Fields, AllocError>
     ensures { IfOk result (λ kept. kept
-        ≡ filter (λ line. not (is_hop_name line.name || is_present_and_marked
+        ≡ filter (λ line. not (is_hop_by_hop_name line.name || is_present_and_marked
         (get folded_cmp names.now (folded line.name))))
         fields.now) }
 {
@@ -306,7 +312,8 @@ fn keep_unmarked(
 
 /// Whether a line of this folded name goes on.
 fn goes_on(names: &BTreeMap<FoldedName, bool>, name: &FoldedName, line: &Field) -> bool
-    ensures { result ≡ not (is_hop_name line.now.name || is_present_and_marked (get folded_cmp names.now name.now)) }
+    ensures { result
+        ≡ not (is_hop_by_hop_name line.now.name || is_present_and_marked (get folded_cmp names.now name.now)) }
 {
-    !is_hop_name(line.name()) && !is_present_and_marked(names, name)
+    !is_hop_by_hop_name(line.name()) && !is_present_and_marked(names, name)
 }

@@ -4,16 +4,16 @@
 ghost use Rattle.std.specs.Prelude.{◌≡◌, codes, IfOk};
 ghost use Rattle.std.specs.List.{list_any};
 ghost use Rattle.hx_fields.specs.Names.{is_same_name, members_of_value};
-ghost use Rattle.hx_hop.specs.Stripping.{cache_names, name_is_among, is_hop_name, lists_cache_field};
+ghost use Rattle.hx_hop.specs.Stripping.{caching_field_names, name_is_among, is_hop_by_hop_name, lists_cache_field};
 ghost use Rattle.hx_hop.specs.Stripping.{stripped};
 
-use crate::named_lines::{has_many_members, strip_many};
+use crate::named_lines::{connection_has_many_members, strip_with_many_members};
 use hx_fields::{Fields, Members, is_same_name, next_long_member};
 use std::alloc::{AllocError, Global};
 
 /// Whether a field of this name never goes on.
-pub(crate) fn is_hop_name(name: &[u8]) -> bool
-    ensures { result ≡ is_hop_name name.now }
+pub(crate) fn is_hop_by_hop_name(name: &[u8]) -> bool
+    ensures { result ≡ is_hop_by_hop_name name.now }
 {
     is_same_name(b"Connection", name)
         || is_same_name(b"Proxy-Connection", name)
@@ -42,8 +42,8 @@ pub(crate) fn name_is_among(names: &Members, name: &[u8]) -> bool
 pub fn strip(alloc: Global, fields: &Fields) -> Result<Fields, AllocError>
     ensures { IfOk result (λ kept. kept ≡ stripped fields.now) }
 {
-    if has_many_members(fields) {
-        return Ok(strip_many(alloc, fields)?.fields);
+    if connection_has_many_members(fields) {
+        return Ok(strip_with_many_members(alloc, fields)?.fields);
     }
     strip_few(alloc, fields)
 }
@@ -55,7 +55,7 @@ fn strip_few(alloc: Global, fields: &Fields) -> Result<Fields, AllocError>
     let named = fields.members(alloc, b"Connection")?;
     let mut kept = Fields::with_capacity(alloc, fields.len())?;
     for line in fields.as_slice() {
-        if !is_hop_name(line.name()) && !name_is_among(&named, line.name()) {
+        if !is_hop_by_hop_name(line.name()) && !name_is_among(&named, line.name()) {
             kept.push_line(line.copy(alloc)?)?;
         }
     }
@@ -64,7 +64,7 @@ fn strip_few(alloc: Global, fields: &Fields) -> Result<Fields, AllocError>
 
 /// Whether a name is that of a field by which a cache decides.
 fn is_cache_name(name: &[u8]) -> bool
-    ensures { result ≡ list_any (is_same_name name.now) cache_names }
+    ensures { result ≡ list_any (is_same_name name.now) caching_field_names }
 {
     is_same_name(name, b"Age")
         || is_same_name(name, b"Cache-Control")
@@ -81,7 +81,8 @@ const SHORTEST_CACHE_NAME: usize = 3;
 
 /// Whether a member of this value is such a name.
 fn value_lists_cache_field(value: &[u8]) -> bool
-    ensures { result ≡ list_any (λ member. list_any (is_same_name member) cache_names) (members_of_value value.now) }
+    ensures { result
+        ≡ list_any (λ member. list_any (is_same_name member) caching_field_names) (members_of_value value.now) }
 {
     let mut rest = value;
     while let Some((member, behind)) = next_long_member(rest, SHORTEST_CACHE_NAME) {

@@ -13,8 +13,8 @@ use Rattle.http_uri.specs.Uri.{uri_authority, uri_data, uri_scheme}
 use Rattle.hx_target.specs.declared.target_fault.TargetFault.{TargetFault}
 use Rattle.hx_target.specs.declared.target_fault.TargetFault.TheVariants.{Form, Scheme, Host, Port, Userinfo, Escape, DotSegment, TooLong}
 use Rattle.hx_target.specs.declared.targets.Target.{Target}
-use Rattle.hx_target.specs.Hosts.{host_part, port_if_valid, is_address, is_address_byte, is_host, is_name, is_name_byte, lowercase, port_of, short_number}
-use Rattle.hx_target.specs.Judgement.{TargetIsJudged, Question, fault_or_target, first_fault, is_bad_byte, is_malformed, judged_of, host_and_port_text, path_query_of, question_of, target_fault_applies, target_of}
+use Rattle.hx_target.specs.Hosts.{host_part, port_if_valid, is_address, is_address_byte, is_host, is_name, is_name_byte, lowercase, port_of_text, number_of_few_digits}
+use Rattle.hx_target.specs.Judgement.{TargetIsJudged, TargetParts, fault_or_target, first_target_fault, is_forbidden_target_byte, is_malformed, judged_of, host_and_port_text, path_query_of, target_parts_of, target_fault_applies, target_of_parts}
 use Rattle.hx_target.proofs.Judgements.{none_applies}
 
 -- a byte from `!` to `~`
@@ -24,17 +24,17 @@ pub record IsVisible (b : ℕ) : Type 0 where
 
 -- ---- the path and the query
 
-good_byte : (b : ℕ) → is_bad_byte b ≡ false → IsVisible b
+good_byte : (b : ℕ) → is_forbidden_target_byte b ≡ false → IsVisible b
 good_byte b h = record { above = grind (arith, nat_tests); below = grind (arith, nat_tests) }
 
 neither : (a b : Bool) → a || b ≡ false → (a ≡ false) × (b ≡ false)
 neither true b h = absurd cc
 neither false b h = (refl, h)
 
-all_visible : (text : List ℕ) → list_any is_bad_byte text ≡ false → All IsVisible text
+all_visible : (text : List ℕ) → list_any is_forbidden_target_byte text ≡ false → All IsVisible text
 all_visible [] h = All-nil IsVisible
 all_visible (b ∷ text) h =
-    let parts = neither (is_bad_byte b) (list_any is_bad_byte text) h in
+    let parts = neither (is_forbidden_target_byte b) (list_any is_forbidden_target_byte text) h in
     All-cons IsVisible b text (good_byte b parts.0) (all_visible text parts.1)
 
 behind_visible : (front text : List ℕ) → All IsVisible (front ++ text) → All IsVisible text
@@ -127,8 +127,8 @@ lower_visible text all = All-map IsVisible to_ascii_lowercase text (All-from_get
 
 -- ---- the port
 
-port_small : (text : List ℕ) → unwrap_or (port_of text) 80 ≤ 65535
-unfolding port_of
+port_small : (text : List ℕ) → unwrap_or (port_of_text text) 80 ≤ 65535
+unfolding port_of_text
 port_small text = by_test (length text == 0)
   where
     by_bounds : (n : ℕ) (t u : Bool) → nat_le 1 n ≡ t → nat_le n 65535 ≡ u → unwrap_or (cond (t && u) (Some n) None) 80 ≤ 65535
@@ -140,9 +140,9 @@ port_small text = by_test (length text == 0)
     by_number None = omega arith
     by_number (Some n) = by_bounds n (nat_le 1 n) (nat_le n 65535) refl refl
 
-    by_test : (t : Bool) → unwrap_or (cond t (Some 80) (option_and_then port_if_valid (short_number text))) 80 ≤ 65535
+    by_test : (t : Bool) → unwrap_or (cond t (Some 80) (option_and_then port_if_valid (number_of_few_digits text))) 80 ≤ 65535
     by_test true = omega arith
-    by_test false = by_number (short_number text)
+    by_test false = by_number (number_of_few_digits text)
 
 -- ---- what a target that is read has
 
@@ -151,7 +151,7 @@ pub record IsCleanTarget (target : Target) : Type 0 where
   pub host : All IsVisible target.key.host
   pub port : target.key.port ≤ 65535
 
-valid_host : (q : Question) → first_fault q ≡ None → is_host (host_part (host_and_port_text q)) ≡ true
+valid_host : (q : TargetParts) → first_target_fault q ≡ None → is_host (host_part (host_and_port_text q)) ≡ true
 valid_host q none =
     let form = none_applies (target_fault_applies Form q) (find (λ fault. target_fault_applies fault q) (Scheme ∷ Host ∷ Port ∷ Userinfo ∷ Escape ∷ DotSegment ∷ TooLong ∷ [])) Form none in
     let scheme = none_applies (target_fault_applies Scheme q) (find (λ fault. target_fault_applies fault q) (Host ∷ Port ∷ Userinfo ∷ Escape ∷ DotSegment ∷ TooLong ∷ [])) Scheme form.1 in
@@ -163,10 +163,10 @@ valid_host q none =
     last_not false true h = refl
     last_not false false h = absurd cc
 
-of_fault : (q : Question) (o : Option TargetFault) (target : Target) → first_fault q ≡ o → All IsVisible q.kept → Ok target ≡ fault_or_target o q → IsCleanTarget target
+of_fault : (q : TargetParts) (o : Option TargetFault) (target : Target) → first_target_fault q ≡ o → All IsVisible q.kept → Ok target ≡ fault_or_target o q → IsCleanTarget target
 of_fault q (Some fault) target none all is = absurd cc
 of_fault q None target none all is =
-    let same : target ≡ target_of q = cc in
+    let same : target ≡ target_of_parts q = cc in
     subst IsCleanTarget (sym same) (record {
       path = path_visible q.kept all;
       host = lower_visible (host_part (host_and_port_text q)) (host_visible (host_part (host_and_port_text q)) (valid_host q none));
@@ -178,5 +178,5 @@ unfolding judged_of is_malformed
 target_is_clean text hosts target (inl h) = let e = h.1 in absurd cc
 target_is_clean text hosts target (inr (inl h)) = let e = h.1 in absurd cc
 target_is_clean text hosts target (inr (inr (good, (uri, spells, is)))) =
-    let q = question_of text uri hosts in
-    of_fault q (first_fault q) target refl (kept_visible text (uri_scheme uri) (uri_authority uri) (uri_data uri) spells.1 (all_visible text good)) is
+    let q = target_parts_of text uri hosts in
+    of_fault q (first_target_fault q) target refl (kept_visible text (uri_scheme uri) (uri_authority uri) (uri_data uri) spells.1 (all_visible text good)) is

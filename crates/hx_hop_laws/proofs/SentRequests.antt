@@ -21,11 +21,11 @@ use Rattle.hx_framing.proofs.WrittenRequests.{request_back}
 use Rattle.hx_target.specs.declared.keys.Key.{Key}
 use Rattle.hx_target.specs.declared.targets.Target.{Target}
 use Rattle.hx_hop.specs.declared.conditions.Conditions.{Conditions}
-use Rattle.hx_hop.specs.Asking.{asked_with_target, fields_that_go_on_of}
-use Rattle.hx_hop.specs.Forwarding.{client_lines, condition_lines, forwarded_lines, forwarded_of, host_text, is_condition, line, line_if_present, via_text}
-use Rattle.hx_hop.specs.Stripping.{is_hop_line, stripped}
+use Rattle.hx_hop.specs.Asking.{asked_with_target, fields_passed_on_of}
+use Rattle.hx_hop.specs.Forwarding.{forwarded_client_lines, condition_lines, forwarded_lines, forwarded_of, host_text, is_condition_line, line, line_if_present, via_text}
+use Rattle.hx_hop.specs.Stripping.{is_hop_by_hop_line, stripped}
 use Rattle.hx_hop.proofs.SentLines.{sends_no_expect, sends_no_hop_field, sends_no_length}
-use Rattle.hx_hop_laws.specs.OneMessage.{ConditionsAreFieldValues, OneRequestIsForwarded, RequestIsClean, IsFieldValue, PartsAreForwardedAsTheyAre}
+use Rattle.hx_hop_laws.specs.OneMessage.{ConditionsAreFieldValues, ForwardedRequestReadsBackAsOne, RequestPartsAreWellformed, IsFieldValue, ForwardedRequestHasWritableParts}
 use Rattle.hx_hop_laws.proofs.ReadRequests.{read_is_clean}
 use Rattle.hx_hop_laws.proofs.ReadTargets.{IsCleanTarget, IsVisible, pass_visible, target_is_clean}
 use Rattle.hx_hop_laws.proofs.Values.{trim_word, trim_words}
@@ -130,17 +130,17 @@ conditions_fit (Some c) are =
 
 -- ---- all lines
 
-client_fits : (conditional : Bool) (fields : List Field) → All FieldIsWritable fields → All FieldIsWritable (client_lines conditional (fields_that_go_on_of fields))
+client_fits : (conditional : Bool) (fields : List Field) → All FieldIsWritable fields → All FieldIsWritable (forwarded_client_lines conditional (fields_passed_on_of fields))
 client_fits conditional fields all =
-    All-filter (λ f. not (conditional && is_condition f)) FieldIsWritable (fields_that_go_on_of fields)
+    All-filter (λ f. not (conditional && is_condition_line f)) FieldIsWritable (fields_passed_on_of fields)
     (All-filter (λ f. not (is_named (codes "Expect") f)) FieldIsWritable (without_named (stripped fields) (codes "Host"))
     (All-filter (λ f. not (is_named (codes "Host") f)) FieldIsWritable (stripped fields)
-    (All-filter (λ f. not (is_hop_line fields f)) FieldIsWritable fields all)))
+    (All-filter (λ f. not (is_hop_by_hop_line fields f)) FieldIsWritable fields all)))
 
-lines_fit : (request : Request) (target : Target) (name : List ℕ) (keeps : Bool) (conditions : Option Conditions) → RequestIsClean request → IsCleanTarget target → IsToken name → IfSome conditions ConditionsAreFieldValues
+lines_fit : (request : Request) (target : Target) (name : List ℕ) (keeps : Bool) (conditions : Option Conditions) → RequestPartsAreWellformed request → IsCleanTarget target → IsToken name → IfSome conditions ConditionsAreFieldValues
     → All FieldIsWritable (forwarded_lines keeps (asked_with_target request target) name conditions)
 lines_fit request target name keeps conditions clean aim token are =
-    let client : List Field = client_lines (keeps || is_some conditions) (fields_that_go_on_of request.fields) in
+    let client : List Field = forwarded_client_lines (keeps || is_some conditions) (fields_passed_on_of request.fields) in
     let via : Field = line (codes "Via") (via_text request.minor name) in
     let host : Field = line (codes "Host") (host_text target.key) in
     All-cons FieldIsWritable host (client ++ condition_lines conditions ++ via ∷ [])
@@ -151,7 +151,7 @@ lines_fit request target name keeps conditions clean aim token are =
 
 -- ---- the laws
 
-pub sends_parts_as_they_are : PartsAreForwardedAsTheyAre
+pub sends_parts_as_they_are : ForwardedRequestHasWritableParts
 unfolding forwarded_of
 sends_parts_as_they_are max_body most ended continue_sent bytes rest request target name keeps conditions reads judged token are small limits =
     let clean = read_is_clean max_body ended continue_sent bytes request rest reads in
@@ -169,7 +169,7 @@ sends_parts_as_they_are max_body most ended continue_sent bytes rest request tar
       content = omega (arith, small, limits.content);
     }
 
-pub forwards_one_request : OneRequestIsForwarded
+pub forwards_one_request : ForwardedRequestReadsBackAsOne
 forwards_one_request max_body most ended continue_sent bytes rest request target name keeps conditions reads judged token are small limits over continued behind =
     request_back (forwarded_of keeps (asked_with_target request target) name conditions) most over continued behind
     (sends_parts_as_they_are max_body most ended continue_sent bytes rest request target name keeps conditions reads judged token are small limits) limits.content

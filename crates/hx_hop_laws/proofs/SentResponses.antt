@@ -11,20 +11,20 @@ use Rattle.hx_fields.specs.Line.{Field}
 use Rattle.hx_fields.specs.FieldLines.{has_field, is_named, without_named}
 use Rattle.hx_framing.specs.declared.messages.Response.{Response}
 use Rattle.hx_framing.specs.declared.heads.status_head.StatusHead.{StatusHead}
-use Rattle.hx_framing.specs.ContentLength.{announced_within, announced_length}
-use Rattle.hx_framing.specs.Lengths.{announced_length_to_head, is_interim, response_has_no_content, transfer_encoding_name, without_lengths}
+use Rattle.hx_framing.specs.ContentLength.{announced_length_within, announced_length}
+use Rattle.hx_framing.specs.Lengths.{announced_length_in_answer_to_head, is_interim, response_has_no_content, transfer_encoding_name, without_length_fields}
 use Rattle.hx_framing.specs.Reading.{Spelled}
-use Rattle.hx_framing.specs.ResponseReading.{Reads, content_bytes_of, response_of_head}
+use Rattle.hx_framing.specs.ResponseReading.{ReadsAs, content_bytes_of, response_of_head}
 use Rattle.hx_framing.specs.StatusHead.{ResponseHeadIsJudged}
 use Rattle.hx_framing.specs.Written.{FieldIsWritable}
 use Rattle.hx_framing.proofs.ReadResponses.{final_status, made}
 use Rattle.hx_framing.proofs.WrittenResponses.{response_is_read_back}
-use Rattle.hx_hop.specs.Answering.{dated_of, has_one_date}
+use Rattle.hx_hop.specs.Answering.{fields_with_valid_date, has_one_date}
 use Rattle.hx_hop.specs.Forwarding.{line}
 use Rattle.hx_hop.specs.Moments.{date_text_of}
-use Rattle.hx_hop.specs.Stripping.{is_hop_line, stripped}
+use Rattle.hx_hop.specs.Stripping.{is_hop_by_hop_line, stripped}
 use Rattle.hx_hop.proofs.Lines.{list_any_fewer}
-use Rattle.hx_hop_laws.specs.OneResponse.{OneResponseGoesOn, response_passed_on}
+use Rattle.hx_hop_laws.specs.OneResponse.{PassedOnResponseReadsBackAsOne, response_passed_on}
 use Rattle.hx_hop_laws.proofs.DateValues.{date_value}
 use Rattle.hx_hop_laws.proofs.ReadRequests.{lines_are_clean, no_codings, no_lengths}
 use Rattle.hx_hop_laws.proofs.SentRequests.{line_of}
@@ -39,17 +39,17 @@ pub record IsCleanAnswer (h : Bool) (r : Response) : Type 0 where
   pub announced : IfSome r.announced (λ n. n < 2 ^ 64)
   pub without : response_has_no_content h r.status ≡ true → r.content ≡ []
 
-fields_clean : (head : StatusHead) (text : List ℕ) → ResponseHeadIsJudged text (Ok head) → All FieldIsWritable (without_lengths head.fields)
+fields_clean : (head : StatusHead) (text : List ℕ) → ResponseHeadIsJudged text (Ok head) → All FieldIsWritable (without_length_fields head.fields)
 fields_clean head text (g, is, same) =
     All-filter (λ f. not (is_named (codes "transfer-encoding") f)) FieldIsWritable (without_named head.fields (codes "content-length"))
     (All-filter (λ f. not (is_named (codes "content-length") f)) FieldIsWritable head.fields
     (subst (All FieldIsWritable) (sym (ap (λ (s : StatusHead). s.fields) same)) (lines_are_clean g.fields is.0.0.fields)))
 
-below_limit : (h : Bool) (head : StatusHead) → IfSome (announced_length_to_head h head) (λ n. n < 2 ^ 64)
+below_limit : (h : Bool) (head : StatusHead) → IfSome (announced_length_in_answer_to_head h head) (λ n. n < 2 ^ 64)
 below_limit false head = tt
 below_limit true head = by_coding (has_field head.fields transfer_encoding_name)
   where
-    by_length : (o : Option ℕ) → IfSome (announced_within (2 ^ 64 - 1) o) (λ n. n < 2 ^ 64)
+    by_length : (o : Option ℕ) → IfSome (announced_length_within (2 ^ 64 - 1) o) (λ n. n < 2 ^ 64)
     by_length None = tt
     by_length (Some n) = by_test (nat_le n (2 ^ 64 - 1)) refl
       where
@@ -57,11 +57,11 @@ below_limit true head = by_coding (has_field head.fields transfer_encoding_name)
         by_test true p = let low = leb-true n (2 ^ 64 - 1) p in omega arith
         by_test false p = tt
 
-    by_coding : (t : Bool) → IfSome (cond (true && not t) (announced_within (2 ^ 64 - 1) (announced_length head.fields)) None) (λ n. n < 2 ^ 64)
+    by_coding : (t : Bool) → IfSome (cond (true && not t) (announced_length_within (2 ^ 64 - 1) (announced_length head.fields)) None) (λ n. n < 2 ^ 64)
     by_coding true = tt
     by_coding false = by_length (announced_length head.fields)
 
-pub clean : (max : ℕ) (h e : Bool) (bytes : List ℕ) (r : Response) (rest : List ℕ) → Reads max h e bytes (Spelled r rest) → IsCleanAnswer h r
+pub clean : (max : ℕ) (h e : Bool) (bytes : List ℕ) (r : Response) (rest : List ℕ) → ReadsAs max h e bytes (Spelled r rest) → IsCleanAnswer h r
 clean max h e bytes r rest reads =
     let is = made max h e bytes r rest reads in
     let same : r ≡ response_of_head h is.head is.content = is.same in
@@ -86,7 +86,7 @@ module _ (fields : List Field) (now : ℕ) where
   date : Field
   date = line (codes "Date") (date_text_of now)
 
-  pub dated_fit : now < END_OF_TIME → All FieldIsWritable fields → All FieldIsWritable (dated_of fields now)
+  pub dated_fit : now < END_OF_TIME → All FieldIsWritable fields → All FieldIsWritable (fields_with_valid_date fields now)
   dated_fit early all = by_test (has_one_date fields)
     where
       by_test : (t : Bool) → All FieldIsWritable (cond t fields (without_named fields (codes "Date") ++ line (codes "Date") (date_text_of now) ∷ []))
@@ -96,7 +96,7 @@ module _ (fields : List Field) (now : ℕ) where
           (All-filter (λ f. not (is_named (codes "Date") f)) FieldIsWritable fields all)
           (All-cons FieldIsWritable (line (codes "Date") (date_text_of now)) [] (line_of (codes "Date") (date_text_of now) date_token (omega arith) (date_value now early)) (All-nil FieldIsWritable))
 
-  pub dated_without : (name : List ℕ) → has_field fields name ≡ false → is_named name (line (codes "Date") (date_text_of now)) ≡ false → has_field (dated_of fields now) name ≡ false
+  pub dated_without : (name : List ℕ) → has_field fields name ≡ false → is_named name (line (codes "Date") (date_text_of now)) ≡ false → has_field (fields_with_valid_date fields now) name ≡ false
   dated_without name none other = by_test (has_one_date fields)
     where
       by_test : (t : Bool) → has_field (cond t fields (without_named fields (codes "Date") ++ line (codes "Date") (date_text_of now) ∷ [])) name ≡ false
@@ -106,23 +106,23 @@ module _ (fields : List Field) (now : ℕ) where
           ∙ or_from _ _ (list_any_fewer (λ f. not (is_named (codes "Date") f)) (is_named name) fields none) (or_from _ _ other refl)
 
 pub stripped_without : (fields : List Field) (name : List ℕ) → has_field fields name ≡ false → has_field (stripped fields) name ≡ false
-stripped_without fields name none = list_any_fewer (λ f. not (is_hop_line fields f)) (is_named name) fields none
+stripped_without fields name none = list_any_fewer (λ f. not (is_hop_by_hop_line fields f)) (is_named name) fields none
 
 pub sent_without : (fields added : List Field) (now : ℕ) (name : List ℕ) → has_field fields name ≡ false → has_field added name ≡ false → is_named name (line (codes "Date") (date_text_of now)) ≡ false
-    → has_field (dated_of (stripped fields) now ++ added) name ≡ false
+    → has_field (fields_with_valid_date (stripped fields) now ++ added) name ≡ false
 sent_without fields added now name none other date =
-    list_any-append (is_named name) (dated_of (stripped fields) now) added
+    list_any-append (is_named name) (fields_with_valid_date (stripped fields) now) added
     ∙ or_from _ _ (dated_without (stripped fields) now name (stripped_without fields name none) date) other
 
 -- ---- the law
 
-pub sends_one_response : OneResponseGoesOn
+pub sends_one_response : PassedOnResponseReadsBackAsOne
 sends_one_response max_body most now to_head ended close bytes rest r added reads early are small limits over behind =
     let is = clean max_body to_head ended bytes r rest reads in
     response_is_read_back to_head (response_passed_on to_head r now added close) most over behind (record {
       status = is.status;
-      fields = All-append FieldIsWritable (dated_of (stripped r.fields) now) added
-          (dated_fit (stripped r.fields) now early (All-filter (λ f. not (is_hop_line r.fields f)) FieldIsWritable r.fields is.fields)) are.fields;
+      fields = All-append FieldIsWritable (fields_with_valid_date (stripped r.fields) now) added
+          (dated_fit (stripped r.fields) now early (All-filter (λ f. not (is_hop_by_hop_line r.fields f)) FieldIsWritable r.fields is.fields)) are.fields;
       lengths = sent_without r.fields added now (codes "content-length") is.lengths are.lengths refl;
       codings = sent_without r.fields added now (codes "transfer-encoding") is.codings are.codings refl;
       small = shown_small to_head is.announced limits.content;

@@ -6,7 +6,7 @@ use Rattle.hx_fields.specs.FieldLines.{has_field, values_of}
 use Rattle.hx_framing.specs.declared.messages.Request.{Request}
 use Rattle.hx_framing.specs.HeadEnd.{most_field_lines, most_head_bytes}
 use Rattle.hx_framing.specs.Reading.{Spelled}
-use Rattle.hx_framing.specs.RequestReading.{Reads}
+use Rattle.hx_framing.specs.RequestReading.{ReadsAs}
 use Rattle.hx_framing.specs.Text.{content_bytes, request_text}
 use Rattle.hx_framing.specs.Written.{RequestIsWritable, FieldIsWritable, request_head_text, request_as_read_back}
 use Rattle.hx_framing.specs.Written.{request_fields_sent}
@@ -23,7 +23,7 @@ IsFieldValue value = AllPass is_value_byte value × (trim_ows value ≡ value)
 -- What is read of a request, part by part (RFC 9110, sections 2.5, 5.1, 5.5 and 9.1): its method is
 -- a token, its version 1.0 or 1.1, each line a token with a value in which no byte ends a line and
 -- around which no white space is left; the length is told by the content alone.
-pub record RequestIsClean (r : Request) : Type 0 where
+pub record RequestPartsAreWellformed (r : Request) : Type 0 where
   pub method : IsToken r.method
   pub minor : r.minor ≤ 1
   pub fields : All FieldIsWritable r.fields
@@ -43,17 +43,17 @@ pub record RequestIsWithinLimits (max_body : ℕ) (sent : Request) : Type 0 wher
 
 abbrev pub ReadRequestHasWritableParts : Type 0
 ReadRequestHasWritableParts = (max_body : ℕ) (ended continue_sent : Bool) (bytes rest : List ℕ) (request : Request)
-    → Reads max_body ended continue_sent bytes (Spelled request rest) → RequestIsClean request
+    → ReadsAs max_body ended continue_sent bytes (Spelled request rest) → RequestPartsAreWellformed request
 
 -- what was read and asked goes forward in parts that stand in its text as they are: no CR, no LF
 -- and no blank in the method and the target, no CR or LF in a field line, and no length, coding or
 -- expectation of the client's
-abbrev pub PartsAreForwardedAsTheyAre : Type 0
-PartsAreForwardedAsTheyAre =
+abbrev pub ForwardedRequestHasWritableParts : Type 0
+ForwardedRequestHasWritableParts =
     (max_body most : ℕ) (ended continue_sent : Bool) (bytes rest : List ℕ) (request : Request) (target : Target)
     (name : List ℕ)
     (keeps : Bool) (conditions : Option Conditions)
-    → Reads max_body ended continue_sent bytes (Spelled request rest)
+    → ReadsAs max_body ended continue_sent bytes (Spelled request rest)
     → TargetIsJudged request.target (values_of request.fields (codes "Host")) (Ok target)
     → IsToken name → IfSome conditions ConditionsAreFieldValues
     → let sent = forwarded_of keeps (asked_with_target request target) name conditions in
@@ -61,15 +61,15 @@ PartsAreForwardedAsTheyAre =
 
 -- and so its text is that of one request, whatever the origin's reader knows of the stream and
 -- whatever stands behind it: it is read back as it was sent, and what stands behind it is left
-abbrev pub OneRequestIsForwarded : Type 0
-OneRequestIsForwarded =
+abbrev pub ForwardedRequestReadsBackAsOne : Type 0
+ForwardedRequestReadsBackAsOne =
     (max_body most : ℕ) (ended continue_sent : Bool) (bytes rest : List ℕ) (request : Request) (target : Target)
     (name : List ℕ)
     (keeps : Bool) (conditions : Option Conditions)
-    → Reads max_body ended continue_sent bytes (Spelled request rest)
+    → ReadsAs max_body ended continue_sent bytes (Spelled request rest)
     → TargetIsJudged request.target (values_of request.fields (codes "Host")) (Ok target)
     → IsToken name → IfSome conditions ConditionsAreFieldValues
     → let sent = forwarded_of keeps (asked_with_target request target) name conditions in
     most < 2 ^ 64 → RequestIsWithinLimits most sent
     → (over continued : Bool) (behind : List ℕ)
-    → Reads most over continued (request_text sent ++ behind) (Spelled (request_as_read_back sent) behind)
+    → ReadsAs most over continued (request_text sent ++ behind) (Spelled (request_as_read_back sent) behind)

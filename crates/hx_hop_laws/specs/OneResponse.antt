@@ -8,7 +8,7 @@ use Rattle.hx_fields.specs.FieldLines.{has_field}
 use Rattle.hx_framing.specs.declared.messages.Response.{Response}
 use Rattle.hx_framing.specs.HeadEnd.{most_field_lines, most_head_bytes}
 use Rattle.hx_framing.specs.Reading.{Spelled}
-use Rattle.hx_framing.specs.ResponseReading.{Reads}
+use Rattle.hx_framing.specs.ResponseReading.{ReadsAs}
 use Rattle.hx_framing.specs.Written.{FieldIsWritable}
 use Rattle.hx_framing.specs.WrittenResponse.{SentResponse, response_as_read_back, response_fields_sent}
 use Rattle.hx_framing.specs.WrittenResponse.{sent_response_head_text, sent_response_text}
@@ -28,24 +28,25 @@ response_passed_on to_head r now added close = record {
 }
 
 -- lines that stand in a text as they are, and don't speak of a content
-pub record LinesMayBeAdded (added : List Field) : Type 0 where
+pub record AddedLinesAreWritable (added : List Field) : Type 0 where
   pub fields : All FieldIsWritable added
   pub lengths : has_field added (codes "content-length") ≡ false
   pub codings : has_field added (codes "transfer-encoding") ≡ false
 
 -- Within the limits of a reader as this proxy's: 100 field lines, a head of 32,768 bytes, and so much content.
-pub record ResponseFitsAReader (most : ℕ) (sent : SentResponse) : Type 0 where
+pub record ResponseIsWithinReaderLimits (most : ℕ) (sent : SentResponse) : Type 0 where
   pub few : length (response_fields_sent sent) ≤ most_field_lines
   pub short : length (sent_response_head_text sent) ≤ most_head_bytes
   pub content : length sent.content ≤ most
 
 -- whatever the client's reader knows of the stream and whatever stands behind the response: it is
 -- read back as it was sent, and what stands behind it is left
-abbrev pub OneResponseGoesOn : Type 0
-OneResponseGoesOn =
+abbrev pub PassedOnResponseReadsBackAsOne : Type 0
+PassedOnResponseReadsBackAsOne =
     (max_body most now : ℕ) (to_head ended close : Bool) (bytes rest : List ℕ) (r : Response) (added : List Field)
-    → Reads max_body to_head ended bytes (Spelled r rest) → now < END_OF_TIME → LinesMayBeAdded added
+    → ReadsAs max_body to_head ended bytes (Spelled r rest) → now < END_OF_TIME → AddedLinesAreWritable added
     → let sent = response_passed_on to_head r now added close in
-    most < 2 ^ 64 → ResponseFitsAReader most sent
+    most < 2 ^ 64 → ResponseIsWithinReaderLimits most sent
     → (over : Bool) (behind : List ℕ)
-    → Reads most to_head over (sent_response_text sent ++ behind) (Spelled (response_as_read_back to_head sent) behind)
+    → ReadsAs most to_head over (sent_response_text sent
+    ++ behind) (Spelled (response_as_read_back to_head sent) behind)

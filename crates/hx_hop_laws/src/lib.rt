@@ -7,5 +7,5 @@
 mod message_laws;
 
 pub use crate::message_laws::{
-    a_read_request_has_writable_parts, one_request_goes_forward, one_response_goes_on,
+    a_read_request_has_writable_parts, one_request_goes_forward, one_response_is_passed_on,
 };

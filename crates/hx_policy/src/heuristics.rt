@@ -1,10 +1,10 @@
 //! The statuses that are heuristically cacheable, and those that tell an error.
 ghost use Rattle.std.specs.Prelude.{◌≡◌};
-ghost use Rattle.hx_policy.specs.Policies.{is_error, is_heuristic};
+ghost use Rattle.hx_policy.specs.Policies.{is_error, is_heuristic_status};
 
 /// Whether a status is heuristically cacheable (RFC 9110, section 15.1).
-pub fn is_heuristic(status: u16) -> bool
-    ensures { result ≡ is_heuristic status }
+pub fn is_heuristic_status(status: u16) -> bool
+    ensures { result ≡ is_heuristic_status status }
 {
     matches!(
         status,

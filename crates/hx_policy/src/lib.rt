@@ -8,5 +8,5 @@ mod heuristics;
 pub mod laws;
 mod words;
 
-pub use crate::heuristics::is_heuristic;
+pub use crate::heuristics::is_heuristic_status;
 pub use crate::words::Policy;

@@ -1,8 +1,8 @@
 //! The words of a line.
 ghost use Rattle.std.specs.Prelude.{◌≡◌};
-ghost use Rattle.hx_policy.specs.Policies.{plain, given_lifetime};
+ghost use Rattle.hx_policy.specs.Policies.{plain, lifetime_given_by_policy};
 
-use crate::heuristics::{is_error, is_heuristic};
+use crate::heuristics::{is_error, is_heuristic_status};
 
 /// What a line says of caching. Each word but the first needs version 3 of the table, those of errors, of the most
 /// seconds, of cookies that stay with one, of conditions, of ranges, and of what is sent while it is validated
@@ -94,10 +94,10 @@ impl Policy {
     }
 
     /// The lifetime that the operator gives a response of a status that states none, in seconds.
-    pub fn given_lifetime(self, status: u16) -> Option<u32>
-        ensures { result ≡ given_lifetime self status }
+    pub fn lifetime_given_by_policy(self, status: u16) -> Option<u32>
+        ensures { result ≡ lifetime_given_by_policy self status }
     {
-        if !is_heuristic(status) {
+        if !is_heuristic_status(status) {
             None
         } else if is_error(status) {
             self.error_lifetime

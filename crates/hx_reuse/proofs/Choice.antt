@@ -8,10 +8,10 @@ use Rattle.hx_target.specs.Keys.{same_key}
 use Rattle.hx_vary.specs.Vary.{vary_matches}
 use Rattle.hx_hop.specs.declared.request_view.Asked.{Asked}
 use Rattle.hx_store.specs.Stored.{Stored}
-use Rattle.hx_store.specs.Serials.{Distinct}
+use Rattle.hx_store.specs.Serials.{SerialsAreDistinct}
 use Rattle.hx_store.specs.Shelf.{serials, find_entry}
-use Rattle.hx_reuse.specs.Chosen.{nominates, is_more_recent, entries_of_key, entries_that_match, most_preferred, chosen_of}
-use Rattle.hx_reuse.specs.ChosenAndNamed.{ResponseIsCandidate, ResponseIsChosen}
+use Rattle.hx_reuse.specs.Chosen.{nominates, is_more_recent, entries_of_key, entries_that_match, most_preferred_response, chosen_of}
+use Rattle.hx_reuse.specs.ChosenAndNamed.{ResponseMatchesRequest, ResponseIsChosen}
 use Rattle.hx_fields.proofs.FirstThat.{IsMember}
 use Rattle.hx_reuse.proofs.Members.{distinct_entries}
 use Rattle.hx_reuse.proofs.Preferred.{fold_preferred, fold_some, same_serial, above_alike, above_keeps, filter_member, member_filter, find_member, member_find, find_entry-find, nat_eq_true, nat_eq_same}
@@ -38,7 +38,7 @@ member_contained (x ∷ xs) e c = split (Contains-append_cases (x ∷ []) xs e c
     split (inr more) rest = inr (rest more)
 
 -- the serial of a member finds it
-pub found_by_serial : (held : List Stored) → Distinct (serials held) → (e : Stored) → Contains held e → find_entry e.serial held ≡ Some e
+pub found_by_serial : (held : List Stored) → SerialsAreDistinct (serials held) → (e : Stored) → Contains held e → find_entry e.serial held ≡ Some e
 found_by_serial held distinct e c =
     let in_held = member_contained held e c in
     let r = member_find (λ x. nat_eq x.serial e.serial) held e in_held (nat_eq_same e.serial) in
@@ -50,16 +50,16 @@ by_numbers e f h = (grind (arith, nat_tests), λ same. grind (arith, nat_tests))
 
 module _ (held : List Stored) (asked : Asked) where
   -- the responses that match are the candidates
-  candidate : (e : Stored) → IsMember e (entries_that_match held asked) → ResponseIsCandidate held asked e
+  candidate : (e : Stored) → IsMember e (entries_that_match held asked) → ResponseMatchesRequest held asked e
   candidate e m =
       let by_values = filter_member (λ e. vary_matches e.nominated asked.fields) (entries_of_key held asked) e m in
       let by_key = filter_member (λ e. same_key e.key asked.target.key) held e by_values.0 in
-      record { is_held = contains_member held e by_key.0; has_the_key = by_key.1; has_the_values = by_values.1 }
+      record { is_held = contains_member held e by_key.0; has_the_same_key = by_key.1; matches_nominated_values = by_values.1 }
 
-  matches : (e : Stored) → ResponseIsCandidate held asked e → IsMember e (entries_that_match held asked)
+  matches : (e : Stored) → ResponseMatchesRequest held asked e → IsMember e (entries_that_match held asked)
   matches e c =
-      member_filter (λ e. vary_matches e.nominated asked.fields) (entries_of_key held asked) e c.has_the_values
-      (member_filter (λ e. same_key e.key asked.target.key) held e c.has_the_key (member_contained held e c.is_held))
+      member_filter (λ e. vary_matches e.nominated asked.fields) (entries_of_key held asked) e c.matches_nominated_values
+      (member_filter (λ e. same_key e.key asked.target.key) held e c.has_the_same_key (member_contained held e c.is_held))
 
   taken_member : (e : Stored) (es : List Stored) → (None ≡ Some e) ⊎ IsMember e es → IsMember e es
   taken_member e es (inl h) = absurd (never e h)
@@ -71,30 +71,30 @@ module _ (held : List Stored) (asked : Asked) where
   pub chosen_is_preferred : (e : Stored) → chosen_of held asked ≡ Some e → ResponseIsChosen held asked e
   chosen_is_preferred e h =
       let r = fold_preferred (entries_that_match held asked) None e h in
-      record { is_candidate = candidate e (taken_member e (entries_that_match held asked) r.taken); none_preferred = λ other c. r.above other (matches other c) }
+      record { is_candidate = candidate e (taken_member e (entries_that_match held asked) r.taken); no_other_is_preferred = λ other c. r.above other (matches other c) }
 
-  pub chosen_nominates : (e f : Stored) → chosen_of held asked ≡ Some e → ResponseIsCandidate held asked f → nominates f ≡ true → nominates e ≡ true
-  chosen_nominates e f h c k = above_keeps (nominates f) (nominates e) (is_more_recent f e) ((chosen_is_preferred e h).none_preferred f c) k
+  pub chosen_nominates : (e f : Stored) → chosen_of held asked ≡ Some e → ResponseMatchesRequest held asked f → nominates f ≡ true → nominates e ≡ true
+  chosen_nominates e f h c k = above_keeps (nominates f) (nominates e) (is_more_recent f e) ((chosen_is_preferred e h).no_other_is_preferred f c) k
 
-  pub chosen_by_date : (e f : Stored) → chosen_of held asked ≡ Some e → ResponseIsCandidate held asked f → nominates f ≡ nominates e →
+  pub chosen_by_date : (e f : Stored) → chosen_of held asked ≡ Some e → ResponseMatchesRequest held asked f → nominates f ≡ nominates e →
       (f.times.date ≤ e.times.date) × (f.times.date ≡ e.times.date → f.serial ≤ e.serial)
   chosen_by_date e f h c same =
-      by_numbers f e (above_alike (nominates f) (nominates e) (is_more_recent f e) same ((chosen_is_preferred e h).none_preferred f c))
+      by_numbers f e (above_alike (nominates f) (nominates e) (is_more_recent f e) same ((chosen_is_preferred e h).no_other_is_preferred f c))
 
   pub chosen_is_held : (e : Stored) → chosen_of held asked ≡ Some e → Contains held e
   chosen_is_held e h = let is = chosen_is_preferred e h in is.is_candidate.is_held
 
-  none_of : (es : List Stored) (e : Stored) → most_preferred es ≡ None → IsMember e es → ⊥
+  none_of : (es : List Stored) (e : Stored) → most_preferred_response es ≡ None → IsMember e es → ⊥
   none_of [] e h m = m
   none_of (x ∷ xs) e h m = let some = fold_some xs x in never some.0 (sym h ∙ some.1)
     where
       never : (f : Stored) → ◌≡◌ {A = Option Stored} None (Some f) → ⊥
       never f k = cc
 
-  pub none_is_candidate : (e : Stored) → chosen_of held asked ≡ None → ResponseIsCandidate held asked e → ⊥
+  pub none_is_candidate : (e : Stored) → chosen_of held asked ≡ None → ResponseMatchesRequest held asked e → ⊥
   none_is_candidate e h c = none_of (entries_that_match held asked) e h (matches e c)
 
-  pub preferred_is_the_chosen : (e : Stored) → Distinct (serials held) → ResponseIsChosen held asked e → chosen_of held asked ≡ Some e
+  pub preferred_is_the_chosen : (e : Stored) → SerialsAreDistinct (serials held) → ResponseIsChosen held asked e → chosen_of held asked ≡ Some e
   preferred_is_the_chosen e distinct is = at (chosen_of held asked) refl
     where
       at : (o : Option Stored) → chosen_of held asked ≡ o → chosen_of held asked ≡ Some e
@@ -102,5 +102,5 @@ module _ (held : List Stored) (asked : Asked) where
       at (Some f) h =
           let other = chosen_is_preferred f h in
           let same : f ≡ e = distinct_entries held distinct f e (member_contained held f other.is_candidate.is_held) (member_contained held e is.is_candidate.is_held)
-          (same_serial f e (is.none_preferred f other.is_candidate) (other.none_preferred e is.is_candidate)) in
+          (same_serial f e (is.no_other_is_preferred f other.is_candidate) (other.no_other_is_preferred e is.is_candidate)) in
           h ∙ ap Some same

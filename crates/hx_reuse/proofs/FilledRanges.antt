@@ -10,9 +10,9 @@ use Rattle.hx_fields.specs.Names.{is_same_name}
 use Rattle.hx_hop.specs.declared.request_view.Asked.{Asked}
 use Rattle.hx_hop.specs.Bypass.{request_has_content, asks_for_range, has_precondition}
 use Rattle.hx_hop.proofs.Lines.{filter_keeps, list_any_fewer, list_any_none_left, not_true, same_lower}
-use Rattle.hx_reuse.specs.FilledRanges.{fills_range, without_range, RangesOfACacheableGetAreFilled, NoOtherRangeIsFilled, PlainLineFillsNoRange, NoFilledRangeIsForwarded, OtherLinesAreForwarded, ConditionsStayAsOfTheWhole}
+use Rattle.hx_reuse.specs.FilledRanges.{fetches_whole_for_range, request_without_range, RangeOfACacheableGetFetchesWhole, OnlyRangeOfACacheableGetFetchesWhole, DefaultPolicyFetchesNoWholeForRange, WholeIsFetchedWithoutRange, FieldsButRangeAreForwardedUnchanged, FilledRangeConditionsAreAsForTheWhole}
 
-pub filled : RangesOfACacheableGetAreFilled
+pub filled : RangeOfACacheableGetFetchesWhole
 filled policy asked fills caches get asks is = rw fills (rw caches (rw get (rw asks (rw is.no_content (rw is.no_precondition refl)))))
 
 all_hold : (fills caches get asks content precondition : Bool) → fills && (caches && (get && (asks && not (content || precondition)))) ≡ true
@@ -25,13 +25,13 @@ all_hold true true true false content precondition e = cc
 all_hold true true true true true precondition e = cc
 all_hold true true true true false true e = cc
 
-pub only_these : NoOtherRangeIsFilled
+pub only_these : OnlyRangeOfACacheableGetFetchesWhole
 only_these policy asked e =
     let (fills, caches, get, asks, content, precondition) = all_hold policy.fills_ranges policy.caches (bytes_eq asked.method (codes "GET")) (asks_for_range asked) (request_has_content asked) (has_precondition asked) e in
     let method : asked.method ≡ codes "GET" = (bytes_eq-Decides asked.method (codes "GET")).0 get in
     (fills, caches, method, asks, record { method_allows = inl method; no_content = content; no_range = (λ forwarded. cc); no_precondition = precondition })
 
-pub none_filled : PlainLineFillsNoRange
+pub none_filled : DefaultPolicyFetchesNoWholeForRange
 none_filled caches asked = refl
 
 -- ---- what is left of the lines
@@ -48,9 +48,9 @@ module _ (fields : List Field) where
   pub no_if_range : has_field (without_named others (codes "If-Range")) (codes "If-Range") ≡ false
   no_if_range = list_any_none_left (λ f. not (is_named (codes "If-Range") f)) (is_named (codes "If-Range")) (λ f kept. not_true (is_named (codes "If-Range") f) kept) others
 
-pub none_forwarded : NoFilledRangeIsForwarded
+pub none_forwarded : WholeIsFetchedWithoutRange
 none_forwarded policy asked fills =
-    (ap (λ t. has_field (cond t (without_range asked) asked).fields (codes "Range")) fills ∙ no_range asked.fields, ap (λ t. has_field (cond t (without_range asked) asked).fields (codes "If-Range")) fills ∙ no_if_range asked.fields)
+    (ap (λ t. has_field (cond t (request_without_range asked) asked).fields (codes "Range")) fills ∙ no_range asked.fields, ap (λ t. has_field (cond t (request_without_range asked) asked).fields (codes "If-Range")) fills ∙ no_if_range asked.fields)
 
 -- a line of another name isn't taken out
 stays : (name taken : List ℕ) (f : Field) → is_same_name name taken ≡ false → is_named name f ≡ true → not (is_named taken f) ≡ true
@@ -62,10 +62,10 @@ lines_stay name fields no_range no_if_range =
     filter_keeps (λ f. not (is_named (codes "If-Range") f)) (is_named name) (λ f is. stays name (codes "If-Range") f no_if_range is) (without_named fields (codes "Range"))
     ∙ filter_keeps (λ f. not (is_named (codes "Range") f)) (is_named name) (λ f is. stays name (codes "Range") f no_range is) fields
 
-pub others_forwarded : OtherLinesAreForwarded
-others_forwarded policy asked name no_range no_if_range = by_filling (fills_range policy asked)
+pub others_forwarded : FieldsButRangeAreForwardedUnchanged
+others_forwarded policy asked name no_range no_if_range = by_filling (fetches_whole_for_range policy asked)
   where
-    by_filling : (t : Bool) → values_of (cond t (without_range asked) asked).fields name ≡ values_of asked.fields name
+    by_filling : (t : Bool) → values_of (cond t (request_without_range asked) asked).fields name ≡ values_of asked.fields name
     by_filling true = ap (map (λ (f : Field). f.value)) (lines_stay name asked.fields no_range no_if_range)
     by_filling false = refl
 
@@ -85,13 +85,13 @@ has_stays name fields no_range no_if_range =
     ∙ ap (list_any (is_named name)) (lines_stay name fields no_range no_if_range)
     ∙ any_by_filter (is_named name) fields
 
-pub precondition_stays : (asked : Asked) → has_precondition (without_range asked) ≡ has_precondition asked
+pub precondition_stays : (asked : Asked) → has_precondition (request_without_range asked) ≡ has_precondition asked
 precondition_stays asked = rw (has_stays (codes "If-Match") asked.fields refl refl, has_stays (codes "If-Unmodified-Since") asked.fields refl refl) refl
 
-pub asks_no_more : (asked : Asked) → asks_for_range (without_range asked) ≡ false
+pub asks_no_more : (asked : Asked) → asks_for_range (request_without_range asked) ≡ false
 asks_no_more asked = rw (no_range asked.fields, no_if_range asked.fields) refl
 
-pub as_the_whole : ConditionsStayAsOfTheWhole
+pub as_the_whole : FilledRangeConditionsAreAsForTheWhole
 as_the_whole policy asked fills =
     let (is, caches, get, asks, content, precondition) = all_hold policy.fills_ranges policy.caches (bytes_eq asked.method (codes "GET")) (asks_for_range asked) (request_has_content asked) (has_precondition asked) fills in
     rw (is, precondition_stays asked) refl

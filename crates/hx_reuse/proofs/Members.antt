@@ -6,8 +6,8 @@ use Rattle.hx_fields.proofs.FirstThat.{IsMember}
 use Rattle.hx_target.specs.Keys.{same_key}
 use Rattle.hx_hop.specs.declared.request_view.Asked.{Asked}
 use Rattle.hx_store.specs.Stored.{Stored}
-use Rattle.hx_store.specs.Serials.{Distinct, serial_is_in, insert_ascending}
-use Rattle.hx_store.specs.Shelf.{serials, serials_of}
+use Rattle.hx_store.specs.Serials.{SerialsAreDistinct, serial_is_in, insert_ascending}
+use Rattle.hx_store.specs.Shelf.{serials, serials_of_key}
 use Rattle.hx_reuse.specs.Chosen.{entries_of_key}
 
 -- each serial names one entry
@@ -40,7 +40,7 @@ member_is_in (x ∷ xs) f (inr m) = or_rest (x.serial == f.serial) (serial_is_in
 never_both : (b : Bool) → b ≡ true → b ≡ false → ⊥
 never_both b h k = cc
 
-pub distinct_entries : (held : List Stored) → Distinct (serials held) → HasDistinctSerials held
+pub distinct_entries : (held : List Stored) → SerialsAreDistinct (serials held) → HasDistinctSerials held
 distinct_entries [] d e f m n same = absurd m
 distinct_entries (x ∷ xs) d e f (inl h) (inl k) same = sym h ∙ k
 distinct_entries (x ∷ xs) d e f (inl h) (inr n) same =
@@ -81,32 +81,32 @@ insert_old : (t : ℕ) (xs : List ℕ) (s : ℕ) → IsMember s xs → IsMember 
 insert_old t [] s m = absurd m
 insert_old t (x ∷ xs) s m = old_by t x s xs (insert_ascending t xs) (nat_le t x) m (λ n. insert_old t xs s n)
 
-held_by : (asked : Asked) (x : Stored) (xs : List Stored) (s : ℕ) (b : Bool) → IsMember s (cond b (insert_ascending x.serial (serials_of asked.target.key xs)) (serials_of asked.target.key xs))
-    → (IsMember s (serials_of asked.target.key xs) → (e : Stored) × IsMember e (entries_of_key xs asked) × (e.serial ≡ s))
+held_by : (asked : Asked) (x : Stored) (xs : List Stored) (s : ℕ) (b : Bool) → IsMember s (cond b (insert_ascending x.serial (serials_of_key asked.target.key xs)) (serials_of_key asked.target.key xs))
+    → (IsMember s (serials_of_key asked.target.key xs) → (e : Stored) × IsMember e (entries_of_key xs asked) × (e.serial ≡ s))
     → (e : Stored) × IsMember e (cond b (x ∷ entries_of_key xs asked) (entries_of_key xs asked)) × (e.serial ≡ s)
-held_by asked x xs s true m rest = first (inserted x.serial (serials_of asked.target.key xs) s m)
+held_by asked x xs s true m rest = first (inserted x.serial (serials_of_key asked.target.key xs) s m)
   where
-    first : (x.serial ≡ s) ⊎ IsMember s (serials_of asked.target.key xs) → (e : Stored) × IsMember e (x ∷ entries_of_key xs asked) × (e.serial ≡ s)
+    first : (x.serial ≡ s) ⊎ IsMember s (serials_of_key asked.target.key xs) → (e : Stored) × IsMember e (x ∷ entries_of_key xs asked) × (e.serial ≡ s)
     first (inl e) = (x, inl refl, e)
     first (inr n) = let r = rest n in (r.0, inr r.1, r.2)
 held_by asked x xs s false m rest = rest m
 
-each_of_key : (held : List Stored) (asked : Asked) (s : ℕ) → IsMember s (serials_of asked.target.key held) → (e : Stored) × IsMember e (entries_of_key held asked) × (e.serial ≡ s)
+each_of_key : (held : List Stored) (asked : Asked) (s : ℕ) → IsMember s (serials_of_key asked.target.key held) → (e : Stored) × IsMember e (entries_of_key held asked) × (e.serial ≡ s)
 each_of_key [] asked s m = absurd m
 each_of_key (x ∷ xs) asked s m = held_by asked x xs s (same_key x.key asked.target.key) m (λ n. each_of_key xs asked s n)
 
-listed_by : (asked : Asked) (x e : Stored) (xs : List Stored) (b : Bool) → IsMember e (cond b (x ∷ entries_of_key xs asked) (entries_of_key xs asked)) → (IsMember e (entries_of_key xs asked) → IsMember e.serial (serials_of asked.target.key xs))
-    → IsMember e.serial (cond b (insert_ascending x.serial (serials_of asked.target.key xs)) (serials_of asked.target.key xs))
+listed_by : (asked : Asked) (x e : Stored) (xs : List Stored) (b : Bool) → IsMember e (cond b (x ∷ entries_of_key xs asked) (entries_of_key xs asked)) → (IsMember e (entries_of_key xs asked) → IsMember e.serial (serials_of_key asked.target.key xs))
+    → IsMember e.serial (cond b (insert_ascending x.serial (serials_of_key asked.target.key xs)) (serials_of_key asked.target.key xs))
 listed_by asked x e xs true (inl h) rest =
-    subst (λ (s : ℕ). IsMember s (insert_ascending x.serial (serials_of asked.target.key xs))) (ap (λ (s : Stored). s.serial) h) (insert_new x.serial (serials_of asked.target.key xs))
-listed_by asked x e xs true (inr m) rest = insert_old x.serial (serials_of asked.target.key xs) e.serial (rest m)
+    subst (λ (s : ℕ). IsMember s (insert_ascending x.serial (serials_of_key asked.target.key xs))) (ap (λ (s : Stored). s.serial) h) (insert_new x.serial (serials_of_key asked.target.key xs))
+listed_by asked x e xs true (inr m) rest = insert_old x.serial (serials_of_key asked.target.key xs) e.serial (rest m)
 listed_by asked x e xs false m rest = rest m
 
-all_of_key : (held : List Stored) (asked : Asked) (e : Stored) → IsMember e (entries_of_key held asked) → IsMember e.serial (serials_of asked.target.key held)
+all_of_key : (held : List Stored) (asked : Asked) (e : Stored) → IsMember e (entries_of_key held asked) → IsMember e.serial (serials_of_key asked.target.key held)
 all_of_key [] asked e m = absurd m
 all_of_key (x ∷ xs) asked e m = listed_by asked x e xs (same_key x.key asked.target.key) m (λ n. all_of_key xs asked e n)
 
-pub are_serials : (held : List Stored) (asked : Asked) (ss : List ℕ) → ss ≡ serials_of asked.target.key held → AreSerialsOf held asked ss
+pub are_serials : (held : List Stored) (asked : Asked) (ss : List ℕ) → ss ≡ serials_of_key asked.target.key held → AreSerialsOf held asked ss
 are_serials held asked ss is = record {
   each_held = λ s m. each_of_key held asked s (subst (λ (xs : List ℕ). IsMember s xs) is m);
   none_missing = λ e m. subst (λ (xs : List ℕ). IsMember e.serial xs) (sym is) (all_of_key held asked e m);

@@ -11,9 +11,9 @@ use Rattle.hx_policy.specs.declared.words.Policy.{Policy}
 use Rattle.hx_reuse.specs.declared.rule.ErrorRule.{ErrorRule}
 use Rattle.hx_reuse.specs.declared.rule.ErrorRule.TheVariants.{NoCache, MustRevalidate, NoLifetime, RequestNoCache, NoDirective, TooStale}
 use Rattle.hx_reuse.specs.RuleNames.{error_rule_number}
-use Rattle.hx_reuse.specs.Rules.{Situation, may_not_be_sent_stale}
-use Rattle.hx_reuse.specs.ErrorRules.{seconds_stated_once, stale_limit_of_response, stale_limit_of_request, stale_limit_of_operator, is_past_stale_limit, error_rule_condition, error_rules, situation_of_stored, error_rule_on}
-use Rattle.hx_reuse.specs.OnError.{ResponseStatesStaleLimit, RequestStatesStaleLimit, OperatorGivesStaleLimit, staleness_at, ResponseMayBeSentOnError, IsLeastErrorRule}
+use Rattle.hx_reuse.specs.Rules.{ReuseSituation, forbids_sending_stale}
+use Rattle.hx_reuse.specs.ErrorRules.{seconds_stated_once, stale_limit_of_response, stale_limit_of_request, stale_limit_of_operator, is_stale_beyond_limit, error_rule_condition, error_rules, situation_of_stored_response, error_rule_on}
+use Rattle.hx_reuse.specs.OnError.{ResponseHasStaleIfErrorOf, RequestHasStaleIfErrorOf, OperatorGivesStaleIfErrorOf, staleness_at, ResponseMayBeSentOnError, IsLeastErrorRule}
 use Rattle.hx_fields.proofs.FirstThat.{IsMember, ascends, passes, fails_before, none_passes, none_found, first_found}
 use Rattle.hx_fields.proofs.JoinedTests.{not_false, not_true, left_false, right_false, neither, last_absent, first_absent, second_false, either_false, some_value, has_value, not_below, is_not_below}
 use Rattle.hx_reuse.proofs.ValueTests.{test_false, none_tests}
@@ -41,8 +41,8 @@ states seconds_are.Repeated n h = absurd cc
 states (seconds_are.Value m) n h = let same : m ≡ n = cc in ap seconds_are.Value same
 
 module _ (policy : Policy) (response : Stored) (request : List Occurrence) (now : ℕ) where
-  abbrev here : Situation
-  here = situation_of_stored policy response request now
+  abbrev here : ReuseSituation
+  here = situation_of_stored_response policy response request now
 
   pub least_on_error : (least : ErrorRule) → error_rule_on policy response request now ≡ Some least → IsLeastErrorRule policy response request now least
   unfolding error_rule_on
@@ -81,25 +81,25 @@ module _ (policy : Policy) (response : Stored) (request : List Occurrence) (now 
   neither_says : (a b : Bool) (o : Option ℕ) → a ≡ false → b ≡ false → cond (a || b) None o ≡ o
   neither_says a b o h k = rw (h, k) refl
 
-  gives : (most : ℕ) → stale_limit_of_operator here ≡ Some most → OperatorGivesStaleLimit policy response request most
+  gives : (most : ℕ) → stale_limit_of_operator here ≡ Some most → OperatorGivesStaleIfErrorOf policy response request most
   gives most h =
       let r = where_neither response_says request_says policy.stale_if_error most h in
-      record { line_has = r.1.1; response_has_none = r.0; request_has_none = r.1.0 }
+      record { policy_states_limit = r.1.1; response_has_none = r.0; request_has_none = r.1.0 }
 
-  pub is_given : (most : ℕ) → OperatorGivesStaleLimit policy response request most → stale_limit_of_operator here ≡ Some most
-  is_given most g = neither_says response_says request_says policy.stale_if_error g.response_has_none g.request_has_none ∙ g.line_has
+  pub is_given : (most : ℕ) → OperatorGivesStaleIfErrorOf policy response request most → stale_limit_of_operator here ≡ Some most
+  is_given most g = neither_says response_says request_says policy.stale_if_error g.response_has_none g.request_has_none ∙ g.policy_states_limit
 
   abbrev IsAllowed : Type 0
-  IsAllowed = ((most : ℕ) × ResponseStatesStaleLimit response most) ⊎ (((most : ℕ) × RequestStatesStaleLimit request most) ⊎ ((most : ℕ) × OperatorGivesStaleLimit policy response request most))
+  IsAllowed = ((most : ℕ) × ResponseHasStaleIfErrorOf response most) ⊎ (((most : ℕ) × RequestHasStaleIfErrorOf request most) ⊎ ((most : ℕ) × OperatorGivesStaleIfErrorOf policy response request most))
 
   -- ---- from no rule to what may be sent
 
-  within : (limit : Option ℕ) (most : ℕ) → is_past_stale_limit here limit ≡ false → limit ≡ Some most → staleness_at policy response now ≤ most
+  within : (limit : Option ℕ) (most : ℕ) → is_stale_beyond_limit here limit ≡ false → limit ≡ Some most → staleness_at policy response now ≤ most
   within limit most h is = not_below most (staleness_at policy response now) (test_false (λ m. nat_lt m (staleness_at policy response now)) limit most h is)
 
   module _ (none : (rule : ErrorRule) → error_rule_condition rule here ≡ false) where
     revalidated : Bool
-    revalidated = may_not_be_sent_stale here
+    revalidated = forbids_sending_stale here
 
     allowed : IsAllowed
     allowed = at (either_false (is_none (stale_limit_of_response here) && is_none (stale_limit_of_request here)) (is_none (stale_limit_of_operator here)) (none NoDirective))
@@ -118,8 +118,8 @@ module _ (policy : Policy) (response : Stored) (request : List Occurrence) (now 
         let proxy = directive_occurs here.response directive.ProxyRevalidate in
         let shared = directive_occurs here.response directive.SMaxage in
         let neither_two = left_false (must || proxy) shared (none MustRevalidate) in
-        let two = is_past_stale_limit here (stale_limit_of_response here) || is_past_stale_limit here (stale_limit_of_request here) in
-        let of_two = left_false two (is_past_stale_limit here (stale_limit_of_operator here)) (none TooStale) in
+        let two = is_stale_beyond_limit here (stale_limit_of_response here) || is_stale_beyond_limit here (stale_limit_of_request here) in
+        let of_two = left_false two (is_stale_beyond_limit here (stale_limit_of_operator here)) (none TooStale) in
         record {
           no_no_cache = none NoCache;
           no_must_revalidate = left_false must proxy neither_two;
@@ -128,9 +128,9 @@ module _ (policy : Policy) (response : Stored) (request : List Occurrence) (now 
           has_a_lifetime = not_false here.lifetime.explicit (none NoLifetime);
           not_to_be_validated = λ heeds. second_false policy.heeds_requests (directive_occurs request directive.NoCache) heeds (none RequestNoCache);
           is_allowed = allowed;
-          within_its_limit = λ most h. within (stale_limit_of_response here) most (left_false (is_past_stale_limit here (stale_limit_of_response here)) (is_past_stale_limit here (stale_limit_of_request here)) of_two) (ap seconds_stated_once h);
-          within_the_requests = λ most h. within (stale_limit_of_request here) most (right_false (is_past_stale_limit here (stale_limit_of_response here)) (is_past_stale_limit here (stale_limit_of_request here)) of_two) h;
-          within_the_operators = λ most h. within (stale_limit_of_operator here) most (right_false two (is_past_stale_limit here (stale_limit_of_operator here)) (none TooStale)) (is_given most h);
+          within_its_limit = λ most h. within (stale_limit_of_response here) most (left_false (is_stale_beyond_limit here (stale_limit_of_response here)) (is_stale_beyond_limit here (stale_limit_of_request here)) of_two) (ap seconds_stated_once h);
+          within_the_requests = λ most h. within (stale_limit_of_request here) most (right_false (is_stale_beyond_limit here (stale_limit_of_response here)) (is_stale_beyond_limit here (stale_limit_of_request here)) of_two) h;
+          within_the_operators = λ most h. within (stale_limit_of_operator here) most (right_false two (is_stale_beyond_limit here (stale_limit_of_operator here)) (none TooStale)) (is_given most h);
         }
 
   pub sent_may_be : error_rule_on policy response request now ≡ None → ResponseMayBeSentOnError policy response request now
@@ -142,7 +142,7 @@ module _ (policy : Policy) (response : Stored) (request : List Occurrence) (now 
   heeded true test h = h refl
   heeded false test h = refl
 
-  not_past : (limit : Option ℕ) → ((most : ℕ) → limit ≡ Some most → staleness_at policy response now ≤ most) → is_past_stale_limit here limit ≡ false
+  not_past : (limit : Option ℕ) → ((most : ℕ) → limit ≡ Some most → staleness_at policy response now ≤ most) → is_stale_beyond_limit here limit ≡ false
   not_past limit below =
       none_tests (λ m. nat_lt m (staleness_at policy response now)) limit (λ most h. is_not_below most (staleness_at policy response now) (below most h))
 
@@ -169,8 +169,8 @@ module _ (policy : Policy) (response : Stored) (request : List Occurrence) (now 
     none_applies RequestNoCache = heeded policy.heeds_requests (directive_occurs request directive.NoCache) may.not_to_be_validated
     none_applies NoDirective = some_limit may.is_allowed
     none_applies TooStale =
-        neither (is_past_stale_limit here (stale_limit_of_response here) || is_past_stale_limit here (stale_limit_of_request here)) (is_past_stale_limit here (stale_limit_of_operator here))
-        (neither (is_past_stale_limit here (stale_limit_of_response here)) (is_past_stale_limit here (stale_limit_of_request here))
+        neither (is_stale_beyond_limit here (stale_limit_of_response here) || is_stale_beyond_limit here (stale_limit_of_request here)) (is_stale_beyond_limit here (stale_limit_of_operator here))
+        (neither (is_stale_beyond_limit here (stale_limit_of_response here)) (is_stale_beyond_limit here (stale_limit_of_request here))
         (not_past (stale_limit_of_response here) (λ most h. may.within_its_limit most (states (seconds_of_directive here.response directive.StaleIfError) most h)))
         (not_past (stale_limit_of_request here) (λ most h. may.within_the_requests most h)))
         (not_past (stale_limit_of_operator here) (λ most h. may.within_the_operators most (gives most h)))

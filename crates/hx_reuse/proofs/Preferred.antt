@@ -8,9 +8,9 @@ use Rattle.hx_hop.specs.declared.request_view.Asked.{Asked}
 use Rattle.hx_store.specs.Stored.{Stored}
 use Rattle.hx_target.specs.Keys.{same_key}
 use Rattle.hx_fields.specs.Line.{Field}
-use Rattle.hx_store.specs.Serials.{Distinct}
-use Rattle.hx_store.specs.Shelf.{find_entry, entry_matches, matching_serials, serials as serials_held, serials_of}
-use Rattle.hx_reuse.specs.Chosen.{entries_of_key, nominates, is_more_recent, is_preferred, preferred_of, most_preferred, chosen_of}
+use Rattle.hx_store.specs.Serials.{SerialsAreDistinct}
+use Rattle.hx_store.specs.Shelf.{find_entry, entry_matches_request, matching_serials, serials as serials_held, serials_of_key}
+use Rattle.hx_reuse.specs.Chosen.{entries_of_key, nominates, is_more_recent, is_preferred_over, preferred_of_two, most_preferred_response, chosen_of}
 use Rattle.hx_fields.proofs.FirstThat.{IsMember}
 use Rattle.hx_reuse.proofs.Members.{HasDistinctSerials, AreSerialsOf, are_serials, distinct_entries}
 
@@ -67,17 +67,17 @@ same_bit true false p q h k = absurd cc
 same_bit false true p q h k = absurd cc
 same_bit false false p q h k = (h, k)
 
-not_preferred_trans : (e f g : Stored) → is_preferred e f ≡ false → is_preferred f g ≡ false → is_preferred e g ≡ false
+not_preferred_trans : (e f g : Stored) → is_preferred_over e f ≡ false → is_preferred_over f g ≡ false → is_preferred_over e g ≡ false
 not_preferred_trans e f g h k =
     above_trans (nominates e) (nominates f) (nominates g) (is_more_recent e f) (is_more_recent f g) (is_more_recent e g) (not_more_recent_trans e f g) h k
 
-preferred_one_way : (e f : Stored) → is_preferred e f ≡ true → is_preferred f e ≡ false
+preferred_one_way : (e f : Stored) → is_preferred_over e f ≡ true → is_preferred_over f e ≡ false
 preferred_one_way e f h = above_one_way (nominates e) (nominates f) (is_more_recent e f) (is_more_recent f e) (more_recent_one_way e f) h
 
-not_preferred_itself : (e : Stored) → is_preferred e e ≡ false
+not_preferred_itself : (e : Stored) → is_preferred_over e e ≡ false
 not_preferred_itself e = above_itself (nominates e) (is_more_recent e e) (not_more_recent_itself e)
 
-pub same_serial : (e f : Stored) → is_preferred e f ≡ false → is_preferred f e ≡ false → e.serial ≡ f.serial
+pub same_serial : (e f : Stored) → is_preferred_over e f ≡ false → is_preferred_over f e ≡ false → e.serial ≡ f.serial
 same_serial e f h k =
     let neither = same_bit (nominates e) (nominates f) (is_more_recent e f) (is_more_recent f e) h k in
     same_serial_if_none_is e f neither.0 neither.1
@@ -85,8 +85,8 @@ same_serial e f h k =
 -- what the preferred one of some entries after a best so far is
 pub record IsPreferredAfter (best : Option Stored) (es : List Stored) (e : Stored) : Type 0 where
   pub taken : (best ≡ Some e) ⊎ IsMember e es
-  pub above_best : (f : Stored) → best ≡ Some f → is_preferred f e ≡ false
-  pub above : (f : Stored) → IsMember f es → is_preferred f e ≡ false
+  pub above_best : (f : Stored) → best ≡ Some f → is_preferred_over f e ≡ false
+  pub above : (f : Stored) → IsMember f es → is_preferred_over f e ≡ false
 
 same_inside : (e f : Stored) → ◌≡◌ {A = Option Stored} (Some e) (Some f) → e ≡ f
 same_inside e f h = cc
@@ -95,47 +95,47 @@ taken_first : (x e : Stored) (xs : List Stored) → (Some x ≡ Some e) ⊎ IsMe
 taken_first x e xs (inl h) = inl (same_inside x e h)
 taken_first x e xs (inr m) = inr m
 
-not_preferred_at : (e f g : Stored) → f ≡ g → is_preferred f e ≡ false → is_preferred g e ≡ false
+not_preferred_at : (e f g : Stored) → f ≡ g → is_preferred_over f e ≡ false → is_preferred_over g e ≡ false
 not_preferred_at e f g h k = rw (← h) k
 
-over_member : (x e : Stored) (xs : List Stored) → is_preferred x e ≡ false → ((f : Stored) → IsMember f xs → is_preferred f e ≡ false)
-    → (f : Stored) → IsMember f (x ∷ xs) → is_preferred f e ≡ false
+over_member : (x e : Stored) (xs : List Stored) → is_preferred_over x e ≡ false → ((f : Stored) → IsMember f xs → is_preferred_over f e ≡ false)
+    → (f : Stored) → IsMember f (x ∷ xs) → is_preferred_over f e ≡ false
 over_member x e xs first rest f (inl h) = not_preferred_at e x f h first
 over_member x e xs first rest f (inr m) = rest f m
 
-after_some : (b x e : Stored) (xs : List Stored) (t : Bool) → is_preferred x b ≡ t → IsPreferredAfter (cond t (Some x) (Some b)) xs e → IsPreferredAfter (Some b) (x ∷ xs) e
+after_some : (b x e : Stored) (xs : List Stored) (t : Bool) → is_preferred_over x b ≡ t → IsPreferredAfter (cond t (Some x) (Some b)) xs e → IsPreferredAfter (Some b) (x ∷ xs) e
 after_some b x e xs true h r =
-    let above_x : is_preferred x e ≡ false = r.above_best x refl in
-    let above_b : is_preferred b e ≡ false = not_preferred_trans b x e (preferred_one_way x b h) above_x in
+    let above_x : is_preferred_over x e ≡ false = r.above_best x refl in
+    let above_b : is_preferred_over b e ≡ false = not_preferred_trans b x e (preferred_one_way x b h) above_x in
     record { taken = inr (taken_first x e xs r.taken); above_best = λ f k. not_preferred_at e b f (same_inside b f k) above_b; above = over_member x e xs above_x r.above }
 after_some b x e xs false h r =
-    let above_b : is_preferred b e ≡ false = r.above_best b refl in
+    let above_b : is_preferred_over b e ≡ false = r.above_best b refl in
     record { taken = taken_kept r.taken; above_best = r.above_best; above = over_member x e xs (not_preferred_trans x b e h above_b) r.above }
   where
     taken_kept : (Some b ≡ Some e) ⊎ IsMember e xs → (Some b ≡ Some e) ⊎ IsMember e (x ∷ xs)
     taken_kept (inl k) = inl k
     taken_kept (inr m) = inr (inr m)
 
-after_one : (best : Option Stored) (x e : Stored) (xs : List Stored) → IsPreferredAfter (preferred_of best x) xs e → IsPreferredAfter best (x ∷ xs) e
+after_one : (best : Option Stored) (x e : Stored) (xs : List Stored) → IsPreferredAfter (preferred_of_two best x) xs e → IsPreferredAfter best (x ∷ xs) e
 after_one None x e xs r =
     record { taken = inr (taken_first x e xs r.taken); above_best = λ f k. absurd (none_is_some f k); above = over_member x e xs (r.above_best x refl) r.above }
   where
     none_is_some : (f : Stored) → ◌≡◌ {A = Option Stored} None (Some f) → ⊥
     none_is_some f k = cc
-after_one (Some b) x e xs r = after_some b x e xs (is_preferred x b) refl r
+after_one (Some b) x e xs r = after_some b x e xs (is_preferred_over x b) refl r
 
-pub fold_preferred : (es : List Stored) (best : Option Stored) (e : Stored) → fold preferred_of best es ≡ Some e → IsPreferredAfter best es e
+pub fold_preferred : (es : List Stored) (best : Option Stored) (e : Stored) → fold preferred_of_two best es ≡ Some e → IsPreferredAfter best es e
 fold_preferred [] best e h =
     record { taken = inl h; above_best = λ f k. not_preferred_at e e f (same_inside e f (sym h ∙ k)) (not_preferred_itself e); above = λ f m. absurd m }
-fold_preferred (x ∷ xs) best e h = after_one best x e xs (fold_preferred xs (preferred_of best x) e h)
+fold_preferred (x ∷ xs) best e h = after_one best x e xs (fold_preferred xs (preferred_of_two best x) e h)
 
-pub fold_some : (es : List Stored) (b : Stored) → (e : Stored) × (fold preferred_of (Some b) es ≡ Some e)
+pub fold_some : (es : List Stored) (b : Stored) → (e : Stored) × (fold preferred_of_two (Some b) es ≡ Some e)
 fold_some [] b = (b, refl)
 fold_some (x ∷ xs) b =
-    elim (is_preferred x b) as (λ t. (e : Stored) × (fold preferred_of (cond t (Some x) (Some b)) xs ≡ Some e)) [ true ↦ fold_some xs x | false ↦ fold_some xs b ]
+    elim (is_preferred_over x b) as (λ t. (e : Stored) × (fold preferred_of_two (cond t (Some x) (Some b)) xs ≡ Some e)) [ true ↦ fold_some xs x | false ↦ fold_some xs b ]
 
 module _ (held : List Stored) (distinct : HasDistinctSerials held) where
-  same_preferred : (xs ys : List Stored) → ((e : Stored) → IsMember e xs → IsMember e held) → ((e : Stored) → IsMember e xs → IsMember e ys) → ((e : Stored) → IsMember e ys → IsMember e xs) → most_preferred xs ≡ most_preferred ys
+  same_preferred : (xs ys : List Stored) → ((e : Stored) → IsMember e xs → IsMember e held) → ((e : Stored) → IsMember e xs → IsMember e ys) → ((e : Stored) → IsMember e ys → IsMember e xs) → most_preferred_response xs ≡ most_preferred_response ys
   same_preferred [] [] inside there back = refl
   same_preferred [] (y ∷ ys) inside there back = absurd (back y (inl refl))
   same_preferred (x ∷ xs) [] inside there back = absurd (there x (inl refl))
@@ -251,7 +251,7 @@ module _ (held : List Stored) (asked : Asked) (serials : List ℕ) (distinct : H
       member_found (λ s. find_entry s held) serials e.serial e (are.none_missing e m) (find_entry-find e.serial held ∙ (r.1 ∙ ap Some same))
 
   -- the preferred one of the entries with the key's serials is the chosen one
-  preferred_is_chosen : most_preferred (filter (λ e. vary_matches e.nominated asked.fields) (filter_map (λ s. find_entry s held) serials)) ≡ chosen_of held asked
+  preferred_is_chosen : most_preferred_response (filter (λ e. vary_matches e.nominated asked.fields) (filter_map (λ s. find_entry s held) serials)) ≡ chosen_of held asked
   preferred_is_chosen =
       let here : Stored → Bool = λ e. vary_matches e.nominated asked.fields in
       let found : List Stored = filter_map (λ s. find_entry s held) serials in
@@ -266,16 +266,16 @@ cons_option_if false o es = es
 
 -- the entries of the serials that match are those that match of the entries of the serials
 matching_found : (held : List Stored) (request : List Field) (ss : List ℕ) →
-    filter_map (λ s. find_entry s held) (filter (λ s. entry_matches request (find_entry s held)) ss)
+    filter_map (λ s. find_entry s held) (filter (λ s. entry_matches_request request (find_entry s held)) ss)
     ≡ filter (λ e. vary_matches e.nominated request) (filter_map (λ s. find_entry s held) ss)
 matching_found held request [] = refl
 matching_found held request (s ∷ ss) =
     let found : List ℕ → List Stored = λ rs. filter_map (λ r. find_entry r held) rs in
-    let rest = filter (λ r. entry_matches request (find_entry r held)) ss in
+    let rest = filter (λ r. entry_matches_request request (find_entry r held)) ss in
     let here : Stored → Bool = λ e. vary_matches e.nominated request in
     let more : found rest ≡ filter here (found ss) = matching_found held request ss in
-    let Same : Option Stored → Type 0 = λ o. cons_option_if (entry_matches request o) o (found rest) ≡ filter here (cons_option o (found ss)) in
-    kept s (entry_matches request (find_entry s held)) rest
+    let Same : Option Stored → Type 0 = λ o. cons_option_if (entry_matches_request request o) o (found rest) ≡ filter here (cons_option o (found ss)) in
+    kept s (entry_matches_request request (find_entry s held)) rest
     ∙ (elim (find_entry s held) as Same [
       | None ↦ more
       | Some e ↦ elim (here e) as (λ b. cons_option_if b (Some e) (found rest) ≡ cond b (e ∷ filter here (found ss)) (filter here (found ss))) [
@@ -289,9 +289,9 @@ matching_found held request (s ∷ ss) =
     kept s false rest = refl
 
 -- the preferred one of those that match by the shelf's word is the chosen one
-pub preferred_match_is_chosen : (held : List Stored) (asked : Asked) → Distinct (serials_held held) →
-    most_preferred (filter_map (λ s. find_entry s held) (matching_serials asked.target.key asked.fields held)) ≡ chosen_of held asked
+pub preferred_match_is_chosen : (held : List Stored) (asked : Asked) → SerialsAreDistinct (serials_held held) →
+    most_preferred_response (filter_map (λ s. find_entry s held) (matching_serials asked.target.key asked.fields held)) ≡ chosen_of held asked
 preferred_match_is_chosen held asked distinct =
-    let serials = serials_of asked.target.key held in
-    ap most_preferred (matching_found held asked.fields serials)
+    let serials = serials_of_key asked.target.key held in
+    ap most_preferred_response (matching_found held asked.fields serials)
     ∙ preferred_is_chosen held asked serials (distinct_entries held distinct) (are_serials held asked serials refl)

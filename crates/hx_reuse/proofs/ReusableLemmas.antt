@@ -11,14 +11,14 @@ use Rattle.hx_hop.specs.declared.request_view.Asked.{Asked}
 use Rattle.hx_hop.specs.Bypass.{asks_for_range}
 use Rattle.hx_store.specs.Stored.{Stored}
 use Rattle.hx_policy.specs.declared.words.Policy.{Policy}
-use Rattle.hx_store.specs.Serials.{Distinct}
+use Rattle.hx_store.specs.Serials.{SerialsAreDistinct}
 use Rattle.hx_store.specs.Shelf.{serials}
 use Rattle.hx_reuse.specs.declared.decision.Decision.TheVariants.{Hit}
 use Rattle.hx_reuse.specs.declared.rule.ReuseRule.{ReuseRule}
 use Rattle.hx_reuse.specs.declared.rule.ReuseRule.TheVariants.{Operator, Method, Content, Range, Precondition, UriMiss, VaryMiss, ResponseNoCache, RequestNoCache, AboveMaxAge, BelowMinFresh, MustRevalidate, NoLifetime, StaleNoCache, NoMaxStale, PastMaxStale, StaleMaxAge, StaleMinFresh}
 use Rattle.hx_reuse.specs.Chosen.{entries_of_key, chosen_of}
-use Rattle.hx_reuse.specs.Rules.{Situation, reuse_rule_applies, rule_condition, situation_of_request, is_fresh_situation, may_not_be_sent_stale, asks_to_validate, is_above_max_age_limit, is_below_min_fresh_limit, asks_for_freshness, accepts_stale, is_past_max_stale, is_some_and, decision_of}
-use Rattle.hx_reuse.specs.Reusable.{ResponseIsWithinMaxAge, ResponseIsFreshForMinFresh, MayBeSentFresh, MayBeSentStale, MaxStaleTakesStaleness, ResponseMayBeReused}
+use Rattle.hx_reuse.specs.Rules.{ReuseSituation, reuse_rule_applies, reuse_rule_condition, situation_of_request, is_fresh_situation, forbids_sending_stale, heeded_request_has_no_cache, is_above_max_age_limit, is_below_min_fresh_of_request, heeded_request_has_min_fresh, max_stale_is_present, is_past_max_stale, is_some_and, decision_of}
+use Rattle.hx_reuse.specs.Reusable.{ResponseIsWithinMaxAge, ResponseIsFreshForMinFresh, MayBeSentFresh, MayBeSentStale, MaxStaleAcceptsStaleness, ResponseMayBeReused}
 use Rattle.hx_fields.proofs.JoinedTests.{never, second_false, first_absent, last_absent, under_not, not_first, not_false, left_false, right_false, neither, no_value, not_below, is_not_below, below, is_below, not_true}
 use Rattle.hx_reuse.proofs.ValueTests.{test_false, none_tests}
 use Rattle.hx_reuse.proofs.Preferred.{member_filter}
@@ -39,28 +39,28 @@ method_is_allowed : (m : List ℕ) → (m ≡ codes "GET") ⊎ (m ≡ codes "HEA
 method_is_allowed m (inl get) = rw get refl
 method_is_allowed m (inr head) = rw head refl
 
-takes : (limit : MaxStale) (n : ℕ) → not (accepts_stale limit) ≡ false → is_past_max_stale n limit ≡ false → MaxStaleTakesStaleness limit n
+takes : (limit : MaxStale) (n : ℕ) → not (max_stale_is_present limit) ≡ false → is_past_max_stale n limit ≡ false → MaxStaleAcceptsStaleness limit n
 takes Absent n h k = absurd (never h)
 takes Any n h k = tt
 takes (UpTo most) n h k = not_below most n k
 
-accepts_what_it_takes : (limit : MaxStale) (n : ℕ) → MaxStaleTakesStaleness limit n → accepts_stale limit ≡ true
+accepts_what_it_takes : (limit : MaxStale) (n : ℕ) → MaxStaleAcceptsStaleness limit n → max_stale_is_present limit ≡ true
 accepts_what_it_takes Absent n h = absurd h
 accepts_what_it_takes Any n h = refl
 accepts_what_it_takes (UpTo most) n h = refl
 
-not_past_what_it_takes : (limit : MaxStale) (n : ℕ) → MaxStaleTakesStaleness limit n → is_past_max_stale n limit ≡ false
+not_past_what_it_takes : (limit : MaxStale) (n : ℕ) → MaxStaleAcceptsStaleness limit n → is_past_max_stale n limit ≡ false
 not_past_what_it_takes Absent n h = absurd h
 not_past_what_it_takes Any n h = refl
 not_past_what_it_takes (UpTo most) n h = is_not_below most n h
 
 module _ (policy : Policy) (e : Stored) (asked : Asked) (now : ℕ) where
-  abbrev here : Situation
+  abbrev here : ReuseSituation
   here = situation_of_request policy e asked now
 
   -- ---- what is so where no rule on the chosen response stands
 
-  not_to_be_validated : asks_to_validate here ≡ false → policy.heeds_requests ≡ true → directive_occurs here.request directive.NoCache ≡ false
+  not_to_be_validated : heeded_request_has_no_cache here ≡ false → policy.heeds_requests ≡ true → directive_occurs here.request directive.NoCache ≡ false
   not_to_be_validated h heeds = second_false policy.heeds_requests (directive_occurs here.request directive.NoCache) heeds h
 
   within_max_age : is_above_max_age_limit here ≡ false → policy.heeds_requests ≡ true → ResponseIsWithinMaxAge e asked now
@@ -68,23 +68,23 @@ module _ (policy : Policy) (e : Stored) (asked : Asked) (now : ℕ) where
       let over = is_some_and (λ m. nat_lt m here.age) (first_valid here.request directive.MaxAge) in
       not_below most here.age (test_false (λ m. nat_lt m here.age) (first_valid here.request directive.MaxAge) most (second_false policy.heeds_requests over heeds h) is)
 
-  fresh_for_min_fresh : is_below_min_fresh_limit here ≡ false → policy.heeds_requests ≡ true → ResponseIsFreshForMinFresh policy e asked now
+  fresh_for_min_fresh : is_below_min_fresh_of_request here ≡ false → policy.heeds_requests ≡ true → ResponseIsFreshForMinFresh policy e asked now
   fresh_for_min_fresh h heeds least is =
       let short = is_some_and (λ m. nat_lt here.lifetime.seconds (here.age + m)) (first_valid here.request directive.MinFresh) in
       not_below here.lifetime.seconds (here.age + least) (test_false (λ m. nat_lt here.lifetime.seconds (here.age + m)) (first_valid here.request directive.MinFresh) least (second_false policy.heeds_requests short heeds h) is)
 
-  no_min_fresh : asks_for_freshness here ≡ false → policy.heeds_requests ≡ true → first_valid here.request directive.MinFresh ≡ None
+  no_min_fresh : heeded_request_has_min_fresh here ≡ false → policy.heeds_requests ≡ true → first_valid here.request directive.MinFresh ≡ None
   no_min_fresh h heeds =
       no_value (first_valid here.request directive.MinFresh) (second_false policy.heeds_requests (is_some (first_valid here.request directive.MinFresh)) heeds h)
 
-  module _ (none : (rule : ReuseRule) → rule_condition rule here ≡ false) where
+  module _ (none : (rule : ReuseRule) → reuse_rule_condition rule here ≡ false) where
     sent_fresh : is_fresh_situation here ≡ true → MayBeSentFresh policy e asked now
     sent_fresh f =
         record {
           is_fresh = below here.age here.lifetime.seconds f;
-          not_to_be_validated = not_to_be_validated (second_false (is_fresh_situation here) (asks_to_validate here) f (none RequestNoCache));
+          not_to_be_validated = not_to_be_validated (second_false (is_fresh_situation here) (heeded_request_has_no_cache here) f (none RequestNoCache));
           within_max_age = within_max_age (second_false (is_fresh_situation here) (is_above_max_age_limit here) f (none AboveMaxAge));
-          fresh_for_min_fresh = fresh_for_min_fresh (second_false (is_fresh_situation here) (is_below_min_fresh_limit here) f (none BelowMinFresh));
+          fresh_for_min_fresh = fresh_for_min_fresh (second_false (is_fresh_situation here) (is_below_min_fresh_of_request here) f (none BelowMinFresh));
         }
 
     sent_stale : is_fresh_situation here ≡ false → MayBeSentStale policy e asked now
@@ -94,7 +94,7 @@ module _ (policy : Policy) (e : Stored) (asked : Asked) (now : ℕ) where
         let shared = directive_occurs here.response directive.SMaxage in
         let limit = max_stale here.request in
         let staleness = here.age - here.lifetime.seconds in
-        let revalidate = under_not (is_fresh_situation here) (may_not_be_sent_stale here) f (none MustRevalidate) in
+        let revalidate = under_not (is_fresh_situation here) (forbids_sending_stale here) f (none MustRevalidate) in
         let neither_two = left_false (must || proxy) shared revalidate in
         record {
           is_stale = not_below here.age here.lifetime.seconds f;
@@ -102,10 +102,10 @@ module _ (policy : Policy) (e : Stored) (asked : Asked) (now : ℕ) where
           no_proxy_revalidate = right_false must proxy neither_two;
           no_s_maxage = right_false (must || proxy) shared revalidate;
           has_a_lifetime = not_false here.lifetime.explicit (under_not (is_fresh_situation here) (not here.lifetime.explicit) f (none NoLifetime));
-          not_to_be_validated = not_to_be_validated (under_not (is_fresh_situation here) (asks_to_validate here) f (none StaleNoCache));
-          within_max_stale = takes limit staleness (under_not (is_fresh_situation here) (not (accepts_stale limit)) f (none NoMaxStale)) (under_not (is_fresh_situation here) (is_past_max_stale staleness limit) f (none PastMaxStale));
+          not_to_be_validated = not_to_be_validated (under_not (is_fresh_situation here) (heeded_request_has_no_cache here) f (none StaleNoCache));
+          within_max_stale = takes limit staleness (under_not (is_fresh_situation here) (not (max_stale_is_present limit)) f (none NoMaxStale)) (under_not (is_fresh_situation here) (is_past_max_stale staleness limit) f (none PastMaxStale));
           within_max_age = within_max_age (under_not (is_fresh_situation here) (is_above_max_age_limit here) f (none StaleMaxAge));
-          no_min_fresh = no_min_fresh (under_not (is_fresh_situation here) (asks_for_freshness here) f (none StaleMinFresh));
+          no_min_fresh = no_min_fresh (under_not (is_fresh_situation here) (heeded_request_has_min_fresh here) f (none StaleMinFresh));
         }
 
     sent_somehow : (t : Bool) → is_fresh_situation here ≡ t → MayBeSentFresh policy e asked now ⊎ MayBeSentStale policy e asked now
@@ -119,7 +119,7 @@ module _ (policy : Policy) (e : Stored) (asked : Asked) (now : ℕ) where
   heeded true test h = h refl
   heeded false test h = refl
 
-  not_asked : (policy.heeds_requests ≡ true → directive_occurs here.request directive.NoCache ≡ false) → asks_to_validate here ≡ false
+  not_asked : (policy.heeds_requests ≡ true → directive_occurs here.request directive.NoCache ≡ false) → heeded_request_has_no_cache here ≡ false
   not_asked h = heeded policy.heeds_requests (directive_occurs here.request directive.NoCache) h
 
   not_above : (policy.heeds_requests ≡ true → ResponseIsWithinMaxAge e asked now) → is_above_max_age_limit here ≡ false
@@ -127,54 +127,54 @@ module _ (policy : Policy) (e : Stored) (asked : Asked) (now : ℕ) where
       heeded policy.heeds_requests (is_some_and (λ m. nat_lt m here.age) (first_valid here.request directive.MaxAge))
       (λ heeds. none_tests (λ m. nat_lt m here.age) (first_valid here.request directive.MaxAge) (λ most h. is_not_below most here.age (within heeds most h)))
 
-  not_short : (policy.heeds_requests ≡ true → ResponseIsFreshForMinFresh policy e asked now) → is_below_min_fresh_limit here ≡ false
+  not_short : (policy.heeds_requests ≡ true → ResponseIsFreshForMinFresh policy e asked now) → is_below_min_fresh_of_request here ≡ false
   not_short long =
       heeded policy.heeds_requests (is_some_and (λ m. nat_lt here.lifetime.seconds (here.age + m)) (first_valid here.request directive.MinFresh))
       (λ heeds. none_tests (λ m. nat_lt here.lifetime.seconds (here.age + m)) (first_valid here.request directive.MinFresh)
       (λ least h. is_not_below here.lifetime.seconds (here.age + least) (long heeds least h)))
 
-  not_for_freshness : (policy.heeds_requests ≡ true → first_valid here.request directive.MinFresh ≡ None) → asks_for_freshness here ≡ false
+  not_for_freshness : (policy.heeds_requests ≡ true → first_valid here.request directive.MinFresh ≡ None) → heeded_request_has_min_fresh here ≡ false
   not_for_freshness absent = heeded policy.heeds_requests (is_some (first_valid here.request directive.MinFresh)) (λ heeds. ap is_some (absent heeds))
 
-  none_where_fresh : directive_occurs here.response directive.NoCache ≡ false → MayBeSentFresh policy e asked now → is_fresh_situation here ≡ true → (rule : ReuseRule) → rule_condition rule here ≡ false
+  none_where_fresh : directive_occurs here.response directive.NoCache ≡ false → MayBeSentFresh policy e asked now → is_fresh_situation here ≡ true → (rule : ReuseRule) → reuse_rule_condition rule here ≡ false
   none_where_fresh free sent f ResponseNoCache = free
-  none_where_fresh free sent f RequestNoCache = last_absent (is_fresh_situation here) (asks_to_validate here) (not_asked sent.not_to_be_validated)
+  none_where_fresh free sent f RequestNoCache = last_absent (is_fresh_situation here) (heeded_request_has_no_cache here) (not_asked sent.not_to_be_validated)
   none_where_fresh free sent f AboveMaxAge = last_absent (is_fresh_situation here) (is_above_max_age_limit here) (not_above sent.within_max_age)
-  none_where_fresh free sent f BelowMinFresh = last_absent (is_fresh_situation here) (is_below_min_fresh_limit here) (not_short sent.fresh_for_min_fresh)
-  none_where_fresh free sent f MustRevalidate = not_first (is_fresh_situation here) (may_not_be_sent_stale here) f
+  none_where_fresh free sent f BelowMinFresh = last_absent (is_fresh_situation here) (is_below_min_fresh_of_request here) (not_short sent.fresh_for_min_fresh)
+  none_where_fresh free sent f MustRevalidate = not_first (is_fresh_situation here) (forbids_sending_stale here) f
   none_where_fresh free sent f NoLifetime = not_first (is_fresh_situation here) (not here.lifetime.explicit) f
-  none_where_fresh free sent f StaleNoCache = not_first (is_fresh_situation here) (asks_to_validate here) f
-  none_where_fresh free sent f NoMaxStale = not_first (is_fresh_situation here) (not (accepts_stale (max_stale here.request))) f
+  none_where_fresh free sent f StaleNoCache = not_first (is_fresh_situation here) (heeded_request_has_no_cache here) f
+  none_where_fresh free sent f NoMaxStale = not_first (is_fresh_situation here) (not (max_stale_is_present (max_stale here.request))) f
   none_where_fresh free sent f PastMaxStale = not_first (is_fresh_situation here) (is_past_max_stale (here.age - here.lifetime.seconds) (max_stale here.request)) f
   none_where_fresh free sent f StaleMaxAge = not_first (is_fresh_situation here) (is_above_max_age_limit here) f
-  none_where_fresh free sent f StaleMinFresh = not_first (is_fresh_situation here) (asks_for_freshness here) f
+  none_where_fresh free sent f StaleMinFresh = not_first (is_fresh_situation here) (heeded_request_has_min_fresh here) f
   none_where_fresh free sent f rule = refl
 
-  none_where_stale : directive_occurs here.response directive.NoCache ≡ false → MayBeSentStale policy e asked now → is_fresh_situation here ≡ false → (rule : ReuseRule) → rule_condition rule here ≡ false
+  none_where_stale : directive_occurs here.response directive.NoCache ≡ false → MayBeSentStale policy e asked now → is_fresh_situation here ≡ false → (rule : ReuseRule) → reuse_rule_condition rule here ≡ false
   none_where_stale free sent f ResponseNoCache = free
-  none_where_stale free sent f RequestNoCache = first_absent (is_fresh_situation here) (asks_to_validate here) f
+  none_where_stale free sent f RequestNoCache = first_absent (is_fresh_situation here) (heeded_request_has_no_cache here) f
   none_where_stale free sent f AboveMaxAge = first_absent (is_fresh_situation here) (is_above_max_age_limit here) f
-  none_where_stale free sent f BelowMinFresh = first_absent (is_fresh_situation here) (is_below_min_fresh_limit here) f
+  none_where_stale free sent f BelowMinFresh = first_absent (is_fresh_situation here) (is_below_min_fresh_of_request here) f
   none_where_stale free sent f MustRevalidate =
       let must = directive_occurs here.response directive.MustRevalidate in
       let proxy = directive_occurs here.response directive.ProxyRevalidate in
       let shared = directive_occurs here.response directive.SMaxage in
-      last_absent (not (is_fresh_situation here)) (may_not_be_sent_stale here)
+      last_absent (not (is_fresh_situation here)) (forbids_sending_stale here)
       (neither (must || proxy) shared (neither must proxy sent.no_must_revalidate sent.no_proxy_revalidate) sent.no_s_maxage)
   none_where_stale free sent f NoLifetime = last_absent (not (is_fresh_situation here)) (not here.lifetime.explicit) (not_true here.lifetime.explicit sent.has_a_lifetime)
-  none_where_stale free sent f StaleNoCache = last_absent (not (is_fresh_situation here)) (asks_to_validate here) (not_asked sent.not_to_be_validated)
+  none_where_stale free sent f StaleNoCache = last_absent (not (is_fresh_situation here)) (heeded_request_has_no_cache here) (not_asked sent.not_to_be_validated)
   none_where_stale free sent f NoMaxStale =
       let limit = max_stale here.request in
-      last_absent (not (is_fresh_situation here)) (not (accepts_stale limit)) (not_true (accepts_stale limit) (accepts_what_it_takes limit (here.age - here.lifetime.seconds) sent.within_max_stale))
+      last_absent (not (is_fresh_situation here)) (not (max_stale_is_present limit)) (not_true (max_stale_is_present limit) (accepts_what_it_takes limit (here.age - here.lifetime.seconds) sent.within_max_stale))
   none_where_stale free sent f PastMaxStale =
       let limit = max_stale here.request in
       let staleness = here.age - here.lifetime.seconds in
       last_absent (not (is_fresh_situation here)) (is_past_max_stale staleness limit) (not_past_what_it_takes limit staleness sent.within_max_stale)
   none_where_stale free sent f StaleMaxAge = last_absent (not (is_fresh_situation here)) (is_above_max_age_limit here) (not_above sent.within_max_age)
-  none_where_stale free sent f StaleMinFresh = last_absent (not (is_fresh_situation here)) (asks_for_freshness here) (not_for_freshness sent.no_min_fresh)
+  none_where_stale free sent f StaleMinFresh = last_absent (not (is_fresh_situation here)) (heeded_request_has_min_fresh here) (not_for_freshness sent.no_min_fresh)
   none_where_stale free sent f rule = refl
 
-  none_against : directive_occurs here.response directive.NoCache ≡ false → MayBeSentFresh policy e asked now ⊎ MayBeSentStale policy e asked now → (rule : ReuseRule) → rule_condition rule here ≡ false
+  none_against : directive_occurs here.response directive.NoCache ≡ false → MayBeSentFresh policy e asked now ⊎ MayBeSentStale policy e asked now → (rule : ReuseRule) → reuse_rule_condition rule here ≡ false
   none_against free (inl sent) rule = none_where_fresh free sent (is_below here.age here.lifetime.seconds sent.is_fresh) rule
   none_against free (inr sent) rule = none_where_stale free sent (is_not_below here.age here.lifetime.seconds sent.is_stale) rule
 
@@ -185,7 +185,7 @@ implied_absent false b h = refl
 module _ (policy : Policy) (held : List Stored) (asked : Asked) (now : ℕ) where
   -- ---- from no rule to the list
 
-  none_on : (e : Stored) → chosen_of held asked ≡ Some e → ((rule : ReuseRule) → reuse_rule_applies rule policy held asked now ≡ false) → (rule : ReuseRule) → rule_condition rule (situation_of_request policy e asked now) ≡ false
+  none_on : (e : Stored) → chosen_of held asked ≡ Some e → ((rule : ReuseRule) → reuse_rule_applies rule policy held asked now ≡ false) → (rule : ReuseRule) → reuse_rule_condition rule (situation_of_request policy e asked now) ≡ false
   none_on e is none Operator = refl
   none_on e is none Method = refl
   none_on e is none Content = refl
@@ -193,7 +193,7 @@ module _ (policy : Policy) (held : List Stored) (asked : Asked) (now : ℕ) wher
   none_on e is none Precondition = refl
   none_on e is none UriMiss = refl
   none_on e is none VaryMiss = refl
-  none_on e is none rule = sym (ap (is_some_and (λ x. rule_condition rule (situation_of_request policy x asked now))) is) ∙ none rule
+  none_on e is none rule = sym (ap (is_some_and (λ x. reuse_rule_condition rule (situation_of_request policy x asked now))) is) ∙ none rule
 
   pub reused_is_allowed : (serial : ℕ) → decision_of policy held asked now ≡ Hit serial → (response : Stored) × ResponseMayBeReused policy held asked now response × (response.serial ≡ serial)
   reused_is_allowed serial h =
@@ -220,12 +220,12 @@ module _ (policy : Policy) (held : List Stored) (asked : Asked) (now : ℕ) wher
   none_applies e is may Precondition = may.request_allows.no_precondition
   none_applies e is may UriMiss =
       let candidate = may.is_chosen.is_candidate in
-      some_there (entries_of_key held asked) e (member_filter (λ x. same_key x.key asked.target.key) held e candidate.has_the_key (member_contained held e candidate.is_held))
+      some_there (entries_of_key held asked) e (member_filter (λ x. same_key x.key asked.target.key) held e candidate.has_the_same_key (member_contained held e candidate.is_held))
   none_applies e is may VaryMiss = ap is_none is
   none_applies e is may rule =
-      ap (is_some_and (λ x. rule_condition rule (situation_of_request policy x asked now))) is ∙ none_against policy e asked now may.no_no_cache may.fresh_or_stale rule
+      ap (is_some_and (λ x. reuse_rule_condition rule (situation_of_request policy x asked now))) is ∙ none_against policy e asked now may.no_no_cache may.fresh_or_stale rule
 
-  pub allowed_is_reused : (response : Stored) → Distinct (serials held) → ResponseMayBeReused policy held asked now response → decision_of policy held asked now ≡ Hit response.serial
+  pub allowed_is_reused : (response : Stored) → SerialsAreDistinct (serials held) → ResponseMayBeReused policy held asked now response → decision_of policy held asked now ≡ Hit response.serial
   allowed_is_reused response distinct may =
       let is = preferred_is_the_chosen held asked response distinct may.is_chosen in
       is_sent policy held asked now response.serial (record { response = response; chosen_is = is; serial_is = refl; no_rule = none_applies response is may })

@@ -7,12 +7,12 @@ use Rattle.hx_vary.specs.Vary.{vary_matches}
 use Rattle.hx_hop.specs.declared.request_view.Asked.{Asked}
 use Rattle.hx_store.specs.Stored.{Stored}
 use Rattle.hx_policy.specs.declared.words.Policy.{Policy}
-use Rattle.hx_store.specs.Shelf.{serials_of}
+use Rattle.hx_store.specs.Shelf.{serials_of_key}
 use Rattle.hx_reuse.specs.declared.decision.Decision.TheVariants.{Hit, Forward}
 use Rattle.hx_reuse.specs.declared.rule.ReuseRule.{ReuseRule}
 use Rattle.hx_reuse.specs.declared.rule.ReuseRule.TheVariants.{Operator, UriMiss, VaryMiss, ResponseNoCache, RequestNoCache, AboveMaxAge, BelowMinFresh, MustRevalidate, NoLifetime, StaleNoCache, NoMaxStale, PastMaxStale, StaleMaxAge, StaleMinFresh}
-use Rattle.hx_reuse.specs.Chosen.{entries_of_key, chosen_of, most_preferred}
-use Rattle.hx_reuse.specs.Rules.{rule_condition, situation_of_request, reuse_rule_applies, is_some_and, request_rules, rules_on_chosen, reuse_rule_of, names_chosen, decision_by_rule, decision_of}
+use Rattle.hx_reuse.specs.Chosen.{entries_of_key, chosen_of, most_preferred_response}
+use Rattle.hx_reuse.specs.Rules.{reuse_rule_condition, situation_of_request, reuse_rule_applies, is_some_and, request_rules, rules_on_chosen, reuse_rule_of, is_rule_on_chosen, decision_by_rule, decision_of}
 use Rattle.hx_fields.proofs.FirstThat.{IsMember}
 use Rattle.hx_reuse.proofs.Members.{AreSerialsOf, are_serials}
 
@@ -77,18 +77,18 @@ some_of_key held asked [] are h = absurd cc
 some_of_key held asked (s ∷ ss) are h = let e = are.each_held s (inl refl) in some_there (entries_of_key held asked) e.0 e.1
 
 -- the same by the shelf's word, whether the key is held
-pub unheld : (held : List Stored) (asked : Asked) → not (length (serials_of asked.target.key held) == 0) ≡ false → entries_of_key held asked ≡ []
+pub unheld : (held : List Stored) (asked : Asked) → not (length (serials_of_key asked.target.key held) == 0) ≡ false → entries_of_key held asked ≡ []
 unheld held asked h =
-    let ss = serials_of asked.target.key held in
+    let ss = serials_of_key asked.target.key held in
     none_of_key held asked ss (are_serials held asked ss refl) (turned (length ss == 0) h)
   where
     turned : (b : Bool) → not b ≡ false → b ≡ true
     turned true h = refl
     turned false h = sym h
 
-pub key_held : (held : List Stored) (asked : Asked) → not (length (serials_of asked.target.key held) == 0) ≡ true → (length (entries_of_key held asked) == 0) ≡ false
+pub key_held : (held : List Stored) (asked : Asked) → not (length (serials_of_key asked.target.key held) == 0) ≡ true → (length (entries_of_key held asked) == 0) ≡ false
 key_held held asked h =
-    let ss = serials_of asked.target.key held in
+    let ss = serials_of_key asked.target.key held in
     some_of_key held asked ss (are_serials held asked ss refl) (turned (length ss == 0) h)
   where
     turned : (b : Bool) → not b ≡ true → b ≡ false
@@ -99,15 +99,15 @@ key_held held asked h =
 pub chosen_key : (held : List Stored) (asked : Asked) (e : Stored) → chosen_of held asked ≡ Some e → (length (entries_of_key held asked) == 0) ≡ false
 chosen_key held asked e h = at (entries_of_key held asked) h
   where
-    at : (xs : List Stored) → most_preferred (filter (λ x. vary_matches x.nominated asked.fields) xs) ≡ Some e → (length xs == 0) ≡ false
+    at : (xs : List Stored) → most_preferred_response (filter (λ x. vary_matches x.nominated asked.fields) xs) ≡ Some e → (length xs == 0) ≡ false
     at [] k = absurd cc
     at (x ∷ xs) k = grind (arith, common_steps)
 
 -- the outcome at a rule below 7, at one from 7 on, and at none
-forward_low : (o : Option ReuseRule) (s : Option ℕ) (r : ReuseRule) → o ≡ Some r → names_chosen r ≡ false → Forward r None ≡ decision_by_rule o s
+forward_low : (o : Option ReuseRule) (s : Option ℕ) (r : ReuseRule) → o ≡ Some r → is_rule_on_chosen r ≡ false → Forward r None ≡ decision_by_rule o s
 forward_low o s r h k = rw (h, k) refl
 
-forward_high : (o : Option ReuseRule) (s : Option ℕ) (r : ReuseRule) (n : ℕ) → o ≡ Some r → names_chosen r ≡ true → s ≡ Some n → Forward r (Some n) ≡ decision_by_rule o s
+forward_high : (o : Option ReuseRule) (s : Option ℕ) (r : ReuseRule) (n : ℕ) → o ≡ Some r → is_rule_on_chosen r ≡ true → s ≡ Some n → Forward r (Some n) ≡ decision_by_rule o s
 forward_high o s r n h k l = rw (h, k, l) refl
 
 hit : (o : Option ReuseRule) (s : Option ℕ) (n : ℕ) → o ≡ None → s ≡ Some n → Hit n ≡ decision_by_rule o s
@@ -136,7 +136,7 @@ module _ (policy : Policy) (caches : policy.caches ≡ true) (held : List Stored
   by_request rule h =
       forward_low (reuse_rule_of policy held asked now) serial_of rule
       (after_operator ∙ find_front (λ r. reuse_rule_applies r policy held asked now) request_rules (UriMiss ∷ VaryMiss ∷ rules_on_chosen) rule h)
-      (find_each (λ r. names_chosen r ≡ false) (λ r. reuse_rule_applies r policy held asked now) request_rules rule (refl, (refl, (refl, (refl, tt)))) h)
+      (find_each (λ r. is_rule_on_chosen r ≡ false) (λ r. reuse_rule_applies r policy held asked now) request_rules rule (refl, (refl, (refl, (refl, tt)))) h)
 
   module _ (free : find (λ r. reuse_rule_applies r policy held asked now) request_rules ≡ None) where
     after_request : reuse_rule_of policy held asked now ≡ find (λ r. reuse_rule_applies r policy held asked now) (UriMiss ∷ VaryMiss ∷ rules_on_chosen)
@@ -164,11 +164,11 @@ module _ (policy : Policy) (caches : policy.caches ≡ true) (held : List Stored
 
       module _ (e : Stored) (is : chosen_of held asked ≡ Some e) where
         -- the rules on the chosen entry
-        by_entry : reuse_rule_of policy held asked now ≡ find (λ r. rule_condition r (situation_of_request policy e asked now)) rules_on_chosen
+        by_entry : reuse_rule_of policy held asked now ≡ find (λ r. reuse_rule_condition r (situation_of_request policy e asked now)) rules_on_chosen
         unfolding reuse_rule_of
         by_entry =
             after_uri ∙ find_skip (λ r. reuse_rule_applies r policy held asked now) VaryMiss rules_on_chosen (ap is_none is)
-            ∙ find_same (λ r. reuse_rule_applies r policy held asked now) (λ r. rule_condition r (situation_of_request policy e asked now)) rules_on_chosen (
+            ∙ find_same (λ r. reuse_rule_applies r policy held asked now) (λ r. reuse_rule_condition r (situation_of_request policy e asked now)) rules_on_chosen (
               at ResponseNoCache,
               (
                 at RequestNoCache,
@@ -191,17 +191,17 @@ module _ (policy : Policy) (caches : policy.caches ≡ true) (held : List Stored
               ),
             )
           where
-            at : (r : ReuseRule) → is_some_and (λ x. rule_condition r (situation_of_request policy x asked now)) (chosen_of held asked) ≡ rule_condition r (situation_of_request policy e asked now)
-            at r = ap (is_some_and (λ x. rule_condition r (situation_of_request policy x asked now))) is
+            at : (r : ReuseRule) → is_some_and (λ x. reuse_rule_condition r (situation_of_request policy x asked now)) (chosen_of held asked) ≡ reuse_rule_condition r (situation_of_request policy e asked now)
+            at r = ap (is_some_and (λ x. reuse_rule_condition r (situation_of_request policy x asked now))) is
 
-        pub by_rule : (rule : ReuseRule) → find (λ r. rule_condition r (situation_of_request policy e asked now)) rules_on_chosen ≡ Some rule → Forward rule (Some e.serial) ≡ decision_of policy held asked now
+        pub by_rule : (rule : ReuseRule) → find (λ r. reuse_rule_condition r (situation_of_request policy e asked now)) rules_on_chosen ≡ Some rule → Forward rule (Some e.serial) ≡ decision_of policy held asked now
         unfolding serial_of reuse_rule_of decision_of
         by_rule rule h =
             forward_high (reuse_rule_of policy held asked now) serial_of rule e.serial (by_entry ∙ h)
-            (find_each (λ r. names_chosen r ≡ true) (λ r. rule_condition r (situation_of_request policy e asked now)) rules_on_chosen rule
+            (find_each (λ r. is_rule_on_chosen r ≡ true) (λ r. reuse_rule_condition r (situation_of_request policy e asked now)) rules_on_chosen rule
             (refl, (refl, (refl, (refl, (refl, (refl, (refl, (refl, (refl, (refl, (refl, tt))))))))))) h)
             (ap (option_map (λ x. x.serial)) is)
 
-        pub by_none : find (λ r. rule_condition r (situation_of_request policy e asked now)) rules_on_chosen ≡ None → Hit e.serial ≡ decision_of policy held asked now
+        pub by_none : find (λ r. reuse_rule_condition r (situation_of_request policy e asked now)) rules_on_chosen ≡ None → Hit e.serial ≡ decision_of policy held asked now
         unfolding serial_of reuse_rule_of decision_of
         by_none h = hit (reuse_rule_of policy held asked now) serial_of e.serial (by_entry ∙ h) (ap (option_map (λ x. x.serial)) is)

@@ -9,7 +9,7 @@ use Rattle.hx_reuse.specs.declared.rule.ReuseRule.TheVariants.{Operator, Method,
 use Rattle.hx_reuse.specs.declared.rule.ErrorRule.{ErrorRule}
 use Rattle.hx_reuse.specs.declared.rule.ErrorRule.TheVariants as on_error
 use Rattle.hx_reuse.specs.RuleNames.{reuse_rule_number, error_rule_number}
-use Rattle.hx_reuse.specs.Rules.{Situation, rule_condition, rule_applies_to_chosen, reuse_rule_applies, reuse_rules, names_chosen}
+use Rattle.hx_reuse.specs.Rules.{ReuseSituation, reuse_rule_condition, rule_applies_to_chosen, reuse_rule_applies, reuse_rules, is_rule_on_chosen}
 use Rattle.hx_reuse.specs.ErrorRules.{error_rules}
 use Rattle.hx_fields.proofs.JoinedTests.{never}
 
@@ -33,7 +33,7 @@ each_is_listed PastMaxStale = refl
 each_is_listed StaleMaxAge = refl
 each_is_listed StaleMinFresh = refl
 
-pub on_the_chosen : (rule : ReuseRule) (policy : Policy) (held : List Stored) (asked : Asked) (now : ℕ) → names_chosen rule ≡ true → reuse_rule_applies rule policy held asked now ≡ rule_applies_to_chosen rule policy held asked now
+pub on_the_chosen : (rule : ReuseRule) (policy : Policy) (held : List Stored) (asked : Asked) (now : ℕ) → is_rule_on_chosen rule ≡ true → reuse_rule_applies rule policy held asked now ≡ rule_applies_to_chosen rule policy held asked now
 on_the_chosen Operator policy held asked now h = absurd (never (sym h))
 on_the_chosen Method policy held asked now h = absurd (never (sym h))
 on_the_chosen Content policy held asked now h = absurd (never (sym h))
@@ -43,7 +43,7 @@ on_the_chosen UriMiss policy held asked now h = absurd (never (sym h))
 on_the_chosen VaryMiss policy held asked now h = absurd (never (sym h))
 on_the_chosen rule policy held asked now h = refl
 
-pub against_none : (rule : ReuseRule) (s : Situation) → names_chosen rule ≡ false → rule_condition rule s ≡ false
+pub against_none : (rule : ReuseRule) (s : ReuseSituation) → is_rule_on_chosen rule ≡ false → reuse_rule_condition rule s ≡ false
 against_none Operator s h = refl
 against_none Method s h = refl
 against_none Content s h = refl

@@ -15,11 +15,11 @@ use Rattle.hx_policy.specs.Policies.{plain}
 use Rattle.hx_reuse.specs.declared.rule.ReuseRule.{ReuseRule}
 use Rattle.hx_reuse.specs.declared.rule.ReuseRule.TheVariants.{ResponseNoCache, MustRevalidate, NoLifetime, StaleNoCache, PastMaxStale, StaleMaxAge, StaleMinFresh}
 use Rattle.hx_reuse.specs.RuleNames.{reuse_rule_number}
-use Rattle.hx_reuse.specs.Rules.{Situation, is_some_and, is_fresh_situation, may_not_be_sent_stale, asks_to_validate, is_above_max_age_limit, asks_for_freshness, is_past_max_stale, rule_condition}
-use Rattle.hx_reuse.specs.ErrorRules.{seconds_stated_once, situation_of_stored}
+use Rattle.hx_reuse.specs.Rules.{ReuseSituation, is_some_and, is_fresh_situation, forbids_sending_stale, heeded_request_has_no_cache, is_above_max_age_limit, heeded_request_has_min_fresh, is_past_max_stale, reuse_rule_condition}
+use Rattle.hx_reuse.specs.ErrorRules.{seconds_stated_once, situation_of_stored_response}
 use Rattle.hx_reuse.specs.OnError.{staleness_at}
 use Rattle.hx_reuse.specs.Promises.{ResponseForbidsStale}
-use Rattle.hx_reuse.specs.WhileRevalidating.{limit_while_revalidating, rules_while_revalidating, may_be_sent_in, may_be_sent_while_revalidating, ResponseStatesLimit, OperatorGivesLimit, ResponseMayBeSentWhileRevalidating, policy_without_limit}
+use Rattle.hx_reuse.specs.WhileRevalidating.{limit_of_stale_while_revalidate, rules_while_revalidating, situation_allows_stale_while_revalidate, may_be_sent_while_revalidating, ResponseHasStaleWhileRevalidateOf, OperatorGivesStaleWhileRevalidateOf, ResponseMayBeSentWhileRevalidating, policy_without_stale_while_revalidate}
 use Rattle.hx_fields.proofs.FirstThat.{IsMember, none_passes}
 use Rattle.hx_fields.proofs.JoinedTests.{never, not_false, not_true, left_false, right_false, neither, last_absent, second_false, under_not, no_value, not_below, is_not_below}
 use Rattle.hx_reuse.proofs.ValueTests.{test_false, none_tests}
@@ -74,8 +74,8 @@ absent : (found : List Occurrence) → directive_occurs found directive.StaleWhi
 absent found h = rw (none_occurs found directive.StaleWhileRevalidate h) refl
 
 module _ (policy : Policy) (response : Stored) (request : List Occurrence) (now : ℕ) where
-  abbrev here : Situation
-  here = situation_of_stored policy response request now
+  abbrev here : ReuseSituation
+  here = situation_of_stored_response policy response request now
 
   abbrev occurs : Bool
   occurs = directive_occurs (occurrences_of response.fields) directive.StaleWhileRevalidate
@@ -83,14 +83,14 @@ module _ (policy : Policy) (response : Stored) (request : List Occurrence) (now 
   abbrev stated : Option ℕ
   stated = seconds_stated_once (seconds_of_directive (occurrences_of response.fields) directive.StaleWhileRevalidate)
 
-  said_by : (most : ℕ) → limit_while_revalidating here ≡ Some most → ResponseStatesLimit response most ⊎ OperatorGivesLimit policy response most
+  said_by : (most : ℕ) → limit_of_stale_while_revalidate here ≡ Some most → ResponseHasStaleWhileRevalidateOf response most ⊎ OperatorGivesStaleWhileRevalidateOf policy response most
   said_by most h = at occurs refl h
     where
-      at : (t : Bool) → occurs ≡ t → cond t stated policy.stale_while_revalidate ≡ Some most → ResponseStatesLimit response most ⊎ OperatorGivesLimit policy response most
+      at : (t : Bool) → occurs ≡ t → cond t stated policy.stale_while_revalidate ≡ Some most → ResponseHasStaleWhileRevalidateOf response most ⊎ OperatorGivesStaleWhileRevalidateOf policy response most
       at true o k = inl (states (seconds_of_directive (occurrences_of response.fields) directive.StaleWhileRevalidate) most k)
-      at false o k = inr (record { line_has = k; response_has_none = o })
+      at false o k = inr (record { policy_states_limit = k; response_has_none = o })
 
-  limit_of : (most : ℕ) → ResponseStatesLimit response most ⊎ OperatorGivesLimit policy response most → limit_while_revalidating here ≡ Some most
+  limit_of : (most : ℕ) → ResponseHasStaleWhileRevalidateOf response most ⊎ OperatorGivesStaleWhileRevalidateOf policy response most → limit_of_stale_while_revalidate here ≡ Some most
   limit_of most (inl says) = at occurs refl
     where
       none : seconds_are.Absent ≡ seconds_are.Value most → ⊥
@@ -99,16 +99,16 @@ module _ (policy : Policy) (response : Stored) (request : List Occurrence) (now 
       at : (t : Bool) → occurs ≡ t → cond t stated policy.stale_while_revalidate ≡ Some most
       at true o = ap seconds_stated_once says
       at false o = absurd (none (sym (absent (occurrences_of response.fields) o) ∙ says))
-  limit_of most (inr gives) = ap (λ t. cond t stated policy.stale_while_revalidate) gives.response_has_none ∙ gives.line_has
+  limit_of most (inr gives) = ap (λ t. cond t stated policy.stale_while_revalidate) gives.response_has_none ∙ gives.policy_states_limit
 
   -- ---- from what is found to what may be sent
 
   abbrev passes : ReuseRule → Bool
-  passes rule = rule_condition rule here
+  passes rule = reuse_rule_condition rule here
 
-  module _ (sent : may_be_sent_in here ≡ true) where
+  module _ (sent : situation_allows_stale_while_revalidate here ≡ true) where
     abbrev rest : Bool
-    rest = is_none (find passes rules_while_revalidating) && is_some_and (λ most. nat_le (staleness_at policy response now) most) (limit_while_revalidating here)
+    rest = is_none (find passes rules_while_revalidating) && is_some_and (λ most. nat_le (staleness_at policy response now) most) (limit_of_stale_while_revalidate here)
 
     lets : (policy.sends_while_revalidating ≡ true) × (not (is_fresh_situation here) && rest ≡ true)
     lets = both_true policy.sends_while_revalidating (not (is_fresh_situation here) && rest) sent
@@ -116,20 +116,20 @@ module _ (policy : Policy) (response : Stored) (request : List Occurrence) (now 
     stale : (not (is_fresh_situation here) ≡ true) × (rest ≡ true)
     stale = both_true (not (is_fresh_situation here)) rest lets.1
 
-    others : (is_none (find passes rules_while_revalidating) ≡ true) × (is_some_and (λ most. nat_le (staleness_at policy response now) most) (limit_while_revalidating here) ≡ true)
-    others = both_true (is_none (find passes rules_while_revalidating)) (is_some_and (λ most. nat_le (staleness_at policy response now) most) (limit_while_revalidating here)) stale.1
+    others : (is_none (find passes rules_while_revalidating) ≡ true) × (is_some_and (λ most. nat_le (staleness_at policy response now) most) (limit_of_stale_while_revalidate here) ≡ true)
+    others = both_true (is_none (find passes rules_while_revalidating)) (is_some_and (λ most. nat_le (staleness_at policy response now) most) (limit_of_stale_while_revalidate here)) stale.1
 
     isnt_fresh : is_fresh_situation here ≡ false
     isnt_fresh = not_so (is_fresh_situation here) stale.0
 
-    none : (rule : ReuseRule) → IsMember rule rules_while_revalidating → rule_condition rule here ≡ false
+    none : (rule : ReuseRule) → IsMember rule rules_while_revalidating → reuse_rule_condition rule here ≡ false
     none rule m = none_passes reuse_rule_number passes rules_while_revalidating rule (none_of (find passes rules_while_revalidating) others.0) m
 
-    revalidated : may_not_be_sent_stale here ≡ false
-    revalidated = under_not (is_fresh_situation here) (may_not_be_sent_stale here) isnt_fresh (none MustRevalidate (inr (inl refl)))
+    revalidated : forbids_sending_stale here ≡ false
+    revalidated = under_not (is_fresh_situation here) (forbids_sending_stale here) isnt_fresh (none MustRevalidate (inr (inl refl)))
 
-    limit : (most : ℕ) × (limit_while_revalidating here ≡ Some most) × (nat_le (staleness_at policy response now) most ≡ true)
-    limit = passing (λ most. nat_le (staleness_at policy response now) most) (limit_while_revalidating here) others.1
+    limit : (most : ℕ) × (limit_of_stale_while_revalidate here ≡ Some most) × (nat_le (staleness_at policy response now) most ≡ true)
+    limit = passing (λ most. nat_le (staleness_at policy response now) most) (limit_of_stale_while_revalidate here) others.1
 
     as_words : ResponseMayBeSentWhileRevalidating policy response request now
     as_words =
@@ -138,7 +138,7 @@ module _ (policy : Policy) (response : Stored) (request : List Occurrence) (now 
         let shared = directive_occurs here.response directive.SMaxage in
         let neither_two = left_false (must || proxy) shared revalidated in
         record {
-          line_lets = lets.0;
+          policy_sends_while_revalidating = lets.0;
           is_stale = not_below here.age here.lifetime.seconds isnt_fresh;
           no_no_cache = none ResponseNoCache (inl refl);
           no_must_revalidate = left_false must proxy neither_two;
@@ -146,13 +146,13 @@ module _ (policy : Policy) (response : Stored) (request : List Occurrence) (now 
           no_s_maxage = right_false (must || proxy) shared revalidated;
           has_a_lifetime = not_false here.lifetime.explicit (under_not (is_fresh_situation here) (not here.lifetime.explicit) isnt_fresh (none NoLifetime (inr (inr (inl refl)))));
           not_to_be_validated = λ heeds. second_false policy.heeds_requests (directive_occurs request directive.NoCache) heeds
-              (under_not (is_fresh_situation here) (asks_to_validate here) isnt_fresh (none StaleNoCache (inr (inr (inr (inl refl))))));
+              (under_not (is_fresh_situation here) (heeded_request_has_no_cache here) isnt_fresh (none StaleNoCache (inr (inr (inr (inl refl))))));
           within_max_age = λ heeds most is.
               let over = is_some_and (λ m. nat_lt m here.age) (first_valid request directive.MaxAge) in
               not_below most here.age (test_false (λ m. nat_lt m here.age) (first_valid request directive.MaxAge) most
               (second_false policy.heeds_requests over heeds (under_not (is_fresh_situation here) (is_above_max_age_limit here) isnt_fresh (none StaleMaxAge (inr (inr (inr (inr (inr (inl refl))))))))) is);
           no_min_fresh = λ heeds. no_value (first_valid request directive.MinFresh) (second_false policy.heeds_requests (is_some (first_valid request directive.MinFresh)) heeds
-              (under_not (is_fresh_situation here) (asks_for_freshness here) isnt_fresh (none StaleMinFresh (inr (inr (inr (inr (inr (inr (inl refl))))))))));
+              (under_not (is_fresh_situation here) (heeded_request_has_min_fresh here) isnt_fresh (none StaleMinFresh (inr (inr (inr (inr (inr (inr (inl refl))))))))));
           within_max_stale = under_not (is_fresh_situation here) (is_past_max_stale (staleness_at policy response now) (max_stale request)) isnt_fresh (none PastMaxStale (inr (inr (inr (inr (inl refl))))));
           most = limit.0;
           limit_is = said_by limit.0 limit.1;
@@ -178,28 +178,28 @@ module _ (policy : Policy) (response : Stored) (request : List Occurrence) (now 
         let must = directive_occurs here.response directive.MustRevalidate in
         let proxy = directive_occurs here.response directive.ProxyRevalidate in
         let shared = directive_occurs here.response directive.SMaxage in
-        let stale : not (is_fresh_situation here) && may_not_be_sent_stale here ≡ false =
-        absent_where_stale (may_not_be_sent_stale here) (neither (must || proxy) shared (neither must proxy may.no_must_revalidate may.no_proxy_revalidate) may.no_s_maxage) in
+        let stale : not (is_fresh_situation here) && forbids_sending_stale here ≡ false =
+        absent_where_stale (forbids_sending_stale here) (neither (must || proxy) shared (neither must proxy may.no_must_revalidate may.no_proxy_revalidate) may.no_s_maxage) in
         let lasts : not (is_fresh_situation here) && not here.lifetime.explicit ≡ false = absent_where_stale (not here.lifetime.explicit) (not_true here.lifetime.explicit may.has_a_lifetime) in
-        let asks : not (is_fresh_situation here) && asks_to_validate here ≡ false =
-        absent_where_stale (asks_to_validate here) (heeded policy.heeds_requests (directive_occurs request directive.NoCache) may.not_to_be_validated) in
+        let asks : not (is_fresh_situation here) && heeded_request_has_no_cache here ≡ false =
+        absent_where_stale (heeded_request_has_no_cache here) (heeded policy.heeds_requests (directive_occurs request directive.NoCache) may.not_to_be_validated) in
         let past : not (is_fresh_situation here) && is_past_max_stale (staleness_at policy response now) (max_stale request) ≡ false =
         absent_where_stale (is_past_max_stale (staleness_at policy response now) (max_stale request)) may.within_max_stale in
         let above : not (is_fresh_situation here) && is_above_max_age_limit here ≡ false =
         absent_where_stale (is_above_max_age_limit here) (heeded policy.heeds_requests (is_some_and (λ m. nat_lt m here.age) (first_valid request directive.MaxAge))
         (λ heeds. none_tests (λ m. nat_lt m here.age) (first_valid request directive.MaxAge) (λ most h. is_not_below most here.age (may.within_max_age heeds most h)))) in
-        let wants : not (is_fresh_situation here) && asks_for_freshness here ≡ false =
-        absent_where_stale (asks_for_freshness here) (heeded policy.heeds_requests (is_some (first_valid request directive.MinFresh)) (λ heeds. ap is_some (may.no_min_fresh heeds))) in
+        let wants : not (is_fresh_situation here) && heeded_request_has_min_fresh here ≡ false =
+        absent_where_stale (heeded_request_has_min_fresh here) (heeded policy.heeds_requests (is_some (first_valid request directive.MinFresh)) (λ heeds. ap is_some (may.no_min_fresh heeds))) in
         (may.no_no_cache, (stale, (lasts, (asks, (past, (above, (wants, tt)))))))
 
-    is_in : may_be_sent_in here ≡ true
+    is_in : situation_allows_stale_while_revalidate here ≡ true
     is_in =
         let found = is_none (find passes rules_while_revalidating) in
-        let limited = is_some_and (λ most. nat_le (staleness_at policy response now) most) (limit_while_revalidating here) in
-        and_true policy.sends_while_revalidating (not (is_fresh_situation here) && (found && limited)) may.line_lets
+        let limited = is_some_and (λ most. nat_le (staleness_at policy response now) most) (limit_of_stale_while_revalidate here) in
+        and_true policy.sends_while_revalidating (not (is_fresh_situation here) && (found && limited)) may.policy_sends_while_revalidating
         (and_true (not (is_fresh_situation here)) (found && limited) (is_not_so (is_fresh_situation here) (is_not_below here.age here.lifetime.seconds may.is_stale))
         (and_true found limited (ap is_none (none_stands passes rules_while_revalidating none_is_against))
-        (passed (λ most. nat_le (staleness_at policy response now) most) (limit_while_revalidating here) may.most (limit_of may.most may.limit_is) (is_within (staleness_at policy response now) may.most may.within_limit))))
+        (passed (λ most. nat_le (staleness_at policy response now) most) (limit_of_stale_while_revalidate here) may.most (limit_of may.most may.limit_is) (is_within (staleness_at policy response now) may.most may.within_limit))))
 
   pub may_be_sent : ResponseMayBeSentWhileRevalidating policy response request now → may_be_sent_while_revalidating policy response request now ≡ true
   unfolding may_be_sent_while_revalidating
@@ -220,16 +220,16 @@ module _ (policy : Policy) (response : Stored) (request : List Occurrence) (now 
   pub never_without_a_limit : policy.stale_while_revalidate ≡ None → occurs ≡ false → may_be_sent_while_revalidating policy response request now ≡ false
   never_without_a_limit none unsaid = false_unless (may_be_sent_while_revalidating policy response request now) (λ h. by_limit (sent_may_be h).most (sent_may_be h).limit_is)
     where
-      by_limit : (most : ℕ) → ResponseStatesLimit response most ⊎ OperatorGivesLimit policy response most → ⊥
+      by_limit : (most : ℕ) → ResponseHasStaleWhileRevalidateOf response most ⊎ OperatorGivesStaleWhileRevalidateOf policy response most → ⊥
       by_limit most k = never_some most (sym none ∙ no_stated ∙ limit_of most k)
         where
           never_some : (n : ℕ) → ◌≡◌ {A = Option ℕ} None (Some n) → ⊥
           never_some n h = cc
 
-          no_stated : policy.stale_while_revalidate ≡ limit_while_revalidating here
+          no_stated : policy.stale_while_revalidate ≡ limit_of_stale_while_revalidate here
           no_stated = sym (ap (λ t. cond t stated policy.stale_while_revalidate) unsaid)
 
-  pub stated_stays : occurs ≡ true → may_be_sent_while_revalidating policy response request now ≡ may_be_sent_while_revalidating (policy_without_limit policy) response request now
+  pub stated_stays : occurs ≡ true → may_be_sent_while_revalidating policy response request now ≡ may_be_sent_while_revalidating (policy_without_stale_while_revalidate policy) response request now
   unfolding may_be_sent_while_revalidating
   stated_stays says =
       ap (λ (o : Option ℕ). policy.sends_while_revalidating && (not (is_fresh_situation here) && (is_none (find passes rules_while_revalidating) && is_some_and (λ most. nat_le (staleness_at policy response now) most) o)))

@@ -3,7 +3,9 @@
 -- entries_of_key: the held responses of the request's key
 -- entries_that_match: those of them whose nominated values it has
 -- nominates: it has a Vary                                is_more_recent: by Date
--- is_preferred: by both                                   most_preferred: of some the one that comes before the others
+-- is_preferred_over: by both                                   most_preferred_response: of some the one that comes
+-- before the
+-- others
 -- chosen_of: the one that would be sent
 use Rattle.std.specs.Prelude.{◌==◌, nat_lt, if◌then◌else◌, Bool, true, false, not, ◌&&◌, ◌||◌}
 use Rattle.std.specs.Prelude.{List, filter, Option, Some, None, fold}
@@ -30,20 +32,20 @@ is_more_recent e f = nat_lt f.times.date e.times.date || ((f.times.date == e.tim
 
 -- the first has a Vary and the other has none, or they are alike in this and it is the more recent: "a cache SHOULD
 -- choose the most recent .. stored response with a valid Vary field value" (RFC 9111, section 4.1)
-abbrev pub is_preferred : Stored → Stored → Bool
-is_preferred e f =
+abbrev pub is_preferred_over : Stored → Stored → Bool
+is_preferred_over e f =
     if nominates e && not (nominates f) then true
     else if nominates f && not (nominates e) then false
     else is_more_recent e f
 
 -- the preferred one of the best so far and one more
-abbrev pub preferred_of : Option Stored → Stored → Option Stored
-preferred_of None e = Some e
-preferred_of (Some best) e = if is_preferred e best then Some e else Some best
+abbrev pub preferred_of_two : Option Stored → Stored → Option Stored
+preferred_of_two None e = Some e
+preferred_of_two (Some best) e = if is_preferred_over e best then Some e else Some best
 
-abbrev pub most_preferred : List Stored → Option Stored
-most_preferred es = fold preferred_of None es
+abbrev pub most_preferred_response : List Stored → Option Stored
+most_preferred_response es = fold preferred_of_two None es
 
 -- of those that match the one that comes before the others (RFC 9111, sections 4 and 4.1)
 abbrev pub chosen_of : List Stored → Asked → Option Stored
-chosen_of held asked = most_preferred (entries_that_match held asked)
+chosen_of held asked = most_preferred_response (entries_that_match held asked)

@@ -1,8 +1,8 @@
 -- Whether a client's own conditions, If-None-Match and If-Modified-Since, stay with the proxy, which judges them on
 -- what it sends, or go to the origin (RFC 9111, section 4.3.2; RFC 9110, section 13.1).
 --
--- keeps_conditions: they stay            forwards_condition: the request has one, and it goes to the origin
--- Below it are the statements that the law `the_conditions_of_a_cacheable_get_stay` proves.
+-- withholds_conditions: they stay            forwards_client_condition: the request has one, and it goes to the origin
+-- Below it are the statements that the law `conditions_of_a_cacheable_get_are_withheld` proves.
 use Rattle.std.specs.Prelude.{◌≡◌, Bool, true, false, not, ◌&&◌, ◌||◌, codes, bytes_eq}
 use Rattle.hx_fields.specs.FieldLines.{has_field}
 use Rattle.hx_hop.specs.declared.request_view.Asked.{Asked}
@@ -14,8 +14,8 @@ use Rattle.hx_reuse.specs.Reusable.{RequestIsForTheCache}
 -- own: those of a GET that a stored response could answer, over a line that keeps such requests from the origin where
 -- it can ("A client's condition doesn't empty the cache"); where ranges are filled also of one that asks for a range,
 -- since the whole is asked for in its place ("A range is filled by the whole")
-abbrev pub keeps_conditions : Policy → Asked → Bool
-keeps_conditions policy asked =
+abbrev pub withholds_conditions : Policy → Asked → Bool
+withholds_conditions policy asked =
     not policy.forwards_conditions
     && (policy.caches
     && (bytes_eq asked.method (codes "GET")
@@ -23,24 +23,25 @@ keeps_conditions policy asked =
     || ((not policy.fills_ranges && asks_for_range asked) || has_precondition asked))))
 
 -- one that the request has goes forward, where the proxy sends none of its own in its place
-abbrev pub forwards_condition : Policy → Asked → Bool
-forwards_condition policy asked =
-    not (keeps_conditions policy asked)
+abbrev pub forwards_client_condition : Policy → Asked → Bool
+forwards_client_condition policy asked =
+    not (withholds_conditions policy asked)
     && (has_field asked.fields (codes "If-None-Match") || has_field asked.fields (codes "If-Modified-Since"))
 
 -- ---- the statements
 
-abbrev pub ConditionsOfACacheableGetStay : Type 0
-ConditionsOfACacheableGetStay = (policy : Policy) (asked : Asked) →
+abbrev pub ConditionsOfACacheableGetAreWithheld : Type 0
+ConditionsOfACacheableGetAreWithheld = (policy : Policy) (asked : Asked) →
     policy.forwards_conditions ≡ false → policy.caches ≡ true → asked.method ≡ codes "GET"
     → RequestIsForTheCache (not policy.fills_ranges) asked
-    → keeps_conditions policy asked ≡ true
+    → withholds_conditions policy asked ≡ true
 
-abbrev pub NoOtherConditionsStay : Type 0
-NoOtherConditionsStay = (policy : Policy) (asked : Asked) → keeps_conditions policy asked ≡ true →
+abbrev pub OnlyConditionsOfACacheableGetAreWithheld : Type 0
+OnlyConditionsOfACacheableGetAreWithheld = (policy : Policy) (asked : Asked) → withholds_conditions policy asked
+    ≡ true →
     (policy.forwards_conditions ≡ false) × (policy.caches ≡ true) × (asked.method ≡ codes "GET")
     × RequestIsForTheCache (not policy.fills_ranges) asked
 
 -- over a line without words, in a table of a version before the fourth, they go to the origin, as ever
-abbrev pub PlainLineKeepsNoConditions : Type 0
-PlainLineKeepsNoConditions = (caches : Bool) (asked : Asked) → keeps_conditions (plain caches) asked ≡ false
+abbrev pub DefaultPolicyWithholdsNoConditions : Type 0
+DefaultPolicyWithholdsNoConditions = (caches : Bool) (asked : Asked) → withholds_conditions (plain caches) asked ≡ false

@@ -3,7 +3,7 @@
 -- chosen response, where no rule stands that asks of the request alone.
 --
 -- stale_limit_of_response, stale_limit_of_request, stale_limit_of_operator: the staleness that stale-if-error allows
--- is_past_stale_limit: a response is staler
+-- is_stale_beyond_limit: a response is staler
 -- error_rule_condition: the condition of each rule
 -- error_rules: the rules by their numbers
 -- error_rule_on: the least that stands against a response                    error_rule_of: against the chosen one
@@ -21,8 +21,9 @@ use Rattle.hx_hop.specs.declared.request_view.Asked.{Asked}
 use Rattle.hx_store.specs.Stored.{Stored}
 use Rattle.hx_policy.specs.declared.words.Policy.{Policy}
 use Rattle.hx_reuse.specs.Chosen.{chosen_of}
-use Rattle.hx_reuse.specs.Lifetimes.{lifetime_of_held}
-use Rattle.hx_reuse.specs.Rules.{Situation, situation_at, may_not_be_sent_stale, asks_to_validate, is_some_and}
+use Rattle.hx_reuse.specs.Lifetimes.{lifetime_of_stored_response}
+use Rattle.hx_reuse.specs.Rules.{ReuseSituation, situation_with, forbids_sending_stale, heeded_request_has_no_cache}
+use Rattle.hx_reuse.specs.Rules.{is_some_and}
 use Rattle.hx_reuse.specs.declared.rule.ErrorRule.{ErrorRule}
 use Rattle.hx_reuse.specs.declared.rule.ErrorRule.TheVariants.{NoCache, MustRevalidate, NoLifetime, RequestNoCache}
 use Rattle.hx_reuse.specs.declared.rule.ErrorRule.TheVariants.{NoDirective, TooStale}
@@ -34,55 +35,55 @@ seconds_stated_once _ = None
 
 -- the staleness that a response allows: "any request applicable to the cached response" (RFC 5861, section 4)
 -- own: one that stands twice or can't be read allows none
-abbrev pub stale_limit_of_response : Situation → Option ℕ
+abbrev pub stale_limit_of_response : ReuseSituation → Option ℕ
 stale_limit_of_response s = seconds_stated_once (seconds_of_directive s.response directive.StaleIfError)
 
 -- the staleness that a request allows: "the request it appears in" (RFC 5861, section 4)
-abbrev pub stale_limit_of_request : Situation → Option ℕ
+abbrev pub stale_limit_of_request : ReuseSituation → Option ℕ
 stale_limit_of_request s = first_valid s.request directive.StaleIfError
 
 -- own: the staleness that the operator's line allows, where neither has a stale-if-error, be it one that can't be read
-abbrev pub stale_limit_of_operator : Situation → Option ℕ
+abbrev pub stale_limit_of_operator : ReuseSituation → Option ℕ
 stale_limit_of_operator s =
     if directive_occurs s.response directive.StaleIfError || directive_occurs s.request directive.StaleIfError then None
     else s.policy.stale_if_error
 
 -- "the upper limit to staleness" (RFC 5861, section 4)
-abbrev pub is_past_stale_limit : Situation → Option ℕ → Bool
-is_past_stale_limit s limit = is_some_and (λ most. nat_lt most (staleness_of s.lifetime s.age)) limit
+abbrev pub is_stale_beyond_limit : ReuseSituation → Option ℕ → Bool
+is_stale_beyond_limit s limit = is_some_and (λ most. nat_lt most (staleness_of s.lifetime s.age)) limit
 
 -- the condition of each rule
-abbrev pub error_rule_condition : ErrorRule → Situation → Bool
+abbrev pub error_rule_condition : ErrorRule → ReuseSituation → Bool
 -- RFC 9111, section 5.2.2.4
 error_rule_condition NoCache s = directive_occurs s.response directive.NoCache
 -- RFC 9111, sections 4.2.4, 5.2.2.2, 5.2.2.8 and 5.2.2.10
-error_rule_condition MustRevalidate s = may_not_be_sent_stale s
+error_rule_condition MustRevalidate s = forbids_sending_stale s
 -- own: without a lifetime there is no staleness to compare
 error_rule_condition NoLifetime s = not s.lifetime.explicit
 -- own: a request that wants an answer of the origin gets none of the store
-error_rule_condition RequestNoCache s = asks_to_validate s
+error_rule_condition RequestNoCache s = heeded_request_has_no_cache s
 -- RFC 5861, section 4; own: the operator's limit stands for one that nobody states
 error_rule_condition NoDirective s =
     (is_none (stale_limit_of_response s) && is_none (stale_limit_of_request s)) && is_none (stale_limit_of_operator s)
 -- RFC 5861, section 4; own: where both the response and the request state a limit, each of them counts
-error_rule_condition TooStale s = (is_past_stale_limit s (stale_limit_of_response s) || is_past_stale_limit s
+error_rule_condition TooStale s = (is_stale_beyond_limit s (stale_limit_of_response s) || is_stale_beyond_limit s
     (stale_limit_of_request s))
-    || is_past_stale_limit s (stale_limit_of_operator s)
+    || is_stale_beyond_limit s (stale_limit_of_operator s)
 
 -- the rules by their numbers
 abbrev pub error_rules : List ErrorRule
 error_rules = NoCache ∷ MustRevalidate ∷ NoLifetime ∷ RequestNoCache ∷ NoDirective ∷ TooStale ∷ []
 
 -- what the rules read of a response, at a moment, and of a request's directives
-abbrev pub situation_of_stored : Policy → Stored → List Occurrence → ℕ → Situation
-situation_of_stored policy response request now =
-    situation_at policy (lifetime_of_held policy response) (age_of response.times now)
+abbrev pub situation_of_stored_response : Policy → Stored → List Occurrence → ℕ → ReuseSituation
+situation_of_stored_response policy response request now =
+    situation_with policy (lifetime_of_stored_response policy response) (age_of response.times now)
     (occurrences_of response.fields) request
 
 -- the least rule that stands against sending this response, by the directives of a request
 unfoldable pub error_rule_on : Policy → Stored → List Occurrence → ℕ → Option ErrorRule
 error_rule_on policy response request now =
-    find (λ rule. error_rule_condition rule (situation_of_stored policy response request now)) error_rules
+    find (λ rule. error_rule_condition rule (situation_of_stored_response policy response request now)) error_rules
 
 -- the least rule that stands against sending the response that is chosen for a request; where none
 -- is chosen a reuse rule stands that keeps this from being asked, and the answer says nothing
@@ -91,9 +92,9 @@ error_rule_of policy held asked now =
     option_and_then (λ e. error_rule_on policy e (occurrences_of asked.fields) now) (chosen_of held asked)
 
 -- none stands, or the least that does
-abbrev pub permission_of_rule : Option ErrorRule → Result (Unit {0}) ErrorRule
-permission_of_rule None = Ok tt
-permission_of_rule (Some rule) = Err rule
+abbrev pub permission_from_error_rule : Option ErrorRule → Result (Unit {0}) ErrorRule
+permission_from_error_rule None = Ok tt
+permission_from_error_rule (Some rule) = Err rule
 
 abbrev pub permission_on_error : Policy → Stored → List Occurrence → ℕ → Result (Unit {0}) ErrorRule
-permission_on_error policy response request now = permission_of_rule (error_rule_on policy response request now)
+permission_on_error policy response request now = permission_from_error_rule (error_rule_on policy response request now)

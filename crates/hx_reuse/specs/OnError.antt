@@ -2,7 +2,7 @@
 -- other in place of an error, without the rules and their numbers (RFC 5861, section 4, and what
 -- RFC 9111, sections 4.2.4, 5.2.2.2, 5.2.2.4, 5.2.2.8 and 5.2.2.10 forbid to send stale).
 --
--- ResponseStatesStaleLimit, RequestStatesStaleLimit, OperatorGivesStaleLimit: the staleness that each allows
+-- ResponseHasStaleIfErrorOf, RequestHasStaleIfErrorOf, OperatorGivesStaleIfErrorOf: the staleness that each allows
 -- ResponseMayBeSentOnError: all that is asked
 -- IsLeastErrorRule: a rule that stands, and none before it
 -- Below them are the statements that the laws of `src/laws.rt` prove.
@@ -16,30 +16,31 @@ use Rattle.hx_directives.specs.declared.answers.Seconds.TheVariants.{Value}
 use Rattle.hx_age.specs.Age.{age_of}
 use Rattle.hx_store.specs.Stored.{Stored}
 use Rattle.hx_policy.specs.declared.words.Policy.{Policy}
-use Rattle.hx_reuse.specs.Lifetimes.{lifetime_of_held}
+use Rattle.hx_reuse.specs.Lifetimes.{lifetime_of_stored_response}
 use Rattle.hx_reuse.specs.RuleNames.{error_rule_number}
-use Rattle.hx_reuse.specs.ErrorRules.{situation_of_stored, error_rule_condition, error_rule_on}
+use Rattle.hx_reuse.specs.ErrorRules.{situation_of_stored_response, error_rule_condition, error_rule_on}
 use Rattle.hx_reuse.specs.declared.rule.ErrorRule.{ErrorRule}
 
 -- the response has one stale-if-error, of so many seconds
-abbrev pub ResponseStatesStaleLimit : Stored → ℕ → Type 0
-ResponseStatesStaleLimit response most = seconds_of_directive (occurrences_of response.fields) StaleIfError ≡ Value most
+abbrev pub ResponseHasStaleIfErrorOf : Stored → ℕ → Type 0
+ResponseHasStaleIfErrorOf response most = seconds_of_directive (occurrences_of response.fields) StaleIfError
+    ≡ Value most
 
 -- the request's first valid stale-if-error has so many seconds
-abbrev pub RequestStatesStaleLimit : List Occurrence → ℕ → Type 0
-RequestStatesStaleLimit request most = first_valid request StaleIfError ≡ Some most
+abbrev pub RequestHasStaleIfErrorOf : List Occurrence → ℕ → Type 0
+RequestHasStaleIfErrorOf request most = first_valid request StaleIfError ≡ Some most
 
 -- own: the operator's line has so many seconds, and neither the response nor the request has a stale-if-error
-pub record OperatorGivesStaleLimit (policy : Policy) (response : Stored) (request : List Occurrence)
+pub record OperatorGivesStaleIfErrorOf (policy : Policy) (response : Stored) (request : List Occurrence)
     (most : ℕ) : Type 0 where
-  pub line_has : policy.stale_if_error ≡ Some most
+  pub policy_states_limit : policy.stale_if_error ≡ Some most
   pub response_has_none : directive_occurs (occurrences_of response.fields) StaleIfError ≡ false
   pub request_has_none : directive_occurs request StaleIfError ≡ false
 
 -- by how much the response is past its lifetime (RFC 9111, section 4.2)
 abbrev pub staleness_at : Policy → Stored → ℕ → ℕ
 staleness_at policy response now =
-    age_of response.times now - (lifetime_of_held policy response).seconds
+    age_of response.times now - (lifetime_of_stored_response policy response).seconds
 
 -- own: its lifetime is stated, or the operator gives it one; the request has no no-cache that is heeded; and each limit
 -- counts
@@ -49,31 +50,31 @@ pub record ResponseMayBeSentOnError (policy : Policy) (response : Stored) (reque
   pub no_must_revalidate : directive_occurs (occurrences_of response.fields) MustRevalidate ≡ false
   pub no_proxy_revalidate : directive_occurs (occurrences_of response.fields) ProxyRevalidate ≡ false
   pub no_s_maxage : directive_occurs (occurrences_of response.fields) SMaxage ≡ false
-  pub has_a_lifetime : (lifetime_of_held policy response).explicit ≡ true
+  pub has_a_lifetime : (lifetime_of_stored_response policy response).explicit ≡ true
   pub not_to_be_validated : policy.heeds_requests ≡ true → directive_occurs request NoCache ≡ false
-  pub is_allowed : ((most : ℕ) × ResponseStatesStaleLimit response most)
-      ⊎ (((most : ℕ) × RequestStatesStaleLimit request most) ⊎
-      ((most : ℕ) × OperatorGivesStaleLimit policy response request most))
-  pub within_its_limit : (most : ℕ) → ResponseStatesStaleLimit response most → staleness_at policy response now ≤ most
-  pub within_the_requests : (most : ℕ) → RequestStatesStaleLimit request most → staleness_at policy response now ≤ most
-  pub within_the_operators : (most : ℕ) → OperatorGivesStaleLimit policy response request most
+  pub is_allowed : ((most : ℕ) × ResponseHasStaleIfErrorOf response most)
+      ⊎ (((most : ℕ) × RequestHasStaleIfErrorOf request most) ⊎
+      ((most : ℕ) × OperatorGivesStaleIfErrorOf policy response request most))
+  pub within_its_limit : (most : ℕ) → ResponseHasStaleIfErrorOf response most → staleness_at policy response now ≤ most
+  pub within_the_requests : (most : ℕ) → RequestHasStaleIfErrorOf request most → staleness_at policy response now ≤ most
+  pub within_the_operators : (most : ℕ) → OperatorGivesStaleIfErrorOf policy response request most
       → staleness_at policy response now ≤ most
 
 -- the rule stands, and none of a smaller number does
 pub record IsLeastErrorRule (policy : Policy) (response : Stored) (request : List Occurrence) (now : ℕ)
     (least : ErrorRule) : Type 0 where
-  pub rule_applies : error_rule_condition least (situation_of_stored policy response request now) ≡ true
+  pub rule_applies : error_rule_condition least (situation_of_stored_response policy response request now) ≡ true
   pub none_before : (other : ErrorRule) → error_rule_number other < error_rule_number least
-      → error_rule_condition other (situation_of_stored policy response request now) ≡ false
+      → error_rule_condition other (situation_of_stored_response policy response request now) ≡ false
 
 -- ---- the statements
 
-abbrev pub WhatMayBeSentOnErrorIsSent : Type 0
-WhatMayBeSentOnErrorIsSent = (policy : Policy) (response : Stored) (request : List Occurrence) (now : ℕ) →
+abbrev pub SendableResponseIsSentOnError : Type 0
+SendableResponseIsSentOnError = (policy : Policy) (response : Stored) (request : List Occurrence) (now : ℕ) →
     ResponseMayBeSentOnError policy response request now → error_rule_on policy response request now ≡ None
 
-abbrev pub NothingElseIsSentOnError : Type 0
-NothingElseIsSentOnError = (policy : Policy) (response : Stored) (request : List Occurrence) (now : ℕ) →
+abbrev pub OnlySendableResponseIsSentOnError : Type 0
+OnlySendableResponseIsSentOnError = (policy : Policy) (response : Stored) (request : List Occurrence) (now : ℕ) →
     error_rule_on policy response request now ≡ None → ResponseMayBeSentOnError policy response request now
 
 abbrev pub NamedErrorRuleIsLeast : Type 0

@@ -1,7 +1,7 @@
 -- What an origin can rely on once its response is stored, whatever the requests and the operator's
 -- line say: it follows from the rules.
 --
--- ResponseForbidsStale: the response may not be sent stale    ResponseIsSent: it is the one that answers
+-- ResponseForbidsStale: the response may not be sent stale    ResponseIsTheHit: it is the one that answers
 -- ResponseWasPurged: a purge expired it, at a moment or before
 -- Below them are the statements that the laws of `src/laws.rt` prove.
 use Rattle.std.specs.Prelude.{◌≡◌, ℕ, ◌<◌, ◌≤◌, ◌⊎◌, true, List, None, Some}
@@ -15,13 +15,13 @@ use Rattle.hx_directives.specs.declared.names.Directive.TheVariants.{NoCache, Mu
 use Rattle.hx_age.specs.Lifetime.{lifetime_of}
 use Rattle.hx_age.specs.Age.{age_of}
 use Rattle.hx_vary.specs.declared.nominated_values.NominatedValue.{NominatedValue}
-use Rattle.hx_vary.specs.Vary.{kept_values, both_select_alike}
+use Rattle.hx_vary.specs.Vary.{nominated_values_of, requests_have_same_nominated_values}
 use Rattle.hx_hop.specs.declared.request_view.Asked.{Asked}
 use Rattle.hx_store.specs.Stored.{Stored}
 use Rattle.hx_policy.specs.declared.words.Policy.{Policy}
-use Rattle.hx_store.specs.Serials.{Distinct}
+use Rattle.hx_store.specs.Serials.{SerialsAreDistinct}
 use Rattle.hx_store.specs.Shelf.{serials}
-use Rattle.hx_reuse.specs.Lifetimes.{lifetime_of_held, lifetime_under}
+use Rattle.hx_reuse.specs.Lifetimes.{lifetime_of_stored_response, lifetime_under_policy}
 use Rattle.hx_reuse.specs.Rules.{decision_of}
 use Rattle.hx_reuse.specs.ErrorRules.{error_rule_on}
 use Rattle.hx_reuse.specs.Reusable.{MayBeSentStale}
@@ -35,9 +35,9 @@ ResponseForbidsStale response =
     ⊎ (directive_occurs (occurrences_of response.fields) SMaxage ≡ true))
 
 -- a held response answers the request without the origin; each serial names one response
-pub record ResponseIsSent (policy : Policy) (held : List Stored) (asked : Asked) (now : ℕ)
+pub record ResponseIsTheHit (policy : Policy) (held : List Stored) (asked : Asked) (now : ℕ)
     (response : Stored) : Type 0 where
-  pub names_one : Distinct (serials held)
+  pub serials_are_distinct : SerialsAreDistinct (serials held)
   pub is_held : Contains held response
   pub is_the_hit : decision_of policy held asked now ≡ Hit response.serial
 
@@ -48,55 +48,57 @@ ResponseWasPurged response now = (purge : ℕ) × (response.times.expired ≡ So
 -- ---- the statements
 
 -- the request has of each nominated field the value that the response was asked for with (RFC 9111, section 4.1)
-abbrev pub NoOtherVariantIsSent : Type 0
-NoOtherVariantIsSent = (policy : Policy) (held : List Stored) (asked : Asked) (now : ℕ) (response : Stored) →
-    ResponseIsSent policy held asked now response → (kept : NominatedValue) → Contains response.nominated kept →
+abbrev pub HitHasTheNominatedValues : Type 0
+HitHasTheNominatedValues = (policy : Policy) (held : List Stored) (asked : Asked) (now : ℕ) (response : Stored) →
+    ResponseIsTheHit policy held asked now response → (kept : NominatedValue) → Contains response.nominated kept →
     kept.value ≡ combined_of asked.fields kept.name
 
 -- so of a response that was stored with what its own request had, only a request gets it that has
 -- the same values of all that it nominates (RFC 9111, section 4.1)
-abbrev pub NoVariantOfAnotherRequestIsSent : Type 0
-NoVariantOfAnotherRequestIsSent =
+abbrev pub HitWasStoredForTheSameNominatedValues : Type 0
+HitWasStoredForTheSameNominatedValues =
     (policy : Policy) (held : List Stored) (asked : Asked) (now : ℕ) (response : Stored) (fields earlier : List Field) →
-    ResponseIsSent policy held asked now response → response.nominated ≡ kept_values fields earlier
-    → both_select_alike fields earlier asked.fields ≡ true
+    ResponseIsTheHit policy held asked now response → response.nominated ≡ nominated_values_of fields earlier
+    → requests_have_same_nominated_values fields earlier asked.fields ≡ true
 
 -- one that forbids to be sent stale is fresh, for as long as it states or the operator gives it
-abbrev pub NeverSentStaleWhereForbidden : Type 0
-NeverSentStaleWhereForbidden = (policy : Policy) (held : List Stored) (asked : Asked) (now : ℕ) (response : Stored) →
-    ResponseIsSent policy held asked now response → ResponseForbidsStale response
-    → age_of response.times now < (lifetime_of_held policy response).seconds
+abbrev pub StaleForbiddenHitIsFresh : Type 0
+StaleForbiddenHitIsFresh = (policy : Policy) (held : List Stored) (asked : Asked) (now : ℕ) (response : Stored) →
+    ResponseIsTheHit policy held asked now response → ResponseForbidsStale response
+    → age_of response.times now < (lifetime_of_stored_response policy response).seconds
 
 -- and where it states its lifetime no word of the operator's line lengthens that
-abbrev pub NeverOutlastsItsStatedLifetime : Type 0
-NeverOutlastsItsStatedLifetime = (policy : Policy) (held : List Stored) (asked : Asked) (now : ℕ) (response : Stored) →
-    ResponseIsSent policy held asked now response → ResponseForbidsStale response →
+abbrev pub StaleForbiddenHitIsWithinLifetime : Type 0
+StaleForbiddenHitIsWithinLifetime =
+    (policy : Policy) (held : List Stored) (asked : Asked) (now : ℕ) (response : Stored) →
+    ResponseIsTheHit policy held asked now response → ResponseForbidsStale response →
     (lifetime_of response.fields).explicit ≡ true →
     age_of response.times now < (lifetime_of response.fields).seconds
 
 -- one with no-cache is sent only once it was validated (RFC 9111, section 5.2.2.4)
-abbrev pub NeverSentUnvalidatedWithNoCache : Type 0
-NeverSentUnvalidatedWithNoCache = (policy : Policy) (held : List Stored) (asked : Asked) (now : ℕ) (response : Stored) →
-    ResponseIsSent policy held asked now response → directive_occurs (occurrences_of response.fields) NoCache ≡ true → ⊥
+abbrev pub NoCacheResponseIsNeverAHit : Type 0
+NoCacheResponseIsNeverAHit = (policy : Policy) (held : List Stored) (asked : Asked) (now : ℕ) (response : Stored) →
+    ResponseIsTheHit policy held asked now response → directive_occurs (occurrences_of response.fields) NoCache ≡ true
+    → ⊥
 
 -- nor is one of either kind sent in place of an error
-abbrev pub NeverSentOnErrorWhereForbidden : Type 0
-NeverSentOnErrorWhereForbidden = (policy : Policy) (response : Stored) (request : List Occurrence) (now : ℕ) →
+abbrev pub ForbiddenResponseIsNeverSentOnError : Type 0
+ForbiddenResponseIsNeverSentOnError = (policy : Policy) (response : Stored) (request : List Occurrence) (now : ℕ) →
     error_rule_on policy response request now ≡ None
     → (directive_occurs (occurrences_of response.fields) NoCache ≡ true) ⊎ ResponseForbidsStale response → ⊥
 
 -- what a purge expired is sent from then on only where a stale one may be (RFC 9111, section 4.2.4)
-abbrev pub PurgedIsSentAsStaleAlone : Type 0
-PurgedIsSentAsStaleAlone = (policy : Policy) (held : List Stored) (asked : Asked) (now : ℕ) (response : Stored) →
-    ResponseIsSent policy held asked now response → ResponseWasPurged response now
+abbrev pub PurgedHitMayBeSentStale : Type 0
+PurgedHitMayBeSentStale = (policy : Policy) (held : List Stored) (asked : Asked) (now : ℕ) (response : Stored) →
+    ResponseIsTheHit policy held asked now response → ResponseWasPurged response now
     → MayBeSentStale policy response asked now
 
 -- so never where it forbids that
-abbrev pub PurgedIsNeverSentWhereForbidden : Type 0
-PurgedIsNeverSentWhereForbidden = (policy : Policy) (held : List Stored) (asked : Asked) (now : ℕ) (response : Stored) →
-    ResponseIsSent policy held asked now response → ResponseWasPurged response now → ResponseForbidsStale response → ⊥
+abbrev pub StaleForbiddenPurgedIsNeverAHit : Type 0
+StaleForbiddenPurgedIsNeverAHit = (policy : Policy) (held : List Stored) (asked : Asked) (now : ℕ) (response : Stored) →
+    ResponseIsTheHit policy held asked now response → ResponseWasPurged response now → ResponseForbidsStale response → ⊥
 
 -- and what no purge expired lasts as long as it would without purges
-abbrev pub OthersLastAsLong : Type 0
-OthersLastAsLong = (policy : Policy) (response : Stored) → response.times.expired ≡ None
-    → lifetime_of_held policy response ≡ lifetime_under policy response.status response.fields
+abbrev pub UnpurgedLifetimeIsUnchanged : Type 0
+UnpurgedLifetimeIsUnchanged = (policy : Policy) (response : Stored) → response.times.expired ≡ None
+    → lifetime_of_stored_response policy response ≡ lifetime_under_policy policy response.status response.fields

@@ -2,7 +2,7 @@
 -- ranges.
 --
 -- RequestsAskForTheSameResponse: two requests that differ in nothing that a rule looks at, but in their ranges
--- RangeDecidesNothing: they are decided alike     ForwardedRangesGoPastTheStore: over another line
+-- RangeDoesNotChangeTheDecision: they are decided alike     ForwardedRangesGoPastTheStore: over another line
 use Rattle.std.specs.Prelude.{◌≡◌, ℕ, true, false, List}
 use Rattle.hx_directives.specs.Occurrences.{occurrences_of}
 use Rattle.hx_hop.specs.declared.request_view.Asked.{Asked}
@@ -20,12 +20,12 @@ pub record RequestsAskForTheSameResponse (held : List Stored) (asked other : Ask
   pub same_method : asked.method ≡ other.method
   pub same_content : request_has_content asked ≡ request_has_content other
   pub same_precondition : has_precondition asked ≡ has_precondition other
-  pub same_choice : chosen_of held asked ≡ chosen_of held other
+  pub same_chosen_response : chosen_of held asked ≡ chosen_of held other
   pub same_directives : occurrences_of asked.fields ≡ occurrences_of other.fields
 
 -- so a part is sent of no response that wouldn't be sent whole, and of each that would be
-abbrev pub RangeDecidesNothing : Type 0
-RangeDecidesNothing = (policy : Policy) (held : List Stored) (asked other : Asked) (now : ℕ) →
+abbrev pub RangeDoesNotChangeTheDecision : Type 0
+RangeDoesNotChangeTheDecision = (policy : Policy) (held : List Stored) (asked other : Asked) (now : ℕ) →
     policy.forwards_ranges ≡ false → RequestsAskForTheSameResponse held asked other
     → decision_of policy held asked now ≡ decision_of policy held other now
 

@@ -16,9 +16,9 @@ use Rattle.hx_hop.specs.declared.request_view.Asked.{Asked}
 use Rattle.hx_hop.specs.Bypass.{request_has_content, asks_for_range, has_precondition}
 use Rattle.hx_store.specs.Stored.{Stored}
 use Rattle.hx_policy.specs.declared.words.Policy.{Policy}
-use Rattle.hx_store.specs.Serials.{Distinct}
+use Rattle.hx_store.specs.Serials.{SerialsAreDistinct}
 use Rattle.hx_store.specs.Shelf.{serials}
-use Rattle.hx_reuse.specs.Lifetimes.{lifetime_of_held}
+use Rattle.hx_reuse.specs.Lifetimes.{lifetime_of_stored_response}
 use Rattle.hx_reuse.specs.ChosenAndNamed.{ResponseIsChosen}
 use Rattle.hx_reuse.specs.Rules.{decision_of}
 use Rattle.hx_reuse.specs.declared.decision.Decision.TheVariants.{Hit}
@@ -41,36 +41,36 @@ ResponseIsWithinMaxAge response asked now =
 abbrev pub ResponseIsFreshForMinFresh : Policy → Stored → Asked → ℕ → Type 0
 ResponseIsFreshForMinFresh policy response asked now =
     (least : ℕ) → first_valid (occurrences_of asked.fields) MinFresh ≡ Some least
-    → age_of response.times now + least ≤ (lifetime_of_held policy response).seconds
+    → age_of response.times now + least ≤ (lifetime_of_stored_response policy response).seconds
 
 -- it is fresh, and the request takes it so (RFC 9111, sections 4.2 and 5.2.1)
 -- own: its no-cache, max-age and min-fresh count where the operator's line heeds them
 pub record MayBeSentFresh (policy : Policy) (response : Stored) (asked : Asked) (now : ℕ) : Type 0 where
-  pub is_fresh : age_of response.times now < (lifetime_of_held policy response).seconds
+  pub is_fresh : age_of response.times now < (lifetime_of_stored_response policy response).seconds
   pub not_to_be_validated : policy.heeds_requests ≡ true → directive_occurs (occurrences_of asked.fields) NoCache
       ≡ false
   pub within_max_age : policy.heeds_requests ≡ true → ResponseIsWithinMaxAge response asked now
   pub fresh_for_min_fresh : policy.heeds_requests ≡ true → ResponseIsFreshForMinFresh policy response asked now
 
 -- a request's max-stale takes a response that is so many seconds past its lifetime (RFC 9111, section 5.2.1.2)
-abbrev pub MaxStaleTakesStaleness : MaxStale → ℕ → Type 0
-MaxStaleTakesStaleness Absent n = ⊥
-MaxStaleTakesStaleness Any n = Unit {0}
-MaxStaleTakesStaleness (UpTo limit) n = n ≤ limit
+abbrev pub MaxStaleAcceptsStaleness : MaxStale → ℕ → Type 0
+MaxStaleAcceptsStaleness Absent n = ⊥
+MaxStaleAcceptsStaleness Any n = Unit {0}
+MaxStaleAcceptsStaleness (UpTo limit) n = n ≤ limit
 
 -- it is stale, doesn't forbid to be sent so, and the request takes it so (RFC 9111, sections 4.2.4, 5.2.1, 5.2.2.2,
 -- 5.2.2.8 and 5.2.2.10)
 -- own: its lifetime is stated, or the operator gives it one; none is guessed
 pub record MayBeSentStale (policy : Policy) (response : Stored) (asked : Asked) (now : ℕ) : Type 0 where
-  pub is_stale : (lifetime_of_held policy response).seconds ≤ age_of response.times now
+  pub is_stale : (lifetime_of_stored_response policy response).seconds ≤ age_of response.times now
   pub no_must_revalidate : directive_occurs (occurrences_of response.fields) MustRevalidate ≡ false
   pub no_proxy_revalidate : directive_occurs (occurrences_of response.fields) ProxyRevalidate ≡ false
   pub no_s_maxage : directive_occurs (occurrences_of response.fields) SMaxage ≡ false
-  pub has_a_lifetime : (lifetime_of_held policy response).explicit ≡ true
+  pub has_a_lifetime : (lifetime_of_stored_response policy response).explicit ≡ true
   pub not_to_be_validated : policy.heeds_requests ≡ true → directive_occurs (occurrences_of asked.fields) NoCache
       ≡ false
-  pub within_max_stale : MaxStaleTakesStaleness (max_stale (occurrences_of asked.fields))
-      (age_of response.times now - (lifetime_of_held policy response).seconds)
+  pub within_max_stale : MaxStaleAcceptsStaleness (max_stale (occurrences_of asked.fields))
+      (age_of response.times now - (lifetime_of_stored_response policy response).seconds)
   pub within_max_age : policy.heeds_requests ≡ true → ResponseIsWithinMaxAge response asked now
   pub no_min_fresh : policy.heeds_requests ≡ true → first_valid (occurrences_of asked.fields) MinFresh ≡ None
 
@@ -87,13 +87,13 @@ pub record ResponseMayBeReused (policy : Policy) (held : List Stored) (asked : A
 
 -- ---- the statements
 
-abbrev pub NothingElseIsReused : Type 0
-NothingElseIsReused = (policy : Policy) (held : List Stored) (asked : Asked) (now serial : ℕ) →
+abbrev pub OnlyReusableResponseIsSent : Type 0
+OnlyReusableResponseIsSent = (policy : Policy) (held : List Stored) (asked : Asked) (now serial : ℕ) →
     decision_of policy held asked now ≡ Hit serial
     → (response : Stored) × ResponseMayBeReused policy held asked now response × (response.serial ≡ serial)
 
 -- where each serial names one response
-abbrev pub WhatMayBeReusedIsReused : Type 0
-WhatMayBeReusedIsReused = (policy : Policy) (held : List Stored) (asked : Asked) (now : ℕ) (response : Stored) →
-    Distinct (serials held) → ResponseMayBeReused policy held asked now response
+abbrev pub ReusableResponseIsSent : Type 0
+ReusableResponseIsSent = (policy : Policy) (held : List Stored) (asked : Asked) (now : ℕ) (response : Stored) →
+    SerialsAreDistinct (serials held) → ResponseMayBeReused policy held asked now response
     → decision_of policy held asked now ≡ Hit response.serial

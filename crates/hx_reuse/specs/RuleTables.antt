@@ -1,13 +1,13 @@
 -- That the tables of the rules agree with each other: the lists, the numbers, and which rules are on the chosen
--- response. Each is a statement that the law `the_tables_of_the_rules_agree` proves.
+-- response. Each is a statement that the law `rule_lists_are_complete_and_in_order` proves.
 use Rattle.std.specs.Prelude.{◌≡◌, ℕ, ◌==◌, true, false, List, [], ◌∷◌, ◌++◌, map, filter, find, Some}
 use Rattle.hx_hop.specs.declared.request_view.Asked.{Asked}
 use Rattle.hx_store.specs.Stored.{Stored}
 use Rattle.hx_policy.specs.declared.words.Policy.{Policy}
 use Rattle.hx_reuse.specs.RuleNames.{reuse_rule_number, error_rule_number}
-use Rattle.hx_reuse.specs.Rules.{Situation, rule_condition, rule_applies_to_chosen, reuse_rule_applies}
+use Rattle.hx_reuse.specs.Rules.{ReuseSituation, reuse_rule_condition, rule_applies_to_chosen, reuse_rule_applies}
 use Rattle.hx_reuse.specs.Rules.{request_rules, rules_on_chosen, reuse_rules}
-use Rattle.hx_reuse.specs.Rules.{names_chosen}
+use Rattle.hx_reuse.specs.Rules.{is_rule_on_chosen}
 use Rattle.hx_reuse.specs.ErrorRules.{error_rules}
 use Rattle.hx_reuse.specs.declared.rule.ReuseRule.{ReuseRule}
 use Rattle.hx_reuse.specs.declared.rule.ReuseRule.TheVariants.{Operator, UriMiss, VaryMiss}
@@ -31,19 +31,20 @@ abbrev pub ReuseRulesAreInGroups : Type 0
 ReuseRulesAreInGroups = reuse_rules ≡ Operator ∷ (request_rules ++ (UriMiss ∷ VaryMiss ∷ rules_on_chosen))
 
 -- those of the last group, and no others, are named with the chosen response
-abbrev pub RulesOnChosenNameTheResponse : Type 0
-RulesOnChosenNameTheResponse = filter names_chosen reuse_rules ≡ rules_on_chosen
+abbrev pub RulesOnChosenAreThoseThatNameIt : Type 0
+RulesOnChosenAreThoseThatNameIt = filter is_rule_on_chosen reuse_rules ≡ rules_on_chosen
 
 -- each of these stands by its own condition
-abbrev pub RulesOnChosenApplyToIt : Type 0
-RulesOnChosenApplyToIt =
+abbrev pub RulesOnChosenApplyByTheirConditions : Type 0
+RulesOnChosenApplyByTheirConditions =
     (rule : ReuseRule) (policy : Policy) (held : List Stored) (asked : Asked) (now : ℕ) →
-    names_chosen rule ≡ true → reuse_rule_applies rule policy held asked now
+    is_rule_on_chosen rule ≡ true → reuse_rule_applies rule policy held asked now
     ≡ rule_applies_to_chosen rule policy held asked now
 
 -- and none of the others has a condition on a response
-abbrev pub OtherRulesHaveNoCondition : Type 0
-OtherRulesHaveNoCondition = (rule : ReuseRule) (s : Situation) → names_chosen rule ≡ false → rule_condition rule s
+abbrev pub RulesNotOnChosenHaveNoCondition : Type 0
+RulesNotOnChosenHaveNoCondition = (rule : ReuseRule) (s : ReuseSituation) → is_rule_on_chosen rule ≡ false
+    → reuse_rule_condition rule s
     ≡ false
 
 -- ---- the rules after an error

@@ -1,8 +1,9 @@
 -- Which rules keep a stored response from being sent (RFC 9111, sections 4 and 5.2.1), and which is the first.
 --
--- Situation: what the rules on a chosen response read
--- asks_to_validate, is_above_max_age_limit, is_below_min_fresh_limit, asks_for_freshness: what a request wants
--- rule_condition: the condition of each of these rules     reuse_rule_applies: the condition of each rule
+-- ReuseSituation: what the rules on a chosen response read
+-- heeded_request_has_no_cache, is_above_max_age_limit, is_below_min_fresh_of_request, heeded_request_has_min_fresh:
+-- what a request wants
+-- reuse_rule_condition: the condition of each of these rules     reuse_rule_applies: the condition of each rule
 -- reuse_rules: the rules by their numbers                  reuse_rule_of: the least that applies
 -- decision_of: what is done with a request
 use Rattle.std.specs.Prelude.{ℕ, ◌+◌, ◌==◌, nat_lt, if◌then◌else◌, Bool, true, false, not, ◌&&◌, ◌||◌, List, [], ◌∷◌}
@@ -19,7 +20,7 @@ use Rattle.hx_hop.specs.declared.request_view.Asked.{Asked}
 use Rattle.hx_hop.specs.Bypass.{request_has_content, asks_for_range, has_precondition}
 use Rattle.hx_store.specs.Stored.{Stored}
 use Rattle.hx_policy.specs.declared.words.Policy.{Policy}
-use Rattle.hx_reuse.specs.Lifetimes.{lifetime_of_held}
+use Rattle.hx_reuse.specs.Lifetimes.{lifetime_of_stored_response}
 use Rattle.hx_reuse.specs.Chosen.{entries_of_key, chosen_of}
 use Rattle.hx_reuse.specs.declared.rule.ReuseRule.{ReuseRule}
 use Rattle.hx_reuse.specs.declared.rule.ReuseRule.TheVariants.{Operator, Method, Content, Range, Precondition, UriMiss}
@@ -35,28 +36,28 @@ is_some_and test None = false
 is_some_and test (Some x) = test x
 
 -- what the rules on a chosen response read of it, of the request and of the operator's line
-pub record Situation : Type 0 where
+pub record ReuseSituation : Type 0 where
   pub policy : Policy
   pub lifetime : Lifetime
   pub age : ℕ
   pub response : List Occurrence
   pub request : List Occurrence
 
-abbrev pub situation_at : Policy → Lifetime → ℕ → List Occurrence → List Occurrence → Situation
-situation_at policy lifetime age response request =
+abbrev pub situation_with : Policy → Lifetime → ℕ → List Occurrence → List Occurrence → ReuseSituation
+situation_with policy lifetime age response request =
     record { policy = policy; lifetime = lifetime; age = age; response = response; request = request }
 
-abbrev pub situation_of_request : Policy → Stored → Asked → ℕ → Situation
+abbrev pub situation_of_request : Policy → Stored → Asked → ℕ → ReuseSituation
 situation_of_request policy e asked now =
-    situation_at policy (lifetime_of_held policy e) (age_of e.times now) (occurrences_of e.fields)
+    situation_with policy (lifetime_of_stored_response policy e) (age_of e.times now) (occurrences_of e.fields)
     (occurrences_of asked.fields)
 
-abbrev pub is_fresh_situation : Situation → Bool
+abbrev pub is_fresh_situation : ReuseSituation → Bool
 is_fresh_situation s = is_fresh_of s.lifetime s.age
 
 -- the response may not be sent stale (RFC 9111, sections 5.2.2.2, 5.2.2.8 and 5.2.2.10)
-abbrev pub may_not_be_sent_stale : Situation → Bool
-may_not_be_sent_stale s =
+abbrev pub forbids_sending_stale : ReuseSituation → Bool
+forbids_sending_stale s =
     (directive_occurs s.response directive.MustRevalidate || directive_occurs s.response directive.ProxyRevalidate)
     || directive_occurs s.response directive.SMaxage
 
@@ -64,71 +65,71 @@ may_not_be_sent_stale s =
 -- and of no-cache, max-age and min-fresh the operator's to say: the standard calls them advisory
 -- (RFC 9111, section 5.2.1). Its max-stale, only-if-cached, no-store and stale-if-error count
 -- whatever the line says.
-abbrev pub asks_to_validate : Situation → Bool
-asks_to_validate s = s.policy.heeds_requests && directive_occurs s.request directive.NoCache
+abbrev pub heeded_request_has_no_cache : ReuseSituation → Bool
+heeded_request_has_no_cache s = s.policy.heeds_requests && directive_occurs s.request directive.NoCache
 
 -- the age is above the request's max-age (RFC 9111, section 5.2.1.1)
-abbrev pub is_above_max_age_limit : Situation → Bool
+abbrev pub is_above_max_age_limit : ReuseSituation → Bool
 is_above_max_age_limit s =
     s.policy.heeds_requests && is_some_and (λ most. nat_lt most s.age) (first_valid s.request directive.MaxAge)
 
 -- fresh for less than the request's min-fresh (RFC 9111, section 5.2.1.3)
-abbrev pub is_below_min_fresh_limit : Situation → Bool
-is_below_min_fresh_limit s =
+abbrev pub is_below_min_fresh_of_request : ReuseSituation → Bool
+is_below_min_fresh_of_request s =
     s.policy.heeds_requests && is_some_and (λ least. nat_lt s.lifetime.seconds (s.age + least))
     (first_valid s.request directive.MinFresh)
 
 -- the request has min-fresh (RFC 9111, section 5.2.1.3)
-abbrev pub asks_for_freshness : Situation → Bool
-asks_for_freshness s = s.policy.heeds_requests && is_some (first_valid s.request directive.MinFresh)
+abbrev pub heeded_request_has_min_fresh : ReuseSituation → Bool
+heeded_request_has_min_fresh s = s.policy.heeds_requests && is_some (first_valid s.request directive.MinFresh)
 
 -- the request takes stale responses, up to a staleness (RFC 9111, section 5.2.1.2)
-abbrev pub accepts_stale : MaxStale → Bool
-accepts_stale Absent = false
-accepts_stale _ = true
+abbrev pub max_stale_is_present : MaxStale → Bool
+max_stale_is_present Absent = false
+max_stale_is_present _ = true
 
 abbrev pub is_past_max_stale : ℕ → MaxStale → Bool
 is_past_max_stale n (UpTo limit) = nat_lt limit n
 is_past_max_stale n _ = false
 
 -- the conditions of the rules on the chosen response
-abbrev pub rule_condition : ReuseRule → Situation → Bool
+abbrev pub reuse_rule_condition : ReuseRule → ReuseSituation → Bool
 -- RFC 9111, section 5.2.2.4
-rule_condition ResponseNoCache s = directive_occurs s.response directive.NoCache
+reuse_rule_condition ResponseNoCache s = directive_occurs s.response directive.NoCache
 -- RFC 9111, section 5.2.1.4
-rule_condition RequestNoCache s = is_fresh_situation s && asks_to_validate s
+reuse_rule_condition RequestNoCache s = is_fresh_situation s && heeded_request_has_no_cache s
 -- RFC 9111, section 5.2.1.1
-rule_condition AboveMaxAge s = is_fresh_situation s && is_above_max_age_limit s
+reuse_rule_condition AboveMaxAge s = is_fresh_situation s && is_above_max_age_limit s
 -- RFC 9111, section 5.2.1.3
-rule_condition BelowMinFresh s = is_fresh_situation s && is_below_min_fresh_limit s
+reuse_rule_condition BelowMinFresh s = is_fresh_situation s && is_below_min_fresh_of_request s
 -- RFC 9111, sections 5.2.2.2, 5.2.2.8 and 5.2.2.10
-rule_condition MustRevalidate s = not (is_fresh_situation s) && may_not_be_sent_stale s
+reuse_rule_condition MustRevalidate s = not (is_fresh_situation s) && forbids_sending_stale s
 -- own: what states no lifetime is never sent stale (RFC 9111, section 4.2.4 lets a cache send what isn't forbidden)
-rule_condition NoLifetime s = not (is_fresh_situation s) && not s.lifetime.explicit
+reuse_rule_condition NoLifetime s = not (is_fresh_situation s) && not s.lifetime.explicit
 -- RFC 9111, section 5.2.1.4
-rule_condition StaleNoCache s = not (is_fresh_situation s) && asks_to_validate s
+reuse_rule_condition StaleNoCache s = not (is_fresh_situation s) && heeded_request_has_no_cache s
 -- RFC 9111, section 4.2.4
-rule_condition NoMaxStale s = not (is_fresh_situation s) && not (accepts_stale (max_stale s.request))
+reuse_rule_condition NoMaxStale s = not (is_fresh_situation s) && not (max_stale_is_present (max_stale s.request))
 -- RFC 9111, section 5.2.1.2
-rule_condition PastMaxStale s = not (is_fresh_situation s) && is_past_max_stale (staleness_of s.lifetime s.age)
+reuse_rule_condition PastMaxStale s = not (is_fresh_situation s) && is_past_max_stale (staleness_of s.lifetime s.age)
     (max_stale s.request)
 -- RFC 9111, section 5.2.1.1
-rule_condition StaleMaxAge s = not (is_fresh_situation s) && is_above_max_age_limit s
+reuse_rule_condition StaleMaxAge s = not (is_fresh_situation s) && is_above_max_age_limit s
 -- RFC 9111, section 5.2.1.3: what is stale isn't fresh for any time
-rule_condition StaleMinFresh s = not (is_fresh_situation s) && asks_for_freshness s
+reuse_rule_condition StaleMinFresh s = not (is_fresh_situation s) && heeded_request_has_min_fresh s
 -- these speak of no response
-rule_condition Operator s = false
-rule_condition Method s = false
-rule_condition Content s = false
-rule_condition Range s = false
-rule_condition Precondition s = false
-rule_condition UriMiss s = false
-rule_condition VaryMiss s = false
+reuse_rule_condition Operator s = false
+reuse_rule_condition Method s = false
+reuse_rule_condition Content s = false
+reuse_rule_condition Range s = false
+reuse_rule_condition Precondition s = false
+reuse_rule_condition UriMiss s = false
+reuse_rule_condition VaryMiss s = false
 
 -- a rule on the chosen response: one is chosen, and the condition of the rule holds of it
 abbrev pub rule_applies_to_chosen : ReuseRule → Policy → List Stored → Asked → ℕ → Bool
 rule_applies_to_chosen rule policy held asked now =
-    is_some_and (λ e. rule_condition rule (situation_of_request policy e asked now)) (chosen_of held asked)
+    is_some_and (λ e. reuse_rule_condition rule (situation_of_request policy e asked now)) (chosen_of held asked)
 
 -- the condition of each rule, under what the operator's line says of caching
 abbrev pub reuse_rule_applies : ReuseRule → Policy → List Stored → Asked → ℕ → Bool
@@ -181,29 +182,29 @@ unfoldable pub reuse_rule_of : Policy → List Stored → Asked → ℕ → Opti
 reuse_rule_of policy held asked now = find (λ rule. reuse_rule_applies rule policy held asked now) reuse_rules
 
 -- the rule speaks of the chosen response
-abbrev pub names_chosen : ReuseRule → Bool
-names_chosen Operator = false
-names_chosen Method = false
-names_chosen Content = false
-names_chosen Range = false
-names_chosen Precondition = false
-names_chosen UriMiss = false
-names_chosen VaryMiss = false
-names_chosen ResponseNoCache = true
-names_chosen RequestNoCache = true
-names_chosen AboveMaxAge = true
-names_chosen BelowMinFresh = true
-names_chosen MustRevalidate = true
-names_chosen NoLifetime = true
-names_chosen StaleNoCache = true
-names_chosen NoMaxStale = true
-names_chosen PastMaxStale = true
-names_chosen StaleMaxAge = true
-names_chosen StaleMinFresh = true
+abbrev pub is_rule_on_chosen : ReuseRule → Bool
+is_rule_on_chosen Operator = false
+is_rule_on_chosen Method = false
+is_rule_on_chosen Content = false
+is_rule_on_chosen Range = false
+is_rule_on_chosen Precondition = false
+is_rule_on_chosen UriMiss = false
+is_rule_on_chosen VaryMiss = false
+is_rule_on_chosen ResponseNoCache = true
+is_rule_on_chosen RequestNoCache = true
+is_rule_on_chosen AboveMaxAge = true
+is_rule_on_chosen BelowMinFresh = true
+is_rule_on_chosen MustRevalidate = true
+is_rule_on_chosen NoLifetime = true
+is_rule_on_chosen StaleNoCache = true
+is_rule_on_chosen NoMaxStale = true
+is_rule_on_chosen PastMaxStale = true
+is_rule_on_chosen StaleMaxAge = true
+is_rule_on_chosen StaleMinFresh = true
 
 -- where no rule stands a response is chosen, so the last case never comes (law `a_hit_is_held`)
 abbrev pub decision_by_rule : Option ReuseRule → Option ℕ → Decision
-decision_by_rule (Some rule) serial = Forward rule (if names_chosen rule then serial else None)
+decision_by_rule (Some rule) serial = Forward rule (if is_rule_on_chosen rule then serial else None)
 decision_by_rule None (Some serial) = Hit serial
 decision_by_rule None None = Hit 0
 

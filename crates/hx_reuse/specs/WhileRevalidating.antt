@@ -1,10 +1,11 @@
 -- Which stale responses may be sent while a GET is at the origin for them (RFC 5861, section 3), so that others needn't
 -- wait for its answer. That one is there, and that the request could wait for it, is the caller's matter.
 --
--- limit_while_revalidating: the staleness that stale-while-revalidate allows
+-- limit_of_stale_while_revalidate: the staleness that stale-while-revalidate allows
 -- rules_while_revalidating: the rules that keep a stale response back all the same
--- may_be_sent_in, may_be_sent_while_revalidating: what may be sent
--- ResponseStatesLimit, OperatorGivesLimit, ResponseMayBeSentWhileRevalidating: the same without the rules
+-- situation_allows_stale_while_revalidate, may_be_sent_while_revalidating: what may be sent
+-- ResponseHasStaleWhileRevalidateOf, OperatorGivesStaleWhileRevalidateOf, ResponseMayBeSentWhileRevalidating: the same
+-- without the rules
 -- Below them are the statements that the laws of `src/laws.rt` prove.
 use Rattle.std.specs.Prelude.{◌≡◌, ◌⊎◌, ℕ, ◌≤◌, nat_le, if◌then◌else◌, Bool, true, false, not, ◌&&◌, List, []}
 use Rattle.std.specs.Prelude.{◌∷◌, find, Option, Some, None, is_none}
@@ -17,9 +18,10 @@ use Rattle.hx_age.specs.Age.{age_of, staleness_of}
 use Rattle.hx_store.specs.Stored.{Stored}
 use Rattle.hx_policy.specs.declared.words.Policy.{Policy}
 use Rattle.hx_policy.specs.Policies.{plain}
-use Rattle.hx_reuse.specs.Lifetimes.{lifetime_of_held}
-use Rattle.hx_reuse.specs.Rules.{Situation, is_some_and, is_fresh_situation, rule_condition, is_past_max_stale}
-use Rattle.hx_reuse.specs.ErrorRules.{seconds_stated_once, situation_of_stored}
+use Rattle.hx_reuse.specs.Lifetimes.{lifetime_of_stored_response}
+use Rattle.hx_reuse.specs.Rules.{ReuseSituation, is_some_and, is_fresh_situation, reuse_rule_condition}
+use Rattle.hx_reuse.specs.Rules.{is_past_max_stale}
+use Rattle.hx_reuse.specs.ErrorRules.{seconds_stated_once, situation_of_stored_response}
 use Rattle.hx_reuse.specs.OnError.{staleness_at}
 use Rattle.hx_reuse.specs.Promises.{ResponseForbidsStale}
 use Rattle.hx_reuse.specs.declared.rule.ReuseRule.{ReuseRule}
@@ -28,8 +30,8 @@ use Rattle.hx_reuse.specs.declared.rule.ReuseRule.TheVariants.{StaleNoCache, Pas
 
 -- the staleness that the response states, or where it doesn't have the directive the operator's line allows
 -- own: one that stands twice or can't be read allows none
-abbrev pub limit_while_revalidating : Situation → Option ℕ
-limit_while_revalidating s =
+abbrev pub limit_of_stale_while_revalidate : ReuseSituation → Option ℕ
+limit_of_stale_while_revalidate s =
     if directive_occurs s.response directive.StaleWhileRevalidate
     then seconds_stated_once (seconds_of_directive s.response directive.StaleWhileRevalidate)
     else s.policy.stale_while_revalidate
@@ -43,59 +45,60 @@ rules_while_revalidating =
 -- "indicates that caches MAY serve the response .. after it becomes stale, up to the indicated number of seconds" (RFC
 -- 5861, section 3)
 -- own: over a line that says so
-abbrev pub may_be_sent_in : Situation → Bool
-may_be_sent_in s =
+abbrev pub situation_allows_stale_while_revalidate : ReuseSituation → Bool
+situation_allows_stale_while_revalidate s =
     s.policy.sends_while_revalidating && (not (is_fresh_situation s)
-    && (is_none (find (λ rule. rule_condition rule s) rules_while_revalidating)
-    && is_some_and (λ most. nat_le (staleness_of s.lifetime s.age) most) (limit_while_revalidating s)))
+    && (is_none (find (λ rule. reuse_rule_condition rule s) rules_while_revalidating)
+    && is_some_and (λ most. nat_le (staleness_of s.lifetime s.age) most) (limit_of_stale_while_revalidate s)))
 
 -- at a moment, by the directives of a request
 unfoldable pub may_be_sent_while_revalidating : Policy → Stored → List Occurrence → ℕ → Bool
 may_be_sent_while_revalidating policy response request now =
-    may_be_sent_in (situation_of_stored policy response request now)
+    situation_allows_stale_while_revalidate (situation_of_stored_response policy response request now)
 
 -- ---- without the rules
 
 -- the response has one stale-while-revalidate, of so many seconds
-abbrev pub ResponseStatesLimit : Stored → ℕ → Type 0
-ResponseStatesLimit response most =
+abbrev pub ResponseHasStaleWhileRevalidateOf : Stored → ℕ → Type 0
+ResponseHasStaleWhileRevalidateOf response most =
     seconds_of_directive (occurrences_of response.fields) directive.StaleWhileRevalidate ≡ Value most
 
 -- own: the operator's line has so many seconds, and the response has no stale-while-revalidate
-pub record OperatorGivesLimit (policy : Policy) (response : Stored) (most : ℕ) : Type 0 where
-  pub line_has : policy.stale_while_revalidate ≡ Some most
+pub record OperatorGivesStaleWhileRevalidateOf (policy : Policy) (response : Stored) (most : ℕ) : Type 0 where
+  pub policy_states_limit : policy.stale_while_revalidate ≡ Some most
   pub response_has_none : directive_occurs (occurrences_of response.fields) directive.StaleWhileRevalidate ≡ false
 
 -- own: its lifetime is stated, or the operator gives it one; the request's no-cache, max-age and min-fresh count where
 -- the operator's line heeds them, and its max-stale always
 pub record ResponseMayBeSentWhileRevalidating (policy : Policy) (response : Stored) (request : List Occurrence)
     (now : ℕ) : Type 0 where
-  pub line_lets : policy.sends_while_revalidating ≡ true
-  pub is_stale : (lifetime_of_held policy response).seconds ≤ age_of response.times now
+  pub policy_sends_while_revalidating : policy.sends_while_revalidating ≡ true
+  pub is_stale : (lifetime_of_stored_response policy response).seconds ≤ age_of response.times now
   pub no_no_cache : directive_occurs (occurrences_of response.fields) directive.NoCache ≡ false
   pub no_must_revalidate : directive_occurs (occurrences_of response.fields) directive.MustRevalidate ≡ false
   pub no_proxy_revalidate : directive_occurs (occurrences_of response.fields) directive.ProxyRevalidate ≡ false
   pub no_s_maxage : directive_occurs (occurrences_of response.fields) directive.SMaxage ≡ false
-  pub has_a_lifetime : (lifetime_of_held policy response).explicit ≡ true
+  pub has_a_lifetime : (lifetime_of_stored_response policy response).explicit ≡ true
   pub not_to_be_validated : policy.heeds_requests ≡ true → directive_occurs request directive.NoCache ≡ false
   pub within_max_age : policy.heeds_requests ≡ true → (most : ℕ) → first_valid request directive.MaxAge ≡ Some most
       → age_of response.times now ≤ most
   pub no_min_fresh : policy.heeds_requests ≡ true → first_valid request directive.MinFresh ≡ None
   pub within_max_stale : is_past_max_stale (staleness_at policy response now) (max_stale request) ≡ false
   pub most : ℕ
-  pub limit_is : ResponseStatesLimit response most ⊎ OperatorGivesLimit policy response most
+  pub limit_is : ResponseHasStaleWhileRevalidateOf response most
+      ⊎ OperatorGivesStaleWhileRevalidateOf policy response most
   pub within_limit : staleness_at policy response now ≤ most
 
 -- ---- the statements
 
-abbrev pub WhatMayBeIsSentWhileRevalidating : Type 0
-WhatMayBeIsSentWhileRevalidating =
+abbrev pub SendableIsSentWhileRevalidating : Type 0
+SendableIsSentWhileRevalidating =
     (policy : Policy) (response : Stored) (request : List Occurrence) (now : ℕ) →
     ResponseMayBeSentWhileRevalidating policy response request now
     → may_be_sent_while_revalidating policy response request now ≡ true
 
-abbrev pub NothingElseIsSentWhileRevalidating : Type 0
-NothingElseIsSentWhileRevalidating =
+abbrev pub OnlySendableIsSentWhileRevalidating : Type 0
+OnlySendableIsSentWhileRevalidating =
     (policy : Policy) (response : Stored) (request : List Occurrence) (now : ℕ) →
     may_be_sent_while_revalidating policy response request now ≡ true
     → ResponseMayBeSentWhileRevalidating policy response request now
@@ -114,19 +117,19 @@ PlainLineSendsNothingWhileRevalidating =
     may_be_sent_while_revalidating (plain caches) response request now ≡ false
 
 -- nor does one without the word send what doesn't have the directive
-abbrev pub NothingIsSentWithoutALimit : Type 0
-NothingIsSentWithoutALimit =
+abbrev pub NothingIsSentWithoutStaleWhileRevalidate : Type 0
+NothingIsSentWithoutStaleWhileRevalidate =
     (policy : Policy) (response : Stored) (request : List Occurrence) (now : ℕ) →
     policy.stale_while_revalidate ≡ None
     → directive_occurs (occurrences_of response.fields) directive.StaleWhileRevalidate ≡ false
     → may_be_sent_while_revalidating policy response request now ≡ false
 
-abbrev pub policy_without_limit : Policy → Policy
-policy_without_limit policy = record policy { stale_while_revalidate = None }
+abbrev pub policy_without_stale_while_revalidate : Policy → Policy
+policy_without_stale_while_revalidate policy = record policy { stale_while_revalidate = None }
 
 -- where the response has the directive the operator's word changes nothing
-abbrev pub StatedLimitIsUnchanged : Type 0
-StatedLimitIsUnchanged = (policy : Policy) (response : Stored) (request : List Occurrence) (now : ℕ) →
+abbrev pub StatedWhileRevalidateOverridesOperators : Type 0
+StatedWhileRevalidateOverridesOperators = (policy : Policy) (response : Stored) (request : List Occurrence) (now : ℕ) →
     directive_occurs (occurrences_of response.fields) directive.StaleWhileRevalidate ≡ true
     → may_be_sent_while_revalidating policy response request now
-    ≡ may_be_sent_while_revalidating (policy_without_limit policy) response request now
+    ≡ may_be_sent_while_revalidating (policy_without_stale_while_revalidate policy) response request now

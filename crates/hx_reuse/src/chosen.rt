@@ -2,7 +2,7 @@
 ghost use Rattle.std.specs.Prelude.{◌≡◌, option_copied};
 ghost use Rattle.std.specs.List.{filter_map};
 ghost use Rattle.hx_store.specs.Shelf.{find_entry};
-ghost use Rattle.hx_reuse.specs.Chosen.{is_more_recent, is_preferred, preferred_of, most_preferred};
+ghost use Rattle.hx_reuse.specs.Chosen.{is_more_recent, is_preferred_over, preferred_of_two, most_preferred_response};
 
 use hx_store::{Entry, Shelf};
 
@@ -12,8 +12,8 @@ fn is_more_recent(a: &Entry, b: &Entry) -> bool
     b.times.date < a.times.date || (b.times.date == a.times.date && b.serial < a.serial)
 }
 
-fn is_preferred(a: &Entry, b: &Entry) -> bool
-    ensures { result ≡ is_preferred a.now b.now }
+fn is_preferred_over(a: &Entry, b: &Entry) -> bool
+    ensures { result ≡ is_preferred_over a.now b.now }
 {
     match (
         a.nominated.nominates_a_field(),
@@ -25,13 +25,13 @@ fn is_preferred(a: &Entry, b: &Entry) -> bool
     }
 }
 
-fn preferred_of<'a>(best: Option<&'a Entry>, entry: &'a Entry) -> Option<&'a Entry>
-    ensures { option_copied result ≡ preferred_of (option_copied best.entry) entry.now }
+fn preferred_of_two<'a>(best: Option<&'a Entry>, entry: &'a Entry) -> Option<&'a Entry>
+    ensures { option_copied result ≡ preferred_of_two (option_copied best.entry) entry.now }
 {
     match best {
         None => Some(entry),
         Some(best) => {
-            if is_preferred(entry, best) {
+            if is_preferred_over(entry, best) {
                 Some(entry)
             } else {
                 Some(best)
@@ -41,13 +41,14 @@ fn preferred_of<'a>(best: Option<&'a Entry>, entry: &'a Entry) -> Option<&'a Ent
 }
 
 /// The preferred one of the held responses with these serials.
-pub(crate) fn preferred_among<'a, S: Shelf>(shelf: &'a S, serials: &[u64]) -> Option<&'a Entry>
-    ensures { option_copied result ≡ most_preferred (filter_map (λ s. find_entry s (S.entries shelf.now)) serials.now) }
+pub(crate) fn preferred_of_serials<'a, S: Shelf>(shelf: &'a S, serials: &[u64]) -> Option<&'a Entry>
+    ensures { option_copied result
+        ≡ most_preferred_response (filter_map (λ s. find_entry s (S.entries shelf.now)) serials.now) }
 {
     let mut best = None;
     for serial in serials {
         if let Some(entry) = shelf.peek(*serial) {
-            best = preferred_of(best, entry);
+            best = preferred_of_two(best, entry);
         }
     }
     best

@@ -1,12 +1,12 @@
 //! What is done with a request: the least rule that stands, or the response that may be sent.
 ghost use Rattle.std.specs.Prelude.{◌≡◌, ◌==◌, if◌then◌else◌, length, true, IfOk};
 ghost use Rattle.hx_directives.specs.Occurrences.{occurrences_of};
-ghost use Rattle.hx_store.specs.Shelf.{serials_of};
+ghost use Rattle.hx_store.specs.Shelf.{serials_of_key};
 ghost use Rattle.hx_reuse.specs.declared.rule.ReuseRule.TheVariants.{UriMiss, VaryMiss};
 ghost use Rattle.hx_reuse.specs.Rules.{decision_of};
 
-use crate::chosen::preferred_among;
-use crate::reuse_rules::{request_rule, rule_on};
+use crate::chosen::preferred_of_serials;
+use crate::reuse_rules::{least_rule_on_chosen, least_rule_on_request};
 use crate::rule::ReuseRule;
 use hx_directives::Directives;
 use hx_hop::Asked;
@@ -57,15 +57,15 @@ fn decide_from_store<S: Shelf>(
     requires caches { policy.caches ≡ true }
     ensures { IfOk result (λ decision. decision ≡ decision_of policy (S.entries shelf.now) asked.now now) }
 {
-    if let Some(rule) = request_rule(asked, policy) {
+    if let Some(rule) = least_rule_on_request(asked, policy) {
         return Ok(Decision::Forward(rule, None));
     }
     let key = &asked.target.key;
     let matching = shelf.find_matching(alloc, key, &asked.fields)?;
-    let Some(entry) = preferred_among(shelf, matching.as_slice()) else {
+    let Some(entry) = preferred_of_serials(shelf, matching.as_slice()) else {
         return Ok(Decision::Forward(miss_rule(shelf, key), None));
     };
-    match rule_on(entry, asked, asked_directives, now, policy) {
+    match least_rule_on_chosen(entry, asked, asked_directives, now, policy) {
         Some(rule) => Ok(Decision::Forward(rule, Some(entry.serial))),
         None => Ok(Decision::Hit(entry.serial)),
     }
@@ -73,7 +73,7 @@ fn decide_from_store<S: Shelf>(
 
 /// What a request misses whose key no held response matches: the key itself, or its values.
 fn miss_rule<S: Shelf>(shelf: &S, key: &Key) -> ReuseRule
-    ensures { result ≡ (if length (serials_of key.now (S.entries shelf.now)) == 0 then UriMiss else VaryMiss) }
+    ensures { result ≡ (if length (serials_of_key key.now (S.entries shelf.now)) == 0 then UriMiss else VaryMiss) }
 {
     if shelf.has_key(key) {
         ReuseRule::VaryMiss

@@ -1,107 +1,119 @@
 //! What the definitions that `decide`, `may_serve_on_error` and `may_serve_while_revalidating` are held to say of every
 //! list of held responses, request and moment.
-ghost use Rattle.hx_reuse.specs.ChosenAndNamed.{PreferredIsChosen, ChosenHasAVaryWhereOneHas, ChosenByDate};
-ghost use Rattle.hx_reuse.specs.ChosenAndNamed.{OneIsChosenWhereOneCan, NoOtherIsChosen};
-ghost use Rattle.hx_reuse.specs.ChosenAndNamed.{WhatMayBeSentIsSent, NothingElseIsSent, SentResponseIsHeld};
-ghost use Rattle.hx_reuse.specs.ChosenAndNamed.{SentResponseIsFound};
-ghost use Rattle.hx_reuse.specs.ChosenAndNamed.{LeastReuseRuleIsNamed, ForwardsWhereARuleApplies, ForwardsWithoutCache};
+ghost use Rattle.hx_reuse.specs.ChosenAndNamed.{ChosenIsPreferredCandidate, ChosenHasAVaryWhereOneHas};
+ghost use Rattle.hx_reuse.specs.ChosenAndNamed.{ChosenIsLatestByDate};
+ghost use Rattle.hx_reuse.specs.ChosenAndNamed.{AResponseIsChosenIfAnyMatches, PreferredCandidateIsChosen};
+ghost use Rattle.hx_reuse.specs.ChosenAndNamed.{SendableResponseIsSent, OnlySendableResponseIsSent};
+ghost use Rattle.hx_reuse.specs.ChosenAndNamed.{AHitIsAStoredResponse};
+ghost use Rattle.hx_reuse.specs.ChosenAndNamed.{AHitIsFoundInTheStore};
+ghost use Rattle.hx_reuse.specs.ChosenAndNamed.{LeastReuseRuleIsNamed, LeastReuseRuleForwards, UncachedLineForwards};
 ghost use Rattle.hx_reuse.specs.ChosenAndNamed.{WordsOfReuseRulesDiffer, WordsOfErrorRulesDiffer};
-ghost use Rattle.hx_reuse.specs.Conditions.{ConditionsOfACacheableGetStay, NoOtherConditionsStay};
-ghost use Rattle.hx_reuse.specs.Conditions.{PlainLineKeepsNoConditions};
-ghost use Rattle.hx_reuse.specs.FilledRanges.{RangesOfACacheableGetAreFilled, NoOtherRangeIsFilled};
-ghost use Rattle.hx_reuse.specs.FilledRanges.{PlainLineFillsNoRange, NoFilledRangeIsForwarded, OtherLinesAreForwarded};
-ghost use Rattle.hx_reuse.specs.FilledRanges.{ConditionsStayAsOfTheWhole};
-ghost use Rattle.hx_reuse.specs.Ranges.{RangeDecidesNothing, ForwardedRangesGoPastTheStore};
-ghost use Rattle.hx_reuse.specs.Reusable.{WhatMayBeReusedIsReused, NothingElseIsReused};
-ghost use Rattle.hx_reuse.specs.OnError.{WhatMayBeSentOnErrorIsSent, NothingElseIsSentOnError, NamedErrorRuleIsLeast};
+ghost use Rattle.hx_reuse.specs.Conditions.{ConditionsOfACacheableGetAreWithheld};
+ghost use Rattle.hx_reuse.specs.Conditions.{OnlyConditionsOfACacheableGetAreWithheld};
+ghost use Rattle.hx_reuse.specs.Conditions.{DefaultPolicyWithholdsNoConditions};
+ghost use Rattle.hx_reuse.specs.FilledRanges.{RangeOfACacheableGetFetchesWhole, OnlyRangeOfACacheableGetFetchesWhole};
+ghost use Rattle.hx_reuse.specs.FilledRanges.{DefaultPolicyFetchesNoWholeForRange, WholeIsFetchedWithoutRange};
+ghost use Rattle.hx_reuse.specs.FilledRanges.{FieldsButRangeAreForwardedUnchanged};
+ghost use Rattle.hx_reuse.specs.FilledRanges.{FilledRangeConditionsAreAsForTheWhole};
+ghost use Rattle.hx_reuse.specs.Ranges.{RangeDoesNotChangeTheDecision, ForwardedRangesGoPastTheStore};
+ghost use Rattle.hx_reuse.specs.Reusable.{ReusableResponseIsSent, OnlyReusableResponseIsSent};
+ghost use Rattle.hx_reuse.specs.OnError.{SendableResponseIsSentOnError, OnlySendableResponseIsSentOnError};
+ghost use Rattle.hx_reuse.specs.OnError.{NamedErrorRuleIsLeast};
 ghost use Rattle.hx_reuse.specs.OnError.{LeastErrorRuleIsNamed};
 ghost use Rattle.std.specs.Prelude.{◌≡◌, Some, None, codes};
 ghost use Rattle.hx_reuse.specs.declared.rule.ReuseRule.TheVariants as rule;
 ghost use Rattle.hx_reuse.specs.declared.rule.ErrorRule.TheVariants as on_error;
 ghost use Rattle.hx_reuse.specs.RuleNames.{reuse_rule_detail, error_rule_word, reuse_rule_reason};
-ghost use Rattle.hx_reuse.specs.PlainLines.{PlainLineGivesNoLifetime, PlainLineAsksTheSame, PlainLineDecidesTheSame};
-ghost use Rattle.hx_reuse.specs.PlainLines.{PlainLineAsksTheSameOnError, PlainLinePermitsTheSameOnError};
-ghost use Rattle.hx_reuse.specs.LineWordsInReuse.{LifetimeWithinTheMostIsUnchanged, LifetimeBeyondTheMostIsTheMost};
-ghost use Rattle.hx_reuse.specs.LineWordsInReuse.{StatedLifetimeIsNeverLonger};
-ghost use Rattle.hx_reuse.specs.LineWordsInReuse.{StatedLifetimeIsUnchanged, OtherStatusesAreUnchanged};
-ghost use Rattle.hx_reuse.specs.LineWordsInReuse.{GivenLifetimeCounts, GivenErrorLifetimeCounts};
-ghost use Rattle.hx_reuse.specs.LineWordsInReuse.{ErrorsOfNoLifetimeAreUnchanged};
-ghost use Rattle.hx_reuse.specs.LineWordsInReuse.{IgnoredAdviceNeverApplies, IgnoredAdviceNeverAppliesOnError};
-ghost use Rattle.hx_reuse.specs.LineWordsInReuse.{IgnoredAdviceDecidesNothing, OperatorsStaleLimitAllows};
-ghost use Rattle.hx_reuse.specs.LineWordsInReuse.{OperatorsStaleLimitEnds};
-ghost use Rattle.hx_reuse.specs.LineWordsInReuse.{StatedStaleLimitIsUnchanged};
-ghost use Rattle.hx_reuse.specs.Promises.{NoVariantOfAnotherRequestIsSent, NoOtherVariantIsSent};
-ghost use Rattle.hx_reuse.specs.Promises.{NeverSentStaleWhereForbidden};
-ghost use Rattle.hx_reuse.specs.Promises.{NeverOutlastsItsStatedLifetime, NeverSentUnvalidatedWithNoCache};
-ghost use Rattle.hx_reuse.specs.Promises.{NeverSentOnErrorWhereForbidden};
-ghost use Rattle.hx_reuse.specs.Promises.{OthersLastAsLong, PurgedIsNeverSentWhereForbidden, PurgedIsSentAsStaleAlone};
-ghost use Rattle.hx_reuse.specs.WhileRevalidating.{WhatMayBeIsSentWhileRevalidating};
-ghost use Rattle.hx_reuse.specs.WhileRevalidating.{NothingElseIsSentWhileRevalidating};
+ghost use Rattle.hx_reuse.specs.PlainLines.{DefaultPolicyLifetimeIsTheStatedOne};
+ghost use Rattle.hx_reuse.specs.PlainLines.{DefaultPolicyRuleConditionsAreStandard, DefaultPolicyDecisionIsStandard};
+ghost use Rattle.hx_reuse.specs.PlainLines.{DefaultPolicyErrorRulesAreStandard};
+ghost use Rattle.hx_reuse.specs.PlainLines.{DefaultPolicyPermissionOnErrorIsStandard};
+ghost use Rattle.hx_reuse.specs.LineWordsInReuse.{LifetimeBelowMaximumIsUnchanged, LifetimeAboveMaximumIsTheMaximum};
+ghost use Rattle.hx_reuse.specs.LineWordsInReuse.{StatedLifetimeIsNeverLengthened};
+ghost use Rattle.hx_reuse.specs.LineWordsInReuse.{StatedLifetimeOverridesOperators};
+ghost use Rattle.hx_reuse.specs.LineWordsInReuse.{NonHeuristicStatusGetsNoGivenLifetime};
+ghost use Rattle.hx_reuse.specs.LineWordsInReuse.{OperatorsLifetimeCounts, OperatorsErrorLifetimeCounts};
+ghost use Rattle.hx_reuse.specs.LineWordsInReuse.{ErrorsGetNoLifetimeWithoutErrorLifetime};
+ghost use Rattle.hx_reuse.specs.LineWordsInReuse.{IgnoredRequestDirectivesNeverApply};
+ghost use Rattle.hx_reuse.specs.LineWordsInReuse.{IgnoredRequestNoCacheNeverAppliesOnError};
+ghost use Rattle.hx_reuse.specs.LineWordsInReuse.{IgnoredRequestDirectivesDecideNothing, OperatorsStaleIfErrorAllows};
+ghost use Rattle.hx_reuse.specs.LineWordsInReuse.{OperatorsStaleIfErrorEnds};
+ghost use Rattle.hx_reuse.specs.LineWordsInReuse.{StatedStaleIfErrorOverridesOperators};
+ghost use Rattle.hx_reuse.specs.Promises.{HitWasStoredForTheSameNominatedValues, HitHasTheNominatedValues};
+ghost use Rattle.hx_reuse.specs.Promises.{StaleForbiddenHitIsFresh};
+ghost use Rattle.hx_reuse.specs.Promises.{StaleForbiddenHitIsWithinLifetime, NoCacheResponseIsNeverAHit};
+ghost use Rattle.hx_reuse.specs.Promises.{ForbiddenResponseIsNeverSentOnError};
+ghost use Rattle.hx_reuse.specs.Promises.{UnpurgedLifetimeIsUnchanged, StaleForbiddenPurgedIsNeverAHit};
+ghost use Rattle.hx_reuse.specs.Promises.{PurgedHitMayBeSentStale};
+ghost use Rattle.hx_reuse.specs.WhileRevalidating.{SendableIsSentWhileRevalidating};
+ghost use Rattle.hx_reuse.specs.WhileRevalidating.{OnlySendableIsSentWhileRevalidating};
 ghost use Rattle.hx_reuse.specs.WhileRevalidating.{NeverSentWhileRevalidatingWhereForbidden};
-ghost use Rattle.hx_reuse.specs.WhileRevalidating.{NothingIsSentWithoutALimit};
-ghost use Rattle.hx_reuse.specs.WhileRevalidating.{PlainLineSendsNothingWhileRevalidating, StatedLimitIsUnchanged};
+ghost use Rattle.hx_reuse.specs.WhileRevalidating.{NothingIsSentWithoutStaleWhileRevalidate};
+ghost use Rattle.hx_reuse.specs.WhileRevalidating.{PlainLineSendsNothingWhileRevalidating};
+ghost use Rattle.hx_reuse.specs.WhileRevalidating.{StatedWhileRevalidateOverridesOperators};
 ghost use Rattle.hx_reuse.specs.RuleTables.{ReuseRulesAreInOrder, EachReuseRuleIsListed, ReuseRulesAreInGroups};
-ghost use Rattle.hx_reuse.specs.RuleTables.{RulesOnChosenNameTheResponse, RulesOnChosenApplyToIt};
-ghost use Rattle.hx_reuse.specs.RuleTables.{OtherRulesHaveNoCondition};
+ghost use Rattle.hx_reuse.specs.RuleTables.{RulesOnChosenAreThoseThatNameIt, RulesOnChosenApplyByTheirConditions};
+ghost use Rattle.hx_reuse.specs.RuleTables.{RulesNotOnChosenHaveNoCondition};
 ghost use Rattle.hx_reuse.specs.RuleTables.{ErrorRulesAreInOrder, EachErrorRuleIsListed};
 
 pub use crate::worked_cases::{
-    a_variant_comes_before_the_default, age_equal_to_lifetime_is_stale, bypass_rules_in_order,
-    least_reuse_rule, line_without_cache, moment_goes_backwards, no_lifetime_is_only_validated,
-    of_two_alike_the_later_comes_first, purged_is_stale, reload_is_ignored,
-    request_max_age_and_only_if_cached, stale_if_error_of_request, stale_if_error_of_response,
-    stale_while_revalidate_of_line, stale_while_revalidate_of_response, vary_values_are_compared,
-    which_ranges_are_answered, which_ranges_are_filled, whose_condition_stays,
-    worked_error_lifetime_from_the_line, worked_least_error_rule, worked_lifetime_from_the_line,
-    worked_lifetime_limited_by_the_line, worked_stale_if_error_of_line,
+    age_equal_to_lifetime_is_stale, bypass_rules_in_order, least_reuse_rule, line_without_cache,
+    moment_goes_backwards, no_lifetime_is_only_validated, request_max_age_and_only_if_cached,
+    stale_if_error_of_request, stale_if_error_of_response, vary_values_are_compared,
+    worked_answered_ranges, worked_error_lifetime_from_the_line, worked_filled_ranges,
+    worked_ignored_request_directives, worked_later_response_is_preferred, worked_least_error_rule,
+    worked_lifetime_from_the_line, worked_lifetime_limited_by_the_line, worked_purged_response,
+    worked_response_with_vary_is_preferred, worked_stale_if_error_of_line,
+    worked_stale_while_revalidate_of_line, worked_stale_while_revalidate_of_response,
+    worked_withheld_conditions,
 };
-use hx_vary::laws::kept_values_decide_as_the_request_does;
+use hx_vary::laws::nominated_values_decide_as_the_request_does;
 
 /// The chosen response is held, has the request's key and nominated values, and none that has is
 /// preferred to it: it has a Vary where one of them has, and of those that are like it in this none
 /// has a later Date. None is chosen only where none has them.
 pub fn the_preferred_that_matches_is_chosen()
-    ensures preferred { PreferredIsChosen }
+    ensures preferred { ChosenIsPreferredCandidate }
     ensures with_vary { ChosenHasAVaryWhereOneHas }
-    ensures by_date { ChosenByDate }
-    ensures some { OneIsChosenWhereOneCan }
-    ensures no_other { NoOtherIsChosen }
+    ensures by_date { ChosenIsLatestByDate }
+    ensures some { AResponseIsChosenIfAnyMatches }
+    ensures no_other { PreferredCandidateIsChosen }
 {}
 
 /// The chosen response is sent exactly where no rule stands.
 pub fn sent_where_no_rule_applies()
-    ensures every { WhatMayBeSentIsSent }
-    ensures only { NothingElseIsSent }
+    ensures every { SendableResponseIsSent }
+    ensures only { OnlySendableResponseIsSent }
 {}
 
 /// The serial of a hit is that of a held response, the one that is chosen for the request; the store finds it by that.
 pub fn a_hit_is_held()
-    ensures held { SentResponseIsHeld }
-    ensures found { SentResponseIsFound }
+    ensures held { AHitIsAStoredResponse }
+    ensures found { AHitIsFoundInTheStore }
 {}
 
 /// A request goes forward exactly where a rule stands, by the least that does; and a rule on a response names it.
 pub fn forward_names_the_least_rule()
     ensures least { LeastReuseRuleIsNamed }
-    ensures every { ForwardsWhereARuleApplies }
+    ensures every { LeastReuseRuleForwards }
 {}
 
 /// What the operator keeps from the store is never answered from it: the request goes forward, by that rule.
-pub fn nothing_is_reused_against_the_operator()
-    ensures { ForwardsWithoutCache }
+pub fn nothing_is_reused_with_caching_off()
+    ensures { UncachedLineForwards }
 {}
 
 /// A response is sent exactly where RFC 9111, section 4 lets one be reused that isn't validated first,
 /// and the operator doesn't keep the request from the store.
 pub fn sent_where_it_may_be_reused()
-    ensures every { WhatMayBeReusedIsReused }
-    ensures only { NothingElseIsReused }
+    ensures every { ReusableResponseIsSent }
+    ensures only { OnlyReusableResponseIsSent }
 {}
 
 /// In place of an error a response is sent exactly where RFC 5861, section 4 lets it be, and it doesn't forbid that.
 pub fn sent_on_error_where_it_may_be()
-    ensures every { WhatMayBeSentOnErrorIsSent }
-    ensures only { NothingElseIsSentOnError }
+    ensures every { SendableResponseIsSentOnError }
+    ensures only { OnlySendableResponseIsSentOnError }
 {}
 
 /// The rule that is named after an error stands, and none of a smaller number does.
@@ -113,60 +125,60 @@ pub fn the_least_error_rule_is_named()
 /// A response that is sent without the origin was asked for with the values that the request has of
 /// its nominated fields.
 pub fn no_other_variant_is_sent()
-    ensures { NoOtherVariantIsSent }
+    ensures { HitHasTheNominatedValues }
 {}
 
 /// Of a response that was stored with what its own request had, only a request gets it that has the
 /// same values of all that it nominates.
 pub fn no_other_requests_variant_is_sent()
-    ensures { NoVariantOfAnotherRequestIsSent }
+    ensures { HitWasStoredForTheSameNominatedValues }
 {
-    kept_values_decide_as_the_request_does();
+    nominated_values_decide_as_the_request_does();
 }
 
 /// Whatever a request and the operator's line say, a response with must-revalidate,
 /// proxy-revalidate or s-maxage is never sent stale, and one with no-cache never unvalidated; after
 /// an error, or while one asks the origin about it, neither is sent.
-pub fn what_has_to_be_validated_is()
-    ensures stale { NeverSentStaleWhereForbidden }
-    ensures stated { NeverOutlastsItsStatedLifetime }
-    ensures no_cache { NeverSentUnvalidatedWithNoCache }
-    ensures error { NeverSentOnErrorWhereForbidden }
+pub fn forbidden_responses_are_never_sent_unvalidated()
+    ensures stale { StaleForbiddenHitIsFresh }
+    ensures stated { StaleForbiddenHitIsWithinLifetime }
+    ensures no_cache { NoCacheResponseIsNeverAHit }
+    ensures error { ForbiddenResponseIsNeverSentOnError }
     ensures while_revalidating { NeverSentWhileRevalidatingWhereForbidden }
 {}
 
 /// A response that a purge expired is sent from that moment on only where a stale one may be, so never where it forbids
 /// to be sent stale. What no purge expired lasts as long as it would without purges.
-pub fn what_a_purge_expired_is_stale()
-    ensures stale { PurgedIsSentAsStaleAlone }
-    ensures forbidden { PurgedIsNeverSentWhereForbidden }
-    ensures others { OthersLastAsLong }
+pub fn a_purged_response_is_sent_only_as_stale()
+    ensures stale { PurgedHitMayBeSentStale }
+    ensures forbidden { StaleForbiddenPurgedIsNeverAHit }
+    ensures others { UnpurgedLifetimeIsUnchanged }
 {}
 
 /// With a line that has no words nothing is asked but what the standards' conditions say, and a
 /// response lasts as long as it states; the conditions of clients and their ranges are the origin's.
-pub fn default_policy_changes_nothing()
-    ensures lifetime { PlainLineGivesNoLifetime }
-    ensures rules { PlainLineAsksTheSame }
-    ensures decision { PlainLineDecidesTheSame }
-    ensures error_rules { PlainLineAsksTheSameOnError }
-    ensures leave { PlainLinePermitsTheSameOnError }
+pub fn default_policy_follows_the_standard_alone()
+    ensures lifetime { DefaultPolicyLifetimeIsTheStatedOne }
+    ensures rules { DefaultPolicyRuleConditionsAreStandard }
+    ensures decision { DefaultPolicyDecisionIsStandard }
+    ensures error_rules { DefaultPolicyErrorRulesAreStandard }
+    ensures leave { DefaultPolicyPermissionOnErrorIsStandard }
     ensures while_revalidating { PlainLineSendsNothingWhileRevalidating }
-    ensures conditions { PlainLineKeepsNoConditions }
-    ensures ranges { PlainLineFillsNoRange }
+    ensures conditions { DefaultPolicyWithholdsNoConditions }
+    ensures ranges { DefaultPolicyFetchesNoWholeForRange }
 {}
 
 /// The conditions of a client stay with the proxy exactly where its request is a GET that a stored response could
 /// answer, the operator lets the store answer it, and the line doesn't forward them.
-pub fn the_conditions_of_a_cacheable_get_stay()
-    ensures every { ConditionsOfACacheableGetStay }
-    ensures only { NoOtherConditionsStay }
+pub fn conditions_of_a_cacheable_get_are_withheld()
+    ensures every { ConditionsOfACacheableGetAreWithheld }
+    ensures only { OnlyConditionsOfACacheableGetAreWithheld }
 {}
 
 /// A request for a range is decided as one for the whole, over a line that doesn't forward ranges: by the same rules it
 /// is sent a stored response, of which its range is a part. Over another line it is sent none (RFC 9110, section 14.2).
-pub fn a_range_is_decided_as_the_whole()
-    ensures alike { RangeDecidesNothing }
+pub fn a_range_request_is_decided_as_for_the_whole()
+    ensures alike { RangeDoesNotChangeTheDecision }
     ensures forwarded { ForwardedRangesGoPastTheStore }
 {}
 
@@ -174,87 +186,87 @@ pub fn a_range_is_decided_as_the_whole()
 /// store answer it, and the line says that ranges are filled. Then what goes to the origin is the request for the
 /// whole: it has neither Range nor If-Range, each other line of it is as it was, and the conditions of the client stay
 /// where those of the request for the whole would (RFC 9110, section 14.2).
-pub fn a_range_is_filled_by_the_whole()
-    ensures every { RangesOfACacheableGetAreFilled }
-    ensures only { NoOtherRangeIsFilled }
-    ensures forwarded { NoFilledRangeIsForwarded }
-    ensures others { OtherLinesAreForwarded }
-    ensures conditions { ConditionsStayAsOfTheWhole }
+pub fn a_range_fetches_the_whole()
+    ensures every { RangeOfACacheableGetFetchesWhole }
+    ensures only { OnlyRangeOfACacheableGetFetchesWhole }
+    ensures forwarded { WholeIsFetchedWithoutRange }
+    ensures others { FieldsButRangeAreForwardedUnchanged }
+    ensures conditions { FilledRangeConditionsAreAsForTheWhole }
 {}
 
 /// The lifetime that a line gives changes nothing of a response that states its own, nor of any other
 /// whose status isn't heuristically cacheable, nor of any other error where the line gives errors none.
-pub fn a_stated_lifetime_stays()
-    ensures stated { StatedLifetimeIsUnchanged }
-    ensures other_status { OtherStatusesAreUnchanged }
-    ensures errors { ErrorsOfNoLifetimeAreUnchanged }
+pub fn operators_lifetime_never_replaces_a_stated_one()
+    ensures stated { StatedLifetimeOverridesOperators }
+    ensures other_status { NonHeuristicStatusGetsNoGivenLifetime }
+    ensures errors { ErrorsGetNoLifetimeWithoutErrorLifetime }
 {}
 
 /// What a response states counts up to the line's most, and as the most beyond it: it never counts for longer than it
 /// states.
-pub fn a_stated_lifetime_has_a_most()
-    ensures within { LifetimeWithinTheMostIsUnchanged }
-    ensures beyond { LifetimeBeyondTheMostIsTheMost }
-    ensures never_longer { StatedLifetimeIsNeverLonger }
+pub fn a_stated_lifetime_is_capped_by_the_line()
+    ensures within { LifetimeBelowMaximumIsUnchanged }
+    ensures beyond { LifetimeAboveMaximumIsTheMaximum }
+    ensures never_longer { StatedLifetimeIsNeverLengthened }
 {}
 
 /// To any other response it gives a lifetime that counts as stated.
-pub fn a_given_lifetime_counts()
-    ensures others { GivenLifetimeCounts }
-    ensures errors { GivenErrorLifetimeCounts }
+pub fn operators_lifetime_counts_as_stated()
+    ensures others { OperatorsLifetimeCounts }
+    ensures errors { OperatorsErrorLifetimeCounts }
 {}
 
 /// Where a line doesn't heed what requests want, no rule on a request's no-cache, max-age or
 /// min-fresh stands, and requests that differ in nothing else are answered alike.
-pub fn ignored_directives_are_not_asked()
-    ensures rules { IgnoredAdviceNeverApplies }
-    ensures on_error { IgnoredAdviceNeverAppliesOnError }
-    ensures decision { IgnoredAdviceDecidesNothing }
+pub fn ignored_request_directives_decide_nothing()
+    ensures rules { IgnoredRequestDirectivesNeverApply }
+    ensures on_error { IgnoredRequestNoCacheNeverAppliesOnError }
+    ensures decision { IgnoredRequestDirectivesDecideNothing }
 {}
 
 /// The staleness that a line allows after an error counts where neither the response nor the
 /// request has stale-if-error, and changes nothing where either has.
 pub fn the_operators_stale_if_error_counts()
-    ensures within { OperatorsStaleLimitAllows }
-    ensures past { OperatorsStaleLimitEnds }
-    ensures stated { StatedStaleLimitIsUnchanged }
+    ensures within { OperatorsStaleIfErrorAllows }
+    ensures past { OperatorsStaleIfErrorEnds }
+    ensures stated { StatedStaleIfErrorOverridesOperators }
 {}
 
 /// While one asks the origin about it a stale response is sent exactly where RFC 5861, section 3 lets it be, over a
 /// line that says so, it doesn't forbid that and the request takes it.
 pub fn sent_while_revalidating_where_it_may_be()
-    ensures every { WhatMayBeIsSentWhileRevalidating }
-    ensures only { NothingElseIsSentWhileRevalidating }
+    ensures every { SendableIsSentWhileRevalidating }
+    ensures only { OnlySendableIsSentWhileRevalidating }
 {}
 
 /// The staleness that a line allows meanwhile counts where the response doesn't have stale-while-revalidate, and
 /// changes nothing where it has; where neither says one nothing is sent.
 pub fn the_operators_stale_while_revalidate_counts()
-    ensures without { NothingIsSentWithoutALimit }
-    ensures stated { StatedLimitIsUnchanged }
+    ensures without { NothingIsSentWithoutStaleWhileRevalidate }
+    ensures stated { StatedWhileRevalidateOverridesOperators }
 {}
 
 /// Each rule is listed once, in the order of the numbers. Those on the chosen response are named with it, and each of
 /// them stands by its own condition; no other rule has a condition on a response.
-pub fn the_tables_of_the_rules_agree()
+pub fn rule_lists_are_complete_and_in_order()
     ensures numbers { ReuseRulesAreInOrder }
     ensures listed { EachReuseRuleIsListed }
     ensures groups { ReuseRulesAreInGroups }
-    ensures named { RulesOnChosenNameTheResponse }
-    ensures chosen { RulesOnChosenApplyToIt }
-    ensures others { OtherRulesHaveNoCondition }
+    ensures named { RulesOnChosenAreThoseThatNameIt }
+    ensures chosen { RulesOnChosenApplyByTheirConditions }
+    ensures others { RulesNotOnChosenHaveNoCondition }
     ensures error_numbers { ErrorRulesAreInOrder }
     ensures error_listed { EachErrorRuleIsListed }
 {}
 
 /// No two reuse rules have the same reason and detail, and no two rules after an error the same word.
-pub fn words_name_the_rule()
+pub fn cache_status_words_tell_rules_apart()
     ensures reuse { WordsOfReuseRulesDiffer }
     ensures error { WordsOfErrorRulesDiffer }
 {}
 
 /// The reason of each rule (RFC 9211, section 2.2).
-pub fn reasons_of_the_rules()
+pub fn worked_reasons_of_reuse_rules()
     ensures operator { reuse_rule_reason rule.Operator ≡ codes "bypass" }
     ensures method { reuse_rule_reason rule.Method ≡ codes "method" }
     ensures content { reuse_rule_reason rule.Content ≡ codes "bypass" }
@@ -276,7 +288,7 @@ pub fn reasons_of_the_rules()
 {}
 
 /// And the detail that tells it from others of its reason (RFC 9211, section 2.8).
-pub fn details_of_the_rules()
+pub fn worked_details_of_reuse_rules()
     ensures operator { reuse_rule_detail rule.Operator ≡ Some (codes "operator") }
     ensures method { reuse_rule_detail rule.Method ≡ None }
     ensures content { reuse_rule_detail rule.Content ≡ Some (codes "content") }
@@ -298,7 +310,7 @@ pub fn details_of_the_rules()
 {}
 
 /// The words of the rules after an error.
-pub fn words_of_the_error_rules()
+pub fn worked_words_of_error_rules()
     ensures no_cache { error_rule_word on_error.NoCache ≡ codes "no-cache" }
     ensures must_revalidate { error_rule_word on_error.MustRevalidate ≡ codes "must-revalidate" }
     ensures no_lifetime { error_rule_word on_error.NoLifetime ≡ codes "no-lifetime" }

@@ -22,10 +22,10 @@ mod rule;
 mod while_revalidating;
 mod worked_cases;
 
-pub use crate::conditions::{forwards_condition, keeps_conditions};
+pub use crate::conditions::{forwards_client_condition, withholds_conditions};
 pub use crate::decision::{Decision, decide};
-pub use crate::filled_ranges::{fills_range, forwards_range, without_range};
-pub use crate::lifetimes::{lifetime_of_held, lifetime_under};
+pub use crate::filled_ranges::{fetches_whole_for_range, forwards_range, request_without_range};
+pub use crate::lifetimes::{lifetime_of_stored_response, lifetime_under_policy};
 pub use crate::on_error::may_serve_on_error;
 pub use crate::rule::{ErrorRule, ReuseRule};
 pub use crate::while_revalidating::may_serve_while_revalidating;

@@ -5,12 +5,12 @@
 ghost use Rattle.std.specs.Prelude.{◌≡◌, ◌||◌, ◌&&◌, nat_lt, if◌then◌else◌, find, None, is_none};
 ghost use Rattle.hx_directives.specs.Answers.{directive_occurs, seconds_of_directive, first_valid};
 ghost use Rattle.hx_directives.specs.declared.names.Directive.TheVariants.{StaleIfError};
-ghost use Rattle.hx_reuse.specs.Rules.{is_some_and, situation_at};
+ghost use Rattle.hx_reuse.specs.Rules.{is_some_and, situation_with};
 ghost use Rattle.hx_reuse.specs.ErrorRules.{seconds_stated_once, error_rules, error_rule_condition, error_rule_on};
 ghost use Rattle.hx_reuse.specs.ErrorRules.{permission_on_error};
 
-use crate::lifetimes::lifetime_of_held;
-use crate::reuse_rules::{asks_to_validate, may_not_be_sent_stale};
+use crate::lifetimes::lifetime_of_stored_response;
+use crate::reuse_rules::{forbids_sending_stale, heeded_request_has_no_cache};
 use crate::rule::ErrorRule;
 use hx_age::{Lifetime, current_age, staleness};
 use hx_directives::{Directive, Directives, Seconds};
@@ -44,7 +44,7 @@ fn stale_limit_of_operator(
     }
 }
 
-fn is_past_stale_limit(stale_by: u32, limit: Option<u32>) -> bool
+fn is_stale_beyond_limit(stale_by: u32, limit: Option<u32>) -> bool
     ensures { result ≡ is_some_and (λ most. nat_lt most stale_by) limit }
 {
     match limit {
@@ -75,9 +75,9 @@ fn is_too_stale(policy: Policy, stale_by: u32, response: &Directives, request: &
         || directive_occurs request.now StaleIfError
         then None else policy.stale_if_error)) }
 {
-    is_past_stale_limit(stale_by, stale_limit_of_response(response))
-        || is_past_stale_limit(stale_by, request.first_valid(Directive::StaleIfError))
-        || is_past_stale_limit(stale_by, stale_limit_of_operator(policy, response, request))
+    is_stale_beyond_limit(stale_by, stale_limit_of_response(response))
+        || is_stale_beyond_limit(stale_by, request.first_valid(Directive::StaleIfError))
+        || is_stale_beyond_limit(stale_by, stale_limit_of_operator(policy, response, request))
 }
 
 /// The least rule on a response that would be sent in place of an error.
@@ -89,15 +89,15 @@ fn rule_on_error(
     request: &Directives,
 ) -> Option<ErrorRule>
     ensures { result
-        ≡ find (λ r. error_rule_condition r (situation_at policy lifetime age response.now request.now)) error_rules }
+        ≡ find (λ r. error_rule_condition r (situation_with policy lifetime age response.now request.now)) error_rules }
 {
     if response.has(Directive::NoCache) {
         Some(ErrorRule::NoCache)
-    } else if may_not_be_sent_stale(response) {
+    } else if forbids_sending_stale(response) {
         Some(ErrorRule::MustRevalidate)
     } else if !lifetime.explicit {
         Some(ErrorRule::NoLifetime)
-    } else if asks_to_validate(policy, request) {
+    } else if heeded_request_has_no_cache(policy, request) {
         Some(ErrorRule::RequestNoCache)
     } else if allows_no_staleness(policy, response, request) {
         Some(ErrorRule::NoDirective)
@@ -110,7 +110,7 @@ fn rule_on_error(
 
 /// The least rule on the response that was chosen for a request.
 #[tactic(auto, unfolding(crate::specs::ErrorRules::error_rule_on))]
-fn rule_on(
+fn least_rule_on_chosen(
     asked_directives: &Directives,
     entry: &Entry,
     now: u64,
@@ -118,7 +118,7 @@ fn rule_on(
 ) -> Option<ErrorRule>
     ensures { result ≡ error_rule_on policy entry.now asked_directives.now now }
 {
-    let lifetime = lifetime_of_held(policy, entry);
+    let lifetime = lifetime_of_stored_response(policy, entry);
     let age = current_age(&entry.times, now);
     rule_on_error(policy, lifetime, age, &entry.directives, asked_directives)
 }
@@ -134,7 +134,7 @@ pub fn may_serve_on_error(
 ) -> Result<(), ErrorRule>
     ensures { result ≡ permission_on_error policy entry.now asked_directives.now now }
 {
-    match rule_on(asked_directives, entry, now, policy) {
+    match least_rule_on_chosen(asked_directives, entry, now, policy) {
         Some(rule) => Err(rule),
         None => Ok(()),
     }

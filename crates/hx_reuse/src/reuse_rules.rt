@@ -6,12 +6,12 @@ ghost use Rattle.hx_directives.specs.declared.names.Directive.TheVariants.{MaxAg
 ghost use Rattle.hx_directives.specs.declared.names.Directive.TheVariants.{ProxyRevalidate, SMaxage};
 ghost use Rattle.hx_age.specs.Age.{is_fresh_of, staleness_of};
 ghost use Rattle.hx_store.specs.Stored.{Stored};
-ghost use Rattle.hx_reuse.specs.Rules.{is_some_and, rule_condition, reuse_rule_applies, is_past_max_stale};
-ghost use Rattle.hx_reuse.specs.Rules.{accepts_stale, situation_at};
+ghost use Rattle.hx_reuse.specs.Rules.{is_some_and, reuse_rule_condition, reuse_rule_applies, is_past_max_stale};
+ghost use Rattle.hx_reuse.specs.Rules.{max_stale_is_present, situation_with};
 ghost use Rattle.hx_reuse.specs.Rules.{situation_of_request};
 ghost use Rattle.hx_reuse.specs.Rules.{request_rules, rules_on_chosen};
 
-use crate::lifetimes::lifetime_of_held;
+use crate::lifetimes::lifetime_of_stored_response;
 use crate::rule::ReuseRule;
 use hx_age::{Lifetime, current_age, is_fresh, staleness};
 use hx_directives::{Directive, Directives, MaxStale};
@@ -20,7 +20,7 @@ use hx_policy::Policy;
 use hx_store::Entry;
 
 /// The least rule on the request alone.
-pub(crate) fn request_rule(asked: &Asked, policy: Policy) -> Option<ReuseRule>
+pub(crate) fn least_rule_on_request(asked: &Asked, policy: Policy) -> Option<ReuseRule>
     ensures { (held : List Stored) (now : ℕ)
         → result ≡ find (λ r. reuse_rule_applies r policy held asked.now now) request_rules }
 {
@@ -40,14 +40,14 @@ pub(crate) fn request_rule(asked: &Asked, policy: Policy) -> Option<ReuseRule>
 }
 
 /// Whether a request has no-cache, where the operator's line heeds it.
-pub(crate) fn asks_to_validate(policy: Policy, request: &Directives) -> bool
+pub(crate) fn heeded_request_has_no_cache(policy: Policy, request: &Directives) -> bool
     ensures { result ≡ (policy.heeds_requests && directive_occurs request.now NoCache) }
 {
     policy.heeds_requests && request.has(Directive::NoCache)
 }
 
 /// Whether an age is above a request's max-age, where the operator's line heeds it.
-pub(crate) fn is_above_max_age(policy: Policy, age: u32, request: &Directives) -> bool
+pub(crate) fn request_max_age_is_exceeded(policy: Policy, age: u32, request: &Directives) -> bool
     ensures { result
         ≡ (policy.heeds_requests && is_some_and (λ most. nat_lt most age) (first_valid request.now MaxAge)) }
 {
@@ -81,13 +81,17 @@ fn is_below_min_fresh_of(lifetime: Lifetime, age: u32, request: &Directives) -> 
 }
 
 /// Whether a request has min-fresh, where the operator's line heeds it.
-pub(crate) fn asks_for_freshness(policy: Policy, request: &Directives) -> bool
+pub(crate) fn heeded_request_has_min_fresh(policy: Policy, request: &Directives) -> bool
     ensures { result ≡ (policy.heeds_requests && is_some (first_valid request.now MinFresh)) }
 {
     policy.heeds_requests && request.first_valid(Directive::MinFresh).is_some()
 }
 
-pub(crate) fn is_past_limit(lifetime: Lifetime, age: u32, request: &Directives) -> bool
+pub(crate) fn is_past_max_stale_of_request(
+    lifetime: Lifetime,
+    age: u32,
+    request: &Directives,
+) -> bool
     ensures { result ≡ is_past_max_stale (staleness_of lifetime age) (max_stale request.now) }
 {
     match request.max_stale() {
@@ -97,13 +101,13 @@ pub(crate) fn is_past_limit(lifetime: Lifetime, age: u32, request: &Directives) 
     }
 }
 
-fn accepts_stale(request: &Directives) -> bool
-    ensures { result ≡ accepts_stale (max_stale request.now) }
+fn max_stale_is_present(request: &Directives) -> bool
+    ensures { result ≡ max_stale_is_present (max_stale request.now) }
 {
     request.max_stale() != MaxStale::Absent
 }
 
-pub(crate) fn may_not_be_sent_stale(response: &Directives) -> bool
+pub(crate) fn forbids_sending_stale(response: &Directives) -> bool
     ensures { result
         ≡ ((directive_occurs response.now MustRevalidate || directive_occurs response.now ProxyRevalidate)
         || directive_occurs response.now SMaxage) }
@@ -122,16 +126,16 @@ fn rule_against(
     request: &Directives,
 ) -> Option<ReuseRule>
     ensures { result ≡ find
-        (λ r. rule_condition r (situation_at policy lifetime age response.now request.now)) rules_on_chosen }
+        (λ r. reuse_rule_condition r (situation_with policy lifetime age response.now request.now)) rules_on_chosen }
 {
     if response.has(Directive::NoCache) {
         return Some(ReuseRule::ResponseNoCache);
     }
     let fresh = is_fresh(lifetime, age);
-    if fresh && asks_to_validate(policy, request) {
+    if fresh && heeded_request_has_no_cache(policy, request) {
         return Some(ReuseRule::RequestNoCache);
     }
-    if fresh && is_above_max_age(policy, age, request) {
+    if fresh && request_max_age_is_exceeded(policy, age, request) {
         return Some(ReuseRule::AboveMaxAge);
     }
     if fresh && is_below_min_fresh(policy, lifetime, age, request) {
@@ -154,34 +158,34 @@ fn stale_rule(
     requires validated_not { directive_occurs response.now NoCache ≡ false }
     requires stale { is_fresh_of lifetime age ≡ false }
     ensures { result ≡ find
-        (λ r. rule_condition r (situation_at policy lifetime age response.now request.now)) rules_on_chosen }
+        (λ r. reuse_rule_condition r (situation_with policy lifetime age response.now request.now)) rules_on_chosen }
 {
-    if may_not_be_sent_stale(response) {
+    if forbids_sending_stale(response) {
         return Some(ReuseRule::MustRevalidate);
     }
     if !lifetime.explicit {
         return Some(ReuseRule::NoLifetime);
     }
-    if asks_to_validate(policy, request) {
+    if heeded_request_has_no_cache(policy, request) {
         return Some(ReuseRule::StaleNoCache);
     }
-    if !accepts_stale(request) {
+    if !max_stale_is_present(request) {
         return Some(ReuseRule::NoMaxStale);
     }
-    if is_past_limit(lifetime, age, request) {
+    if is_past_max_stale_of_request(lifetime, age, request) {
         return Some(ReuseRule::PastMaxStale);
     }
-    if is_above_max_age(policy, age, request) {
+    if request_max_age_is_exceeded(policy, age, request) {
         return Some(ReuseRule::StaleMaxAge);
     }
-    if asks_for_freshness(policy, request) {
+    if heeded_request_has_min_fresh(policy, request) {
         return Some(ReuseRule::StaleMinFresh);
     }
     None
 }
 
 /// The least rule on the chosen response.
-pub(crate) fn rule_on(
+pub(crate) fn least_rule_on_chosen(
     entry: &Entry,
     asked: &Asked,
     asked_directives: &Directives,
@@ -190,9 +194,9 @@ pub(crate) fn rule_on(
 ) -> Option<ReuseRule>
     requires { asked_directives.now ≡ occurrences_of asked.now.fields }
     ensures { result ≡ find
-        (λ r. rule_condition r (situation_of_request policy entry.now asked.now now)) rules_on_chosen }
+        (λ r. reuse_rule_condition r (situation_of_request policy entry.now asked.now now)) rules_on_chosen }
 {
-    let lifetime = lifetime_of_held(policy, entry);
+    let lifetime = lifetime_of_stored_response(policy, entry);
     let age = current_age(&entry.times, now);
     rule_against(policy, lifetime, age, &entry.directives, asked_directives)
 }

@@ -6,14 +6,15 @@ ghost use Rattle.std.specs.Prelude.{◌≡◌, nat_le, if◌then◌else◌, find
 ghost use Rattle.hx_directives.specs.Answers.{directive_occurs, seconds_of_directive};
 ghost use Rattle.hx_directives.specs.declared.names.Directive.TheVariants.{StaleWhileRevalidate};
 ghost use Rattle.hx_age.specs.Age.{is_fresh_of};
-ghost use Rattle.hx_reuse.specs.Rules.{is_some_and, rule_condition, situation_at};
+ghost use Rattle.hx_reuse.specs.Rules.{is_some_and, reuse_rule_condition, situation_with};
 ghost use Rattle.hx_reuse.specs.ErrorRules.{seconds_stated_once};
-ghost use Rattle.hx_reuse.specs.WhileRevalidating.{rules_while_revalidating, may_be_sent_in};
+ghost use Rattle.hx_reuse.specs.WhileRevalidating.{rules_while_revalidating, situation_allows_stale_while_revalidate};
 ghost use Rattle.hx_reuse.specs.WhileRevalidating.{may_be_sent_while_revalidating};
 
-use crate::lifetimes::lifetime_of_held;
+use crate::lifetimes::lifetime_of_stored_response;
 use crate::reuse_rules::{
-    asks_for_freshness, asks_to_validate, is_above_max_age, is_past_limit, may_not_be_sent_stale,
+    forbids_sending_stale, heeded_request_has_min_fresh, heeded_request_has_no_cache,
+    is_past_max_stale_of_request, request_max_age_is_exceeded,
 };
 use crate::rule::ReuseRule;
 use hx_age::{Lifetime, current_age, is_fresh, staleness};
@@ -32,7 +33,7 @@ fn stated_limit(response: &Directives) -> Option<u32>
 }
 
 /// The staleness that a response states, or where it doesn't have the directive the operator's line, in seconds.
-fn limit_while_revalidating(policy: Policy, response: &Directives) -> Option<u32>
+fn limit_of_stale_while_revalidate(policy: Policy, response: &Directives) -> Option<u32>
     ensures { result ≡ (if directive_occurs response.now StaleWhileRevalidate
         then seconds_stated_once (seconds_of_directive response.now StaleWhileRevalidate)
         else policy.stale_while_revalidate) }
@@ -63,41 +64,43 @@ fn rule_while_revalidating(
 ) -> Option<ReuseRule>
     requires stale { is_fresh_of lifetime age ≡ false }
     ensures { result ≡ find
-        (λ r. rule_condition r (situation_at policy lifetime age response.now request.now)) rules_while_revalidating }
+        (λ r. reuse_rule_condition r
+        (situation_with policy lifetime age response.now request.now)) rules_while_revalidating }
 {
     if response.has(Directive::NoCache) {
         return Some(ReuseRule::ResponseNoCache);
     }
-    if may_not_be_sent_stale(response) {
+    if forbids_sending_stale(response) {
         return Some(ReuseRule::MustRevalidate);
     }
     if !lifetime.explicit {
         return Some(ReuseRule::NoLifetime);
     }
-    if asks_to_validate(policy, request) {
+    if heeded_request_has_no_cache(policy, request) {
         return Some(ReuseRule::StaleNoCache);
     }
-    if is_past_limit(lifetime, age, request) {
+    if is_past_max_stale_of_request(lifetime, age, request) {
         return Some(ReuseRule::PastMaxStale);
     }
-    if is_above_max_age(policy, age, request) {
+    if request_max_age_is_exceeded(policy, age, request) {
         return Some(ReuseRule::StaleMaxAge);
     }
-    if asks_for_freshness(policy, request) {
+    if heeded_request_has_min_fresh(policy, request) {
         return Some(ReuseRule::StaleMinFresh);
     }
     None
 }
 
 /// Whether a response may be sent, by its lifetime and age and by the directives of both.
-fn may_be_sent_in(
+fn situation_allows_stale_while_revalidate(
     policy: Policy,
     lifetime: Lifetime,
     age: u32,
     response: &Directives,
     request: &Directives,
 ) -> bool
-    ensures { result ≡ may_be_sent_in (situation_at policy lifetime age response.now request.now) }
+    ensures { result
+        ≡ situation_allows_stale_while_revalidate (situation_with policy lifetime age response.now request.now) }
 {
     if !policy.sends_while_revalidating || is_fresh(lifetime, age) {
         return false;
@@ -105,7 +108,7 @@ fn may_be_sent_in(
     rule_while_revalidating(policy, lifetime, age, response, request).is_none()
         && is_within(
             staleness(lifetime, age),
-            limit_while_revalidating(policy, response),
+            limit_of_stale_while_revalidate(policy, response),
         )
 }
 
@@ -120,7 +123,13 @@ pub fn may_serve_while_revalidating(
 ) -> bool
     ensures { result ≡ may_be_sent_while_revalidating policy entry.now asked_directives.now now }
 {
-    let lifetime = lifetime_of_held(policy, entry);
+    let lifetime = lifetime_of_stored_response(policy, entry);
     let age = current_age(&entry.times, now);
-    may_be_sent_in(policy, lifetime, age, &entry.directives, asked_directives)
+    situation_allows_stale_while_revalidate(
+        policy,
+        lifetime,
+        age,
+        &entry.directives,
+        asked_directives,
+    )
 }

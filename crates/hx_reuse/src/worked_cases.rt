@@ -7,20 +7,23 @@ ghost use Rattle.hx_fields.specs.Examples.{line};
 ghost use Rattle.hx_directives.specs.Answers.{directive_occurs};
 ghost use Rattle.hx_directives.specs.declared.names.Directive.TheVariants.{OnlyIfCached};
 ghost use Rattle.hx_policy.specs.Policies.{plain};
-ghost use Rattle.hx_reuse.specs.Conditions.{keeps_conditions, forwards_condition};
-ghost use Rattle.hx_reuse.specs.FilledRanges.{fills_range, forwards_range, request_forwarded};
+ghost use Rattle.hx_reuse.specs.Conditions.{withholds_conditions, forwards_client_condition};
+ghost use Rattle.hx_reuse.specs.FilledRanges.{fetches_whole_for_range, forwards_range, request_sent_to_origin};
 ghost use Rattle.hx_reuse.specs.Rules.{decision_of, reuse_rule_of};
 ghost use Rattle.hx_reuse.specs.ErrorRules.{permission_on_error, error_rule_of};
 ghost use Rattle.hx_reuse.specs.WhileRevalidating.{may_be_sent_while_revalidating};
-ghost use Rattle.hx_reuse.specs.Cases.{revalidating_policy, stale_while_revalidate_policy};
-ghost use Rattle.hx_reuse.specs.Cases.{cache_control_fields, accept_language, get_a_with, get_b, get_a_with_content};
+ghost use Rattle.hx_reuse.specs.Cases.{while_revalidating_policy, stale_while_revalidate_policy};
+ghost use Rattle.hx_reuse.specs.Cases.{cache_control_fields, accept_language, get_a_with, get_b_in_german};
+ghost use Rattle.hx_reuse.specs.Cases.{get_a_with_content};
 ghost use Rattle.hx_reuse.specs.Cases.{purged_at, stored_at, stored_with_cache_control, one_held_with_cache_control};
-ghost use Rattle.hx_reuse.specs.Cases.{one_held_in_german, one_held_with_etag, request_directives, lifetime_policy};
-ghost use Rattle.hx_reuse.specs.Cases.{error_lifetime_policy, lifetime_most_policy};
-ghost use Rattle.hx_reuse.specs.Cases.{stale_if_error_policy, ignore_directives_policy, stored_with_status};
-ghost use Rattle.hx_reuse.specs.Cases.{one_held_of_status, variant_made_at, default_made_at, english_and_default};
-ghost use Rattle.hx_reuse.specs.Cases.{get_a_in, keep_conditions_policy, get_a_if_none_match};
-ghost use Rattle.hx_reuse.specs.Cases.{serve_ranges_policy, fill_ranges_policy, range_fields};
+ghost use Rattle.hx_reuse.specs.Cases.{one_held_in_german, one_held_with_etag, request_directives};
+ghost use Rattle.hx_reuse.specs.Cases.{policy_with_lifetime};
+ghost use Rattle.hx_reuse.specs.Cases.{policy_with_error_lifetime, policy_with_greatest_lifetime};
+ghost use Rattle.hx_reuse.specs.Cases.{policy_with_stale_if_error, ignore_directives_policy, stored_with_status};
+ghost use Rattle.hx_reuse.specs.Cases.{one_held_of_status, language_variant_made_at, no_vary_made_at};
+ghost use Rattle.hx_reuse.specs.Cases.{held_english_and_default};
+ghost use Rattle.hx_reuse.specs.Cases.{get_a_in_this_language, withhold_conditions_policy, get_a_if_none_match};
+ghost use Rattle.hx_reuse.specs.Cases.{serve_ranges_policy, fill_ranges_policy, range_field_of_two_bytes};
 
 use crate::{Decision, ErrorRule, ReuseRule};
 
@@ -33,33 +36,36 @@ pub fn vary_values_are_compared()
     ensures two_lines { decision_of (plain true) one_held_in_german
         (get_a_with (accept_language (codes "de") ∷ accept_language (codes "en") ∷ [])) 1
         ≡ Decision.Forward ReuseRule.VaryMiss None }
-    ensures another_path { decision_of (plain true) one_held_in_german get_b 1
+    ensures another_path { decision_of (plain true) one_held_in_german get_b_in_german 1
         ≡ Decision.Forward ReuseRule.UriMiss None }
 {}
 
 /// English with a Vary was stored at 100, a default without at 110. An English client gets what was made for it,
 /// whatever the order in the store, and its twin in German the default, as who asks in no language.
-pub fn a_variant_comes_before_the_default()
-    ensures english { decision_of (plain true) english_and_default (get_a_in (codes "en")) 120 ≡ Decision.Hit 1 }
-    ensures another_order { decision_of (plain true) (variant_made_at 100 1 (codes "en") ∷ default_made_at 110 2 ∷ [])
-        (get_a_in (codes "en")) 120 ≡ Decision.Hit 1 }
-    ensures german { decision_of (plain true) english_and_default (get_a_in (codes "de")) 120 ≡ Decision.Hit 2 }
-    ensures no_language { decision_of (plain true) english_and_default (get_a_with []) 120 ≡ Decision.Hit 2 }
-    ensures expired { decision_of (plain true) english_and_default (get_a_in (codes "en")) 165
+pub fn worked_response_with_vary_is_preferred()
+    ensures english { decision_of (plain true) held_english_and_default (get_a_in_this_language (codes "en")) 120
+        ≡ Decision.Hit 1 }
+    ensures another_order { decision_of (plain true) (language_variant_made_at 100 1 (codes "en")
+        ∷ no_vary_made_at 110 2 ∷ [])
+        (get_a_in_this_language (codes "en")) 120 ≡ Decision.Hit 1 }
+    ensures german { decision_of (plain true) held_english_and_default (get_a_in_this_language (codes "de")) 120
+        ≡ Decision.Hit 2 }
+    ensures no_language { decision_of (plain true) held_english_and_default (get_a_with []) 120 ≡ Decision.Hit 2 }
+    ensures expired { decision_of (plain true) held_english_and_default (get_a_in_this_language (codes "en")) 165
         ≡ Decision.Forward ReuseRule.NoMaxStale (Some 1) }
 {}
 
 /// Two that are alike in this: with a Vary, and without, of two Dates and of one.
-pub fn of_two_alike_the_later_comes_first()
+pub fn worked_later_response_is_preferred()
     ensures with_vary { decision_of (plain true)
-        (variant_made_at 110 1 (codes "en") ∷ variant_made_at 100 2 (codes "en") ∷ [])
-        (get_a_in (codes "en")) 120 ≡ Decision.Hit 1 }
+        (language_variant_made_at 110 1 (codes "en") ∷ language_variant_made_at 100 2 (codes "en") ∷ [])
+        (get_a_in_this_language (codes "en")) 120 ≡ Decision.Hit 1 }
     ensures with_vary_of_one_date { decision_of (plain true)
-        (variant_made_at 100 1 (codes "en") ∷ variant_made_at 100 2 (codes "en") ∷ [])
-        (get_a_in (codes "en")) 120 ≡ Decision.Hit 2 }
-    ensures without { decision_of (plain true) (default_made_at 110 1 ∷ default_made_at 100 2 ∷ []) (get_a_with []) 120
+        (language_variant_made_at 100 1 (codes "en") ∷ language_variant_made_at 100 2 (codes "en") ∷ [])
+        (get_a_in_this_language (codes "en")) 120 ≡ Decision.Hit 2 }
+    ensures without { decision_of (plain true) (no_vary_made_at 110 1 ∷ no_vary_made_at 100 2 ∷ []) (get_a_with []) 120
         ≡ Decision.Hit 1 }
-    ensures without_of_one_date { decision_of (plain true) (default_made_at 100 2 ∷ default_made_at 100 1 ∷ [])
+    ensures without_of_one_date { decision_of (plain true) (no_vary_made_at 100 2 ∷ no_vary_made_at 100 1 ∷ [])
         (get_a_with []) 120 ≡ Decision.Hit 2 }
 {}
 
@@ -174,33 +180,35 @@ pub fn worked_least_error_rule()
 /// at 60, when a max-stale takes it. One of status 302 isn't given any, nor a 404 by a line that gives
 /// errors none, and one of 10 seconds keeps its own.
 pub fn worked_lifetime_from_the_line()
-    ensures fresh { decision_of (lifetime_policy 60) (one_held_of_status 200) (get_a_with []) 59 ≡ Decision.Hit 1 }
-    ensures stale { decision_of (lifetime_policy 60) (one_held_of_status 200) (get_a_with []) 60
+    ensures fresh { decision_of (policy_with_lifetime 60) (one_held_of_status 200) (get_a_with []) 59 ≡ Decision.Hit 1 }
+    ensures stale { decision_of (policy_with_lifetime 60) (one_held_of_status 200) (get_a_with []) 60
         ≡ Decision.Forward ReuseRule.NoMaxStale (Some 1) }
-    ensures taken_stale { decision_of (lifetime_policy 60) (one_held_of_status 200)
+    ensures taken_stale { decision_of (policy_with_lifetime 60) (one_held_of_status 200)
         (get_a_with (cache_control_fields (codes "max-stale=5"))) 65 ≡ Decision.Hit 1 }
-    ensures not_found { decision_of (lifetime_policy 60) (one_held_of_status 404) (get_a_with []) 0
+    ensures not_found { decision_of (policy_with_lifetime 60) (one_held_of_status 404) (get_a_with []) 0
         ≡ Decision.Forward ReuseRule.NoLifetime (Some 1) }
-    ensures found { decision_of (lifetime_policy 60) (one_held_of_status 302) (get_a_with []) 0
+    ensures found { decision_of (policy_with_lifetime 60) (one_held_of_status 302) (get_a_with []) 0
         ≡ Decision.Forward ReuseRule.NoLifetime (Some 1) }
-    ensures failed { decision_of (lifetime_policy 60) (one_held_of_status 500) (get_a_with []) 0
+    ensures failed { decision_of (policy_with_lifetime 60) (one_held_of_status 500) (get_a_with []) 0
         ≡ Decision.Forward ReuseRule.NoLifetime (Some 1) }
-    ensures stated { decision_of (lifetime_policy 60) (one_held_with_cache_control (codes "max-age=10")) (get_a_with []) 10
+    ensures stated { decision_of (policy_with_lifetime 60) (one_held_with_cache_control (codes "max-age=10")) (get_a_with []) 10
         ≡ Decision.Forward ReuseRule.NoMaxStale (Some 1) }
-    ensures stated_for_longer { decision_of (lifetime_policy 60) (one_held_with_cache_control (codes "max-age=90"))
+    ensures stated_for_longer { decision_of (policy_with_lifetime 60) (one_held_with_cache_control (codes "max-age=90"))
         (get_a_with []) 89 ≡ Decision.Hit 1 }
-    ensures unreadable { decision_of (lifetime_policy 60) (one_held_with_cache_control (codes "max-age=x")) (get_a_with []) 0
+    ensures unreadable { decision_of (policy_with_lifetime 60) (one_held_with_cache_control (codes "max-age=x"))
+        (get_a_with []) 0
         ≡ Decision.Forward ReuseRule.NoMaxStale (Some 1) }
-    ensures no_cache { decision_of (lifetime_policy 60) (one_held_with_cache_control (codes "no-cache")) (get_a_with []) 0
+    ensures no_cache { decision_of (policy_with_lifetime 60) (one_held_with_cache_control (codes "no-cache")) (get_a_with []) 0
         ≡ Decision.Forward ReuseRule.ResponseNoCache (Some 1) }
-    ensures must_revalidate { decision_of (lifetime_policy 60) (one_held_with_cache_control (codes "must-revalidate"))
+    ensures must_revalidate { decision_of (policy_with_lifetime 60) (one_held_with_cache_control (codes "must-revalidate"))
         (get_a_with (cache_control_fields (codes "max-stale"))) 60 ≡ Decision.Forward ReuseRule.MustRevalidate (Some 1) }
     ensures without_the_word { decision_of (plain true) (one_held_of_status 200) (get_a_with []) 0
         ≡ Decision.Forward ReuseRule.NoLifetime (Some 1) }
-    ensures on_error { permission_on_error (lifetime_policy 10) (stored_with_cache_control (codes "stale-if-error=60")) [] 70 ≡ Ok tt }
-    ensures past_on_error { permission_on_error (lifetime_policy 10)
+    ensures on_error { permission_on_error (policy_with_lifetime 10)
+        (stored_with_cache_control (codes "stale-if-error=60")) [] 70 ≡ Ok tt }
+    ensures past_on_error { permission_on_error (policy_with_lifetime 10)
         (stored_with_cache_control (codes "stale-if-error=60")) [] 71 ≡ Err ErrorRule.TooStale }
-    ensures found_on_error { permission_on_error (lifetime_policy 10)
+    ensures found_on_error { permission_on_error (policy_with_lifetime 10)
         (stored_with_status 302 (cache_control_fields (codes "stale-if-error=60"))) [] 5
         ≡ Err ErrorRule.NoLifetime }
 {}
@@ -208,23 +216,23 @@ pub fn worked_lifetime_from_the_line()
 /// Under a line that gives a minute, and errors five seconds: a 404 is fresh at 4 and stale at 5,
 /// when a 200 is fresh. A 500 isn't given any, and a 404 of 10 seconds keeps its own.
 pub fn worked_error_lifetime_from_the_line()
-    ensures fresh { decision_of (error_lifetime_policy 60 5) (one_held_of_status 404) (get_a_with []) 4
+    ensures fresh { decision_of (policy_with_error_lifetime 60 5) (one_held_of_status 404) (get_a_with []) 4
         ≡ Decision.Hit 1 }
-    ensures stale { decision_of (error_lifetime_policy 60 5) (one_held_of_status 404) (get_a_with []) 5
+    ensures stale { decision_of (policy_with_error_lifetime 60 5) (one_held_of_status 404) (get_a_with []) 5
         ≡ Decision.Forward ReuseRule.NoMaxStale (Some 1) }
-    ensures gone { decision_of (error_lifetime_policy 60 5) (one_held_of_status 410) (get_a_with []) 5
+    ensures gone { decision_of (policy_with_error_lifetime 60 5) (one_held_of_status 410) (get_a_with []) 5
         ≡ Decision.Forward ReuseRule.NoMaxStale (Some 1) }
-    ensures not_implemented { decision_of (error_lifetime_policy 60 5) (one_held_of_status 501) (get_a_with []) 4
+    ensures not_implemented { decision_of (policy_with_error_lifetime 60 5) (one_held_of_status 501) (get_a_with []) 4
         ≡ Decision.Hit 1 }
-    ensures found { decision_of (error_lifetime_policy 60 5) (one_held_of_status 200) (get_a_with []) 5
+    ensures found { decision_of (policy_with_error_lifetime 60 5) (one_held_of_status 200) (get_a_with []) 5
         ≡ Decision.Hit 1 }
-    ensures failed { decision_of (error_lifetime_policy 60 5) (one_held_of_status 500) (get_a_with []) 0
+    ensures failed { decision_of (policy_with_error_lifetime 60 5) (one_held_of_status 500) (get_a_with []) 0
         ≡ Decision.Forward ReuseRule.NoLifetime (Some 1) }
-    ensures stated { decision_of (error_lifetime_policy 60 5)
+    ensures stated { decision_of (policy_with_error_lifetime 60 5)
         (stored_with_status 404 (cache_control_fields (codes "max-age=10")) ∷ []) (get_a_with []) 9 ≡ Decision.Hit 1 }
-    ensures on_error { permission_on_error (error_lifetime_policy 60 5)
+    ensures on_error { permission_on_error (policy_with_error_lifetime 60 5)
         (stored_with_status 404 (cache_control_fields (codes "stale-if-error=60"))) [] 65 ≡ Ok tt }
-    ensures past_on_error { permission_on_error (error_lifetime_policy 60 5)
+    ensures past_on_error { permission_on_error (policy_with_error_lifetime 60 5)
         (stored_with_status 404 (cache_control_fields (codes "stale-if-error=60"))) [] 66 ≡ Err ErrorRule.TooStale }
 {}
 
@@ -232,40 +240,41 @@ pub fn worked_error_lifetime_from_the_line()
 /// and stale at 60, when it isn't sent in place of an error for longer than it allows; one of ten seconds keeps its
 /// own, one that states none has the hour, and one of no second is stale.
 pub fn worked_lifetime_limited_by_the_line()
-    ensures fresh { decision_of (lifetime_most_policy 3600 60) (one_held_with_cache_control (codes "max-age=31536000"))
+    ensures fresh { decision_of (policy_with_greatest_lifetime 3600 60) (one_held_with_cache_control (codes "max-age=31536000"))
         (get_a_with []) 59 ≡ Decision.Hit 1 }
-    ensures stale { decision_of (lifetime_most_policy 3600 60) (one_held_with_cache_control (codes "max-age=31536000"))
+    ensures stale { decision_of (policy_with_greatest_lifetime 3600 60) (one_held_with_cache_control (codes "max-age=31536000"))
         (get_a_with []) 60 ≡ Decision.Forward ReuseRule.NoMaxStale (Some 1) }
-    ensures shared { decision_of (lifetime_most_policy 3600 60)
+    ensures shared { decision_of (policy_with_greatest_lifetime 3600 60)
         (one_held_with_cache_control (codes "max-age=5, s-maxage=31536000")) (get_a_with []) 59 ≡ Decision.Hit 1 }
-    ensures shared_stale { decision_of (lifetime_most_policy 3600 60)
+    ensures shared_stale { decision_of (policy_with_greatest_lifetime 3600 60)
         (one_held_with_cache_control (codes "s-maxage=31536000")) (get_a_with []) 60
         ≡ Decision.Forward ReuseRule.MustRevalidate (Some 1) }
-    ensures as_stated { decision_of (lifetime_most_policy 3600 60) (one_held_with_cache_control (codes "max-age=60"))
+    ensures as_stated { decision_of (policy_with_greatest_lifetime 3600 60) (one_held_with_cache_control (codes "max-age=60"))
         (get_a_with []) 59 ≡ Decision.Hit 1 }
-    ensures shorter { decision_of (lifetime_most_policy 3600 60) (one_held_with_cache_control (codes "max-age=10"))
+    ensures shorter { decision_of (policy_with_greatest_lifetime 3600 60) (one_held_with_cache_control (codes "max-age=10"))
         (get_a_with []) 10 ≡ Decision.Forward ReuseRule.NoMaxStale (Some 1) }
-    ensures no_second { decision_of (lifetime_most_policy 3600 60) (one_held_with_cache_control (codes "max-age=0"))
+    ensures no_second { decision_of (policy_with_greatest_lifetime 3600 60) (one_held_with_cache_control (codes "max-age=0"))
         (get_a_with []) 0 ≡ Decision.Forward ReuseRule.NoMaxStale (Some 1) }
-    ensures given { decision_of (lifetime_most_policy 3600 60) (one_held_of_status 200) (get_a_with []) 3599
+    ensures given { decision_of (policy_with_greatest_lifetime 3600 60) (one_held_of_status 200) (get_a_with []) 3599
         ≡ Decision.Hit 1 }
-    ensures given_stale { decision_of (lifetime_most_policy 3600 60) (one_held_of_status 200) (get_a_with []) 3600
+    ensures given_stale { decision_of (policy_with_greatest_lifetime 3600 60) (one_held_of_status 200)
+        (get_a_with []) 3600
         ≡ Decision.Forward ReuseRule.NoMaxStale (Some 1) }
-    ensures taken_stale { decision_of (lifetime_most_policy 3600 60) (one_held_with_cache_control (codes "max-age=31536000"))
+    ensures taken_stale { decision_of (policy_with_greatest_lifetime 3600 60) (one_held_with_cache_control (codes "max-age=31536000"))
         (get_a_with (cache_control_fields (codes "max-stale=5"))) 65 ≡ Decision.Hit 1 }
-    ensures past_stale { decision_of (lifetime_most_policy 3600 60) (one_held_with_cache_control (codes "max-age=31536000"))
+    ensures past_stale { decision_of (policy_with_greatest_lifetime 3600 60) (one_held_with_cache_control (codes "max-age=31536000"))
         (get_a_with (cache_control_fields (codes "max-stale=5"))) 66 ≡ Decision.Forward ReuseRule.PastMaxStale (Some 1) }
-    ensures on_error { permission_on_error (lifetime_most_policy 3600 60)
+    ensures on_error { permission_on_error (policy_with_greatest_lifetime 3600 60)
         (stored_with_cache_control (codes "max-age=31536000, stale-if-error=60")) [] 120 ≡ Ok tt }
-    ensures past_on_error { permission_on_error (lifetime_most_policy 3600 60)
+    ensures past_on_error { permission_on_error (policy_with_greatest_lifetime 3600 60)
         (stored_with_cache_control (codes "max-age=31536000, stale-if-error=60")) [] 121 ≡ Err ErrorRule.TooStale }
-    ensures without_the_word { decision_of (lifetime_policy 3600) (one_held_with_cache_control (codes "max-age=31536000"))
+    ensures without_the_word { decision_of (policy_with_lifetime 3600) (one_held_with_cache_control (codes "max-age=31536000"))
         (get_a_with []) 31535999 ≡ Decision.Hit 1 }
 {}
 
 /// A line that heeds no advice of requests, and a response of a minute: what is fresh is sent, what
 /// is stale only to a max-stale.
-pub fn reload_is_ignored()
+pub fn worked_ignored_request_directives()
     ensures no_cache { decision_of ignore_directives_policy (one_held_with_cache_control (codes "max-age=60"))
         (get_a_with (cache_control_fields (codes "no-cache"))) 1 ≡ Decision.Hit 1 }
     ensures max_age { decision_of ignore_directives_policy (one_held_with_cache_control (codes "max-age=60"))
@@ -299,38 +308,38 @@ pub fn reload_is_ignored()
 /// 60 and by 61; with a limit of its own, or of the request, or one of these that can't be read;
 /// and with what forbids it.
 pub fn worked_stale_if_error_of_line()
-    ensures within { permission_on_error (stale_if_error_policy 60)
+    ensures within { permission_on_error (policy_with_stale_if_error 60)
         (stored_with_cache_control (codes "max-age=10")) [] 70 ≡ Ok tt }
-    ensures past { permission_on_error (stale_if_error_policy 60)
+    ensures past { permission_on_error (policy_with_stale_if_error 60)
         (stored_with_cache_control (codes "max-age=10")) [] 71 ≡ Err ErrorRule.TooStale }
-    ensures its_own { permission_on_error (stale_if_error_policy 60)
+    ensures its_own { permission_on_error (policy_with_stale_if_error 60)
         (stored_with_cache_control (codes "max-age=10, stale-if-error=5")) [] 16 ≡ Err ErrorRule.TooStale }
-    ensures its_own_is_longer { permission_on_error (stale_if_error_policy 60)
+    ensures its_own_is_longer { permission_on_error (policy_with_stale_if_error 60)
         (stored_with_cache_control (codes "max-age=10, stale-if-error=90")) [] 100 ≡ Ok tt }
-    ensures the_requests { permission_on_error (stale_if_error_policy 60) (stored_with_cache_control (codes "max-age=10"))
+    ensures the_requests { permission_on_error (policy_with_stale_if_error 60) (stored_with_cache_control (codes "max-age=10"))
         (request_directives (codes "stale-if-error=5")) 16 ≡ Err ErrorRule.TooStale }
-    ensures the_requests_is_longer { permission_on_error (stale_if_error_policy 60)
+    ensures the_requests_is_longer { permission_on_error (policy_with_stale_if_error 60)
         (stored_with_cache_control (codes "max-age=10")) (request_directives (codes "stale-if-error=90")) 100 ≡ Ok tt }
-    ensures unreadable { permission_on_error (stale_if_error_policy 60)
+    ensures unreadable { permission_on_error (policy_with_stale_if_error 60)
         (stored_with_cache_control (codes "max-age=10, stale-if-error=x")) [] 20 ≡ Err ErrorRule.NoDirective }
-    ensures the_requests_is_unreadable { permission_on_error (stale_if_error_policy 60)
+    ensures the_requests_is_unreadable { permission_on_error (policy_with_stale_if_error 60)
         (stored_with_cache_control (codes "max-age=10"))
         (request_directives (codes "stale-if-error=x")) 20 ≡ Err ErrorRule.NoDirective }
-    ensures no_cache { permission_on_error (stale_if_error_policy 60)
+    ensures no_cache { permission_on_error (policy_with_stale_if_error 60)
         (stored_with_cache_control (codes "max-age=10, no-cache")) [] 20 ≡ Err ErrorRule.NoCache }
-    ensures must_revalidate { permission_on_error (stale_if_error_policy 60)
+    ensures must_revalidate { permission_on_error (policy_with_stale_if_error 60)
         (stored_with_cache_control (codes "max-age=10, must-revalidate")) [] 20 ≡ Err ErrorRule.MustRevalidate }
-    ensures s_maxage { permission_on_error (stale_if_error_policy 60)
+    ensures s_maxage { permission_on_error (policy_with_stale_if_error 60)
         (stored_with_cache_control (codes "s-maxage=10")) [] 20 ≡ Err ErrorRule.MustRevalidate }
-    ensures no_lifetime { permission_on_error (stale_if_error_policy 60) (stored_with_status 200 []) [] 1
+    ensures no_lifetime { permission_on_error (policy_with_stale_if_error 60) (stored_with_status 200 []) [] 1
         ≡ Err ErrorRule.NoLifetime }
-    ensures the_requests_no_cache { permission_on_error (stale_if_error_policy 60)
+    ensures the_requests_no_cache { permission_on_error (policy_with_stale_if_error 60)
         (stored_with_cache_control (codes "max-age=10"))
         (request_directives (codes "no-cache")) 20 ≡ Err ErrorRule.RequestNoCache }
-    ensures stale_all_the_same { decision_of (stale_if_error_policy 60)
+    ensures stale_all_the_same { decision_of (policy_with_stale_if_error 60)
         (one_held_with_cache_control (codes "max-age=10")) (get_a_with []) 20
         ≡ Decision.Forward ReuseRule.NoMaxStale (Some 1) }
-    ensures with_a_lifetime { permission_on_error (record (stale_if_error_policy 60) { lifetime = Some 10 })
+    ensures with_a_lifetime { permission_on_error (record (policy_with_stale_if_error 60) { lifetime = Some 10 })
         (stored_with_status 200 []) [] 70
         ≡ Ok tt }
 {}
@@ -338,7 +347,7 @@ pub fn worked_stale_if_error_of_line()
 /// Of ten minutes, received at 0 and expired by a purge at 100: a moment before, at that moment, and to requests that
 /// take what is stale by 5. Stale by 30 and by 31 with what allows 30 after an error or while it is validated; and with
 /// what forbids to send it stale.
-pub fn purged_is_stale()
+pub fn worked_purged_response()
     ensures before { decision_of (plain true) (purged_at 100 (stored_with_cache_control (codes "max-age=600")) ∷ [])
         (get_a_with []) 99 ≡ Decision.Hit 1 }
     ensures at_once { decision_of (plain true) (purged_at 100 (stored_with_cache_control (codes "max-age=600")) ∷ [])
@@ -352,7 +361,7 @@ pub fn purged_is_stale()
         (purged_at 100 (stored_with_cache_control (codes "max-age=600, must-revalidate")) ∷ [])
         (get_a_with (cache_control_fields (codes "max-stale"))) 100
         ≡ Decision.Forward ReuseRule.MustRevalidate (Some 1) }
-    ensures given { decision_of (lifetime_policy 600) (purged_at 100 (stored_with_cache_control (codes "")) ∷ [])
+    ensures given { decision_of (policy_with_lifetime 600) (purged_at 100 (stored_with_cache_control (codes "")) ∷ [])
         (get_a_with []) 100 ≡ Decision.Forward ReuseRule.NoMaxStale (Some 1) }
     ensures error_by_30 { permission_on_error (plain true)
         (purged_at 100 (stored_with_cache_control (codes "max-age=600, stale-if-error=30"))) [] 130 ≡ Ok tt }
@@ -362,70 +371,70 @@ pub fn purged_is_stale()
     ensures error_of_purged_stale { permission_on_error (plain true)
         (purged_at 700 (stored_with_cache_control (codes "max-age=600, stale-if-error=30"))) [] 700
         ≡ Err ErrorRule.TooStale }
-    ensures meanwhile_before { may_be_sent_while_revalidating revalidating_policy
+    ensures meanwhile_before { may_be_sent_while_revalidating while_revalidating_policy
         (purged_at 100 (stored_with_cache_control (codes "max-age=600, stale-while-revalidate=30"))) [] 99 ≡ false }
-    ensures meanwhile_by_30 { may_be_sent_while_revalidating revalidating_policy
+    ensures meanwhile_by_30 { may_be_sent_while_revalidating while_revalidating_policy
         (purged_at 100 (stored_with_cache_control (codes "max-age=600, stale-while-revalidate=30"))) [] 130 ≡ true }
-    ensures meanwhile_by_31 { may_be_sent_while_revalidating revalidating_policy
+    ensures meanwhile_by_31 { may_be_sent_while_revalidating while_revalidating_policy
         (purged_at 100 (stored_with_cache_control (codes "max-age=600, stale-while-revalidate=30"))) [] 131 ≡ false }
 {}
 
 /// Of ten minutes and thirty seconds more, the example of RFC 5861, section 3, while a GET is at the origin for it:
 /// fresh, stale by 0, by 30 and by 31; with what forbids it, and to requests that don't take it.
-pub fn stale_while_revalidate_of_response()
-    ensures fresh { may_be_sent_while_revalidating revalidating_policy
+pub fn worked_stale_while_revalidate_of_response()
+    ensures fresh { may_be_sent_while_revalidating while_revalidating_policy
         (stored_with_cache_control (codes "max-age=600, stale-while-revalidate=30")) [] 599 ≡ false }
-    ensures just_stale { may_be_sent_while_revalidating revalidating_policy
+    ensures just_stale { may_be_sent_while_revalidating while_revalidating_policy
         (stored_with_cache_control (codes "max-age=600, stale-while-revalidate=30")) [] 600 ≡ true }
-    ensures within { may_be_sent_while_revalidating revalidating_policy
+    ensures within { may_be_sent_while_revalidating while_revalidating_policy
         (stored_with_cache_control (codes "max-age=600, stale-while-revalidate=30")) [] 630 ≡ true }
-    ensures past { may_be_sent_while_revalidating revalidating_policy
+    ensures past { may_be_sent_while_revalidating while_revalidating_policy
         (stored_with_cache_control (codes "max-age=600, stale-while-revalidate=30")) [] 631 ≡ false }
-    ensures without { may_be_sent_while_revalidating revalidating_policy
+    ensures without { may_be_sent_while_revalidating while_revalidating_policy
         (stored_with_cache_control (codes "max-age=600")) [] 600 ≡ false }
     ensures over_a_plain_line { may_be_sent_while_revalidating (plain true)
         (stored_with_cache_control (codes "max-age=600, stale-while-revalidate=30")) [] 630 ≡ false }
-    ensures twice { may_be_sent_while_revalidating revalidating_policy
+    ensures twice { may_be_sent_while_revalidating while_revalidating_policy
         (stored_with_cache_control (codes "max-age=600, stale-while-revalidate=30, stale-while-revalidate=30")) [] 630
         ≡ false }
-    ensures without_seconds { may_be_sent_while_revalidating revalidating_policy
+    ensures without_seconds { may_be_sent_while_revalidating while_revalidating_policy
         (stored_with_cache_control (codes "max-age=600, stale-while-revalidate")) [] 600 ≡ false }
-    ensures no_cache { may_be_sent_while_revalidating revalidating_policy
+    ensures no_cache { may_be_sent_while_revalidating while_revalidating_policy
         (stored_with_cache_control (codes "max-age=600, stale-while-revalidate=30, no-cache")) [] 630 ≡ false }
-    ensures must_revalidate { may_be_sent_while_revalidating revalidating_policy
+    ensures must_revalidate { may_be_sent_while_revalidating while_revalidating_policy
         (stored_with_cache_control (codes "max-age=600, stale-while-revalidate=30, must-revalidate")) [] 630 ≡ false }
-    ensures proxy_revalidate { may_be_sent_while_revalidating revalidating_policy
+    ensures proxy_revalidate { may_be_sent_while_revalidating while_revalidating_policy
         (stored_with_cache_control (codes "max-age=600, stale-while-revalidate=30, proxy-revalidate")) [] 630 ≡ false }
-    ensures s_maxage { may_be_sent_while_revalidating revalidating_policy
+    ensures s_maxage { may_be_sent_while_revalidating while_revalidating_policy
         (stored_with_cache_control (codes "s-maxage=600, stale-while-revalidate=30")) [] 630 ≡ false }
-    ensures no_lifetime { may_be_sent_while_revalidating revalidating_policy
+    ensures no_lifetime { may_be_sent_while_revalidating while_revalidating_policy
         (stored_with_cache_control (codes "stale-while-revalidate=30")) [] 1 ≡ false }
-    ensures to_no_cache { may_be_sent_while_revalidating revalidating_policy
+    ensures to_no_cache { may_be_sent_while_revalidating while_revalidating_policy
         (stored_with_cache_control (codes "max-age=600, stale-while-revalidate=30")) (request_directives (codes "no-cache"))
         630 ≡ false }
-    ensures to_max_age { may_be_sent_while_revalidating revalidating_policy
+    ensures to_max_age { may_be_sent_while_revalidating while_revalidating_policy
         (stored_with_cache_control (codes "max-age=600, stale-while-revalidate=30"))
         (request_directives (codes "max-age=629")) 630 ≡ false }
-    ensures to_a_longer_max_age { may_be_sent_while_revalidating revalidating_policy
+    ensures to_a_longer_max_age { may_be_sent_while_revalidating while_revalidating_policy
         (stored_with_cache_control (codes "max-age=600, stale-while-revalidate=30"))
         (request_directives (codes "max-age=630")) 630 ≡ true }
-    ensures to_min_fresh { may_be_sent_while_revalidating revalidating_policy
+    ensures to_min_fresh { may_be_sent_while_revalidating while_revalidating_policy
         (stored_with_cache_control (codes "max-age=600, stale-while-revalidate=30"))
         (request_directives (codes "min-fresh=0")) 630 ≡ false }
-    ensures to_max_stale { may_be_sent_while_revalidating revalidating_policy
+    ensures to_max_stale { may_be_sent_while_revalidating while_revalidating_policy
         (stored_with_cache_control (codes "max-age=600, stale-while-revalidate=30"))
         (request_directives (codes "max-stale=29")) 630 ≡ false }
-    ensures to_a_longer_max_stale { may_be_sent_while_revalidating revalidating_policy
+    ensures to_a_longer_max_stale { may_be_sent_while_revalidating while_revalidating_policy
         (stored_with_cache_control (codes "max-age=600, stale-while-revalidate=30"))
         (request_directives (codes "max-stale=31")) 631 ≡ false }
-    ensures not_heeded { may_be_sent_while_revalidating (record revalidating_policy { heeds_requests = false })
+    ensures not_heeded { may_be_sent_while_revalidating (record while_revalidating_policy { heeds_requests = false })
         (stored_with_cache_control (codes "max-age=600, stale-while-revalidate=30"))
         (request_directives (codes "no-cache, max-age=0, min-fresh=1")) 630 ≡ true }
 {}
 
 /// Under a line that allows a minute, of ten seconds: stale by 60 and by 61, with a limit of its own, and one that
 /// can't be read; without a lifetime but the line's; and over one that doesn't send so.
-pub fn stale_while_revalidate_of_line()
+pub fn worked_stale_while_revalidate_of_line()
     ensures within { may_be_sent_while_revalidating (stale_while_revalidate_policy 60)
         (stored_with_cache_control (codes "max-age=10")) [] 70 ≡ true }
     ensures past { may_be_sent_while_revalidating (stale_while_revalidate_policy 60)
@@ -444,7 +453,8 @@ pub fn stale_while_revalidate_of_line()
         (stored_with_cache_control (codes "max-age=10")) [] 10 ≡ true }
     ensures past_no_second { may_be_sent_while_revalidating (stale_while_revalidate_policy 0)
         (stored_with_cache_control (codes "max-age=10")) [] 11 ≡ false }
-    ensures another_word { may_be_sent_while_revalidating (record revalidating_policy { stale_if_error = Some 60 })
+    ensures another_word { may_be_sent_while_revalidating
+        (record while_revalidating_policy { stale_if_error = Some 60 })
         (stored_with_cache_control (codes "max-age=10, stale-if-error=60")) [] 20 ≡ false }
     ensures over_a_line_that_does_not { may_be_sent_while_revalidating
         (record (stale_while_revalidate_policy 60) { sends_while_revalidating = false })
@@ -453,71 +463,76 @@ pub fn stale_while_revalidate_of_line()
 
 /// Requests for a range over a line that has them cut from what is stored, of a fresh response, a stale one and none;
 /// and over a line that forwards them.
-pub fn which_ranges_are_answered()
+pub fn worked_answered_ranges()
     ensures fresh { decision_of serve_ranges_policy (one_held_with_cache_control (codes "max-age=60"))
-        (get_a_with range_fields) 1 ≡ Decision.Hit 1 }
+        (get_a_with range_field_of_two_bytes) 1 ≡ Decision.Hit 1 }
     ensures if_range_alone { decision_of serve_ranges_policy (one_held_with_cache_control (codes "max-age=60"))
         (get_a_with (line (codes "If-Range") (codes "\"e\"") ∷ [])) 1 ≡ Decision.Hit 1 }
     ensures stale { decision_of serve_ranges_policy (one_held_with_cache_control (codes "max-age=60"))
-        (get_a_with range_fields) 60 ≡ Decision.Forward ReuseRule.NoMaxStale (Some 1) }
-    ensures missing { decision_of serve_ranges_policy [] (get_a_with range_fields) 0
+        (get_a_with range_field_of_two_bytes) 60 ≡ Decision.Forward ReuseRule.NoMaxStale (Some 1) }
+    ensures missing { decision_of serve_ranges_policy [] (get_a_with range_field_of_two_bytes) 0
         ≡ Decision.Forward ReuseRule.UriMiss None }
     ensures with_precondition { decision_of serve_ranges_policy (one_held_with_cache_control (codes "max-age=60"))
-        (get_a_with (line (codes "If-Match") (codes "*") ∷ range_fields)) 1
+        (get_a_with (line (codes "If-Match") (codes "*") ∷ range_field_of_two_bytes)) 1
         ≡ Decision.Forward ReuseRule.Precondition None }
     ensures forwarded { decision_of (plain true) (one_held_with_cache_control (codes "max-age=60"))
-        (get_a_with range_fields) 1 ≡ Decision.Forward ReuseRule.Range None }
+        (get_a_with range_field_of_two_bytes) 1 ≡ Decision.Forward ReuseRule.Range None }
     ensures if_range_forwarded { decision_of (plain true) (one_held_with_cache_control (codes "max-age=60"))
         (get_a_with (line (codes "If-Range") (codes "\"e\"") ∷ [])) 1 ≡ Decision.Forward ReuseRule.Range None }
 {}
 
 /// Ranges over a line that fills them: those of a GET that a stored response could answer, and what goes to the origin
 /// in place of its request.
-pub fn which_ranges_are_filled()
-    ensures range { fills_range fill_ranges_policy (get_a_with range_fields) ≡ true }
-    ensures if_range { fills_range fill_ranges_policy (get_a_with (line (codes "If-Range") (codes "\"e\"") ∷ [])) ≡ true }
-    ensures whole { fills_range fill_ranges_policy (get_a_with []) ≡ false }
-    ensures of_a_head { fills_range fill_ranges_policy (record (get_a_with range_fields) { method = codes "HEAD" })
+pub fn worked_filled_ranges()
+    ensures range { fetches_whole_for_range fill_ranges_policy (get_a_with range_field_of_two_bytes) ≡ true }
+    ensures if_range { fetches_whole_for_range fill_ranges_policy (get_a_with (line (codes "If-Range") (codes "\"e\"")
+        ∷ [])) ≡ true }
+    ensures whole { fetches_whole_for_range fill_ranges_policy (get_a_with []) ≡ false }
+    ensures of_a_head { fetches_whole_for_range fill_ranges_policy
+        (record (get_a_with range_field_of_two_bytes) { method = codes "HEAD" })
         ≡ false }
-    ensures with_content { fills_range fill_ranges_policy (get_a_with_content (codes "x") range_fields) ≡ false }
-    ensures beside_if_match { fills_range fill_ranges_policy (get_a_with (line (codes "If-Match") (codes "*")
-        ∷ range_fields)) ≡ false }
-    ensures without_cache { fills_range (record fill_ranges_policy { caches = false }) (get_a_with range_fields)
+    ensures with_content { fetches_whole_for_range fill_ranges_policy
+        (get_a_with_content (codes "x") range_field_of_two_bytes) ≡ false }
+    ensures beside_if_match { fetches_whole_for_range fill_ranges_policy (get_a_with (line (codes "If-Match") (codes "*")
+        ∷ range_field_of_two_bytes)) ≡ false }
+    ensures without_cache { fetches_whole_for_range (record fill_ranges_policy { caches = false })
+        (get_a_with range_field_of_two_bytes)
         ≡ false }
-    ensures served { fills_range serve_ranges_policy (get_a_with range_fields) ≡ false }
-    ensures stays { forwards_range fill_ranges_policy (get_a_with range_fields) ≡ false }
-    ensures goes { forwards_range serve_ranges_policy (get_a_with range_fields) ≡ true }
+    ensures served { fetches_whole_for_range serve_ranges_policy (get_a_with range_field_of_two_bytes) ≡ false }
+    ensures stays { forwards_range fill_ranges_policy (get_a_with range_field_of_two_bytes) ≡ false }
+    ensures goes { forwards_range serve_ranges_policy (get_a_with range_field_of_two_bytes) ≡ true }
     ensures none_goes { forwards_range serve_ranges_policy (get_a_with []) ≡ false }
-    ensures forwarded { request_forwarded fill_ranges_policy (get_a_with (line (codes "range") (codes "bytes=0-1")
+    ensures forwarded { request_sent_to_origin fill_ranges_policy (get_a_with (line (codes "range") (codes "bytes=0-1")
         ∷ accept_language (codes "de") ∷ line (codes "If-Range") (codes "\"e\"") ∷ []))
         ≡ get_a_with (accept_language (codes "de") ∷ []) }
-    ensures forwarded_as_it_is { request_forwarded serve_ranges_policy (get_a_with range_fields)
-        ≡ get_a_with range_fields }
-    ensures missing { decision_of fill_ranges_policy [] (get_a_with range_fields) 0
+    ensures forwarded_as_it_is { request_sent_to_origin serve_ranges_policy (get_a_with range_field_of_two_bytes)
+        ≡ get_a_with range_field_of_two_bytes }
+    ensures missing { decision_of fill_ranges_policy [] (get_a_with range_field_of_two_bytes) 0
         ≡ Decision.Forward ReuseRule.UriMiss None }
-    ensures condition { keeps_conditions (record fill_ranges_policy { forwards_conditions = false })
-        (get_a_if_none_match range_fields) ≡ true }
+    ensures condition { withholds_conditions (record fill_ranges_policy { forwards_conditions = false })
+        (get_a_if_none_match range_field_of_two_bytes) ≡ true }
 {}
 
 /// Conditions of clients over a line that keeps those of a GET that a stored response could answer: which stay, and
 /// which go to the origin.
-pub fn whose_condition_stays()
-    ensures kept { keeps_conditions keep_conditions_policy (get_a_if_none_match []) ≡ true }
-    ensures without_any { keeps_conditions keep_conditions_policy (get_a_with []) ≡ true }
-    ensures of_a_head { keeps_conditions keep_conditions_policy (record
+pub fn worked_withheld_conditions()
+    ensures kept { withholds_conditions withhold_conditions_policy (get_a_if_none_match []) ≡ true }
+    ensures without_any { withholds_conditions withhold_conditions_policy (get_a_with []) ≡ true }
+    ensures of_a_head { withholds_conditions withhold_conditions_policy (record
         (get_a_if_none_match []) { method = codes "HEAD" }) ≡ false }
-    ensures of_a_range { keeps_conditions keep_conditions_policy (get_a_if_none_match (line (codes "Range")
+    ensures of_a_range { withholds_conditions withhold_conditions_policy (get_a_if_none_match (line (codes "Range")
         (codes "bytes=0-1") ∷ [])) ≡ false }
-    ensures beside_if_match { keeps_conditions keep_conditions_policy (get_a_if_none_match (line (codes "If-Match")
+    ensures beside_if_match { withholds_conditions withhold_conditions_policy (get_a_if_none_match (line (codes "If-Match")
         (codes "*") ∷ [])) ≡ false }
-    ensures with_content { keeps_conditions keep_conditions_policy (get_a_with_content (codes "x") []) ≡ false }
-    ensures without_cache { keeps_conditions (record keep_conditions_policy { caches = false }) (get_a_if_none_match [])
+    ensures with_content { withholds_conditions withhold_conditions_policy (get_a_with_content (codes "x") []) ≡ false }
+    ensures without_cache { withholds_conditions (record withhold_conditions_policy { caches = false })
+        (get_a_if_none_match [])
         ≡ false }
-    ensures by_a_plain_line { keeps_conditions (plain true) (get_a_if_none_match []) ≡ false }
-    ensures kept_behind { forwards_condition keep_conditions_policy (get_a_if_none_match []) ≡ false }
-    ensures tag { forwards_condition (plain true) (get_a_if_none_match []) ≡ true }
-    ensures date { forwards_condition (plain true) (get_a_with (line (codes "If-Modified-Since") (codes "x") ∷ [])) ≡ true }
-    ensures none { forwards_condition (plain true) (get_a_with (accept_language (codes "de") ∷ [])) ≡ false }
-    ensures range { forwards_condition keep_conditions_policy (get_a_if_none_match (line (codes "Range")
+    ensures by_a_plain_line { withholds_conditions (plain true) (get_a_if_none_match []) ≡ false }
+    ensures kept_behind { forwards_client_condition withhold_conditions_policy (get_a_if_none_match []) ≡ false }
+    ensures tag { forwards_client_condition (plain true) (get_a_if_none_match []) ≡ true }
+    ensures date { forwards_client_condition (plain true) (get_a_with (line (codes "If-Modified-Since") (codes "x") ∷ [])) ≡ true }
+    ensures none { forwards_client_condition (plain true) (get_a_with (accept_language (codes "de") ∷ [])) ≡ false }
+    ensures range { forwards_client_condition withhold_conditions_policy (get_a_if_none_match (line (codes "Range")
         (codes "bytes=0-1") ∷ [])) ≡ true }
 {}

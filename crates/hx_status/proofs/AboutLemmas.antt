@@ -5,8 +5,8 @@ use Rattle.std.specs.Prelude.{codes}
 use Rattle.hx_reuse.specs.RuleNames.{reuse_rule_reason}
 use Rattle.hx_status.specs.declared.status.How.{How}
 use Rattle.hx_status.specs.declared.status.How.TheVariants.{Hit, Fwd}
-use Rattle.hx_status.specs.Member.{detail_parameter_text, flag_text, fwd_status_text, hit_or_forward_text, ttl_text}
-use Rattle.hx_status.specs.Abouts.{handling_text, TheMemberIsTold, TheRefusalIsTold}
+use Rattle.hx_status.specs.Member.{detail_parameter_text, text_if_flag, fwd_status_text, hit_or_forward_text, ttl_text}
+use Rattle.hx_status.specs.Abouts.{handling_text, CacheStatusMemberHasTheReason, RefusalTextIsTheReason}
 
 -- the first parameter, whatever stands behind it
 parameter_is_told : (how : How) → hit_or_forward_text how ≡ codes ";" ++ handling_text how
@@ -21,13 +21,13 @@ one_more : (name told more : List ℕ) (text : List ℕ) → text ≡ name ++ (c
 one_more name told more text is =
     ap (λ (w : List ℕ). w ++ more) is ∙ (append_assoc name (codes ";" ++ told) more ∙ ap (λ (w : List ℕ). name ++ w) (append_assoc (codes ";") told more))
 
-pub member_is_told : TheMemberIsTold
+pub member_is_told : CacheStatusMemberHasTheReason
 member_is_told name status =
     one_more name _ (detail_parameter_text status) _
-    (one_more name _ (flag_text status.collapsed (codes ";collapsed")) _
-    (one_more name _ (flag_text status.stored (codes ";stored")) _
+    (one_more name _ (text_if_flag status.collapsed (codes ";collapsed")) _
+    (one_more name _ (text_if_flag status.stored (codes ";stored")) _
     (one_more name _ (ttl_text status.ttl) _
     (one_more name (handling_text status.how) (fwd_status_text status.fwd_status) (name ++ hit_or_forward_text status.how) (ap (λ (w : List ℕ). name ++ w) (parameter_is_told status.how))))))
 
-pub refusal_is_told : TheRefusalIsTold
+pub refusal_is_told : RefusalTextIsTheReason
 refusal_is_told cause = refl

@@ -11,7 +11,7 @@ use Rattle.hx_target.specs.declared.target_fault.TargetFault.{TargetFault}
 use Rattle.hx_target.specs.declared.target_fault.TargetFault.TheVariants as target
 use Rattle.hx_status.specs.declared.cause.FailKind.{FailKind}
 use Rattle.hx_status.specs.declared.cause.FailKind.TheVariants as kind
-use Rattle.hx_status.specs.Refusals.{CauseIsOfTheTable, frame_word, fail_kind_word, fwd_parameters_of_rule, refusal_status, target_word}
+use Rattle.hx_status.specs.Refusals.{CauseIsDenialByTheTable, frame_fault_word, fail_kind_word, fwd_parameters_of_rule, refusal_status, target_fault_word}
 use Rattle.hx_status.specs.declared.cause.Cause.{Cause}
 use Rattle.hx_status.specs.declared.cause.Cause.TheVariants.{Denied, NoLine, Looped, OnlyIfCached, Origin, Frame, Target}
 
@@ -51,9 +51,9 @@ every_frame = frame.Head ∷ frame.Version ∷ frame.BothLengths ∷ frame.Lengt
 
 -- the frame that has this word
 frame_by : List ℕ → Option FrameFault
-frame_by text = find (λ x. bytes_eq (frame_word x) text) every_frame
+frame_by text = find (λ x. bytes_eq (frame_fault_word x) text) every_frame
 
-frame_named : (x : FrameFault) → frame_by (frame_word x) ≡ Some x
+frame_named : (x : FrameFault) → frame_by (frame_fault_word x) ≡ Some x
 unfolding frame_by every_frame
 frame_named frame.Head = refl
 frame_named frame.Version = refl
@@ -69,7 +69,7 @@ frame_named frame.Status = refl
 same_frame : (x y : FrameFault) → ◌≡◌ {A = Option FrameFault} (Some x) (Some y) → x ≡ y
 same_frame x y h = cc
 
-pub frame_words_differ : (x y : FrameFault) → frame_word x ≡ frame_word y → x ≡ y
+pub frame_words_differ : (x y : FrameFault) → frame_fault_word x ≡ frame_fault_word y → x ≡ y
 frame_words_differ x y h = same_frame x y (sym (frame_named x) ∙ ap frame_by h ∙ frame_named y)
 
 every_target : List TargetFault
@@ -77,9 +77,9 @@ every_target = target.Form ∷ target.Scheme ∷ target.Host ∷ target.Port ∷
 
 -- the target that has this word
 target_by : List ℕ → Option TargetFault
-target_by text = find (λ x. bytes_eq (target_word x) text) every_target
+target_by text = find (λ x. bytes_eq (target_fault_word x) text) every_target
 
-target_named : (x : TargetFault) → target_by (target_word x) ≡ Some x
+target_named : (x : TargetFault) → target_by (target_fault_word x) ≡ Some x
 unfolding target_by every_target
 target_named target.Form = refl
 target_named target.Scheme = refl
@@ -94,7 +94,7 @@ target_named target.OutOfMemory = refl
 same_target : (x y : TargetFault) → ◌≡◌ {A = Option TargetFault} (Some x) (Some y) → x ≡ y
 same_target x y h = cc
 
-pub target_words_differ : (x y : TargetFault) → target_word x ≡ target_word y → x ≡ y
+pub target_words_differ : (x y : TargetFault) → target_fault_word x ≡ target_fault_word y → x ≡ y
 target_words_differ x y h = same_target x y (sym (target_named x) ∙ ap target_by h ∙ target_named y)
 
 every_kind : List FailKind
@@ -123,37 +123,37 @@ kind_words_differ x y h = same_kind x y (sym (kind_named x) ∙ ap kind_by h ∙
 not_403 : (status : ℕ) → (status == 403) ≡ false → status ≡ 403 → ⊥
 not_403 status other is = grind (arith, nat_tests)
 
-pub only_the_table_forbids : (cause : Cause) → refusal_status cause ≡ 403 → CauseIsOfTheTable cause
-only_the_table_forbids (Denied line) h = inl (line, refl)
-only_the_table_forbids NoLine h = inr refl
-only_the_table_forbids (Looped line) h = absurd (not_403 (refusal_status (Looped line)) refl h)
-only_the_table_forbids (OnlyIfCached rule) h = absurd (not_403 (refusal_status (OnlyIfCached rule)) refl h)
-only_the_table_forbids (Origin kind.Refused rule error) h = absurd (not_403 (refusal_status (Origin kind.Refused rule error)) refl h)
-only_the_table_forbids (Origin kind.TimedOut rule error) h = absurd (not_403 (refusal_status (Origin kind.TimedOut rule error)) refl h)
-only_the_table_forbids (Origin kind.Closed rule error) h = absurd (not_403 (refusal_status (Origin kind.Closed rule error)) refl h)
-only_the_table_forbids (Origin kind.BadAnswer rule error) h = absurd (not_403 (refusal_status (Origin kind.BadAnswer rule error)) refl h)
-only_the_table_forbids (Origin kind.TooLarge rule error) h = absurd (not_403 (refusal_status (Origin kind.TooLarge rule error)) refl h)
-only_the_table_forbids (Frame frame.Head) h = absurd (not_403 (refusal_status (Frame frame.Head)) refl h)
-only_the_table_forbids (Frame frame.Version) h = absurd (not_403 (refusal_status (Frame frame.Version)) refl h)
-only_the_table_forbids (Frame frame.BothLengths) h = absurd (not_403 (refusal_status (Frame frame.BothLengths)) refl h)
-only_the_table_forbids (Frame frame.Length) h = absurd (not_403 (refusal_status (Frame frame.Length)) refl h)
-only_the_table_forbids (Frame frame.Coding) h = absurd (not_403 (refusal_status (Frame frame.Coding)) refl h)
-only_the_table_forbids (Frame frame.Chunk) h = absurd (not_403 (refusal_status (Frame frame.Chunk)) refl h)
-only_the_table_forbids (Frame frame.TooLarge) h = absurd (not_403 (refusal_status (Frame frame.TooLarge)) refl h)
-only_the_table_forbids (Frame frame.Expect) h = absurd (not_403 (refusal_status (Frame frame.Expect)) refl h)
-only_the_table_forbids (Frame frame.Truncated) h = absurd (not_403 (refusal_status (Frame frame.Truncated)) refl h)
-only_the_table_forbids (Frame frame.Status) h = absurd (not_403 (refusal_status (Frame frame.Status)) refl h)
-only_the_table_forbids (Target target.Form) h = absurd (not_403 (refusal_status (Target target.Form)) refl h)
-only_the_table_forbids (Target target.Scheme) h = absurd (not_403 (refusal_status (Target target.Scheme)) refl h)
-only_the_table_forbids (Target target.Host) h = absurd (not_403 (refusal_status (Target target.Host)) refl h)
-only_the_table_forbids (Target target.Port) h = absurd (not_403 (refusal_status (Target target.Port)) refl h)
-only_the_table_forbids (Target target.Userinfo) h = absurd (not_403 (refusal_status (Target target.Userinfo)) refl h)
-only_the_table_forbids (Target target.Escape) h = absurd (not_403 (refusal_status (Target target.Escape)) refl h)
-only_the_table_forbids (Target target.DotSegment) h = absurd (not_403 (refusal_status (Target target.DotSegment)) refl h)
-only_the_table_forbids (Target target.TooLong) h = absurd (not_403 (refusal_status (Target target.TooLong)) refl h)
-only_the_table_forbids (Target target.OutOfMemory) h = absurd (not_403 (refusal_status (Target target.OutOfMemory)) refl h)
+pub only_denials_by_the_table_have_403 : (cause : Cause) → refusal_status cause ≡ 403 → CauseIsDenialByTheTable cause
+only_denials_by_the_table_have_403 (Denied line) h = inl (line, refl)
+only_denials_by_the_table_have_403 NoLine h = inr refl
+only_denials_by_the_table_have_403 (Looped line) h = absurd (not_403 (refusal_status (Looped line)) refl h)
+only_denials_by_the_table_have_403 (OnlyIfCached rule) h = absurd (not_403 (refusal_status (OnlyIfCached rule)) refl h)
+only_denials_by_the_table_have_403 (Origin kind.Refused rule error) h = absurd (not_403 (refusal_status (Origin kind.Refused rule error)) refl h)
+only_denials_by_the_table_have_403 (Origin kind.TimedOut rule error) h = absurd (not_403 (refusal_status (Origin kind.TimedOut rule error)) refl h)
+only_denials_by_the_table_have_403 (Origin kind.Closed rule error) h = absurd (not_403 (refusal_status (Origin kind.Closed rule error)) refl h)
+only_denials_by_the_table_have_403 (Origin kind.BadAnswer rule error) h = absurd (not_403 (refusal_status (Origin kind.BadAnswer rule error)) refl h)
+only_denials_by_the_table_have_403 (Origin kind.TooLarge rule error) h = absurd (not_403 (refusal_status (Origin kind.TooLarge rule error)) refl h)
+only_denials_by_the_table_have_403 (Frame frame.Head) h = absurd (not_403 (refusal_status (Frame frame.Head)) refl h)
+only_denials_by_the_table_have_403 (Frame frame.Version) h = absurd (not_403 (refusal_status (Frame frame.Version)) refl h)
+only_denials_by_the_table_have_403 (Frame frame.BothLengths) h = absurd (not_403 (refusal_status (Frame frame.BothLengths)) refl h)
+only_denials_by_the_table_have_403 (Frame frame.Length) h = absurd (not_403 (refusal_status (Frame frame.Length)) refl h)
+only_denials_by_the_table_have_403 (Frame frame.Coding) h = absurd (not_403 (refusal_status (Frame frame.Coding)) refl h)
+only_denials_by_the_table_have_403 (Frame frame.Chunk) h = absurd (not_403 (refusal_status (Frame frame.Chunk)) refl h)
+only_denials_by_the_table_have_403 (Frame frame.TooLarge) h = absurd (not_403 (refusal_status (Frame frame.TooLarge)) refl h)
+only_denials_by_the_table_have_403 (Frame frame.Expect) h = absurd (not_403 (refusal_status (Frame frame.Expect)) refl h)
+only_denials_by_the_table_have_403 (Frame frame.Truncated) h = absurd (not_403 (refusal_status (Frame frame.Truncated)) refl h)
+only_denials_by_the_table_have_403 (Frame frame.Status) h = absurd (not_403 (refusal_status (Frame frame.Status)) refl h)
+only_denials_by_the_table_have_403 (Target target.Form) h = absurd (not_403 (refusal_status (Target target.Form)) refl h)
+only_denials_by_the_table_have_403 (Target target.Scheme) h = absurd (not_403 (refusal_status (Target target.Scheme)) refl h)
+only_denials_by_the_table_have_403 (Target target.Host) h = absurd (not_403 (refusal_status (Target target.Host)) refl h)
+only_denials_by_the_table_have_403 (Target target.Port) h = absurd (not_403 (refusal_status (Target target.Port)) refl h)
+only_denials_by_the_table_have_403 (Target target.Userinfo) h = absurd (not_403 (refusal_status (Target target.Userinfo)) refl h)
+only_denials_by_the_table_have_403 (Target target.Escape) h = absurd (not_403 (refusal_status (Target target.Escape)) refl h)
+only_denials_by_the_table_have_403 (Target target.DotSegment) h = absurd (not_403 (refusal_status (Target target.DotSegment)) refl h)
+only_denials_by_the_table_have_403 (Target target.TooLong) h = absurd (not_403 (refusal_status (Target target.TooLong)) refl h)
+only_denials_by_the_table_have_403 (Target target.OutOfMemory) h = absurd (not_403 (refusal_status (Target target.OutOfMemory)) refl h)
 
-pub the_table_forbids : (cause : Cause) → CauseIsOfTheTable cause → refusal_status cause ≡ 403
+pub the_table_forbids : (cause : Cause) → CauseIsDenialByTheTable cause → refusal_status cause ≡ 403
 the_table_forbids cause (inl (line, is)) = rw is refl
 the_table_forbids cause (inr is) = rw is refl
 

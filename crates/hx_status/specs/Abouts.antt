@@ -2,13 +2,13 @@
 --
 -- about_refusal, about_purge: what the proxy's own answers are
 -- reason_text: what a reply tells, as a line of a log has it
--- TheMemberIsTold, TheRefusalIsTold: what is told as data is what the reply's own line says
+-- CacheStatusMemberHasTheReason, RefusalTextIsTheReason: what is told as data is what the reply's own line says
 use Rattle.std.specs.Prelude.{◌≡◌, ℕ, List, ◌++◌, codes, Option, Some, None}
 use Rattle.std.specs.Fmt.{decimal}
 use Rattle.hx_reuse.specs.RuleNames.{reuse_rule_reason}
-use Rattle.hx_status.specs.Member.{member_text, fwd_status_text, ttl_text, flag_text, detail_parameter_text}
+use Rattle.hx_status.specs.Member.{member_text, fwd_status_text, ttl_text, text_if_flag, detail_parameter_text}
 use Rattle.hx_status.specs.Refusals.{refusal_status, refusal_text}
-use Rattle.hx_status.specs.declared.about.About.{About}
+use Rattle.hx_status.specs.declared.about.StatusAndReason.{StatusAndReason}
 use Rattle.hx_status.specs.declared.about.Told.{Told}
 use Rattle.hx_status.specs.declared.about.Told.TheVariants.{Handled, Refused, Purged}
 use Rattle.hx_status.specs.declared.cause.Cause.{Cause}
@@ -17,11 +17,11 @@ use Rattle.hx_status.specs.declared.status.How.TheVariants.{Hit, Fwd}
 use Rattle.hx_status.specs.declared.status.Status.{Status}
 
 -- the proxy answers by itself, by no origin's word
-abbrev pub about_refusal : Cause → About
+abbrev pub about_refusal : Cause → StatusAndReason
 about_refusal cause = record { status = refusal_status cause; told = Refused cause; origin_line = None }
 
 -- 204: a purge took so many
-abbrev pub about_purge : ℕ → About
+abbrev pub about_purge : ℕ → StatusAndReason
 about_purge count = record { status = 204; told = Purged count; origin_line = None }
 
 abbrev pub handling_text : How → List ℕ
@@ -29,22 +29,22 @@ handling_text Hit = codes "hit"
 handling_text (Fwd rule) = codes "fwd=" ++ reuse_rule_reason rule
 
 -- the parameters of the member of Cache-Status, parted by semicolons
-abbrev pub handled_text : Status → List ℕ
-handled_text status =
+abbrev pub cache_status_parameters_text : Status → List ℕ
+cache_status_parameters_text status =
     handling_text status.how ++ fwd_status_text status.fwd_status ++ ttl_text status.ttl
-    ++ flag_text status.stored (codes ";stored") ++ flag_text status.collapsed (codes ";collapsed") ++ detail_parameter_text status
+    ++ text_if_flag status.stored (codes ";stored") ++ text_if_flag status.collapsed (codes ";collapsed") ++ detail_parameter_text status
 
 -- those, the text of Refusal, or the line of Purged
 abbrev pub reason_text : Told → List ℕ
-reason_text (Handled status) = handled_text status
+reason_text (Handled status) = cache_status_parameters_text status
 reason_text (Refused cause) = refusal_text cause
 reason_text (Purged count) = codes "Purged: " ++ decimal count
 
 -- ---- the statement
 
-abbrev pub TheMemberIsTold : Type 0
-TheMemberIsTold = (name : List ℕ) (status : Status)
+abbrev pub CacheStatusMemberHasTheReason : Type 0
+CacheStatusMemberHasTheReason = (name : List ℕ) (status : Status)
     → member_text name status ≡ name ++ (codes ";" ++ reason_text (Handled status))
 
-abbrev pub TheRefusalIsTold : Type 0
-TheRefusalIsTold = (cause : Cause) → refusal_text cause ≡ reason_text (about_refusal cause).told
+abbrev pub RefusalTextIsTheReason : Type 0
+RefusalTextIsTheReason = (cause : Cause) → refusal_text cause ≡ reason_text (about_refusal cause).told

@@ -1,7 +1,7 @@
 -- The member of Cache-Status that the proxy adds (RFC 9211, section 2). Its parameters come in this order.
 --
 -- member_text: the member
--- hit_or_forward_text, fwd_status_text, ttl_text, flag_text, detail_parameter_text: its parameters
+-- hit_or_forward_text, fwd_status_text, ttl_text, text_if_flag, detail_parameter_text: its parameters
 use Rattle.std.specs.Prelude.{◌≡◌, ℕ, ℤ, List, [], ◌++◌, codes, Bool, true, false, Option, Some, None, option_map}
 use Rattle.std.specs.Fmt.{decimal, signed_decimal}
 use Rattle.hx_reuse.specs.RuleNames.{reuse_rule_reason, reuse_rule_detail}
@@ -31,9 +31,9 @@ ttl_text None = []
 ttl_text (Some seconds) = codes ";ttl=" ++ signed_decimal seconds
 
 -- stored and collapsed (RFC 9211, sections 2.5 and 2.6)
-abbrev pub flag_text : Bool → List ℕ → List ℕ
-flag_text true text = text
-flag_text false text = []
+abbrev pub text_if_flag : Bool → List ℕ → List ℕ
+text_if_flag true text = text
+text_if_flag false text = []
 
 -- the words of steps that sent a stored response after all, or while it is validated, and of a request that its cookie
 -- kept from the store
@@ -71,9 +71,9 @@ not_stored_word storing.SetCookie = codes "not-stored-set-cookie"
 not_stored_word storing.ErrorStatus = codes "not-stored-error-status"
 not_stored_word storing.RequestCookie = codes "not-stored-request-cookie"
 
-abbrev pub word_or_not_stored : Option (List ℕ) → Option StoreRule → Option (List ℕ)
-word_or_not_stored (Some word) rule = Some word
-word_or_not_stored None rule = option_map not_stored_word rule
+abbrev pub detail_word_or_not_stored : Option (List ℕ) → Option StoreRule → Option (List ℕ)
+detail_word_or_not_stored (Some word) rule = Some word
+detail_word_or_not_stored None rule = option_map not_stored_word rule
 
 -- the word of such a step stands in place of the rule's, and either in place of the storing rule's
 abbrev pub detail_of_step_or_rule : Option Detail → How → Option (List ℕ)
@@ -81,7 +81,7 @@ detail_of_step_or_rule (Some detail) how = Some (detail_word detail)
 detail_of_step_or_rule None how = detail_of_rule how
 
 abbrev pub detail_of_status : Status → Option (List ℕ)
-detail_of_status status = word_or_not_stored (detail_of_step_or_rule status.detail status.how) status.not_stored
+detail_of_status status = detail_word_or_not_stored (detail_of_step_or_rule status.detail status.how) status.not_stored
 
 abbrev pub detail_word_text : Option (List ℕ) → List ℕ
 detail_word_text None = []
@@ -94,7 +94,7 @@ detail_parameter_text status = detail_word_text (detail_of_status status)
 abbrev pub member_text : List ℕ → Status → List ℕ
 member_text name status =
     name ++ hit_or_forward_text status.how ++ fwd_status_text status.fwd_status ++ ttl_text status.ttl
-    ++ flag_text status.stored (codes ";stored") ++ flag_text status.collapsed (codes ";collapsed") ++ detail_parameter_text status
+    ++ text_if_flag status.stored (codes ";stored") ++ text_if_flag status.collapsed (codes ";collapsed") ++ detail_parameter_text status
 
 -- ---- the statement
 

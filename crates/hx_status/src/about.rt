@@ -23,7 +23,7 @@ pub enum Told {
 
 /// What a reply is. Whoever counts or logs replies goes by this, and reads none of their bytes.
 #[derive(Clone, Copy, Debug, PartialEq, Eq)]
-pub struct About {
+pub struct StatusAndReason {
     /// The status of the reply itself (RFC 9110, section 15).
     pub status: u16,
     pub told: Told,
@@ -33,18 +33,18 @@ pub struct About {
 
 /// What a reply is, and what it answers.
 #[derive(Drop)]
-pub struct Replied {
-    pub about: About,
+pub struct ReplyData {
+    pub about: StatusAndReason,
     /// What its client asked for; none where the head of the request couldn't be read, or its content.
     pub question: Option<Question>,
 }
 
-impl About {
+impl StatusAndReason {
     /// The proxy answers by itself for this cause, and asked no origin.
-    pub fn refusal(cause: Cause) -> About
+    pub fn refusal(cause: Cause) -> StatusAndReason
         ensures { result ≡ about_refusal cause }
     {
-        About {
+        StatusAndReason {
             status: refusal_status(cause),
             told: Told::Refused(cause),
             origin_line: None,
@@ -52,10 +52,10 @@ impl About {
     }
 
     /// The answer to a purge that took so many (RFC 9110, section 15.3.5).
-    pub fn purge(count: u64) -> About
+    pub fn purge(count: u64) -> StatusAndReason
         ensures { result ≡ about_purge count }
     {
-        About {
+        StatusAndReason {
             status: 204,
             told: Told::Purged(count),
             origin_line: None,

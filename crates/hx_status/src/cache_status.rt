@@ -2,8 +2,8 @@
 ghost use Rattle.std.specs.Prelude.{◌≡◌, ◌++◌, IfOk, OnOk, Bool, option_copied};
 ghost use Rattle.std.specs.Fmt.{decimal, signed_decimal};
 ghost use Rattle.hx_reuse.specs.RuleNames.{reuse_rule_reason, reuse_rule_detail};
-ghost use Rattle.hx_status.specs.Member.{member_text, hit_or_forward_text, fwd_status_text, ttl_text, flag_text};
-ghost use Rattle.hx_status.specs.Abouts.{handled_text, handling_text};
+ghost use Rattle.hx_status.specs.Member.{member_text, hit_or_forward_text, fwd_status_text, ttl_text, text_if_flag};
+ghost use Rattle.hx_status.specs.Abouts.{cache_status_parameters_text, handling_text};
 ghost use Rattle.hx_status.specs.Member.{detail_word_text};
 ghost use Rattle.hx_status.specs.Member.{detail_of_step_or_rule, detail_of_status, detail_word, not_stored_word};
 
@@ -68,7 +68,7 @@ fn push_ttl(out: &mut Vec<u8>, ttl: Option<i64>) -> Result<(), AllocError>
 }
 
 fn push_flag(out: &mut Vec<u8>, is_set: bool, text: &str) -> Result<(), AllocError>
-    ensures { OnOk result (out.new.items ≡ out.old.items ++ flag_text is_set text.now) }
+    ensures { OnOk result (out.new.items ≡ out.old.items ++ text_if_flag is_set text.now) }
 {
     if is_set {
         out.extend_from_slice(text.as_bytes())
@@ -169,7 +169,7 @@ pub fn member(alloc: Global, name: &str, status: &Status) -> Result<Bytes, Alloc
 
 /// Adds the parameters of a member, with no semicolon in front.
 pub(crate) fn push_handled(out: &mut Vec<u8>, status: &Status) -> Result<(), AllocError>
-    ensures { OnOk result (out.new.items ≡ out.old.items ++ handled_text status.now) }
+    ensures { OnOk result (out.new.items ≡ out.old.items ++ cache_status_parameters_text status.now) }
 {
     push_handling(out, status.how)?;
     push_fwd_status(out, status.fwd_status)?;

@@ -13,7 +13,7 @@ mod question;
 mod status;
 mod worked_cases;
 
-pub use crate::about::{About, Replied, Told, push_reason};
+pub use crate::about::{ReplyData, StatusAndReason, Told, push_reason};
 pub use crate::cache_status::member;
 pub use crate::cause::{Cause, FailKind};
 pub use crate::own_replies::refusal;

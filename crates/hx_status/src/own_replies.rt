@@ -2,8 +2,9 @@
 ghost use Rattle.std.specs.Prelude.{◌≡◌, ◌++◌, IfOk, OnOk};
 ghost use Rattle.std.specs.Fmt.{decimal};
 ghost use Rattle.hx_status.specs.Refusals.{refusal_status, refusal_text, fwd_parameters_of_rule, error_rule_text};
-ghost use Rattle.hx_status.specs.Refusals.{fail_kind_word, origin_text};
-ghost use Rattle.hx_status.specs.Refusals.{origin_status, frame_word, frame_status, target_word, target_status};
+ghost use Rattle.hx_status.specs.Refusals.{fail_kind_word, origin_failure_text};
+ghost use Rattle.hx_status.specs.Refusals.{status_of_origin_failure, frame_fault_word, frame_fault_status};
+ghost use Rattle.hx_status.specs.Refusals.{target_fault_word, target_fault_status};
 
 use crate::cache_status::push_detail;
 use crate::cause::{Cause, FailKind};
@@ -26,8 +27,8 @@ fn fail_kind_word(kind: FailKind) -> &'static str
     }
 }
 
-fn frame_word(fault: FrameFault) -> &'static str
-    ensures { result.now ≡ frame_word fault }
+fn frame_fault_word(fault: FrameFault) -> &'static str
+    ensures { result.now ≡ frame_fault_word fault }
 {
     match fault {
         FrameFault::Head => "head",
@@ -43,8 +44,8 @@ fn frame_word(fault: FrameFault) -> &'static str
     }
 }
 
-fn target_word(fault: TargetFault) -> &'static str
-    ensures { result.now ≡ target_word fault }
+fn target_fault_word(fault: TargetFault) -> &'static str
+    ensures { result.now ≡ target_fault_word fault }
 {
     match fault {
         TargetFault::Form => "form",
@@ -59,8 +60,8 @@ fn target_word(fault: TargetFault) -> &'static str
     }
 }
 
-fn frame_status(fault: FrameFault) -> u16
-    ensures { result ≡ frame_status fault }
+fn frame_fault_status(fault: FrameFault) -> u16
+    ensures { result ≡ frame_fault_status fault }
 {
     match fault {
         FrameFault::Version => 505,
@@ -88,7 +89,7 @@ pub(crate) fn refusal_status(cause: Cause) -> u16
         Cause::Origin(FailKind::Closed, _, _) => 502,
         Cause::Origin(FailKind::BadAnswer, _, _) => 502,
         Cause::Origin(FailKind::TooLarge, _, _) => 502,
-        Cause::Frame(fault) => frame_status(fault),
+        Cause::Frame(fault) => frame_fault_status(fault),
         Cause::Target(TargetFault::TooLong) => 414,
         Cause::Target(_) => 400,
     }
@@ -148,11 +149,11 @@ pub(crate) fn push_refusal(out: &mut Vec<u8>, cause: Cause) -> Result<(), AllocE
         }
         Cause::Frame(fault) => {
             out.extend_from_slice(b"refused: ")?;
-            out.extend_from_slice(frame_word(fault).as_bytes())?;
+            out.extend_from_slice(frame_fault_word(fault).as_bytes())?;
         }
         Cause::Target(fault) => {
             out.extend_from_slice(b"refused: ")?;
-            out.extend_from_slice(target_word(fault).as_bytes())?;
+            out.extend_from_slice(target_fault_word(fault).as_bytes())?;
         }
     }
     Ok(())

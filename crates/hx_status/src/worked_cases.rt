@@ -125,7 +125,7 @@ pub fn second_request_waits()
 {}
 
 /// A stored answer of a request that others waited for: stored comes before collapsed.
-pub fn stored_comes_before_collapsed()
+pub fn worked_stored_before_collapsed()
     ensures { member_text (codes "edge") (record {
       how = Fwd rule.UriMiss;
       fwd_status = None;
@@ -138,7 +138,7 @@ pub fn stored_comes_before_collapsed()
 {}
 
 /// What each refused message is told by; one that was cut off gets no answer, and a bad status stands in no request.
-pub fn each_refused_message_has_its_text()
+pub fn worked_texts_of_frame_faults()
     ensures head { refusal_text (Frame frame.Head) ≡ codes "refused: head" }
     ensures version { refusal_text (Frame frame.Version) ≡ codes "refused: version" }
     ensures both_lengths { refusal_text (Frame frame.BothLengths) ≡ codes "refused: both-lengths" }
@@ -150,7 +150,7 @@ pub fn each_refused_message_has_its_text()
 {}
 
 /// Its status (RFC 9110, sections 15.5.1, 15.5.14, 15.5.18, 15.6.2 and 15.6.6; RFC 9112, section 6.1 for 501).
-pub fn each_refused_message_has_its_status()
+pub fn worked_statuses_of_frame_faults()
     ensures head { refusal_status (Frame frame.Head) ≡ 400 }
     ensures version { refusal_status (Frame frame.Version) ≡ 505 }
     ensures both_lengths { refusal_status (Frame frame.BothLengths) ≡ 400 }
@@ -162,7 +162,7 @@ pub fn each_refused_message_has_its_status()
 {}
 
 /// What each refused target is told by.
-pub fn each_refused_target_has_its_text()
+pub fn worked_texts_of_target_faults()
     ensures form { refusal_text (Target target.Form) ≡ codes "refused: form" }
     ensures scheme { refusal_text (Target target.Scheme) ≡ codes "refused: scheme" }
     ensures host { refusal_text (Target target.Host) ≡ codes "refused: host" }
@@ -174,7 +174,7 @@ pub fn each_refused_target_has_its_text()
 {}
 
 /// Its status (RFC 9110, sections 15.5.1 and 15.5.15).
-pub fn each_refused_target_has_its_status()
+pub fn worked_statuses_of_target_faults()
     ensures form { refusal_status (Target target.Form) ≡ 400 }
     ensures scheme { refusal_status (Target target.Scheme) ≡ 400 }
     ensures host { refusal_status (Target target.Host) ≡ 400 }
@@ -186,7 +186,7 @@ pub fn each_refused_target_has_its_status()
 {}
 
 /// How an origin failed: 504 where no answer came in time, else 502 (RFC 9110, sections 15.6.3 and 15.6.5).
-pub fn each_origin_failure_has_its_status()
+pub fn worked_statuses_of_origin_failures()
     ensures refused { refusal_status (Origin Refused rule.UriMiss None) ≡ 502 }
     ensures timed_out { refusal_status (Origin TimedOut rule.UriMiss None) ≡ 504 }
     ensures closed { refusal_status (Origin Closed rule.UriMiss None) ≡ 502 }
@@ -196,7 +196,7 @@ pub fn each_origin_failure_has_its_status()
 {}
 
 /// Why an answer isn't stored, where no other detail is told.
-pub fn storing_rules_are_named()
+pub fn worked_not_stored_details()
     ensures no_lifetime { member_text (codes "edge") (passed_on_and_not_stored rule.UriMiss storing.NothingToReuse)
         ≡ codes "edge;fwd=uri-miss;detail=not-stored-no-lifetime" }
     ensures no_store { member_text (codes "edge") (passed_on_and_not_stored rule.UriMiss storing.ResponseNoStore)

@@ -6,13 +6,13 @@ use Rattle.hx_fields.specs.FieldLines.{has_field as has_line}
 use Rattle.hx_directives.specs.declared.names.Directive.TheVariants as directive
 use Rattle.hx_hop.specs.declared.request_view.Asked.{Asked}
 use Rattle.hx_hop.specs.declared.response_view.Answered.{Answered}
-use Rattle.hx_policy.specs.Policies.{is_heuristic, given_lifetime, plain}
+use Rattle.hx_policy.specs.Policies.{is_heuristic_status, lifetime_given_by_policy, plain}
 use Rattle.hx_storable.specs.declared.known_facts.StoringFacts.{StoringFacts}
 use Rattle.hx_storable.specs.declared.rule.StoreRule.{StoreRule}
 use Rattle.hx_storable.specs.declared.rule.StoreRule.TheVariants.{Operator, SetCookie, ErrorStatus, RequestCookie}
-use Rattle.hx_storable.specs.Rules.{response_has, has_cookie_for_one, is_uncached_error, is_from_someone, states_lifetime, lasts_by_the_line, withholds_cookies, storing_rule_applies, rules_of_words, storage_rule_of}
-use Rattle.hx_storable.specs.Storable.{RequestTellsNotWhoAsks, ResponseStatesItsLifetime, ResponseIsWithinTheWords, ResponseIsStored}
-use Rattle.hx_storable.specs.LineWordsInStoring.{ResponseStatesNoLifetime, facts_with_policy, plain_but_for_ranges, rules_without_words}
+use Rattle.hx_storable.specs.Rules.{response_has, has_cookie_for_one, is_error_not_heuristically_cacheable, request_has_cookie_or_authorization, response_states_lifetime, has_lifetime_only_by_policy, policy_forbids_set_cookie, storing_rule_applies, storage_rules_of_policy, storage_rule_of}
+use Rattle.hx_storable.specs.Storable.{RequestHasNoCookieOrAuthorization, ResponseStatesItsLifetime, PolicyAllowsStoring, ResponseIsStored}
+use Rattle.hx_storable.specs.LineWordsInStoring.{ResponseStatesNoLifetime, facts_with_policy, default_policy_but_for_ranges, storage_rules_without_policy}
 use Rattle.hx_fields.proofs.JoinedTests.{never, not_false, not_true, left_false, right_false, neither, one_of, or_left, or_right, first_absent, last_absent, either_false}
 use Rattle.hx_storable.proofs.Joined.{find_before}
 use Rattle.hx_storable.proofs.LeastRule.{no_rule_applies, no_rule_found}
@@ -42,12 +42,12 @@ module _ (asked : Asked) (answered : Answered) (facts : StoringFacts) where
   -- where no rule stands the words allow it, and where they do neither rule of theirs stands
 
   module _ (none : (any : StoreRule) → storing_rule_applies any asked answered facts ≡ false) where
-    pub within_the_words : ResponseIsWithinTheWords asked answered facts.policy
+    pub within_the_words : PolicyAllowsStoring asked answered facts.policy
     within_the_words = record {
-      cookies = cookies (either_false (withholds_cookies facts.policy answered) (has_cookie_for_one answered) (none SetCookie));
-      lifetimes_of_cookies = lifetimes (either_false (withholds_cookies facts.policy answered) (has_cookie_for_one answered) (none SetCookie));
-      errors = errors (either_false (not facts.policy.stores_errors) (is_uncached_error answered.status) (none ErrorStatus));
-      requests_with_cookies = given (either_false (not facts.policy.gives_to_cookies && is_from_someone asked) (lasts_by_the_line facts.policy answered && not public) (none RequestCookie));
+      cookies = cookies (either_false (policy_forbids_set_cookie facts.policy answered) (has_cookie_for_one answered) (none SetCookie));
+      set_cookie_lifetimes = lifetimes (either_false (policy_forbids_set_cookie facts.policy answered) (has_cookie_for_one answered) (none SetCookie));
+      errors = errors (either_false (not facts.policy.stores_errors) (is_error_not_heuristically_cacheable answered.status) (none ErrorStatus));
+      requests_with_cookies = given (either_false (not facts.policy.gives_to_cookies && request_has_cookie_or_authorization asked) (has_lifetime_only_by_policy facts.policy answered && not public) (none RequestCookie));
     }
       where
         cookie : Bool
@@ -64,27 +64,27 @@ module _ (asked : Asked) (answered : Answered) (facts : StoringFacts) where
         stored_anyway = not facts.policy.stores_cookies
 
         by_the_line : Bool
-        by_the_line = not facts.policy.gives_to_set_cookie && lasts_by_the_line facts.policy answered
+        by_the_line = not facts.policy.gives_to_set_cookie && has_lifetime_only_by_policy facts.policy answered
 
-        cookies : (withholds_cookies facts.policy answered ≡ false) ⊎ (has_cookie_for_one answered ≡ false) → (facts.policy.stores_cookies ≡ true) ⊎ ((cookie ≡ false) ⊎ (public ≡ true))
+        cookies : (policy_forbids_set_cookie facts.policy answered ≡ false) ⊎ (has_cookie_for_one answered ≡ false) → (facts.policy.stores_cookies ≡ true) ⊎ ((cookie ≡ false) ⊎ (public ≡ true))
         cookies (inl h) = inl (not_false facts.policy.stores_cookies (left_false stored_anyway by_the_line h))
         cookies (inr h) = inr (for_all (either_false cookie (not public) h))
 
-        no_error : (nat_le 400 answered.status ≡ false) ⊎ (not (is_heuristic answered.status) ≡ false) → (answered.status < 400) ⊎ (is_heuristic answered.status ≡ true)
+        no_error : (nat_le 400 answered.status ≡ false) ⊎ (not (is_heuristic_status answered.status) ≡ false) → (answered.status < 400) ⊎ (is_heuristic_status answered.status ≡ true)
         no_error (inl h) = inl (less answered.status h)
-        no_error (inr h) = inr (not_false (is_heuristic answered.status) h)
+        no_error (inr h) = inr (not_false (is_heuristic_status answered.status) h)
 
-        errors : (not facts.policy.stores_errors ≡ false) ⊎ (is_uncached_error answered.status ≡ false) → (facts.policy.stores_errors ≡ true) ⊎ ((answered.status < 400) ⊎ (is_heuristic answered.status ≡ true))
+        errors : (not facts.policy.stores_errors ≡ false) ⊎ (is_error_not_heuristically_cacheable answered.status ≡ false) → (facts.policy.stores_errors ≡ true) ⊎ ((answered.status < 400) ⊎ (is_heuristic_status answered.status ≡ true))
         errors (inl h) = inl (not_false facts.policy.stores_errors h)
-        errors (inr h) = inr (no_error (either_false (nat_le 400 answered.status) (not (is_heuristic answered.status)) h))
+        errors (inr h) = inr (no_error (either_false (nat_le 400 answered.status) (not (is_heuristic_status answered.status)) h))
 
-        of_no_one : is_from_someone asked ≡ false → RequestTellsNotWhoAsks asked
+        of_no_one : request_has_cookie_or_authorization asked ≡ false → RequestHasNoCookieOrAuthorization asked
         of_no_one h = (
           left_false (has_line asked.fields (codes "Cookie")) (has_line asked.fields (codes "Authorization")) h,
           right_false (has_line asked.fields (codes "Cookie")) (has_line asked.fields (codes "Authorization")) h,
         )
 
-        by_itself : states_lifetime answered ≡ true → ResponseStatesItsLifetime answered
+        by_itself : response_states_lifetime answered ≡ true → ResponseStatesItsLifetime answered
         by_itself h = first (one_of (response_has answered directive.SMaxage || response_has answered directive.MaxAge) (has_line answered.fields (codes "Expires")) h)
           where
             second : (response_has answered directive.SMaxage ≡ true) ⊎ (response_has answered directive.MaxAge ≡ true) → ResponseStatesItsLifetime answered
@@ -95,49 +95,49 @@ module _ (asked : Asked) (answered : Answered) (facts : StoringFacts) where
             first (inl k) = second (one_of (response_has answered directive.SMaxage) (response_has answered directive.MaxAge) k)
             first (inr k) = inr (inr k)
 
-        own_or_none : (not (states_lifetime answered) ≡ false) ⊎ (is_some (given_lifetime facts.policy answered.status) ≡ false) → ResponseStatesItsLifetime answered ⊎ (given_lifetime facts.policy answered.status ≡ None)
-        own_or_none (inl k) = inl (by_itself (not_false (states_lifetime answered) k))
-        own_or_none (inr k) = inr (is_absent (given_lifetime facts.policy answered.status) k)
+        own_or_none : (not (response_states_lifetime answered) ≡ false) ⊎ (is_some (lifetime_given_by_policy facts.policy answered.status) ≡ false) → ResponseStatesItsLifetime answered ⊎ (lifetime_given_by_policy facts.policy answered.status ≡ None)
+        own_or_none (inl k) = inl (by_itself (not_false (response_states_lifetime answered) k))
+        own_or_none (inr k) = inr (is_absent (lifetime_given_by_policy facts.policy answered.status) k)
 
         OfCookies : Type 0
-        OfCookies = (facts.policy.gives_to_set_cookie ≡ true) ⊎ ((cookie ≡ false) ⊎ ((public ≡ true) ⊎ (ResponseStatesItsLifetime answered ⊎ (given_lifetime facts.policy answered.status ≡ None))))
+        OfCookies = (facts.policy.gives_to_set_cookie ≡ true) ⊎ ((cookie ≡ false) ⊎ ((public ≡ true) ⊎ (ResponseStatesItsLifetime answered ⊎ (lifetime_given_by_policy facts.policy answered.status ≡ None))))
 
-        lifetimes : (withholds_cookies facts.policy answered ≡ false) ⊎ (has_cookie_for_one answered ≡ false) → OfCookies
-        lifetimes (inl h) = by_line (either_false (not facts.policy.gives_to_set_cookie) (lasts_by_the_line facts.policy answered) (right_false stored_anyway by_the_line h))
+        lifetimes : (policy_forbids_set_cookie facts.policy answered ≡ false) ⊎ (has_cookie_for_one answered ≡ false) → OfCookies
+        lifetimes (inl h) = by_line (either_false (not facts.policy.gives_to_set_cookie) (has_lifetime_only_by_policy facts.policy answered) (right_false stored_anyway by_the_line h))
           where
-            by_line : (not facts.policy.gives_to_set_cookie ≡ false) ⊎ (lasts_by_the_line facts.policy answered ≡ false) → OfCookies
+            by_line : (not facts.policy.gives_to_set_cookie ≡ false) ⊎ (has_lifetime_only_by_policy facts.policy answered ≡ false) → OfCookies
             by_line (inl k) = inl (not_false facts.policy.gives_to_set_cookie k)
-            by_line (inr k) = inr (inr (inr (own_or_none (either_false (not (states_lifetime answered)) (is_some (given_lifetime facts.policy answered.status)) k))))
+            by_line (inr k) = inr (inr (inr (own_or_none (either_false (not (response_states_lifetime answered)) (is_some (lifetime_given_by_policy facts.policy answered.status)) k))))
         lifetimes (inr h) = inr (by_cookie (for_all (either_false cookie (not public) h)))
           where
-            by_cookie : (cookie ≡ false) ⊎ (public ≡ true) → (cookie ≡ false) ⊎ ((public ≡ true) ⊎ (ResponseStatesItsLifetime answered ⊎ (given_lifetime facts.policy answered.status ≡ None)))
+            by_cookie : (cookie ≡ false) ⊎ (public ≡ true) → (cookie ≡ false) ⊎ ((public ≡ true) ⊎ (ResponseStatesItsLifetime answered ⊎ (lifetime_given_by_policy facts.policy answered.status ≡ None)))
             by_cookie (inl k) = inl k
             by_cookie (inr k) = inr (inl k)
 
-        lasting : (lasts_by_the_line facts.policy answered ≡ false) ⊎ (not public ≡ false) → (public ≡ true) ⊎ (ResponseStatesItsLifetime answered ⊎ (given_lifetime facts.policy answered.status ≡ None))
+        lasting : (has_lifetime_only_by_policy facts.policy answered ≡ false) ⊎ (not public ≡ false) → (public ≡ true) ⊎ (ResponseStatesItsLifetime answered ⊎ (lifetime_given_by_policy facts.policy answered.status ≡ None))
         lasting (inr h) = inl (not_false public h)
-        lasting (inl h) = inr (own_or_none (either_false (not (states_lifetime answered)) (is_some (given_lifetime facts.policy answered.status)) h))
+        lasting (inl h) = inr (own_or_none (either_false (not (response_states_lifetime answered)) (is_some (lifetime_given_by_policy facts.policy answered.status)) h))
 
-        asking : (not facts.policy.gives_to_cookies ≡ false) ⊎ (is_from_someone asked ≡ false) → (facts.policy.gives_to_cookies ≡ true) ⊎ (RequestTellsNotWhoAsks asked ⊎ ((public ≡ true) ⊎ (ResponseStatesItsLifetime answered ⊎ (given_lifetime facts.policy answered.status ≡ None))))
+        asking : (not facts.policy.gives_to_cookies ≡ false) ⊎ (request_has_cookie_or_authorization asked ≡ false) → (facts.policy.gives_to_cookies ≡ true) ⊎ (RequestHasNoCookieOrAuthorization asked ⊎ ((public ≡ true) ⊎ (ResponseStatesItsLifetime answered ⊎ (lifetime_given_by_policy facts.policy answered.status ≡ None))))
         asking (inl h) = inl (not_false facts.policy.gives_to_cookies h)
         asking (inr h) = inr (inl (of_no_one h))
 
-        given : (not facts.policy.gives_to_cookies && is_from_someone asked ≡ false) ⊎ (lasts_by_the_line facts.policy answered && not public ≡ false) → (facts.policy.gives_to_cookies ≡ true) ⊎ (RequestTellsNotWhoAsks asked ⊎ ((public ≡ true) ⊎ (ResponseStatesItsLifetime answered ⊎ (given_lifetime facts.policy answered.status ≡ None))))
-        given (inl h) = asking (either_false (not facts.policy.gives_to_cookies) (is_from_someone asked) h)
-        given (inr h) = inr (inr (lasting (either_false (lasts_by_the_line facts.policy answered) (not public) h)))
+        given : (not facts.policy.gives_to_cookies && request_has_cookie_or_authorization asked ≡ false) ⊎ (has_lifetime_only_by_policy facts.policy answered && not public ≡ false) → (facts.policy.gives_to_cookies ≡ true) ⊎ (RequestHasNoCookieOrAuthorization asked ⊎ ((public ≡ true) ⊎ (ResponseStatesItsLifetime answered ⊎ (lifetime_given_by_policy facts.policy answered.status ≡ None))))
+        given (inl h) = asking (either_false (not facts.policy.gives_to_cookies) (request_has_cookie_or_authorization asked) h)
+        given (inr h) = inr (inr (lasting (either_false (has_lifetime_only_by_policy facts.policy answered) (not public) h)))
 
-  itself_states : ResponseStatesItsLifetime answered → states_lifetime answered ≡ true
+  itself_states : ResponseStatesItsLifetime answered → response_states_lifetime answered ≡ true
   itself_states (inl h) = or_left (response_has answered directive.SMaxage || response_has answered directive.MaxAge) (has_line answered.fields (codes "Expires")) (or_left (response_has answered directive.SMaxage) (response_has answered directive.MaxAge) h)
   itself_states (inr (inl h)) = or_left (response_has answered directive.SMaxage || response_has answered directive.MaxAge) (has_line answered.fields (codes "Expires")) (or_right (response_has answered directive.SMaxage) (response_has answered directive.MaxAge) h)
   itself_states (inr (inr h)) = or_right (response_has answered directive.SMaxage || response_has answered directive.MaxAge) (has_line answered.fields (codes "Expires")) h
 
   pub cookie_applies : (facts.policy.stores_cookies ≡ true) ⊎ ((has_line answered.fields (codes "Set-Cookie") ≡ false) ⊎ (response_has answered directive.Public ≡ true))
-      → (facts.policy.gives_to_set_cookie ≡ true) ⊎ ((has_line answered.fields (codes "Set-Cookie") ≡ false) ⊎ ((response_has answered directive.Public ≡ true) ⊎ (ResponseStatesItsLifetime answered ⊎ (given_lifetime facts.policy answered.status ≡ None))))
+      → (facts.policy.gives_to_set_cookie ≡ true) ⊎ ((has_line answered.fields (codes "Set-Cookie") ≡ false) ⊎ ((response_has answered directive.Public ≡ true) ⊎ (ResponseStatesItsLifetime answered ⊎ (lifetime_given_by_policy facts.policy answered.status ≡ None))))
       → storing_rule_applies SetCookie asked answered facts ≡ false
   cookie_applies stores gives = at stores gives
     where
       withholds : Bool
-      withholds = withholds_cookies facts.policy answered
+      withholds = policy_forbids_set_cookie facts.policy answered
 
       cookie : Bool
       cookie = has_line answered.fields (codes "Set-Cookie")
@@ -146,7 +146,7 @@ module _ (asked : Asked) (answered : Answered) (facts : StoringFacts) where
       public = response_has answered directive.Public
 
       lasts : Bool
-      lasts = lasts_by_the_line facts.policy answered
+      lasts = has_lifetime_only_by_policy facts.policy answered
 
       for_all : has_cookie_for_one answered ≡ false → storing_rule_applies SetCookie asked answered facts ≡ false
       for_all h = last_absent withholds (has_cookie_for_one answered) h
@@ -164,33 +164,33 @@ module _ (asked : Asked) (answered : Answered) (facts : StoringFacts) where
       by_lasting h k = by_line h (last_absent (not facts.policy.gives_to_set_cookie) lasts k)
 
       at : (facts.policy.stores_cookies ≡ true) ⊎ ((cookie ≡ false) ⊎ (public ≡ true))
-          → (facts.policy.gives_to_set_cookie ≡ true) ⊎ ((cookie ≡ false) ⊎ ((public ≡ true) ⊎ (ResponseStatesItsLifetime answered ⊎ (given_lifetime facts.policy answered.status ≡ None))))
+          → (facts.policy.gives_to_set_cookie ≡ true) ⊎ ((cookie ≡ false) ⊎ ((public ≡ true) ⊎ (ResponseStatesItsLifetime answered ⊎ (lifetime_given_by_policy facts.policy answered.status ≡ None))))
           → storing_rule_applies SetCookie asked answered facts ≡ false
       at (inr (inl absent)) k = by_absence absent
       at (inr (inr for_each)) k = by_public for_each
       at (inl h) (inl k) = by_line h (first_absent (not facts.policy.gives_to_set_cookie) lasts (not_true facts.policy.gives_to_set_cookie k))
       at (inl h) (inr (inl absent)) = by_absence absent
       at (inl h) (inr (inr (inl for_each))) = by_public for_each
-      at (inl h) (inr (inr (inr (inl own)))) = by_lasting h (first_absent (not (states_lifetime answered)) (is_some (given_lifetime facts.policy answered.status)) (not_true (states_lifetime answered) (itself_states own)))
-      at (inl h) (inr (inr (inr (inr none)))) = by_lasting h (last_absent (not (states_lifetime answered)) (is_some (given_lifetime facts.policy answered.status)) (rw none refl))
+      at (inl h) (inr (inr (inr (inl own)))) = by_lasting h (first_absent (not (response_states_lifetime answered)) (is_some (lifetime_given_by_policy facts.policy answered.status)) (not_true (response_states_lifetime answered) (itself_states own)))
+      at (inl h) (inr (inr (inr (inr none)))) = by_lasting h (last_absent (not (response_states_lifetime answered)) (is_some (lifetime_given_by_policy facts.policy answered.status)) (rw none refl))
 
-  pub error_applies : (facts.policy.stores_errors ≡ true) ⊎ ((answered.status < 400) ⊎ (is_heuristic answered.status ≡ true)) → storing_rule_applies ErrorStatus asked answered facts ≡ false
-  error_applies (inl h) = first_absent (not facts.policy.stores_errors) (is_uncached_error answered.status) (not_true facts.policy.stores_errors h)
+  pub error_applies : (facts.policy.stores_errors ≡ true) ⊎ ((answered.status < 400) ⊎ (is_heuristic_status answered.status ≡ true)) → storing_rule_applies ErrorStatus asked answered facts ≡ false
+  error_applies (inl h) = first_absent (not facts.policy.stores_errors) (is_error_not_heuristically_cacheable answered.status) (not_true facts.policy.stores_errors h)
   error_applies (inr (inl low)) =
-      last_absent (not facts.policy.stores_errors) (is_uncached_error answered.status)
-      (first_absent (nat_le 400 answered.status) (not (is_heuristic answered.status)) (not_reached answered.status low))
+      last_absent (not facts.policy.stores_errors) (is_error_not_heuristically_cacheable answered.status)
+      (first_absent (nat_le 400 answered.status) (not (is_heuristic_status answered.status)) (not_reached answered.status low))
   error_applies (inr (inr heuristic)) =
-      last_absent (not facts.policy.stores_errors) (is_uncached_error answered.status)
-      (last_absent (nat_le 400 answered.status) (not (is_heuristic answered.status)) (not_true (is_heuristic answered.status) heuristic))
+      last_absent (not facts.policy.stores_errors) (is_error_not_heuristically_cacheable answered.status)
+      (last_absent (nat_le 400 answered.status) (not (is_heuristic_status answered.status)) (not_true (is_heuristic_status answered.status) heuristic))
 
-  pub request_cookie_applies : (facts.policy.gives_to_cookies ≡ true) ⊎ (RequestTellsNotWhoAsks asked ⊎ ((response_has answered directive.Public ≡ true) ⊎ (ResponseStatesItsLifetime answered ⊎ (given_lifetime facts.policy answered.status ≡ None)))) → storing_rule_applies RequestCookie asked answered facts ≡ false
+  pub request_cookie_applies : (facts.policy.gives_to_cookies ≡ true) ⊎ (RequestHasNoCookieOrAuthorization asked ⊎ ((response_has answered directive.Public ≡ true) ⊎ (ResponseStatesItsLifetime answered ⊎ (lifetime_given_by_policy facts.policy answered.status ≡ None)))) → storing_rule_applies RequestCookie asked answered facts ≡ false
   request_cookie_applies says_so = at says_so
     where
       asks : Bool
-      asks = not facts.policy.gives_to_cookies && is_from_someone asked
+      asks = not facts.policy.gives_to_cookies && request_has_cookie_or_authorization asked
 
       lasts : Bool
-      lasts = lasts_by_the_line facts.policy answered
+      lasts = has_lifetime_only_by_policy facts.policy answered
 
       public : Bool
       public = response_has answered directive.Public
@@ -201,75 +201,75 @@ module _ (asked : Asked) (answered : Answered) (facts : StoringFacts) where
       by_lasting : lasts ≡ false → storing_rule_applies RequestCookie asked answered facts ≡ false
       by_lasting h = last_absent asks (lasts && not public) (first_absent lasts (not public) h)
 
-      at : (facts.policy.gives_to_cookies ≡ true) ⊎ (RequestTellsNotWhoAsks asked ⊎ ((public ≡ true) ⊎ (ResponseStatesItsLifetime answered ⊎ (given_lifetime facts.policy answered.status ≡ None)))) → storing_rule_applies RequestCookie asked answered facts ≡ false
-      at (inl h) = by_asking (first_absent (not facts.policy.gives_to_cookies) (is_from_someone asked) (not_true facts.policy.gives_to_cookies h))
+      at : (facts.policy.gives_to_cookies ≡ true) ⊎ (RequestHasNoCookieOrAuthorization asked ⊎ ((public ≡ true) ⊎ (ResponseStatesItsLifetime answered ⊎ (lifetime_given_by_policy facts.policy answered.status ≡ None)))) → storing_rule_applies RequestCookie asked answered facts ≡ false
+      at (inl h) = by_asking (first_absent (not facts.policy.gives_to_cookies) (request_has_cookie_or_authorization asked) (not_true facts.policy.gives_to_cookies h))
       at (inr (inl no_one)) =
-          by_asking (last_absent (not facts.policy.gives_to_cookies) (is_from_someone asked) (neither (has_line asked.fields (codes "Cookie")) (has_line asked.fields (codes "Authorization")) no_one.0 no_one.1))
+          by_asking (last_absent (not facts.policy.gives_to_cookies) (request_has_cookie_or_authorization asked) (neither (has_line asked.fields (codes "Cookie")) (has_line asked.fields (codes "Authorization")) no_one.0 no_one.1))
       at (inr (inr (inl h))) = last_absent asks (lasts && not public) (last_absent lasts (not public) (not_true public h))
-      at (inr (inr (inr (inl own)))) = by_lasting (first_absent (not (states_lifetime answered)) (is_some (given_lifetime facts.policy answered.status)) (not_true (states_lifetime answered) (itself_states own)))
-      at (inr (inr (inr (inr none)))) = by_lasting (last_absent (not (states_lifetime answered)) (is_some (given_lifetime facts.policy answered.status)) (rw none refl))
+      at (inr (inr (inr (inl own)))) = by_lasting (first_absent (not (response_states_lifetime answered)) (is_some (lifetime_given_by_policy facts.policy answered.status)) (not_true (response_states_lifetime answered) (itself_states own)))
+      at (inr (inr (inr (inr none)))) = by_lasting (last_absent (not (response_states_lifetime answered)) (is_some (lifetime_given_by_policy facts.policy answered.status)) (rw none refl))
 
   -- ---- what is never stored, and what is all the same
 
-  tells_who : (has_line asked.fields (codes "Cookie") ≡ true) ⊎ (has_line asked.fields (codes "Authorization") ≡ true) → is_from_someone asked ≡ true
+  tells_who : (has_line asked.fields (codes "Cookie") ≡ true) ⊎ (has_line asked.fields (codes "Authorization") ≡ true) → request_has_cookie_or_authorization asked ≡ true
   tells_who (inl h) = or_left (has_line asked.fields (codes "Cookie")) (has_line asked.fields (codes "Authorization")) h
   tells_who (inr h) = or_right (has_line asked.fields (codes "Cookie")) (has_line asked.fields (codes "Authorization")) h
 
   pub request_cookie_forbids : (seconds : ℕ) → facts.policy.gives_to_cookies ≡ false → (has_line asked.fields (codes "Cookie") ≡ true) ⊎ (has_line asked.fields (codes "Authorization") ≡ true) → ResponseStatesNoLifetime answered
-      → given_lifetime facts.policy answered.status ≡ Some seconds → response_has answered directive.Public ≡ false → ResponseIsStored asked answered facts → ⊥
+      → lifetime_given_by_policy facts.policy answered.status ≡ Some seconds → response_has answered directive.Public ≡ false → ResponseIsStored asked answered facts → ⊥
   request_cookie_forbids seconds word who none given public h =
-      let stated : states_lifetime answered ≡ false =
+      let stated : response_states_lifetime answered ≡ false =
       neither (response_has answered directive.SMaxage || response_has answered directive.MaxAge) (has_line answered.fields (codes "Expires"))
       (neither (response_has answered directive.SMaxage) (response_has answered directive.MaxAge) none.0 none.1) none.2 in
-      let asks = both (not facts.policy.gives_to_cookies) (is_from_someone asked) (turned facts.policy.gives_to_cookies word) (tells_who who) in
-      let lasts = both (not (states_lifetime answered)) (is_some (given_lifetime facts.policy answered.status)) (turned (states_lifetime answered) stated) (rw given refl) in
-      let for_one = both (lasts_by_the_line facts.policy answered) (not (response_has answered directive.Public)) lasts (turned (response_has answered directive.Public) public) in
-      never (sym (both (not facts.policy.gives_to_cookies && is_from_someone asked) (lasts_by_the_line facts.policy answered && not (response_has answered directive.Public)) asks for_one) ∙ no_rule_applies asked answered facts RequestCookie h)
+      let asks = both (not facts.policy.gives_to_cookies) (request_has_cookie_or_authorization asked) (turned facts.policy.gives_to_cookies word) (tells_who who) in
+      let lasts = both (not (response_states_lifetime answered)) (is_some (lifetime_given_by_policy facts.policy answered.status)) (turned (response_states_lifetime answered) stated) (rw given refl) in
+      let for_one = both (has_lifetime_only_by_policy facts.policy answered) (not (response_has answered directive.Public)) lasts (turned (response_has answered directive.Public) public) in
+      never (sym (both (not facts.policy.gives_to_cookies && request_has_cookie_or_authorization asked) (has_lifetime_only_by_policy facts.policy answered && not (response_has answered directive.Public)) asks for_one) ∙ no_rule_applies asked answered facts RequestCookie h)
 
   pub cookie_forbids : facts.policy.stores_cookies ≡ false → has_line answered.fields (codes "Set-Cookie") ≡ true → response_has answered directive.Public ≡ false → ResponseIsStored asked answered facts → ⊥
   cookie_forbids word cookie public h =
       let for_one = both (has_line answered.fields (codes "Set-Cookie")) (not (response_has answered directive.Public)) cookie (turned (response_has answered directive.Public) public) in
-      let withheld = or_left (not facts.policy.stores_cookies) (not facts.policy.gives_to_set_cookie && lasts_by_the_line facts.policy answered) (turned facts.policy.stores_cookies word) in
-      never (sym (both (withholds_cookies facts.policy answered) (has_cookie_for_one answered) withheld for_one) ∙ no_rule_applies asked answered facts SetCookie h)
+      let withheld = or_left (not facts.policy.stores_cookies) (not facts.policy.gives_to_set_cookie && has_lifetime_only_by_policy facts.policy answered) (turned facts.policy.stores_cookies word) in
+      never (sym (both (policy_forbids_set_cookie facts.policy answered) (has_cookie_for_one answered) withheld for_one) ∙ no_rule_applies asked answered facts SetCookie h)
 
   pub cookie_is_given_none : (seconds : ℕ) → facts.policy.gives_to_set_cookie ≡ false → has_line answered.fields (codes "Set-Cookie") ≡ true → ResponseStatesNoLifetime answered
-      → given_lifetime facts.policy answered.status ≡ Some seconds → response_has answered directive.Public ≡ false → ResponseIsStored asked answered facts → ⊥
+      → lifetime_given_by_policy facts.policy answered.status ≡ Some seconds → response_has answered directive.Public ≡ false → ResponseIsStored asked answered facts → ⊥
   cookie_is_given_none seconds word cookie none given public h =
-      let stated : states_lifetime answered ≡ false =
+      let stated : response_states_lifetime answered ≡ false =
       neither (response_has answered directive.SMaxage || response_has answered directive.MaxAge) (has_line answered.fields (codes "Expires"))
       (neither (response_has answered directive.SMaxage) (response_has answered directive.MaxAge) none.0 none.1) none.2 in
-      let lasts = both (not (states_lifetime answered)) (is_some (given_lifetime facts.policy answered.status)) (turned (states_lifetime answered) stated) (rw given refl) in
+      let lasts = both (not (response_states_lifetime answered)) (is_some (lifetime_given_by_policy facts.policy answered.status)) (turned (response_states_lifetime answered) stated) (rw given refl) in
       let for_one = both (has_line answered.fields (codes "Set-Cookie")) (not (response_has answered directive.Public)) cookie (turned (response_has answered directive.Public) public) in
-      let by_line = both (not facts.policy.gives_to_set_cookie) (lasts_by_the_line facts.policy answered) (turned facts.policy.gives_to_set_cookie word) lasts in
-      let withheld = or_right (not facts.policy.stores_cookies) (not facts.policy.gives_to_set_cookie && lasts_by_the_line facts.policy answered) by_line in
-      never (sym (both (withholds_cookies facts.policy answered) (has_cookie_for_one answered) withheld for_one) ∙ no_rule_applies asked answered facts SetCookie h)
+      let by_line = both (not facts.policy.gives_to_set_cookie) (has_lifetime_only_by_policy facts.policy answered) (turned facts.policy.gives_to_set_cookie word) lasts in
+      let withheld = or_right (not facts.policy.stores_cookies) (not facts.policy.gives_to_set_cookie && has_lifetime_only_by_policy facts.policy answered) by_line in
+      never (sym (both (policy_forbids_set_cookie facts.policy answered) (has_cookie_for_one answered) withheld for_one) ∙ no_rule_applies asked answered facts SetCookie h)
 
-  pub error_forbids : facts.policy.stores_errors ≡ false → 400 ≤ answered.status → is_heuristic answered.status ≡ false → ResponseIsStored asked answered facts → ⊥
+  pub error_forbids : facts.policy.stores_errors ≡ false → 400 ≤ answered.status → is_heuristic_status answered.status ≡ false → ResponseIsStored asked answered facts → ⊥
   error_forbids word high other h =
-      let error = both (nat_le 400 answered.status) (not (is_heuristic answered.status)) (reached answered.status high) (turned (is_heuristic answered.status) other) in
-      never (sym (both (not facts.policy.stores_errors) (is_uncached_error answered.status) (turned facts.policy.stores_errors word) error) ∙ no_rule_applies asked answered facts ErrorStatus h)
+      let error = both (nat_le 400 answered.status) (not (is_heuristic_status answered.status)) (reached answered.status high) (turned (is_heuristic_status answered.status) other) in
+      never (sym (both (not facts.policy.stores_errors) (is_error_not_heuristically_cacheable answered.status) (turned facts.policy.stores_errors word) error) ∙ no_rule_applies asked answered facts ErrorStatus h)
 
   -- without the words no rule stands that doesn't stand with them
-  plain_none : ((any : StoreRule) → storing_rule_applies any asked answered facts ≡ false) → (any : StoreRule) → storing_rule_applies any asked answered (facts_with_policy facts (plain_but_for_ranges true facts.policy)) ≡ false
+  plain_none : ((any : StoreRule) → storing_rule_applies any asked answered facts ≡ false) → (any : StoreRule) → storing_rule_applies any asked answered (facts_with_policy facts (default_policy_but_for_ranges true facts.policy)) ≡ false
   plain_none none Operator = refl
   plain_none none SetCookie = refl
   plain_none none ErrorStatus = refl
   plain_none none RequestCookie = refl
   plain_none none any = none any
 
-  pub stored_without_words : ResponseIsStored asked answered facts → ResponseIsStored asked answered (facts_with_policy facts (plain_but_for_ranges true facts.policy))
-  stored_without_words h = no_rule_found asked answered (facts_with_policy facts (plain_but_for_ranges true facts.policy)) (plain_none (λ any. no_rule_applies asked answered facts any h))
+  pub stored_without_words : ResponseIsStored asked answered facts → ResponseIsStored asked answered (facts_with_policy facts (default_policy_but_for_ranges true facts.policy))
+  stored_without_words h = no_rule_found asked answered (facts_with_policy facts (default_policy_but_for_ranges true facts.policy)) (plain_none (λ any. no_rule_applies asked answered facts any h))
 
-  words_none : ((any : StoreRule) → storing_rule_applies any asked answered (facts_with_policy facts (plain_but_for_ranges facts.policy.caches facts.policy)) ≡ false) → ResponseIsWithinTheWords asked answered facts.policy → (any : StoreRule) → storing_rule_applies any asked answered facts ≡ false
-  words_none none within SetCookie = cookie_applies within.cookies within.lifetimes_of_cookies
+  words_none : ((any : StoreRule) → storing_rule_applies any asked answered (facts_with_policy facts (default_policy_but_for_ranges facts.policy.caches facts.policy)) ≡ false) → PolicyAllowsStoring asked answered facts.policy → (any : StoreRule) → storing_rule_applies any asked answered facts ≡ false
+  words_none none within SetCookie = cookie_applies within.cookies within.set_cookie_lifetimes
   words_none none within ErrorStatus = error_applies within.errors
   words_none none within RequestCookie = request_cookie_applies within.requests_with_cookies
   words_none none within any = none any
 
-  pub stored_with_words : ResponseIsStored asked answered (facts_with_policy facts (plain_but_for_ranges facts.policy.caches facts.policy)) → ResponseIsWithinTheWords asked answered facts.policy → ResponseIsStored asked answered facts
+  pub stored_with_words : ResponseIsStored asked answered (facts_with_policy facts (default_policy_but_for_ranges facts.policy.caches facts.policy)) → PolicyAllowsStoring asked answered facts.policy → ResponseIsStored asked answered facts
   stored_with_words h within =
-      no_rule_found asked answered facts (words_none (λ any. no_rule_applies asked answered (facts_with_policy facts (plain_but_for_ranges facts.policy.caches facts.policy)) any h) within)
+      no_rule_found asked answered facts (words_none (λ any. no_rule_applies asked answered (facts_with_policy facts (default_policy_but_for_ranges facts.policy.caches facts.policy)) any h) within)
 
-  pub plain_asks_the_others : (caches : Bool) → storage_rule_of asked answered (facts_with_policy facts (plain caches)) ≡ find (λ rule. storing_rule_applies rule asked answered (facts_with_policy facts (plain caches))) rules_without_words
+  pub plain_asks_the_others : (caches : Bool) → storage_rule_of asked answered (facts_with_policy facts (plain caches)) ≡ find (λ rule. storing_rule_applies rule asked answered (facts_with_policy facts (plain caches))) storage_rules_without_policy
   unfolding storage_rule_of
-  plain_asks_the_others caches = find_before (λ rule. storing_rule_applies rule asked answered (facts_with_policy facts (plain caches))) rules_without_words rules_of_words refl
+  plain_asks_the_others caches = find_before (λ rule. storing_rule_applies rule asked answered (facts_with_policy facts (plain caches))) storage_rules_without_policy storage_rules_of_policy refl

@@ -11,9 +11,9 @@ use Rattle.hx_hop.specs.Bypass.{request_has_content, asks_for_range, has_precond
 use Rattle.hx_storable.specs.declared.known_facts.StoringFacts.{StoringFacts}
 use Rattle.hx_storable.specs.declared.rule.StoreRule.{StoreRule}
 use Rattle.hx_storable.specs.declared.rule.StoreRule.TheVariants.{Operator, Method, Bypass, Status, MustUnderstand, ResponseNoStore, RequestNoStore, Private, Authorization, NothingAllows, VaryStar, ConnectionField, NothingToReuse, TooLarge, Overtaken, Serials, SetCookie, ErrorStatus, RequestCookie}
-use Rattle.hx_policy.specs.Policies.{is_heuristic}
-use Rattle.hx_storable.specs.Rules.{request_has, response_has, is_for_its_range, is_understood_status, allows_shared, allows_storing, storing_rule_applies}
-use Rattle.hx_storable.specs.Storable.{StatusIsFinal, NeedsUnderstanding, NoStoreIsAbsentOrLifted, ResponseAllowsShared, ResponseAllowsStoring, RequestIsForTheStore, IsNotForItsRange, ResponseMayBeStored, ResponseIsStored}
+use Rattle.hx_policy.specs.Policies.{is_heuristic_status}
+use Rattle.hx_storable.specs.Rules.{request_has_directive, response_has, is_answer_to_its_range_alone, is_understood_status, allows_authorized, response_allows_storing, storing_rule_applies}
+use Rattle.hx_storable.specs.Storable.{StatusIsFinal, StatusNeedsToBeUnderstood, NoStoreIsAbsentOrLifted, ResponseAllowsSharedWithAuthorization, ResponseAllowsStoring, RequestIsForTheStore, AnswerIsNotToItsRangeAlone, ResponseMayBeStored, ResponseIsStored}
 use Rattle.hx_fields.proofs.JoinedTests.{never, not_false, not_true, left_false, right_false, neither, one_of, or_left, or_right, second_false, either_false, first_absent, last_absent, is_equal, not_equal, implied}
 use Rattle.hx_storable.proofs.LeastRule.{no_rule_applies, no_rule_found}
 use Rattle.hx_storable.proofs.LineLemmas.{turned, within_the_words, cookie_applies, error_applies, request_cookie_applies}
@@ -64,7 +64,7 @@ module _ (asked : Asked) (answered : Answered) (facts : StoringFacts) where
     must_be_understood must =
         not_false (is_understood_status answered.status) (second_false (response_has answered directive.MustUnderstand) (not (is_understood_status answered.status)) must (none MustUnderstand))
 
-    understood : NeedsUnderstanding answered → is_understood_status answered.status ≡ true
+    understood : StatusNeedsToBeUnderstood answered → is_understood_status answered.status ≡ true
     understood (inl part) = absurd (not_a_part part)
     understood (inr (inl not_modified)) = absurd (not_a_304 not_modified)
     understood (inr (inr must)) = must_be_understood must
@@ -76,8 +76,8 @@ module _ (asked : Asked) (answered : Answered) (facts : StoringFacts) where
         at (inl absent) = inl absent
         at (inr lifted) = let must = not_false (response_has answered directive.MustUnderstand) lifted in inr (must, must_be_understood must)
 
-    pub shared_or_unauthorized : (has_line asked.fields (codes "Authorization") ≡ false) ⊎ ResponseAllowsShared answered
-    shared_or_unauthorized = at (either_false (has_line asked.fields (codes "Authorization")) (not (allows_shared (occurrences_of answered.fields))) (none Authorization))
+    pub shared_or_unauthorized : (has_line asked.fields (codes "Authorization") ≡ false) ⊎ ResponseAllowsSharedWithAuthorization answered
+    shared_or_unauthorized = at (either_false (has_line asked.fields (codes "Authorization")) (not (allows_authorized (occurrences_of answered.fields))) (none Authorization))
       where
         must : Bool
         must = response_has answered directive.MustRevalidate
@@ -88,16 +88,16 @@ module _ (asked : Asked) (answered : Answered) (facts : StoringFacts) where
         shared : Bool
         shared = response_has answered directive.SMaxage
 
-        last : (must || public ≡ true) ⊎ (shared ≡ true) → ResponseAllowsShared answered
+        last : (must || public ≡ true) ⊎ (shared ≡ true) → ResponseAllowsSharedWithAuthorization answered
         last (inl h) = elim (one_of must public h) [ inl k ↦ inl k | inr k ↦ inr (inl k) ]
         last (inr h) = inr (inr h)
 
-        at : (has_line asked.fields (codes "Authorization") ≡ false) ⊎ (not (allows_shared (occurrences_of answered.fields)) ≡ false) → (has_line asked.fields (codes "Authorization") ≡ false) ⊎ ResponseAllowsShared answered
+        at : (has_line asked.fields (codes "Authorization") ≡ false) ⊎ (not (allows_authorized (occurrences_of answered.fields)) ≡ false) → (has_line asked.fields (codes "Authorization") ≡ false) ⊎ ResponseAllowsSharedWithAuthorization answered
         at (inl absent) = inl absent
-        at (inr h) = inr (last (one_of (must || public) shared (not_false (allows_shared (occurrences_of answered.fields)) h)))
+        at (inr h) = inr (last (one_of (must || public) shared (not_false (allows_authorized (occurrences_of answered.fields)) h)))
 
     allowed : ResponseAllowsStoring answered
-    allowed = first (one_of (((public || expires) || max_age) || shared) (is_heuristic answered.status) (not_false (allows_storing answered) (none NothingAllows)))
+    allowed = first (one_of (((public || expires) || max_age) || shared) (is_heuristic_status answered.status) (not_false (response_allows_storing answered) (none NothingAllows)))
       where
         public : Bool
         public = response_has answered directive.Public
@@ -119,12 +119,12 @@ module _ (asked : Asked) (answered : Answered) (facts : StoringFacts) where
         second (inl h) = third (one_of (public || expires) max_age h)
         second (inr h) = inr (inr (inr (inl h)))
 
-        first : (((public || expires) || max_age) || shared ≡ true) ⊎ (is_heuristic answered.status ≡ true) → ResponseAllowsStoring answered
+        first : (((public || expires) || max_age) || shared ≡ true) ⊎ (is_heuristic_status answered.status ≡ true) → ResponseAllowsStoring answered
         first (inl h) = second (one_of ((public || expires) || max_age) shared h)
         first (inr h) = inr (inr (inr (inr h)))
 
-    lasts_or_is_validated : (facts.explicit ≡ true) ⊎ (facts.validator ≡ true)
-    lasts_or_is_validated = at (either_false (not facts.explicit) (not facts.validator) (none NothingToReuse))
+    has_lifetime_or_validator : (facts.explicit ≡ true) ⊎ (facts.validator ≡ true)
+    has_lifetime_or_validator = at (either_false (not facts.explicit) (not facts.validator) (none NothingToReuse))
       where
         at : (not facts.explicit ≡ false) ⊎ (not facts.validator ≡ false) → (facts.explicit ≡ true) ⊎ (facts.validator ≡ true)
         at (inl h) = inl (not_false facts.explicit h)
@@ -132,12 +132,12 @@ module _ (asked : Asked) (answered : Answered) (facts : StoringFacts) where
 
     no_bypass : RequestIsForTheStore asked answered facts.policy
     no_bypass =
-        let both = left_false (request_has_content asked || is_for_its_range facts.policy asked answered) (has_precondition asked) (none Bypass) in
+        let both = left_false (request_has_content asked || is_answer_to_its_range_alone facts.policy asked answered) (has_precondition asked) (none Bypass) in
         record {
           is_get = is_get;
-          no_content = left_false (request_has_content asked) (is_for_its_range facts.policy asked answered) both;
-          no_range = not_for_its_range facts.policy.forwards_ranges (asks_for_range asked) answered.status (right_false (request_has_content asked) (is_for_its_range facts.policy asked answered) both);
-          no_precondition = right_false (request_has_content asked || is_for_its_range facts.policy asked answered) (has_precondition asked) (none Bypass);
+          no_content = left_false (request_has_content asked) (is_answer_to_its_range_alone facts.policy asked answered) both;
+          no_range = not_for_its_range facts.policy.forwards_ranges (asks_for_range asked) answered.status (right_false (request_has_content asked) (is_answer_to_its_range_alone facts.policy asked answered) both);
+          no_precondition = right_false (request_has_content asked || is_answer_to_its_range_alone facts.policy asked answered) (has_precondition asked) (none Bypass);
         }
 
     may_be_stored : StatusIsFinal answered → ResponseMayBeStored asked answered facts
@@ -151,22 +151,22 @@ module _ (asked : Asked) (answered : Answered) (facts : StoringFacts) where
         not_private = none Private;
         not_authorized = shared_or_unauthorized;
         allowed = allowed;
-        not_asked_not_to = none RequestNoStore;
+        request_has_no_no_store = none RequestNoStore;
       };
       is_for_the_store = no_bypass;
-      is_of_use = record { names_its_fields = none VaryStar; keeps_its_fields = none ConnectionField; lasts_or_is_validated = lasts_or_is_validated; not_overtaken = none Overtaken };
+      could_be_reused = record { vary_is_not_star = none VaryStar; connection_lists_no_cache_field = none ConnectionField; has_lifetime_or_validator = has_lifetime_or_validator; not_overtaken = none Overtaken };
       has_room = record { not_too_large = none TooLarge; has_serial = none Serials };
-      is_within_the_words = within_the_words asked answered facts none;
+      policy_allows_it = within_the_words asked answered facts none;
     }
 
   -- ---- and back
 
-  shared_is_allowed : ResponseAllowsShared answered → allows_shared (occurrences_of answered.fields) ≡ true
+  shared_is_allowed : ResponseAllowsSharedWithAuthorization answered → allows_authorized (occurrences_of answered.fields) ≡ true
   shared_is_allowed (inl h) = or_left (response_has answered directive.MustRevalidate || response_has answered directive.Public) (response_has answered directive.SMaxage) (or_left (response_has answered directive.MustRevalidate) (response_has answered directive.Public) h)
   shared_is_allowed (inr (inl h)) = or_left (response_has answered directive.MustRevalidate || response_has answered directive.Public) (response_has answered directive.SMaxage) (or_right (response_has answered directive.MustRevalidate) (response_has answered directive.Public) h)
   shared_is_allowed (inr (inr h)) = or_right (response_has answered directive.MustRevalidate || response_has answered directive.Public) (response_has answered directive.SMaxage) h
 
-  storing_is_allowed : ResponseAllowsStoring answered → allows_storing answered ≡ true
+  storing_is_allowed : ResponseAllowsStoring answered → response_allows_storing answered ≡ true
   storing_is_allowed says_so = at says_so
     where
       public : Bool
@@ -182,12 +182,12 @@ module _ (asked : Asked) (answered : Answered) (facts : StoringFacts) where
       shared = response_has answered directive.SMaxage
 
       heuristic : Bool
-      heuristic = is_heuristic answered.status
+      heuristic = is_heuristic_status answered.status
 
-      by_two : public || expires ≡ true → allows_storing answered ≡ true
+      by_two : public || expires ≡ true → response_allows_storing answered ≡ true
       by_two h = or_left (((public || expires) || max_age) || shared) heuristic (or_left ((public || expires) || max_age) shared (or_left (public || expires) max_age h))
 
-      at : ResponseAllowsStoring answered → allows_storing answered ≡ true
+      at : ResponseAllowsStoring answered → response_allows_storing answered ≡ true
       at (inl h) = by_two (or_left public expires h)
       at (inr (inl h)) = by_two (or_right public expires h)
       at (inr (inr (inl h))) = or_left (((public || expires) || max_age) || shared) heuristic (or_left ((public || expires) || max_age) shared (or_right (public || expires) max_age h))
@@ -198,9 +198,9 @@ module _ (asked : Asked) (answered : Answered) (facts : StoringFacts) where
   not_forbidden_applies (inl absent) = first_absent (response_has answered directive.NoStore) (not (response_has answered directive.MustUnderstand)) absent
   not_forbidden_applies (inr lifted) = last_absent (response_has answered directive.NoStore) (not (response_has answered directive.MustUnderstand)) (not_true (response_has answered directive.MustUnderstand) lifted.0)
 
-  authorization_applies : (has_line asked.fields (codes "Authorization") ≡ false) ⊎ ResponseAllowsShared answered → has_line asked.fields (codes "Authorization") && not (allows_shared (occurrences_of answered.fields)) ≡ false
-  authorization_applies (inl absent) = first_absent (has_line asked.fields (codes "Authorization")) (not (allows_shared (occurrences_of answered.fields))) absent
-  authorization_applies (inr shared) = last_absent (has_line asked.fields (codes "Authorization")) (not (allows_shared (occurrences_of answered.fields))) (not_true (allows_shared (occurrences_of answered.fields)) (shared_is_allowed shared))
+  authorization_applies : (has_line asked.fields (codes "Authorization") ≡ false) ⊎ ResponseAllowsSharedWithAuthorization answered → has_line asked.fields (codes "Authorization") && not (allows_authorized (occurrences_of answered.fields)) ≡ false
+  authorization_applies (inl absent) = first_absent (has_line asked.fields (codes "Authorization")) (not (allows_authorized (occurrences_of answered.fields))) absent
+  authorization_applies (inr shared) = last_absent (has_line asked.fields (codes "Authorization")) (not (allows_authorized (occurrences_of answered.fields))) (not_true (allows_authorized (occurrences_of answered.fields)) (shared_is_allowed shared))
 
   of_use_applies : (facts.explicit ≡ true) ⊎ (facts.validator ≡ true) → not facts.explicit && not facts.validator ≡ false
   of_use_applies (inl h) = first_absent (not facts.explicit) (not facts.validator) (not_true facts.explicit h)
@@ -211,27 +211,27 @@ module _ (asked : Asked) (answered : Answered) (facts : StoringFacts) where
     none_applies Operator = not_true facts.policy.caches may.operator_allows
     none_applies Method = get_is_method asked.method may.is_for_the_store.is_get
     none_applies Bypass =
-        neither (request_has_content asked || is_for_its_range facts.policy asked answered) (has_precondition asked)
-        (neither (request_has_content asked) (is_for_its_range facts.policy asked answered) may.is_for_the_store.no_content (for_no_range facts.policy.forwards_ranges (asks_for_range asked) answered.status may.is_for_the_store.no_range)) may.is_for_the_store.no_precondition
+        neither (request_has_content asked || is_answer_to_its_range_alone facts.policy asked answered) (has_precondition asked)
+        (neither (request_has_content asked) (is_answer_to_its_range_alone facts.policy asked answered) may.is_for_the_store.no_content (for_no_range facts.policy.forwards_ranges (asks_for_range asked) answered.status may.is_for_the_store.no_range)) may.is_for_the_store.no_precondition
     none_applies Status =
         neither (answered.status == 206) (answered.status == 304)
         (not_equal answered.status 206 (λ e. part_is_not_understood answered.status e (may.is_storable.status_is_understood (inl e))))
         (not_equal answered.status 304 (λ e. not_modified_is_not_understood answered.status e (may.is_storable.status_is_understood (inr (inl e)))))
     none_applies MustUnderstand = implied (response_has answered directive.MustUnderstand) (is_understood_status answered.status) (λ must. may.is_storable.status_is_understood (inr (inr must)))
     none_applies ResponseNoStore = not_forbidden_applies may.is_storable.no_no_store
-    none_applies RequestNoStore = may.is_storable.not_asked_not_to
+    none_applies RequestNoStore = may.is_storable.request_has_no_no_store
     none_applies Private = may.is_storable.not_private
     none_applies Authorization = authorization_applies may.is_storable.not_authorized
-    none_applies NothingAllows = not_true (allows_storing answered) (storing_is_allowed may.is_storable.allowed)
-    none_applies VaryStar = may.is_of_use.names_its_fields
-    none_applies ConnectionField = may.is_of_use.keeps_its_fields
-    none_applies NothingToReuse = of_use_applies may.is_of_use.lasts_or_is_validated
+    none_applies NothingAllows = not_true (response_allows_storing answered) (storing_is_allowed may.is_storable.allowed)
+    none_applies VaryStar = may.could_be_reused.vary_is_not_star
+    none_applies ConnectionField = may.could_be_reused.connection_lists_no_cache_field
+    none_applies NothingToReuse = of_use_applies may.could_be_reused.has_lifetime_or_validator
     none_applies TooLarge = may.has_room.not_too_large
-    none_applies Overtaken = may.is_of_use.not_overtaken
+    none_applies Overtaken = may.could_be_reused.not_overtaken
     none_applies Serials = may.has_room.has_serial
-    none_applies SetCookie = cookie_applies asked answered facts may.is_within_the_words.cookies may.is_within_the_words.lifetimes_of_cookies
-    none_applies ErrorStatus = error_applies asked answered facts may.is_within_the_words.errors
-    none_applies RequestCookie = request_cookie_applies asked answered facts may.is_within_the_words.requests_with_cookies
+    none_applies SetCookie = cookie_applies asked answered facts may.policy_allows_it.cookies may.policy_allows_it.set_cookie_lifetimes
+    none_applies ErrorStatus = error_applies asked answered facts may.policy_allows_it.errors
+    none_applies RequestCookie = request_cookie_applies asked answered facts may.policy_allows_it.requests_with_cookies
 
     pub is_stored : ResponseIsStored asked answered facts
     is_stored = no_rule_found asked answered facts none_applies
@@ -254,7 +254,7 @@ module _ (asked : Asked) (answered : Answered) (facts : StoringFacts) where
   pub no_store_forbids_unless_understood : (response_has answered directive.NoStore ≡ true) × (is_understood_status answered.status ≡ false) → ResponseIsStored asked answered facts → ⊥
   no_store_forbids_unless_understood p h = forbids p.0 (λ must understood. never (sym understood ∙ p.1)) h
 
-  pub requests_no_store_forbids : request_has asked directive.NoStore ≡ true → ResponseIsStored asked answered facts → ⊥
+  pub requests_no_store_forbids : request_has_directive asked directive.NoStore ≡ true → ResponseIsStored asked answered facts → ⊥
   requests_no_store_forbids p h = never (sym p ∙ no_rule_applies asked answered facts RequestNoStore h)
 
   pub private_forbids : response_has answered directive.Private ≡ true → ResponseIsStored asked answered facts → ⊥
@@ -264,7 +264,7 @@ module _ (asked : Asked) (answered : Answered) (facts : StoringFacts) where
       → ResponseIsStored asked answered facts → ⊥
   authorization_forbids p h = at (shared_or_unauthorized (λ any. no_rule_applies asked answered facts any h))
     where
-      at : (has_line asked.fields (codes "Authorization") ≡ false) ⊎ ResponseAllowsShared answered → ⊥
+      at : (has_line asked.fields (codes "Authorization") ≡ false) ⊎ ResponseAllowsSharedWithAuthorization answered → ⊥
       at (inl absent) = never (sym p.0 ∙ absent)
       at (inr (inl must)) = never (sym must ∙ p.1)
       at (inr (inr (inl public))) = never (sym public ∙ p.2)

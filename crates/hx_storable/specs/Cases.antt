@@ -51,8 +51,8 @@ storable_facts = record {
 }
 
 -- one over a line that has ranges cut from what is stored
-abbrev pub with_ranges_served : StoringFacts
-with_ranges_served = record storable_facts { policy = record (plain true) { forwards_ranges = false } }
+abbrev pub facts_of_served_ranges : StoringFacts
+facts_of_served_ranges = record storable_facts { policy = record (plain true) { forwards_ranges = false } }
 
 -- one whose Vary is `*`
 abbrev pub facts_with_vary_star : StoringFacts
@@ -68,8 +68,8 @@ facts_with_vary_star = record {
 }
 
 -- and whose Connection names a cache field too
-abbrev pub facts_with_star_and_listed : StoringFacts
-facts_with_star_and_listed = record {
+abbrev pub facts_with_vary_star_and_listed_field : StoringFacts
+facts_with_vary_star_and_listed_field = record {
   policy = plain true;
   vary_star = true;
   listed = true;
@@ -94,43 +94,43 @@ facts_of_uncached_line = record {
 }
 
 -- and any other, whatever the other words say
-abbrev pub facts_of_cached_line : StoringFacts → StoringFacts
-facts_of_cached_line facts = record facts { policy = record facts.policy { caches = true } }
+abbrev pub facts_with_caching_on : StoringFacts → StoringFacts
+facts_with_caching_on facts = record facts { policy = record facts.policy { caches = true } }
 
 -- a page that sets a cookie, with one Cache-Control line
 abbrev pub login_page : List ℕ → Answered
 login_page value = answer_with 200 (line (codes "Set-Cookie") (codes "session=1") ∷ cache_control_fields value)
 
 -- an answer that lasts a minute
-abbrev pub answer_of_a_minute : ℕ → Answered
-answer_of_a_minute status = answer_with status (cache_control_fields (codes "max-age=60"))
+abbrev pub answer_fresh_a_minute : ℕ → Answered
+answer_fresh_a_minute status = answer_with status (cache_control_fields (codes "max-age=60"))
 
 -- where the operator stores no cookies, and where he stores no errors
-abbrev pub without_cookies : StoringFacts
-without_cookies = record storable_facts { policy = record (plain true) { stores_cookies = false } }
+abbrev pub facts_without_cookie_storing : StoringFacts
+facts_without_cookie_storing = record storable_facts { policy = record (plain true) { stores_cookies = false } }
 
-abbrev pub without_errors : StoringFacts
-without_errors = record storable_facts { policy = record (plain true) { stores_errors = false } }
+abbrev pub facts_without_error_storing : StoringFacts
+facts_without_error_storing = record storable_facts { policy = record (plain true) { stores_errors = false } }
 
 -- a page that sets a cookie, and says nothing of its lifetime
 abbrev pub page_with_cookie : ℕ → List Field → Answered
 page_with_cookie status fields = answer_with status (line (codes "Set-Cookie") (codes "session=1") ∷ fields)
 
 -- where the line gives a lifetime, and doesn't give it to what sets a cookie
-abbrev pub without_lifetime_of_cookies : StoringFacts
-without_lifetime_of_cookies =
+abbrev pub facts_without_cookie_lifetime : StoringFacts
+facts_without_cookie_lifetime =
     record storable_facts { policy = record (plain true) { lifetime = Some 60; gives_to_set_cookie = false } }
 
 -- and where each other hears nothing of the cookie
-abbrev pub with_cookies_removed : StoringFacts
-with_cookies_removed =
+abbrev pub facts_with_cookies_removed : StoringFacts
+facts_with_cookies_removed =
     record storable_facts { policy = record (plain true) { lifetime = Some 60; removes_cookies = true } }
 
 -- where the line gives a lifetime, and doesn't give it to requests with a cookie
-abbrev pub with_private_lifetime : StoringFacts
-with_private_lifetime =
+abbrev pub facts_without_lifetime_for_cookies : StoringFacts
+facts_without_lifetime_for_cookies =
     record storable_facts { policy = record (plain true) { lifetime = Some 60; gives_to_cookies = false } }
 
 -- and where it gives it to each
-abbrev pub with_shared_lifetime : StoringFacts
-with_shared_lifetime = record storable_facts { policy = record (plain true) { lifetime = Some 60 } }
+abbrev pub facts_with_lifetime_for_all : StoringFacts
+facts_with_lifetime_for_all = record storable_facts { policy = record (plain true) { lifetime = Some 60 } }

@@ -2,15 +2,15 @@
 -- nothing more from it than the other rules do: the statements that the laws of `src/laws.rt`
 -- prove.
 --
--- facts_with_policy: the same, over another line     rules_without_words: the rules that ask for no word
--- plain_but_for_ranges: a line that has no other word
+-- facts_with_policy: the same, over another line     storage_rules_without_policy: the rules that ask for no word
+-- default_policy_but_for_ranges: a line that has no other word
 use Rattle.std.specs.Prelude.{◌≡◌, ◌≤◌, ◌⊎◌, ◌||◌, ℕ, Bool, not, true, false, List, [], ◌∷◌, find, codes, Some}
 use Rattle.hx_fields.specs.FieldLines.{has_field as has_line}
 use Rattle.hx_directives.specs.declared.names.Directive.TheVariants as directive
 use Rattle.hx_hop.specs.declared.request_view.Asked.{Asked}
 use Rattle.hx_hop.specs.declared.response_view.Answered.{Answered}
 use Rattle.hx_hop.specs.Bypass.{request_has_content, asks_for_range, has_precondition}
-use Rattle.hx_policy.specs.Policies.{is_heuristic, given_lifetime, plain}
+use Rattle.hx_policy.specs.Policies.{is_heuristic_status, lifetime_given_by_policy, plain}
 use Rattle.hx_policy.specs.declared.words.Policy.{Policy}
 use Rattle.hx_storable.specs.declared.known_facts.StoringFacts.{StoringFacts}
 use Rattle.hx_storable.specs.declared.rule.StoreRule.{StoreRule}
@@ -20,19 +20,19 @@ use Rattle.hx_storable.specs.declared.rule.StoreRule.TheVariants.{Authorization,
 use Rattle.hx_storable.specs.declared.rule.StoreRule.TheVariants.{ConnectionField, NothingToReuse, TooLarge, Overtaken}
 use Rattle.hx_storable.specs.declared.rule.StoreRule.TheVariants.{Serials, SetCookie, ErrorStatus, RequestCookie}
 use Rattle.hx_storable.specs.Rules.{response_has, storing_rule_applies, storage_rule_of}
-use Rattle.hx_storable.specs.Storable.{ResponseIsStored, ResponseIsWithinTheWords}
+use Rattle.hx_storable.specs.Storable.{ResponseIsStored, PolicyAllowsStoring}
 
 -- where the operator stores no cookies, a response that sets one and hasn't public (RFC 9111, section 7.3)
-abbrev pub CookieForbidsStoring : Type 0
-CookieForbidsStoring = (asked : Asked) (answered : Answered) (facts : StoringFacts) →
+abbrev pub SetCookieForbidsStoringUnlessPublic : Type 0
+SetCookieForbidsStoringUnlessPublic = (asked : Asked) (answered : Answered) (facts : StoringFacts) →
     facts.policy.stores_cookies ≡ false → has_line answered.fields (codes "Set-Cookie") ≡ true
     → response_has answered directive.Public ≡ false →
     ResponseIsStored asked answered facts → ⊥
 
 -- where he stores no errors, a status of 400 or above that isn't heuristically cacheable
-abbrev pub ErrorForbidsStoring : Type 0
-ErrorForbidsStoring = (asked : Asked) (answered : Answered) (facts : StoringFacts) →
-    facts.policy.stores_errors ≡ false → 400 ≤ answered.status → is_heuristic answered.status ≡ false
+abbrev pub ErrorStatusForbidsStoring : Type 0
+ErrorStatusForbidsStoring = (asked : Asked) (answered : Answered) (facts : StoringFacts) →
+    facts.policy.stores_errors ≡ false → 400 ≤ answered.status → is_heuristic_status answered.status ≡ false
     → ResponseIsStored asked answered facts → ⊥
 
 -- the response says nothing of how long it is fresh (RFC 9111, section 4.2.1)
@@ -44,20 +44,20 @@ ResponseStatesNoLifetime answered =
 
 -- where he gives no lifetime to a response that sets a cookie, one that has no public, and that only the line would
 -- give a lifetime (RFC 9111, sections 4.2.2 and 7.3)
-abbrev pub CookieIsGivenNoLifetime : Type 0
-CookieIsGivenNoLifetime = (asked : Asked) (answered : Answered) (facts : StoringFacts) (seconds : ℕ) →
+abbrev pub SetCookieGetsNoLifetimeFromTheLine : Type 0
+SetCookieGetsNoLifetimeFromTheLine = (asked : Asked) (answered : Answered) (facts : StoringFacts) (seconds : ℕ) →
     facts.policy.gives_to_set_cookie ≡ false → has_line answered.fields (codes "Set-Cookie") ≡ true →
-    ResponseStatesNoLifetime answered → given_lifetime facts.policy answered.status ≡ Some seconds →
+    ResponseStatesNoLifetime answered → lifetime_given_by_policy facts.policy answered.status ≡ Some seconds →
     response_has answered directive.Public ≡ false →
     ResponseIsStored asked answered facts → ⊥
 
 -- where he gives no lifetime to what was asked for with a cookie or with credentials, a response to such a request that
 -- has no public, and that only the line would give a lifetime
-abbrev pub RequestCookieForbidsStoring : Type 0
-RequestCookieForbidsStoring = (asked : Asked) (answered : Answered) (facts : StoringFacts) (seconds : ℕ) →
+abbrev pub RequestCookieGetsNoLifetime : Type 0
+RequestCookieGetsNoLifetime = (asked : Asked) (answered : Answered) (facts : StoringFacts) (seconds : ℕ) →
     facts.policy.gives_to_cookies ≡ false →
     (has_line asked.fields (codes "Cookie") ≡ true) ⊎ (has_line asked.fields (codes "Authorization") ≡ true) →
-    ResponseStatesNoLifetime answered → given_lifetime facts.policy answered.status ≡ Some seconds →
+    ResponseStatesNoLifetime answered → lifetime_given_by_policy facts.policy answered.status ≡ Some seconds →
     response_has answered directive.Public ≡ false →
     ResponseIsStored asked answered facts → ⊥
 
@@ -66,54 +66,55 @@ abbrev pub facts_with_policy : StoringFacts → Policy → StoringFacts
 facts_with_policy facts policy = record facts { policy = policy }
 
 -- a line that has no word but that on ranges, which alone lets more be stored: whole answers to requests for a range
-abbrev pub plain_but_for_ranges : Bool → Policy → Policy
-plain_but_for_ranges caches policy = record (plain caches) { forwards_ranges = policy.forwards_ranges }
+abbrev pub default_policy_but_for_ranges : Bool → Policy → Policy
+default_policy_but_for_ranges caches policy = record (plain caches) { forwards_ranges = policy.forwards_ranges }
 
 -- what is stored is stored with a line that has no other words too
-abbrev pub WordsOnlyForbid : Type 0
-WordsOnlyForbid = (asked : Asked) (answered : Answered) (facts : StoringFacts) →
+abbrev pub PolicyOnlyForbidsStoring : Type 0
+PolicyOnlyForbidsStoring = (asked : Asked) (answered : Answered) (facts : StoringFacts) →
     ResponseIsStored asked answered facts
-    → ResponseIsStored asked answered (facts_with_policy facts (plain_but_for_ranges true facts.policy))
+    → ResponseIsStored asked answered (facts_with_policy facts (default_policy_but_for_ranges true facts.policy))
 
 -- and what is stored with such a line is stored, where the words allow it
-abbrev pub WordsForbidNothingElse : Type 0
-WordsForbidNothingElse = (asked : Asked) (answered : Answered) (facts : StoringFacts) →
-    ResponseIsStored asked answered (facts_with_policy facts (plain_but_for_ranges facts.policy.caches facts.policy))
-    → ResponseIsWithinTheWords asked answered facts.policy
+abbrev pub PolicyForbidsNothingElse : Type 0
+PolicyForbidsNothingElse = (asked : Asked) (answered : Answered) (facts : StoringFacts) →
+    ResponseIsStored asked answered
+    (facts_with_policy facts (default_policy_but_for_ranges facts.policy.caches facts.policy))
+    → PolicyAllowsStoring asked answered facts.policy
     → ResponseIsStored asked answered facts
 
 -- a line without words stands against what it keeps from the store, and no rule of the words stands
-abbrev pub PlainLineIsTheOperators : Type 0
-PlainLineIsTheOperators = (caches : Bool) (asked : Asked) (answered : Answered) (facts : StoringFacts) →
+abbrev pub DefaultPolicyForbidsOnlyByCachingOff : Type 0
+DefaultPolicyForbidsOnlyByCachingOff = (caches : Bool) (asked : Asked) (answered : Answered) (facts : StoringFacts) →
     storing_rule_applies Operator asked answered (facts_with_policy facts (plain caches)) ≡ not caches
 
-abbrev pub PlainLineStoresCookies : Type 0
-PlainLineStoresCookies = (caches : Bool) (asked : Asked) (answered : Answered) (facts : StoringFacts) →
+abbrev pub DefaultPolicyStoresCookies : Type 0
+DefaultPolicyStoresCookies = (caches : Bool) (asked : Asked) (answered : Answered) (facts : StoringFacts) →
     storing_rule_applies SetCookie asked answered (facts_with_policy facts (plain caches)) ≡ false
 
-abbrev pub PlainLineStoresErrors : Type 0
-PlainLineStoresErrors = (caches : Bool) (asked : Asked) (answered : Answered) (facts : StoringFacts) →
+abbrev pub DefaultPolicyStoresErrors : Type 0
+DefaultPolicyStoresErrors = (caches : Bool) (asked : Asked) (answered : Answered) (facts : StoringFacts) →
     storing_rule_applies ErrorStatus asked answered (facts_with_policy facts (plain caches)) ≡ false
 
-abbrev pub PlainLineGivesToCookies : Type 0
-PlainLineGivesToCookies = (caches : Bool) (asked : Asked) (answered : Answered) (facts : StoringFacts) →
+abbrev pub DefaultPolicyStoresForRequestCookies : Type 0
+DefaultPolicyStoresForRequestCookies = (caches : Bool) (asked : Asked) (answered : Answered) (facts : StoringFacts) →
     storing_rule_applies RequestCookie asked answered (facts_with_policy facts (plain caches)) ≡ false
 
 -- and a request for a range goes past the store, whatever answers it
-abbrev pub PlainLineStoresNothingForARange : Type 0
-PlainLineStoresNothingForARange = (caches : Bool) (asked : Asked) (answered : Answered) (facts : StoringFacts) →
+abbrev pub DefaultPolicyStoresNothingForARange : Type 0
+DefaultPolicyStoresNothingForARange = (caches : Bool) (asked : Asked) (answered : Answered) (facts : StoringFacts) →
     storing_rule_applies Bypass asked answered (facts_with_policy facts (plain caches))
     ≡ ((request_has_content asked || asks_for_range asked) || has_precondition asked)
 
 -- the rules that ask for no word
-abbrev pub rules_without_words : List StoreRule
-rules_without_words =
+abbrev pub storage_rules_without_policy : List StoreRule
+storage_rules_without_policy =
     Operator ∷ Method ∷ Bypass ∷ Status ∷ MustUnderstand ∷ ResponseNoStore ∷ RequestNoStore ∷ Private ∷ Authorization
     ∷ NothingAllows ∷ VaryStar ∷ ConnectionField ∷ NothingToReuse ∷ TooLarge ∷ Overtaken ∷ Serials ∷ []
 
 -- so the least rule is the least of those
-abbrev pub PlainLineAsksOnlyOtherRules : Type 0
-PlainLineAsksOnlyOtherRules = (caches : Bool) (asked : Asked) (answered : Answered) (facts : StoringFacts) →
+abbrev pub DefaultPolicyNeedsNoPolicyRules : Type 0
+DefaultPolicyNeedsNoPolicyRules = (caches : Bool) (asked : Asked) (answered : Answered) (facts : StoringFacts) →
     storage_rule_of asked answered (facts_with_policy facts (plain caches))
     ≡ find (λ rule. storing_rule_applies rule asked answered
-    (facts_with_policy facts (plain caches))) rules_without_words
+    (facts_with_policy facts (plain caches))) storage_rules_without_policy

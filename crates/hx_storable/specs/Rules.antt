@@ -1,10 +1,10 @@
 -- Which rules keep a response from being stored (RFC 9111, sections 3 and 3.5), and which is the first.
 -- A cache may always store less (RFC 9111, section 2); the rules that do so are marked "own".
 --
--- is_understood_status: statuses     allows_storing, allows_shared: what a response says of it
--- has_cookie_for_one, is_uncached_error: what the operator may keep from the store
--- is_from_someone, lasts_by_the_line: who asked, and whose lifetime it is
--- withholds_cookies: where a cookie keeps a response from the store
+-- is_understood_status: statuses     response_allows_storing, allows_authorized: what a response says of it
+-- has_cookie_for_one, is_error_not_heuristically_cacheable: what the operator may keep from the store
+-- request_has_cookie_or_authorization, has_lifetime_only_by_policy: who asked, and whose lifetime it is
+-- policy_forbids_set_cookie: where a cookie keeps a response from the store
 -- storing_rule_applies: the condition of each rule
 -- storage_rules, storing_rule_number: the rules by their numbers
 -- storage_rule_of: the least that stands
@@ -19,7 +19,7 @@ use Rattle.hx_directives.specs.declared.names.Directive.TheVariants as directive
 use Rattle.hx_hop.specs.declared.request_view.Asked.{Asked}
 use Rattle.hx_hop.specs.declared.response_view.Answered.{Answered}
 use Rattle.hx_hop.specs.Bypass.{request_has_content, asks_for_range, has_precondition}
-use Rattle.hx_policy.specs.Policies.{is_heuristic, given_lifetime}
+use Rattle.hx_policy.specs.Policies.{is_heuristic_status, lifetime_given_by_policy}
 use Rattle.hx_policy.specs.declared.words.Policy.{Policy}
 use Rattle.hx_storable.specs.declared.known_facts.StoringFacts.{StoringFacts}
 use Rattle.hx_storable.specs.declared.rule.StoreRule.{StoreRule}
@@ -32,26 +32,26 @@ use Rattle.hx_storable.specs.declared.rule.StoreRule.TheVariants.{Serials, SetCo
 -- the statuses whose caching this cache understands (RFC 9111, section 5.2.2.3)
 -- own: those of the standard's list but 206, for no incomplete response is stored
 abbrev pub is_understood_status : ℕ → Bool
-is_understood_status status = is_heuristic status && not (status == 206)
+is_understood_status status = is_heuristic_status status && not (status == 206)
 
 -- a directive occurs in the request, and in the response
-abbrev pub request_has : Asked → Directive → Bool
-request_has asked d = directive_occurs (occurrences_of asked.fields) d
+abbrev pub request_has_directive : Asked → Directive → Bool
+request_has_directive asked d = directive_occurs (occurrences_of asked.fields) d
 
 abbrev pub response_has : Answered → Directive → Bool
 response_has answered d = directive_occurs (occurrences_of answered.fields) d
 
 -- a directive lets a shared cache store what was asked for with Authorization (RFC 9111, section 3.5)
-abbrev pub allows_shared : List Occurrence → Bool
-allows_shared found = (directive_occurs found directive.MustRevalidate || directive_occurs found directive.Public)
+abbrev pub allows_authorized : List Occurrence → Bool
+allows_authorized found = (directive_occurs found directive.MustRevalidate || directive_occurs found directive.Public)
     || directive_occurs found directive.SMaxage
 
 -- something in the response allows it to be stored, whether or not its seconds can be read (RFC 9111, section 3)
-abbrev pub allows_storing : Answered → Bool
-allows_storing answered =
+abbrev pub response_allows_storing : Answered → Bool
+response_allows_storing answered =
     (((response_has answered directive.Public || has_line answered.fields (codes "Expires"))
     || response_has answered directive.MaxAge)
-    || response_has answered directive.SMaxage) || is_heuristic answered.status
+    || response_has answered directive.SMaxage) || is_heuristic_status answered.status
 
 -- the response sets a cookie, and doesn't say that it is for all. Of itself Set-Cookie "does not
 -- inhibit caching" (RFC 9111, section 7.3): it takes a word of the operator's line
@@ -59,35 +59,36 @@ abbrev pub has_cookie_for_one : Answered → Bool
 has_cookie_for_one answered = has_line answered.fields (codes "Set-Cookie") && not (response_has answered directive.Public)
 
 -- the status tells an error (RFC 9110, sections 15.5 and 15.6), and none of 404, 405, 410, 414 and 501
-abbrev pub is_uncached_error : ℕ → Bool
-is_uncached_error status = nat_le 400 status && not (is_heuristic status)
+abbrev pub is_error_not_heuristically_cacheable : ℕ → Bool
+is_error_not_heuristically_cacheable status = nat_le 400 status && not (is_heuristic_status status)
 
 -- the request tells who asks, by a cookie or by credentials (RFC 6265, section 4.2; RFC 9110, section 11.6.2)
-abbrev pub is_from_someone : Asked → Bool
-is_from_someone asked = has_line asked.fields (codes "Cookie") || has_line asked.fields (codes "Authorization")
+abbrev pub request_has_cookie_or_authorization : Asked → Bool
+request_has_cookie_or_authorization asked = has_line asked.fields (codes "Cookie") || has_line asked.fields (codes "Authorization")
 
 -- the response says how long it is fresh, whether or not that can be read (RFC 9111, section 4.2.1)
-abbrev pub states_lifetime : Answered → Bool
-states_lifetime answered =
+abbrev pub response_states_lifetime : Answered → Bool
+response_states_lifetime answered =
     (response_has answered directive.SMaxage || response_has answered directive.MaxAge)
     || has_line answered.fields (codes "Expires")
 
 -- it doesn't, and the operator's line gives it a lifetime (RFC 9111, section 4.2.2)
-abbrev pub lasts_by_the_line : Policy → Answered → Bool
-lasts_by_the_line policy answered =
-    not (states_lifetime answered) && is_some (given_lifetime policy answered.status)
+abbrev pub has_lifetime_only_by_policy : Policy → Answered → Bool
+has_lifetime_only_by_policy policy answered =
+    not (response_states_lifetime answered) && is_some (lifetime_given_by_policy policy answered.status)
 
 -- the operator stores no response with a cookie for one, or the line gives such a response no lifetime and it has none
 -- of its own
-abbrev pub withholds_cookies : Policy → Answered → Bool
-withholds_cookies policy answered =
-    not policy.stores_cookies || (not policy.gives_to_set_cookie && lasts_by_the_line policy answered)
+abbrev pub policy_forbids_set_cookie : Policy → Answered → Bool
+policy_forbids_set_cookie policy answered =
+    not policy.stores_cookies || (not policy.gives_to_set_cookie && has_lifetime_only_by_policy policy answered)
 
 -- The answer is for the request's range alone: over a line that has ranges cut from what is stored only one that tells
 -- the range wrong is (RFC 9110, section 15.5.17), since a 206 is stored for no request, and each other answer is as to
 -- a request without Range (section 14.2).
-abbrev pub is_for_its_range : Policy → Asked → Answered → Bool
-is_for_its_range policy asked answered = (policy.forwards_ranges || (answered.status == 416)) && asks_for_range asked
+abbrev pub is_answer_to_its_range_alone : Policy → Asked → Answered → Bool
+is_answer_to_its_range_alone policy asked answered =
+    (policy.forwards_ranges || (answered.status == 416)) && asks_for_range asked
 
 -- the condition of each rule
 abbrev pub storing_rule_applies : StoreRule → Asked → Answered → StoringFacts → Bool
@@ -97,7 +98,7 @@ storing_rule_applies Operator asked answered facts = not facts.policy.caches
 storing_rule_applies Method asked answered facts = not (bytes_eq asked.method (codes "GET"))
 -- own: such a request goes past the cache, in both directions
 storing_rule_applies Bypass asked answered facts =
-    (request_has_content asked || is_for_its_range facts.policy asked answered) || has_precondition asked
+    (request_has_content asked || is_answer_to_its_range_alone facts.policy asked answered) || has_precondition asked
 -- RFC 9111, sections 3 and 3.3
 storing_rule_applies Status asked answered facts = (answered.status == 206) || (answered.status == 304)
 -- RFC 9111, section 5.2.2.3
@@ -107,14 +108,14 @@ storing_rule_applies MustUnderstand asked answered facts = response_has answered
 storing_rule_applies ResponseNoStore asked answered facts = response_has answered directive.NoStore
     && not (response_has answered directive.MustUnderstand)
 -- RFC 9111, section 5.2.1.5
-storing_rule_applies RequestNoStore asked answered facts = request_has asked directive.NoStore
+storing_rule_applies RequestNoStore asked answered facts = request_has_directive asked directive.NoStore
 -- RFC 9111, section 5.2.2.7; own: also where it names fields
 storing_rule_applies Private asked answered facts = response_has answered directive.Private
 -- RFC 9111, section 3.5
 storing_rule_applies Authorization asked answered facts = has_line asked.fields (codes "Authorization")
-    && not (allows_shared (occurrences_of answered.fields))
+    && not (allows_authorized (occurrences_of answered.fields))
 -- RFC 9111, section 3
-storing_rule_applies NothingAllows asked answered facts = not (allows_storing answered)
+storing_rule_applies NothingAllows asked answered facts = not (response_allows_storing answered)
 -- own: such a response answers no other request (RFC 9111, section 4.1)
 storing_rule_applies VaryStar asked answered facts = facts.vary_star
 -- own: a cache field that was meant for one connection isn't there to be kept (RFC 9110, section 7.6.1)
@@ -129,27 +130,27 @@ storing_rule_applies Overtaken asked answered facts = facts.overtaken
 storing_rule_applies Serials asked answered facts = facts.no_serial
 -- own: where the operator stores no cookies, or only his line would let them be sent to others (RFC 9111, section 7.3)
 storing_rule_applies SetCookie asked answered facts =
-    withholds_cookies facts.policy answered && has_cookie_for_one answered
+    policy_forbids_set_cookie facts.policy answered && has_cookie_for_one answered
 -- own: where the operator stores no errors
 storing_rule_applies ErrorStatus asked answered facts = not facts.policy.stores_errors
-    && is_uncached_error answered.status
+    && is_error_not_heuristically_cacheable answered.status
 -- own: what tells who asks may be answered for that one, so the line alone doesn't let the answer be sent to others
 storing_rule_applies RequestCookie asked answered facts =
-    (not facts.policy.gives_to_cookies && is_from_someone asked)
-    && (lasts_by_the_line facts.policy answered && not (response_has answered directive.Public))
+    (not facts.policy.gives_to_cookies && request_has_cookie_or_authorization asked)
+    && (has_lifetime_only_by_policy facts.policy answered && not (response_has answered directive.Public))
 
 -- the rules by their numbers; six ask for nothing but the facts, and the last three are the words of the operator's
 -- line
-abbrev pub rules_on_facts : List StoreRule
-rules_on_facts = VaryStar ∷ ConnectionField ∷ NothingToReuse ∷ TooLarge ∷ Overtaken ∷ Serials ∷ []
+abbrev pub storing_rules_on_facts : List StoreRule
+storing_rules_on_facts = VaryStar ∷ ConnectionField ∷ NothingToReuse ∷ TooLarge ∷ Overtaken ∷ Serials ∷ []
 
-abbrev pub rules_of_words : List StoreRule
-rules_of_words = SetCookie ∷ ErrorStatus ∷ RequestCookie ∷ []
+abbrev pub storage_rules_of_policy : List StoreRule
+storage_rules_of_policy = SetCookie ∷ ErrorStatus ∷ RequestCookie ∷ []
 
 abbrev pub storage_rules : List StoreRule
 storage_rules =
     Operator ∷ Method ∷ Bypass ∷ Status ∷ MustUnderstand ∷ ResponseNoStore ∷ RequestNoStore ∷ Private ∷ Authorization
-    ∷ NothingAllows ∷ (rules_on_facts ++ rules_of_words)
+    ∷ NothingAllows ∷ (storing_rules_on_facts ++ storage_rules_of_policy)
 
 abbrev pub storing_rule_number : StoreRule → ℕ
 storing_rule_number Operator = 0

@@ -3,47 +3,55 @@
 ghost use Rattle.std.specs.Prelude.{◌≡◌, ◌∷◌, [], codes, Some, None, true, false};
 ghost use Rattle.hx_fields.specs.Examples.{line};
 ghost use Rattle.hx_storable.specs.StoringRuleTables.{StoringRulesAreInOrder, EachStoringRuleIsListed};
-ghost use Rattle.hx_storable.specs.StoringRuleTables.{RulesOfWordsComeLast};
+ghost use Rattle.hx_storable.specs.StoringRuleTables.{PolicyRulesComeLast};
 ghost use Rattle.hx_storable.specs.StoringRuleNames.{WordsOfStoringRulesDiffer};
 ghost use Rattle.hx_storable.specs.Rules.{storage_rule_of};
-ghost use Rattle.hx_storable.specs.Storable.{NothingElseIsStorable, WhatMayBeStoredIsStored, NamedStoringRuleIsLeast};
-ghost use Rattle.hx_storable.specs.Storable.{LeastStoringRuleIsNamed, StoredWhereNoRuleApplies, NoStoreForbidsStoring};
+ghost use Rattle.hx_storable.specs.Storable.{OnlyStorableResponseIsStored, StorableResponseIsStored};
+ghost use Rattle.hx_storable.specs.Storable.{NamedStoringRuleIsLeast};
+ghost use Rattle.hx_storable.specs.Storable.{LeastStoringRuleIsNamed, StoredExactlyWhereNoRuleApplies};
+ghost use Rattle.hx_storable.specs.Storable.{NoStoreForbidsStoring};
 ghost use Rattle.hx_storable.specs.Storable.{NoStoreForbidsUnlessUnderstood, RequestNoStoreForbidsStoring};
 ghost use Rattle.hx_storable.specs.Storable.{PrivateForbidsStoring};
-ghost use Rattle.hx_storable.specs.Storable.{AuthorizationForbidsStoring, PartsAreNeverStored, OnlyGetIsStored};
-ghost use Rattle.hx_storable.specs.Storable.{OperatorForbidsStoring};
-ghost use Rattle.hx_storable.specs.LineWordsInStoring.{CookieForbidsStoring, ErrorForbidsStoring, WordsOnlyForbid};
-ghost use Rattle.hx_storable.specs.LineWordsInStoring.{WordsForbidNothingElse, RequestCookieForbidsStoring};
-ghost use Rattle.hx_storable.specs.LineWordsInStoring.{PlainLineIsTheOperators, PlainLineStoresCookies};
-ghost use Rattle.hx_storable.specs.LineWordsInStoring.{PlainLineStoresErrors, PlainLineGivesToCookies};
-ghost use Rattle.hx_storable.specs.LineWordsInStoring.{PlainLineAsksOnlyOtherRules, PlainLineStoresNothingForARange};
-ghost use Rattle.hx_storable.specs.LineWordsInStoring.{CookieIsGivenNoLifetime};
-ghost use Rattle.hx_storable.specs.Cases.{get_of_a_range, with_ranges_served};
+ghost use Rattle.hx_storable.specs.Storable.{AuthorizationForbidsStoring, A206Or304IsNeverStored};
+ghost use Rattle.hx_storable.specs.Storable.{OnlyAnswersToGetAreStored};
+ghost use Rattle.hx_storable.specs.Storable.{CachingOffForbidsStoring};
+ghost use Rattle.hx_storable.specs.LineWordsInStoring.{SetCookieForbidsStoringUnlessPublic, ErrorStatusForbidsStoring};
+ghost use Rattle.hx_storable.specs.LineWordsInStoring.{PolicyOnlyForbidsStoring};
+ghost use Rattle.hx_storable.specs.LineWordsInStoring.{PolicyForbidsNothingElse, RequestCookieGetsNoLifetime};
+ghost use Rattle.hx_storable.specs.LineWordsInStoring.{DefaultPolicyForbidsOnlyByCachingOff};
+ghost use Rattle.hx_storable.specs.LineWordsInStoring.{DefaultPolicyStoresCookies};
+ghost use Rattle.hx_storable.specs.LineWordsInStoring.{DefaultPolicyStoresErrors, DefaultPolicyStoresForRequestCookies};
+ghost use Rattle.hx_storable.specs.LineWordsInStoring.{DefaultPolicyNeedsNoPolicyRules};
+ghost use Rattle.hx_storable.specs.LineWordsInStoring.{DefaultPolicyStoresNothingForARange};
+ghost use Rattle.hx_storable.specs.LineWordsInStoring.{SetCookieGetsNoLifetimeFromTheLine};
+ghost use Rattle.hx_storable.specs.Cases.{get_of_a_range, facts_of_served_ranges};
 ghost use Rattle.hx_storable.specs.Cases.{cache_control_fields, get_a_with, get_with_authorization, answer_with};
-ghost use Rattle.hx_storable.specs.Cases.{storable_facts, facts_with_vary_star, facts_with_star_and_listed};
-ghost use Rattle.hx_storable.specs.Cases.{facts_of_uncached_line, facts_of_cached_line, login_page, answer_of_a_minute};
-ghost use Rattle.hx_storable.specs.Cases.{without_cookies, without_errors, get_with_cookie, with_private_lifetime};
-ghost use Rattle.hx_storable.specs.Cases.{with_shared_lifetime, page_with_cookie, without_lifetime_of_cookies};
-ghost use Rattle.hx_storable.specs.Cases.{with_cookies_removed};
+ghost use Rattle.hx_storable.specs.Cases.{storable_facts, facts_with_vary_star, facts_with_vary_star_and_listed_field};
+ghost use Rattle.hx_storable.specs.Cases.{facts_of_uncached_line, facts_with_caching_on, login_page};
+ghost use Rattle.hx_storable.specs.Cases.{answer_fresh_a_minute};
+ghost use Rattle.hx_storable.specs.Cases.{facts_without_cookie_storing, facts_without_error_storing, get_with_cookie};
+ghost use Rattle.hx_storable.specs.Cases.{facts_without_lifetime_for_cookies};
+ghost use Rattle.hx_storable.specs.Cases.{facts_with_lifetime_for_all, page_with_cookie, facts_without_cookie_lifetime};
+ghost use Rattle.hx_storable.specs.Cases.{facts_with_cookies_removed};
 
 use crate::{StoreRule, StoringFacts};
 
 /// A response is stored exactly where RFC 9111, section 3 lets a shared cache store it, and this cache has a use and
 /// room for it.
 pub fn stored_where_it_may_be_stored()
-    ensures every { WhatMayBeStoredIsStored }
-    ensures only { NothingElseIsStorable }
+    ensures every { StorableResponseIsStored }
+    ensures only { OnlyStorableResponseIsStored }
 {}
 
 /// The rule that is named stands, and none of a smaller number does; where none is named none stands.
 pub fn the_least_storage_rule_is_named()
     ensures least { NamedStoringRuleIsLeast }
     ensures every { LeastStoringRuleIsNamed }
-    ensures none { StoredWhereNoRuleApplies }
+    ensures none { StoredExactlyWhereNoRuleApplies }
 {}
 
 /// no-store forbids storing, whether the response has it (where must-understand doesn't lift it) or the request.
-pub fn what_may_not_be_stored_never_is()
+pub fn no_store_is_never_stored()
     ensures response { NoStoreForbidsStoring }
     ensures not_understood { NoStoreForbidsUnlessUnderstood }
     ensures request { RequestNoStoreForbidsStoring }
@@ -57,168 +65,176 @@ pub fn nothing_private_is_stored()
 
 /// No part of a representation is stored, and nothing that another method than GET asked for.
 pub fn only_whole_answers_to_get_are_stored()
-    ensures part { PartsAreNeverStored }
-    ensures method { OnlyGetIsStored }
+    ensures part { A206Or304IsNeverStored }
+    ensures method { OnlyAnswersToGetAreStored }
 {}
 
 /// What the operator keeps from the store is never stored, whatever the origin says of it.
-pub fn nothing_is_stored_against_the_operator()
-    ensures { OperatorForbidsStoring }
+pub fn nothing_is_stored_with_caching_off()
+    ensures { CachingOffForbidsStoring }
 {}
 
 /// Where the operator stores no cookies, none is stored for others than the one whom it was set for.
 #[tactic(auto, unfolding(crate::specs::Rules::storage_rule_of))]
-pub fn a_cookie_is_not_stored_for_others()
-    ensures every { CookieForbidsStoring }
-    ensures login_page { storage_rule_of (get_a_with []) (login_page (codes "max-age=60")) without_cookies
+pub fn set_cookie_is_not_stored_where_policy_forbids()
+    ensures every { SetCookieForbidsStoringUnlessPublic }
+    ensures login_page { storage_rule_of (get_a_with []) (login_page (codes "max-age=60")) facts_without_cookie_storing
         ≡ Some StoreRule.SetCookie }
-    ensures public { storage_rule_of (get_a_with []) (login_page (codes "public, max-age=60")) without_cookies ≡ None }
+    ensures public { storage_rule_of (get_a_with []) (login_page (codes "public, max-age=60")) facts_without_cookie_storing ≡ None }
     ensures without_the_word { storage_rule_of (get_a_with []) (login_page (codes "max-age=60")) storable_facts ≡ None }
     ensures public_without_the_word { storage_rule_of (get_a_with []) (login_page (codes "public, max-age=60")) storable_facts ≡ None }
-    ensures no_cookie { storage_rule_of (get_a_with []) (answer_of_a_minute 200) without_cookies ≡ None }
-    ensures errors_alone { storage_rule_of (get_a_with []) (login_page (codes "max-age=60")) without_errors ≡ None }
+    ensures no_cookie { storage_rule_of (get_a_with []) (answer_fresh_a_minute 200) facts_without_cookie_storing
+        ≡ None }
+    ensures errors_alone { storage_rule_of (get_a_with []) (login_page (codes "max-age=60")) facts_without_error_storing ≡ None }
 {}
 
 /// Where the operator gives his lifetimes to no response with Set-Cookie, one that has no public isn't stored for
 /// others where nothing but the line would let it be sent to them. Where he has cookies removed it is stored as any.
 #[tactic(auto, unfolding(crate::specs::Rules::storage_rule_of))]
-pub fn a_cookie_is_not_stored_by_the_line()
-    ensures every { CookieIsGivenNoLifetime }
-    ensures page { storage_rule_of (get_a_with []) (page_with_cookie 200 []) without_lifetime_of_cookies
+pub fn set_cookie_is_not_stored_by_policy_lifetime()
+    ensures every { SetCookieGetsNoLifetimeFromTheLine }
+    ensures page { storage_rule_of (get_a_with []) (page_with_cookie 200 []) facts_without_cookie_lifetime
         ≡ Some StoreRule.SetCookie }
-    ensures redirect { storage_rule_of (get_a_with []) (page_with_cookie 301 []) without_lifetime_of_cookies
+    ensures redirect { storage_rule_of (get_a_with []) (page_with_cookie 301 []) facts_without_cookie_lifetime
         ≡ Some StoreRule.SetCookie }
     ensures with_a_tag { storage_rule_of (get_a_with []) (page_with_cookie 200 (line (codes "ETag") (codes "\"a\"") ∷ []))
-        without_lifetime_of_cookies ≡ Some StoreRule.SetCookie }
-    ensures public { storage_rule_of (get_a_with []) (login_page (codes "public")) without_lifetime_of_cookies ≡ None }
-    ensures max_age { storage_rule_of (get_a_with []) (login_page (codes "max-age=60")) without_lifetime_of_cookies
+        facts_without_cookie_lifetime ≡ Some StoreRule.SetCookie }
+    ensures public { storage_rule_of (get_a_with []) (login_page (codes "public")) facts_without_cookie_lifetime ≡ None }
+    ensures max_age { storage_rule_of (get_a_with []) (login_page (codes "max-age=60")) facts_without_cookie_lifetime
         ≡ None }
-    ensures s_maxage { storage_rule_of (get_a_with []) (login_page (codes "s-maxage=60")) without_lifetime_of_cookies
+    ensures s_maxage { storage_rule_of (get_a_with []) (login_page (codes "s-maxage=60")) facts_without_cookie_lifetime
         ≡ None }
     ensures expires { storage_rule_of (get_a_with [])
-        (page_with_cookie 200 (line (codes "Expires") (codes "0") ∷ [])) without_lifetime_of_cookies ≡ None }
-    ensures not_given { storage_rule_of (get_a_with []) (page_with_cookie 404 []) without_lifetime_of_cookies ≡ None }
-    ensures no_cookie { storage_rule_of (get_a_with []) (answer_with 200 []) without_lifetime_of_cookies ≡ None }
-    ensures given { storage_rule_of (get_a_with []) (page_with_cookie 200 []) with_shared_lifetime ≡ None }
-    ensures removed { storage_rule_of (get_a_with []) (page_with_cookie 200 []) with_cookies_removed ≡ None }
-    ensures removed_private { storage_rule_of (get_a_with []) (login_page (codes "private")) with_cookies_removed
+        (page_with_cookie 200 (line (codes "Expires") (codes "0") ∷ [])) facts_without_cookie_lifetime ≡ None }
+    ensures not_given { storage_rule_of (get_a_with []) (page_with_cookie 404 []) facts_without_cookie_lifetime ≡ None }
+    ensures no_cookie { storage_rule_of (get_a_with []) (answer_with 200 []) facts_without_cookie_lifetime ≡ None }
+    ensures given { storage_rule_of (get_a_with []) (page_with_cookie 200 []) facts_with_lifetime_for_all ≡ None }
+    ensures removed { storage_rule_of (get_a_with []) (page_with_cookie 200 []) facts_with_cookies_removed ≡ None }
+    ensures removed_private { storage_rule_of (get_a_with []) (login_page (codes "private")) facts_with_cookies_removed
         ≡ Some StoreRule.Private }
 {}
 
 /// Where the operator stores no errors, none is stored whose status isn't heuristically cacheable,
 /// however long it lasts.
 #[tactic(auto, unfolding(crate::specs::Rules::storage_rule_of))]
-pub fn an_error_is_not_stored()
-    ensures every { ErrorForbidsStoring }
-    ensures bad_request { storage_rule_of (get_a_with []) (answer_of_a_minute 400) without_errors
+pub fn errors_are_not_stored_where_policy_forbids()
+    ensures every { ErrorStatusForbidsStoring }
+    ensures bad_request { storage_rule_of (get_a_with []) (answer_fresh_a_minute 400) facts_without_error_storing
         ≡ Some StoreRule.ErrorStatus }
-    ensures unauthorized { storage_rule_of (get_a_with []) (answer_of_a_minute 401) without_errors
+    ensures unauthorized { storage_rule_of (get_a_with []) (answer_fresh_a_minute 401) facts_without_error_storing
         ≡ Some StoreRule.ErrorStatus }
-    ensures forbidden { storage_rule_of (get_a_with []) (answer_of_a_minute 403) without_errors
+    ensures forbidden { storage_rule_of (get_a_with []) (answer_fresh_a_minute 403) facts_without_error_storing
         ≡ Some StoreRule.ErrorStatus }
-    ensures server_error { storage_rule_of (get_a_with []) (answer_of_a_minute 500) without_errors
+    ensures server_error { storage_rule_of (get_a_with []) (answer_fresh_a_minute 500) facts_without_error_storing
         ≡ Some StoreRule.ErrorStatus }
-    ensures unavailable { storage_rule_of (get_a_with []) (answer_of_a_minute 503) without_errors
+    ensures unavailable { storage_rule_of (get_a_with []) (answer_fresh_a_minute 503) facts_without_error_storing
         ≡ Some StoreRule.ErrorStatus }
-    ensures not_found { storage_rule_of (get_a_with []) (answer_of_a_minute 404) without_errors ≡ None }
-    ensures not_allowed { storage_rule_of (get_a_with []) (answer_of_a_minute 405) without_errors ≡ None }
-    ensures gone { storage_rule_of (get_a_with []) (answer_of_a_minute 410) without_errors ≡ None }
-    ensures too_long { storage_rule_of (get_a_with []) (answer_of_a_minute 414) without_errors ≡ None }
-    ensures not_implemented { storage_rule_of (get_a_with []) (answer_of_a_minute 501) without_errors ≡ None }
-    ensures found { storage_rule_of (get_a_with []) (answer_of_a_minute 302) without_errors ≡ None }
-    ensures found_without_the_word { storage_rule_of (get_a_with []) (answer_of_a_minute 302) storable_facts ≡ None }
-    ensures bad_request_without_the_word { storage_rule_of (get_a_with []) (answer_of_a_minute 400) storable_facts
+    ensures not_found { storage_rule_of (get_a_with []) (answer_fresh_a_minute 404) facts_without_error_storing ≡ None }
+    ensures not_allowed { storage_rule_of (get_a_with []) (answer_fresh_a_minute 405) facts_without_error_storing
         ≡ None }
-    ensures cookies_alone { storage_rule_of (get_a_with []) (answer_of_a_minute 400) without_cookies ≡ None }
+    ensures gone { storage_rule_of (get_a_with []) (answer_fresh_a_minute 410) facts_without_error_storing ≡ None }
+    ensures too_long { storage_rule_of (get_a_with []) (answer_fresh_a_minute 414) facts_without_error_storing ≡ None }
+    ensures not_implemented { storage_rule_of (get_a_with []) (answer_fresh_a_minute 501) facts_without_error_storing
+        ≡ None }
+    ensures found { storage_rule_of (get_a_with []) (answer_fresh_a_minute 302) facts_without_error_storing ≡ None }
+    ensures found_without_the_word { storage_rule_of (get_a_with []) (answer_fresh_a_minute 302) storable_facts ≡ None }
+    ensures bad_request_without_the_word { storage_rule_of (get_a_with []) (answer_fresh_a_minute 400) storable_facts
+        ≡ None }
+    ensures cookies_alone { storage_rule_of (get_a_with []) (answer_fresh_a_minute 400) facts_without_cookie_storing
+        ≡ None }
 {}
 
 /// Over a line that has ranges cut from what is stored the whole answer to a request for one is stored as any, which an
 /// origin without ranges gives; a part isn't, nor that a range is wrong (RFC 9110, sections 14.2 and 15.5.17).
 #[tactic(auto, unfolding(crate::specs::Rules::storage_rule_of))]
 pub fn whole_answers_to_ranges_are_stored()
-    ensures whole { storage_rule_of get_of_a_range (answer_of_a_minute 200) with_ranges_served ≡ None }
-    ensures not_found { storage_rule_of get_of_a_range (answer_of_a_minute 404) with_ranges_served ≡ None }
-    ensures part { storage_rule_of get_of_a_range (answer_of_a_minute 206) with_ranges_served ≡ Some StoreRule.Status }
-    ensures unsatisfied { storage_rule_of get_of_a_range (answer_of_a_minute 416) with_ranges_served
+    ensures whole { storage_rule_of get_of_a_range (answer_fresh_a_minute 200) facts_of_served_ranges ≡ None }
+    ensures not_found { storage_rule_of get_of_a_range (answer_fresh_a_minute 404) facts_of_served_ranges ≡ None }
+    ensures part { storage_rule_of get_of_a_range (answer_fresh_a_minute 206) facts_of_served_ranges
+        ≡ Some StoreRule.Status }
+    ensures unsatisfied { storage_rule_of get_of_a_range (answer_fresh_a_minute 416) facts_of_served_ranges
         ≡ Some StoreRule.Bypass }
-    ensures unsatisfied_without_a_range { storage_rule_of (get_a_with []) (answer_of_a_minute 416) with_ranges_served
+    ensures unsatisfied_without_a_range { storage_rule_of (get_a_with [])
+        (answer_fresh_a_minute 416) facts_of_served_ranges
         ≡ None }
-    ensures forwarded { storage_rule_of get_of_a_range (answer_of_a_minute 200) storable_facts ≡ Some StoreRule.Bypass }
+    ensures forwarded { storage_rule_of get_of_a_range (answer_fresh_a_minute 200) storable_facts
+        ≡ Some StoreRule.Bypass }
 {}
 
 /// Where the operator gives his lifetimes to no request with Cookie or Authorization, the response to one that has no
 /// public isn't stored for others where nothing but the line would let it be sent to them.
 #[tactic(auto, unfolding(crate::specs::Rules::storage_rule_of))]
-pub fn a_page_for_one_is_not_stored_by_the_line()
-    ensures every { RequestCookieForbidsStoring }
-    ensures cookie { storage_rule_of get_with_cookie (answer_with 200 []) with_private_lifetime
+pub fn cookie_requests_are_not_stored_by_policy_lifetime()
+    ensures every { RequestCookieGetsNoLifetime }
+    ensures cookie { storage_rule_of get_with_cookie (answer_with 200 []) facts_without_lifetime_for_cookies
         ≡ Some StoreRule.RequestCookie }
     ensures authorization { storage_rule_of get_with_authorization
-        (answer_with 200 (cache_control_fields (codes "must-revalidate"))) with_private_lifetime
+        (answer_with 200 (cache_control_fields (codes "must-revalidate"))) facts_without_lifetime_for_cookies
         ≡ Some StoreRule.RequestCookie }
-    ensures redirect { storage_rule_of get_with_cookie (answer_with 301 []) with_private_lifetime
+    ensures redirect { storage_rule_of get_with_cookie (answer_with 301 []) facts_without_lifetime_for_cookies
         ≡ Some StoreRule.RequestCookie }
     ensures public { storage_rule_of get_with_cookie (answer_with 200 (cache_control_fields (codes "public")))
-        with_private_lifetime ≡ None }
-    ensures max_age { storage_rule_of get_with_cookie (answer_of_a_minute 200) with_private_lifetime ≡ None }
+        facts_without_lifetime_for_cookies ≡ None }
+    ensures max_age { storage_rule_of get_with_cookie (answer_fresh_a_minute 200) facts_without_lifetime_for_cookies
+        ≡ None }
     ensures unreadable { storage_rule_of get_with_cookie (answer_with 200 (cache_control_fields (codes "max-age=x")))
-        with_private_lifetime ≡ None }
+        facts_without_lifetime_for_cookies ≡ None }
     ensures s_maxage { storage_rule_of get_with_authorization
-        (answer_with 200 (cache_control_fields (codes "s-maxage=60"))) with_private_lifetime ≡ None }
+        (answer_with 200 (cache_control_fields (codes "s-maxage=60"))) facts_without_lifetime_for_cookies ≡ None }
     ensures expires { storage_rule_of get_with_cookie (answer_with 200 (line (codes "Expires") (codes "0") ∷ []))
-        with_private_lifetime ≡ None }
-    ensures no_cookie { storage_rule_of (get_a_with []) (answer_with 200 []) with_private_lifetime ≡ None }
-    ensures not_given { storage_rule_of get_with_cookie (answer_with 404 []) with_private_lifetime ≡ None }
+        facts_without_lifetime_for_cookies ≡ None }
+    ensures no_cookie { storage_rule_of (get_a_with []) (answer_with 200 []) facts_without_lifetime_for_cookies ≡ None }
+    ensures not_given { storage_rule_of get_with_cookie (answer_with 404 []) facts_without_lifetime_for_cookies ≡ None }
     ensures without_a_lifetime { storage_rule_of get_with_cookie (answer_with 200 []) storable_facts ≡ None }
-    ensures shared { storage_rule_of get_with_cookie (answer_with 200 []) with_shared_lifetime ≡ None }
+    ensures shared { storage_rule_of get_with_cookie (answer_with 200 []) facts_with_lifetime_for_all ≡ None }
     ensures private_first { storage_rule_of get_with_cookie (answer_with 200 (cache_control_fields (codes "private")))
-        with_private_lifetime ≡ Some StoreRule.Private }
+        facts_without_lifetime_for_cookies ≡ Some StoreRule.Private }
 {}
 
 /// The words of a line but that on ranges keep a response from the store, or do nothing: what is stored with them is
 /// stored without them, and what they allow is stored as without them.
-pub fn words_only_forbid_storing()
-    ensures only { WordsOnlyForbid }
-    ensures no_more { WordsForbidNothingElse }
+pub fn policy_only_forbids_storing()
+    ensures only { PolicyOnlyForbidsStoring }
+    ensures no_more { PolicyForbidsNothingElse }
 {}
 
 /// With a line that has no words the least rule is what it would be if there were none: the
 /// operator's stands where the line doesn't cache, those of the words never, and a request for a range goes past the
 /// store.
-pub fn default_policy_changes_nothing()
-    ensures operator { PlainLineIsTheOperators }
-    ensures cookies { PlainLineStoresCookies }
-    ensures errors { PlainLineStoresErrors }
-    ensures requests_with_cookies { PlainLineGivesToCookies }
-    ensures ranges { PlainLineStoresNothingForARange }
-    ensures others { PlainLineAsksOnlyOtherRules }
+pub fn default_policy_follows_the_standard_alone()
+    ensures operator { DefaultPolicyForbidsOnlyByCachingOff }
+    ensures cookies { DefaultPolicyStoresCookies }
+    ensures errors { DefaultPolicyStoresErrors }
+    ensures requests_with_cookies { DefaultPolicyStoresForRequestCookies }
+    ensures ranges { DefaultPolicyStoresNothingForARange }
+    ensures others { DefaultPolicyNeedsNoPolicyRules }
 {}
 
 /// The least number, where several rules stand, and the operator's doesn't.
 #[tactic(auto, unfolding(crate::specs::Rules::storage_rule_of))]
 pub fn least_storage_rule(facts: StoringFacts)
     ensures status { storage_rule_of (get_a_with []) (answer_with 206 (cache_control_fields (codes "must-understand")))
-        (facts_of_cached_line facts)
+        (facts_with_caching_on facts)
         ≡ Some StoreRule.Status }
     ensures must_understand { storage_rule_of (get_a_with (cache_control_fields (codes "no-store")))
-        (answer_with 299 (cache_control_fields (codes "must-understand"))) (facts_of_cached_line facts)
+        (answer_with 299 (cache_control_fields (codes "must-understand"))) (facts_with_caching_on facts)
         ≡ Some StoreRule.MustUnderstand }
     ensures response_no_store { storage_rule_of (get_a_with (cache_control_fields (codes "no-store")))
-        (answer_with 200 (cache_control_fields (codes "no-store"))) (facts_of_cached_line facts)
+        (answer_with 200 (cache_control_fields (codes "no-store"))) (facts_with_caching_on facts)
         ≡ Some StoreRule.ResponseNoStore }
     ensures request_no_store { storage_rule_of (get_a_with (cache_control_fields (codes "no-store")))
-        (answer_with 200 (cache_control_fields (codes "private"))) (facts_of_cached_line facts)
+        (answer_with 200 (cache_control_fields (codes "private"))) (facts_with_caching_on facts)
         ≡ Some StoreRule.RequestNoStore }
     ensures private { storage_rule_of get_with_authorization (answer_with 200 (cache_control_fields (codes "private")))
-        (facts_of_cached_line facts)
+        (facts_with_caching_on facts)
         ≡ Some StoreRule.Private }
-    ensures authorization { storage_rule_of get_with_authorization (answer_with 299 []) (facts_of_cached_line facts)
+    ensures authorization { storage_rule_of get_with_authorization (answer_with 299 []) (facts_with_caching_on facts)
         ≡ Some StoreRule.Authorization }
     ensures nothing_allows { storage_rule_of (get_a_with [])
         (answer_with 299 (line (codes "Vary") (codes "*") ∷ [])) facts_with_vary_star
         ≡ Some StoreRule.NothingAllows }
     ensures vary_star { storage_rule_of (get_a_with [])
-        (answer_with 200 (line (codes "Vary") (codes "*") ∷ [])) facts_with_star_and_listed
+        (answer_with 200 (line (codes "Vary") (codes "*") ∷ [])) facts_with_vary_star_and_listed_field
         ≡ Some StoreRule.VaryStar }
 {}
 
@@ -254,19 +270,19 @@ pub fn line_without_cache()
 
 /// An answer that states nothing is stored where its status alone allows it, and isn't where it doesn't.
 #[tactic(auto, unfolding(crate::specs::Rules::storage_rule_of))]
-pub fn status_alone_allows_storing()
+pub fn worked_status_alone_allows_storing()
     ensures not_found { storage_rule_of (get_a_with []) (answer_with 404 []) storable_facts ≡ None }
     ensures found { storage_rule_of (get_a_with []) (answer_with 302 []) storable_facts ≡ Some StoreRule.NothingAllows }
 {}
 
 /// Each rule is listed once, in the order of the numbers, and those of the line's words come last.
-pub fn the_tables_of_the_storing_rules_agree()
+pub fn storing_rule_lists_are_complete_and_in_order()
     ensures numbers { StoringRulesAreInOrder }
     ensures listed { EachStoringRuleIsListed }
-    ensures words { RulesOfWordsComeLast }
+    ensures words { PolicyRulesComeLast }
 {}
 
 /// The word of a rule tells it from each other.
-pub fn words_name_the_storing_rule()
+pub fn words_tell_storing_rules_apart()
     ensures { WordsOfStoringRulesDiffer }
 {}

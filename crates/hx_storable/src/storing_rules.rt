@@ -8,16 +8,19 @@ ghost use Rattle.hx_hop.specs.declared.request_view.Asked.{Asked as AskedFor};
 ghost use Rattle.hx_hop.specs.declared.response_view.Answered.{Answered as AnsweredWith};
 ghost use Rattle.hx_hop.specs.Bypass.{request_has_content, has_precondition};
 ghost use Rattle.hx_storable.specs.declared.known_facts.StoringFacts.{StoringFacts as Known};
-ghost use Rattle.hx_policy.specs.Policies.{is_heuristic};
-ghost use Rattle.hx_storable.specs.Rules.{response_has, is_from_someone, states_lifetime, lasts_by_the_line};
-ghost use Rattle.hx_storable.specs.Rules.{is_understood_status, allows_shared, allows_storing, has_cookie_for_one};
-ghost use Rattle.hx_storable.specs.Rules.{is_for_its_range, is_uncached_error, storing_rule_applies, rules_on_facts};
-ghost use Rattle.hx_storable.specs.Rules.{rules_of_words, storage_rule_of, withholds_cookies};
+ghost use Rattle.hx_policy.specs.Policies.{is_heuristic_status};
+ghost use Rattle.hx_storable.specs.Rules.{response_has, request_has_cookie_or_authorization, response_states_lifetime};
+ghost use Rattle.hx_storable.specs.Rules.{has_lifetime_only_by_policy};
+ghost use Rattle.hx_storable.specs.Rules.{is_understood_status, allows_authorized, response_allows_storing};
+ghost use Rattle.hx_storable.specs.Rules.{has_cookie_for_one};
+ghost use Rattle.hx_storable.specs.Rules.{is_answer_to_its_range_alone, is_error_not_heuristically_cacheable};
+ghost use Rattle.hx_storable.specs.Rules.{storing_rule_applies, storing_rules_on_facts};
+ghost use Rattle.hx_storable.specs.Rules.{storage_rules_of_policy, storage_rule_of, policy_forbids_set_cookie};
 
 use crate::{StoreRule, StoringFacts};
 use hx_directives::{Directive, Directives};
 use hx_hop::{Answered, Asked};
-use hx_policy::{Policy, is_heuristic};
+use hx_policy::{Policy, is_heuristic_status};
 
 fn is_get(asked: &Asked) -> bool
     ensures { result ≡ bytes_eq asked.now.method (codes "GET") }
@@ -26,17 +29,19 @@ fn is_get(asked: &Asked) -> bool
 }
 
 /// Whether an answer is for the range of its request alone.
-fn is_for_its_range(policy: Policy, asked: &Asked, answered: &Answered) -> bool
-    ensures { result ≡ is_for_its_range policy asked.now answered.now }
+fn is_answer_to_its_range_alone(policy: Policy, asked: &Asked, answered: &Answered) -> bool
+    ensures { result ≡ is_answer_to_its_range_alone policy asked.now answered.now }
 {
     (policy.forwards_ranges || answered.status == 416) && asked.asks_for_range()
 }
 
 fn goes_past_the_cache(policy: Policy, asked: &Asked, answered: &Answered) -> bool
-    ensures { result ≡ ((request_has_content asked.now || is_for_its_range policy asked.now answered.now)
+    ensures { result ≡ ((request_has_content asked.now || is_answer_to_its_range_alone policy asked.now answered.now)
         || has_precondition asked.now) }
 {
-    asked.has_content() || is_for_its_range(policy, asked, answered) || asked.has_precondition()
+    asked.has_content()
+        || is_answer_to_its_range_alone(policy, asked, answered)
+        || asked.has_precondition()
 }
 
 /// Neither a part of a representation nor a 304 is stored.
@@ -49,7 +54,7 @@ fn is_not_whole(status: u16) -> bool
 fn is_understood_status(status: u16) -> bool
     ensures { result ≡ is_understood_status status }
 {
-    is_heuristic(status) && status != 206
+    is_heuristic_status(status) && status != 206
 }
 
 fn is_not_understood(status: u16, directives: &Directives) -> bool
@@ -66,8 +71,8 @@ fn forbids_storing(directives: &Directives) -> bool
 }
 
 /// Whether a directive lets a shared cache store what was asked for with Authorization.
-fn allows_shared(directives: &Directives) -> bool
-    ensures { result ≡ allows_shared directives.now }
+fn allows_authorized(directives: &Directives) -> bool
+    ensures { result ≡ allows_authorized directives.now }
 {
     directives.has(Directive::MustRevalidate)
         || directives.has(Directive::Public)
@@ -75,21 +80,21 @@ fn allows_shared(directives: &Directives) -> bool
 }
 
 fn is_authorized_alone(asked: &Asked, directives: &Directives) -> bool
-    ensures { result ≡ (has_line asked.now.fields (codes "Authorization") && not (allows_shared directives.now)) }
+    ensures { result ≡ (has_line asked.now.fields (codes "Authorization") && not (allows_authorized directives.now)) }
 {
-    asked.fields.has(b"Authorization") && !allows_shared(directives)
+    asked.fields.has(b"Authorization") && !allows_authorized(directives)
 }
 
 /// Whether something in the response allows it to be stored.
-fn allows_storing(answered: &Answered, directives: &Directives) -> bool
+fn response_allows_storing(answered: &Answered, directives: &Directives) -> bool
     requires { directives.now ≡ occurrences_of answered.now.fields }
-    ensures { result ≡ allows_storing answered.now }
+    ensures { result ≡ response_allows_storing answered.now }
 {
     directives.has(Directive::Public)
         || answered.fields.has(b"Expires")
         || directives.has(Directive::MaxAge)
         || directives.has(Directive::SMaxage)
-        || is_heuristic(answered.status)
+        || is_heuristic_status(answered.status)
 }
 
 /// Whether a response sets a cookie, and doesn't say that it is for all.
@@ -101,23 +106,23 @@ fn has_cookie_for_one(answered: &Answered, directives: &Directives) -> bool
 }
 
 /// Whether a status tells an error that isn't heuristically cacheable.
-fn is_uncached_error(status: u16) -> bool
-    ensures { result ≡ is_uncached_error status }
+fn is_error_not_heuristically_cacheable(status: u16) -> bool
+    ensures { result ≡ is_error_not_heuristically_cacheable status }
 {
-    status >= 400 && !is_heuristic(status)
+    status >= 400 && !is_heuristic_status(status)
 }
 
 /// Whether a request tells who asks, by a cookie or by credentials.
-fn is_from_someone(asked: &Asked) -> bool
-    ensures { result ≡ is_from_someone asked.now }
+fn request_has_cookie_or_authorization(asked: &Asked) -> bool
+    ensures { result ≡ request_has_cookie_or_authorization asked.now }
 {
     asked.fields.has(b"Cookie") || asked.fields.has(b"Authorization")
 }
 
 /// Whether a response says how long it is fresh.
-fn states_lifetime(answered: &Answered, directives: &Directives) -> bool
+fn response_states_lifetime(answered: &Answered, directives: &Directives) -> bool
     requires { directives.now ≡ occurrences_of answered.now.fields }
-    ensures { result ≡ states_lifetime answered.now }
+    ensures { result ≡ response_states_lifetime answered.now }
 {
     directives.has(Directive::SMaxage)
         || directives.has(Directive::MaxAge)
@@ -125,20 +130,22 @@ fn states_lifetime(answered: &Answered, directives: &Directives) -> bool
 }
 
 /// Whether a response doesn't, and the operator's line gives it a lifetime.
-fn lasts_by_the_line(policy: Policy, answered: &Answered, directives: &Directives) -> bool
+fn has_lifetime_only_by_policy(policy: Policy, answered: &Answered, directives: &Directives) -> bool
     requires { directives.now ≡ occurrences_of answered.now.fields }
-    ensures { result ≡ lasts_by_the_line policy answered.now }
+    ensures { result ≡ has_lifetime_only_by_policy policy answered.now }
 {
-    !states_lifetime(answered, directives) && policy.given_lifetime(answered.status).is_some()
+    !response_states_lifetime(answered, directives)
+        && policy.lifetime_given_by_policy(answered.status).is_some()
 }
 
 /// Whether a cookie for one keeps a response from the store.
-fn withholds_cookies(answered: &Answered, directives: &Directives, policy: Policy) -> bool
+fn policy_forbids_set_cookie(answered: &Answered, directives: &Directives, policy: Policy) -> bool
     requires { directives.now ≡ occurrences_of answered.now.fields }
-    ensures { result ≡ withholds_cookies policy answered.now }
+    ensures { result ≡ policy_forbids_set_cookie policy answered.now }
 {
     !policy.stores_cookies
-        || (!policy.gives_to_set_cookie && lasts_by_the_line(policy, answered, directives))
+        || (!policy.gives_to_set_cookie
+            && has_lifetime_only_by_policy(policy, answered, directives))
 }
 
 /// Whether only the line lets a response be fresh that may be for the one who asked, and the line doesn't give it that.
@@ -149,12 +156,12 @@ fn is_given_to_someone(
     policy: Policy,
 ) -> bool
     requires { directives.now ≡ occurrences_of answered.now.fields }
-    ensures { result ≡ ((not policy.gives_to_cookies && is_from_someone asked.now)
-        && (lasts_by_the_line policy answered.now && not (response_has answered.now directive.Public))) }
+    ensures { result ≡ ((not policy.gives_to_cookies && request_has_cookie_or_authorization asked.now)
+        && (has_lifetime_only_by_policy policy answered.now && not (response_has answered.now directive.Public))) }
 {
     !policy.gives_to_cookies
-        && is_from_someone(asked)
-        && lasts_by_the_line(policy, answered, directives)
+        && request_has_cookie_or_authorization(asked)
+        && has_lifetime_only_by_policy(policy, answered, directives)
         && !directives.has(Directive::Public)
 }
 
@@ -196,7 +203,7 @@ pub fn first_rule_against(
         Some(StoreRule::Private)
     } else if is_authorized_alone(asked, directives) {
         Some(StoreRule::Authorization)
-    } else if !allows_storing(answered, directives) {
+    } else if !response_allows_storing(answered, directives) {
         Some(StoreRule::NothingAllows)
     } else {
         rule_after_the_head(asked, answered, directives, facts)
@@ -212,7 +219,8 @@ fn rule_after_the_head(
 ) -> Option<StoreRule>
     requires { directives.now ≡ occurrences_of answered.now.fields }
     ensures { result
-        ≡ find (λ r. storing_rule_applies r asked.now answered.now facts) (rules_on_facts ++ rules_of_words) }
+        ≡ find (λ r. storing_rule_applies r asked.now answered.now facts) (storing_rules_on_facts
+        ++ storage_rules_of_policy) }
 {
     match rule_on_facts(facts) {
         Some(rule) => Some(rule),
@@ -223,7 +231,7 @@ fn rule_after_the_head(
 /// The least of the rules that ask for nothing but what is known besides the head.
 fn rule_on_facts(facts: StoringFacts) -> Option<StoreRule>
     ensures { (asked : AskedFor) (answered : AnsweredWith)
-        → result ≡ find (λ r. storing_rule_applies r asked answered facts) rules_on_facts }
+        → result ≡ find (λ r. storing_rule_applies r asked answered facts) storing_rules_on_facts }
 {
     if facts.vary_star {
         Some(StoreRule::VaryStar)
@@ -251,11 +259,13 @@ fn rule_of_words(
 ) -> Option<StoreRule>
     requires { directives.now ≡ occurrences_of answered.now.fields }
     ensures { (facts : Known) → facts.policy ≡ policy
-        → result ≡ find (λ r. storing_rule_applies r asked.now answered.now facts) rules_of_words }
+        → result ≡ find (λ r. storing_rule_applies r asked.now answered.now facts) storage_rules_of_policy }
 {
-    if withholds_cookies(answered, directives, policy) && has_cookie_for_one(answered, directives) {
+    if policy_forbids_set_cookie(answered, directives, policy)
+        && has_cookie_for_one(answered, directives)
+    {
         Some(StoreRule::SetCookie)
-    } else if !policy.stores_errors && is_uncached_error(answered.status) {
+    } else if !policy.stores_errors && is_error_not_heuristically_cacheable(answered.status) {
         Some(StoreRule::ErrorStatus)
     } else if is_given_to_someone(asked, answered, directives, policy) {
         Some(StoreRule::RequestCookie)

@@ -6,10 +6,10 @@ use Rattle.std.proofs.lemmas.Bool.{cases_Bool, false≢true, eqb-true, eq-eqb, o
 use Rattle.std.proofs.lemmas.Bool.Decides.{nat_tests}
 use Rattle.std.proofs.lemmas.List.{length-take}
 use Rattle.std.proofs.lemmas.Option.{same_Some}
-use Rattle.hx_store.specs.Serials.{serial_is_in, Distinct, insert_ascending}
+use Rattle.hx_store.specs.Serials.{serial_is_in, SerialsAreDistinct, insert_ascending}
 use Rattle.hx_store.specs.Stored.{Stored}
 use Rattle.hx_store.specs.Shelf.{serials, holds_serial, find_entry, without_serials}
-use Rattle.hx_store.specs.SerialPlaces.{SerialIsAbsent, IsPlaceOfSerial}
+use Rattle.hx_store.specs.SerialPlaces.{SerialIsInNoEntry, IsIndexOfSerial}
 
 pub eqb_comm : (a b : ℕ) → eqb a b ≡ eqb b a
 eqb_comm a b = grind (arith, nat_tests)
@@ -31,10 +31,10 @@ find_none s (e ∷ es) h =
     ap (λ b. cond b (Some e) (find_entry s es)) p.0 ∙ find_none s es p.1
 
 record LenIs (s : ℕ) (es : List Stored) (n : ℕ) : Type 0 where
-  at : n < length es → IsPlaceOfSerial s es n
+  at : n < length es → IsIndexOfSerial s es n
   past : length es ≤ n → holds_serial s es ≡ false
 
-len_is : (s : ℕ) (es : List Stored) → Distinct (serials es) → LenIs s es (position_or_len (λ e. eqb e.serial s) es)
+len_is : (s : ℕ) (es : List Stored) → SerialsAreDistinct (serials es) → LenIs s es (position_or_len (λ e. eqb e.serial s) es)
 len_is s [] d = record { at = λ h. absurd (omega arith); past = λ h. refl }
 len_is s (e ∷ es) d = elim (cases_Bool (eqb e.serial s)) [
   | inl t ↦ (
@@ -71,8 +71,8 @@ len_is s (e ∷ es) d = elim (cases_Bool (eqb e.serial s)) [
       )
 ]
 
-pub position_is : (s : ℕ) (es : List Stored) → Distinct (serials es) →
-    MatchOption (position (λ e. eqb e.serial s) es) (SerialIsAbsent s es) (IsPlaceOfSerial s es)
+pub position_is : (s : ℕ) (es : List Stored) → SerialsAreDistinct (serials es) →
+    MatchOption (position (λ e. eqb e.serial s) es) (SerialIsInNoEntry s es) (IsIndexOfSerial s es)
 position_is s es d =
     let n = position_or_len (λ e. eqb e.serial s) es in
     let r = len_is s es d in
@@ -95,12 +95,12 @@ filter_keeps p s (e ∷ es) h =
       | false ↦ r
     ]
 
-pub Distinct-filter : (p : Stored → Bool) (es : List Stored) → Distinct (serials es) → Distinct (serials (filter p es))
-Distinct-filter p [] d = tt
-Distinct-filter p (e ∷ es) d =
-    elim (p e) as (λ b. Distinct (serials (cond b (e ∷ filter p es) (filter p es)))) [
-      | true ↦ (filter_keeps p e.serial es d.0, Distinct-filter p es d.1)
-      | false ↦ Distinct-filter p es d.1
+pub SerialsAreDistinct-filter : (p : Stored → Bool) (es : List Stored) → SerialsAreDistinct (serials es) → SerialsAreDistinct (serials (filter p es))
+SerialsAreDistinct-filter p [] d = tt
+SerialsAreDistinct-filter p (e ∷ es) d =
+    elim (p e) as (λ b. SerialsAreDistinct (serials (cond b (e ∷ filter p es) (filter p es)))) [
+      | true ↦ (filter_keeps p e.serial es d.0, SerialsAreDistinct-filter p es d.1)
+      | false ↦ SerialsAreDistinct-filter p es d.1
     ]
 
 pub take_keeps : (n : ℕ) (s : ℕ) (es : List Stored) → holds_serial s es ≡ false → holds_serial s (take n es) ≡ false
@@ -110,10 +110,10 @@ take_keeps (suc n) s (e ∷ es) h =
     let q = or_parts (eqb e.serial s) (serial_is_in s (serials es)) h in
     ap (λ b. b || holds_serial s (take n es)) q.0 ∙ take_keeps n s es q.1
 
-pub Distinct-take : (n : ℕ) (es : List Stored) → Distinct (serials es) → Distinct (serials (take n es))
-Distinct-take zero es d = tt
-Distinct-take (suc n) [] d = tt
-Distinct-take (suc n) (e ∷ es) d = (take_keeps n e.serial es d.0, Distinct-take n es d.1)
+pub SerialsAreDistinct-take : (n : ℕ) (es : List Stored) → SerialsAreDistinct (serials es) → SerialsAreDistinct (serials (take n es))
+SerialsAreDistinct-take zero es d = tt
+SerialsAreDistinct-take (suc n) [] d = tt
+SerialsAreDistinct-take (suc n) (e ∷ es) d = (take_keeps n e.serial es d.0, SerialsAreDistinct-take n es d.1)
 
 pub without_gone : (s : ℕ) (es : List Stored) → holds_serial s (without_serials (s ∷ []) es) ≡ false
 without_gone s [] = refl
@@ -149,12 +149,12 @@ length-without s (e ∷ es) h = elim (cases_Bool (eqb e.serial s)) [
 
 -- what is true of every shelf
 abbrev pub IsSound : ℕ → List Stored → Type 0
-IsSound limit es = (length es ≤ limit) × Distinct (serials es)
+IsSound limit es = (length es ≤ limit) × SerialsAreDistinct (serials es)
 
 pub sound_filter : (limit : ℕ) (p : Stored → Bool) (es zs : List Stored) → zs ≡ filter p es → IsSound limit es → IsSound limit zs
 sound_filter limit p es zs e h =
     let l = length-filter_le p es in
-    let k : IsSound limit (filter p es) = (omega arith, Distinct-filter p es h.1) in
+    let k : IsSound limit (filter p es) = (omega arith, SerialsAreDistinct-filter p es h.1) in
     subst (IsSound limit) (sym e) k
 
 pub sound_front : (limit s : ℕ) (es zs : List Stored) (x : Stored) → zs ≡ x ∷ without_serials (s ∷ []) es → x.serial ≡ s → holds_serial s es ≡ true →
@@ -163,7 +163,7 @@ sound_front limit s es zs x e k m h =
     let l = length-without s es m in
     let none : holds_serial x.serial (without_serials (s ∷ []) es) ≡ false =
     ap (λ z. holds_serial z (without_serials (s ∷ []) es)) k ∙ without_gone s es in
-    let g : IsSound limit (x ∷ without_serials (s ∷ []) es) = (omega arith, (none, Distinct-filter _ es h.1)) in
+    let g : IsSound limit (x ∷ without_serials (s ∷ []) es) = (omega arith, (none, SerialsAreDistinct-filter _ es h.1)) in
     subst (IsSound limit) (sym e) g
 
 pub sound_put : (limit : ℕ) (gone : List ℕ) (es zs : List Stored) (x : Stored) → zs ≡ take limit (x ∷ without_serials gone es) → holds_serial x.serial es ≡ false →
@@ -171,7 +171,7 @@ pub sound_put : (limit : ℕ) (gone : List ℕ) (es zs : List Stored) (x : Store
 sound_put limit gone es zs x e m h =
     let g : IsSound limit (take limit (x ∷ without_serials gone es)) = (
       omega (arith, length-take limit (x ∷ without_serials gone es)),
-      Distinct-take limit (x ∷ without_serials gone es) (filter_keeps _ x.serial es m, Distinct-filter _ es h.1),
+      SerialsAreDistinct-take limit (x ∷ without_serials gone es) (filter_keeps _ x.serial es m, SerialsAreDistinct-filter _ es h.1),
     ) in
     subst (IsSound limit) (sym e) g
 

@@ -6,38 +6,38 @@ use Rattle.std.proofs.lemmas.Bool.{cases_Bool, le-leb, leb-true}
 use Rattle.std.proofs.lemmas.List.{take-append-drop, append-nil, length-append, length-take, take_all, take-append-le}
 use Rattle.std.proofs.lemmas.List.Sums.{sum_by-cons, sum_by-append}
 use Rattle.std.proofs.lemmas.Option.{IfSome_then}
-use Rattle.hx_store.specs.Weights.{StoreBounds, IsWithin, IsLongestPrefixWithin, prefix_of_weight, prefix_of_weight_if_any, longest_prefix_within}
+use Rattle.hx_store.specs.Weights.{StoreBounds, IsWithinBounds, IsLongestPrefixWithin, prefix_within_weight, prefix_of_weight_if_any, longest_prefix_within}
 
 -- one step of the front, where the first fits and where it doesn't
 front_takes : {A : Type 0} (w : A → ℕ) (most : ℕ) (x : A) (xs : List A) → w x ≤ most →
-    prefix_of_weight w most (x ∷ xs) ≡ x ∷ prefix_of_weight w (most - w x) xs
-front_takes w most x xs h = ap (λ b. cond b (x ∷ prefix_of_weight w (most - w x) xs) []) (le-leb (w x) most h)
+    prefix_within_weight w most (x ∷ xs) ≡ x ∷ prefix_within_weight w (most - w x) xs
+front_takes w most x xs h = ap (λ b. cond b (x ∷ prefix_within_weight w (most - w x) xs) []) (le-leb (w x) most h)
 
-pub is_front_of_weight : {A : Type 0} (w : A → ℕ) (most : ℕ) (xs : List A) → (rest : List A) × (prefix_of_weight w most xs ++ rest ≡ xs)
+pub is_front_of_weight : {A : Type 0} (w : A → ℕ) (most : ℕ) (xs : List A) → (rest : List A) × (prefix_within_weight w most xs ++ rest ≡ xs)
 is_front_of_weight w most [] = ([], refl)
 is_front_of_weight {A} w most (x ∷ xs) =
     let q = is_front_of_weight w (most - w x) xs in
-    elim (leb (w x) most) as (λ b. (rest : List A) × (cond b (x ∷ prefix_of_weight w (most - w x) xs) [] ++ rest ≡ x ∷ xs)) [
+    elim (leb (w x) most) as (λ b. (rest : List A) × (cond b (x ∷ prefix_within_weight w (most - w x) xs) [] ++ rest ≡ x ∷ xs)) [
       | true ↦ (q.0, ap (λ zs. x ∷ zs) q.1)
       | false ↦ (x ∷ xs, refl)
     ]
 
-front_weighs : {A : Type 0} (w : A → ℕ) (most : ℕ) (xs : List A) → sum_by w (prefix_of_weight w most xs) ≤ most
+front_weighs : {A : Type 0} (w : A → ℕ) (most : ℕ) (xs : List A) → sum_by w (prefix_within_weight w most xs) ≤ most
 front_weighs w most [] = omega arith
 front_weighs w most (x ∷ xs) = elim (cases_Bool (leb (w x) most)) [
   | inl t ↦ (
       let fits : w x ≤ most = leb-true (w x) most t in
       rw (front_takes w most x xs fits)
-      (omega (arith, sum_by-cons w x (prefix_of_weight w (most - w x) xs), front_weighs w (most - w x) xs))
+      (omega (arith, sum_by-cons w x (prefix_within_weight w (most - w x) xs), front_weighs w (most - w x) xs))
       )
   | inr f ↦ (
-      let e : prefix_of_weight w most (x ∷ xs) ≡ [] = ap (λ b. cond b (x ∷ prefix_of_weight w (most - w x) xs) []) f in
+      let e : prefix_within_weight w most (x ∷ xs) ≡ [] = ap (λ b. cond b (x ∷ prefix_within_weight w (most - w x) xs) []) f in
       rw e (omega arith)
       )
 ]
 
 longest_of_weight : {A : Type 0} (w : A → ℕ) (most : ℕ) (xs other rest : List A) → other ++ rest ≡ xs → sum_by w other ≤ most →
-    length other ≤ length (prefix_of_weight w most xs)
+    length other ≤ length (prefix_within_weight w most xs)
 longest_of_weight w most xs [] rest e h = omega arith
 longest_of_weight w most [] (y ∷ ys) rest e h = absurd (cc)
 longest_of_weight w most (x ∷ xs) (y ∷ ys) rest e h =
@@ -114,14 +114,14 @@ one_longest bounds w xs a b g h =
     ∙ ap (λ n. take n xs) k
     ∙ sym (front_is_taken b h.is_front.0 xs h.is_front.1)
 
-pub front_is_within : {A : Type 0} (bounds : StoreBounds) (w : A → ℕ) (front rest : List A) → IsWithin bounds w (front ++ rest) → IsWithin bounds w front
+pub front_is_within : {A : Type 0} (bounds : StoreBounds) (w : A → ℕ) (front rest : List A) → IsWithinBounds bounds w (front ++ rest) → IsWithinBounds bounds w front
 front_is_within bounds w front rest h = record {
   number = let n = h.number in omega (arith, length-append front rest);
   weighs = IfSome_then bounds.bytes h.weighs (λ most p. omega (arith, sum_by-append w front rest));
 }
 
 -- a list within the bounds stays whole
-pub within_stays : {A : Type 0} (bounds : StoreBounds) (w : A → ℕ) (xs : List A) → IsWithin bounds w xs → longest_prefix_within bounds w xs ≡ xs
+pub within_stays : {A : Type 0} (bounds : StoreBounds) (w : A → ℕ) (xs : List A) → IsWithinBounds bounds w xs → longest_prefix_within bounds w xs ≡ xs
 within_stays bounds w xs h = one_longest bounds w xs (longest_prefix_within bounds w xs) xs (cut_is_longest bounds w xs) (record {
   is_front = ([], append-nil xs);
   is_within = h;
@@ -130,7 +130,7 @@ within_stays bounds w xs h = one_longest bounds w xs (longest_prefix_within boun
 
 -- the first that is cut off has no room
 pub one_more : {A : Type 0} (bounds : StoreBounds) (w : A → ℕ) (xs rest : List A) (x : A) → longest_prefix_within bounds w xs ++ x ∷ rest ≡ xs →
-    IsWithin bounds w (longest_prefix_within bounds w xs ++ x ∷ []) → ⊥
+    IsWithinBounds bounds w (longest_prefix_within bounds w xs ++ x ∷ []) → ⊥
 one_more bounds w xs rest x e h =
     let front = longest_prefix_within bounds w xs in
     let longer : length (front ++ x ∷ []) ≤ length front =
@@ -138,7 +138,7 @@ one_more bounds w xs rest x e h =
     absurd (omega (arith, length-append front (x ∷ [])))
 
 -- what fits alone is never cut from the front
-pub first_stays : {A : Type 0} (bounds : StoreBounds) (w : A → ℕ) (x : A) (xs : List A) → IsWithin bounds w (x ∷ []) →
+pub first_stays : {A : Type 0} (bounds : StoreBounds) (w : A → ℕ) (x : A) (xs : List A) → IsWithinBounds bounds w (x ∷ []) →
     (rest : List A) × (longest_prefix_within bounds w (x ∷ xs) ≡ x ∷ rest)
 first_stays {A} bounds w x xs h =
     let q = front_of_within bounds w (x ∷ xs) in

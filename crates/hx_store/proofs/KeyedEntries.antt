@@ -6,11 +6,11 @@ use Rattle.std.specs.Map.{values_of, lookup, lookup_entry, remove_entry, set_val
 use Rattle.std.proofs.lemmas.Bool.{cases_Bool, false≢true, eqb-true, or_left, or_right}
 use Rattle.std.proofs.lemmas.List.{take_all}
 use Rattle.lru.specs.LruCache.{LruCache, promoted as lru_promoted, last_entry, put_entries}
-use Rattle.hx_store.specs.Serials.{serial_is_in, Distinct}
+use Rattle.hx_store.specs.Serials.{serial_is_in, SerialsAreDistinct}
 use Rattle.hx_store.specs.Stored.{Stored}
-use Rattle.hx_store.specs.Shelf.{serials, holds_serial, find_entry, without_serials, with_promoted}
+use Rattle.hx_store.specs.Shelf.{serials, holds_serial, find_entry, without_serials, entries_with_promoted}
 use Rattle.hx_store.specs.Keyed.{EntriesHaveTheirSerials, EntriesHaveDistinctSerials}
-use Rattle.hx_store.proofs.EntryLists.{eqb_comm, not_only, without_none, find_none, Distinct-filter, Distinct-take, without_gone}
+use Rattle.hx_store.proofs.EntryLists.{eqb_comm, not_only, without_none, find_none, SerialsAreDistinct-filter, SerialsAreDistinct-take, without_gone}
 
 -- the pair's own test is its entry's
 own : (s : ℕ) (p : ℕ × Stored) → p.0 ≡ p.1.serial → eqb s p.0 ≡ eqb p.1.serial s
@@ -30,7 +30,7 @@ pub lookup_holds : (s : ℕ) (ps : List (ℕ × Stored)) → EntriesHaveTheirSer
 lookup_holds s ps h = ap is_some (lookup_finds s ps h) ∙ is_some-find s (values_of ps)
 
 -- one of these serial goes, where no serial stands twice
-removed : (s : ℕ) (ps : List (ℕ × Stored)) → EntriesHaveTheirSerials ps → Distinct (serials (values_of ps)) →
+removed : (s : ℕ) (ps : List (ℕ × Stored)) → EntriesHaveTheirSerials ps → SerialsAreDistinct (serials (values_of ps)) →
     values_of (remove_entry (eqb s) ps) ≡ without_serials (s ∷ []) (values_of ps)
 removed s [] h d = refl
 removed s (p ∷ ps) h d = elim (cases_Bool (eqb p.1.serial s)) [
@@ -59,7 +59,7 @@ removed_is s ps h = removed s ps h.0 h.1
 pub apart-removed : (s : ℕ) (ps : List (ℕ × Stored)) → EntriesHaveDistinctSerials ps → EntriesHaveDistinctSerials (remove_entry (eqb s) ps)
 apart-removed s ps h = (
   keyed-removed s ps h.0,
-  subst (λ es. Distinct (serials es)) (sym (removed_is s ps h)) (Distinct-filter _ (values_of ps) h.1),
+  subst (λ es. SerialsAreDistinct (serials es)) (sym (removed_is s ps h)) (SerialsAreDistinct-filter _ (values_of ps) h.1),
 )
 
 -- what a pair that a look-up of a serial finds says of the list
@@ -96,12 +96,12 @@ looked s (p ∷ ps) h = elim (cases_Bool (eqb p.1.serial s)) [
   | inr f ↦ subst (λ b. Looked s (p ∷ ps) (cond b (Some p) (lookup_entry (eqb s) ps))) (sym (own s p h.0 ∙ f)) (on s p ps _ f (looked s ps h.1))
 ]
 
-pub distinct-front : (s : ℕ) (x : Stored) (es : List Stored) → x.serial ≡ s → Distinct (serials es) → Distinct (serials (x ∷ without_serials (s ∷ []) es))
-distinct-front s x es k d = (ap (λ z. holds_serial z (without_serials (s ∷ []) es)) k ∙ without_gone s es, Distinct-filter _ es d)
+pub distinct-front : (s : ℕ) (x : Stored) (es : List Stored) → x.serial ≡ s → SerialsAreDistinct (serials es) → SerialsAreDistinct (serials (x ∷ without_serials (s ∷ []) es))
+distinct-front s x es k d = (ap (λ z. holds_serial z (without_serials (s ∷ []) es)) k ∙ without_gone s es, SerialsAreDistinct-filter _ es d)
 
 -- what the pairs are once the pair of this serial has gone first
 abbrev pub Promotes : ℕ → List (ℕ × Stored) → List (ℕ × Stored) → Type 0
-Promotes s ps qs = (values_of qs ≡ with_promoted s (values_of ps)) × EntriesHaveDistinctSerials qs
+Promotes s ps qs = (values_of qs ≡ entries_with_promoted s (values_of ps)) × EntriesHaveDistinctSerials qs
 
 promotes_by : (s : ℕ) (ps : List (ℕ × Stored)) → EntriesHaveDistinctSerials ps → (o : Option (ℕ × Stored)) → lookup_entry (eqb s) ps ≡ o → Looked s ps o →
     Promotes s ps (lru_promoted (eqb s) ps)
@@ -111,7 +111,7 @@ promotes_by s ps h (Some p) e l =
     let r = removed_is s ps h in
     rw e (
       rw l.found (ap (λ es. p.1 ∷ es) r),
-      ((l.keyed, keyed-removed s ps h.0), subst (λ es. Distinct (serials (p.1 ∷ es))) (sym r) (distinct-front s p.1 (values_of ps) l.serial h.1)),
+      ((l.keyed, keyed-removed s ps h.0), subst (λ es. SerialsAreDistinct (serials (p.1 ∷ es))) (sym r) (distinct-front s p.1 (values_of ps) l.serial h.1)),
     )
 
 pub promotes : (s : ℕ) (ps : List (ℕ × Stored)) → EntriesHaveDistinctSerials ps → Promotes s ps (lru_promoted (eqb s) ps)
@@ -130,7 +130,7 @@ replaces_by x ps h m (Some p) e l =
     let r = removed_is s ps h in
     rw e (rw l.passes (
       ap (λ es. x ∷ es) r,
-      ((l.keyed ∙ l.serial, keyed-removed s ps h.0), subst (λ es. Distinct (serials (x ∷ es))) (sym r) (distinct-front s x (values_of ps) refl h.1)),
+      ((l.keyed ∙ l.serial, keyed-removed s ps h.0), subst (λ es. SerialsAreDistinct (serials (x ∷ es))) (sym r) (distinct-front s x (values_of ps) refl h.1)),
     ))
 
 pub replaces : (x : Stored) (ps : List (ℕ × Stored)) → EntriesHaveDistinctSerials ps → holds_serial x.serial (values_of ps) ≡ true →
@@ -150,7 +150,7 @@ values-take (suc n) (p ∷ ps) = ap (λ es. p.1 ∷ es) (values-take n ps)
 pub apart-take : (n : ℕ) (ps : List (ℕ × Stored)) → EntriesHaveDistinctSerials ps → EntriesHaveDistinctSerials (take n ps)
 apart-take n ps h = (
   keyed-take n ps h.0,
-  subst (λ es. Distinct (serials es)) (sym (values-take n ps)) (Distinct-take n (values_of ps) h.1),
+  subst (λ es. SerialsAreDistinct (serials es)) (sym (values-take n ps)) (SerialsAreDistinct-take n (values_of ps) h.1),
 )
 
 pub length-values : (ps : List (ℕ × Stored)) → length (values_of ps) ≡ length ps

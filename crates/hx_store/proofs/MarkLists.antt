@@ -10,30 +10,30 @@ use Rattle.std.specs.BTreeMap.{BTreeMap, insert_entry, is_at}
 use Rattle.std.proofs.lemmas.Bool.{cases_Bool, eq-eqb, eqb-true, false≢true, or_parts}
 use Rattle.std.proofs.lemmas.Bool.Decides.{nat_tests}
 use Rattle.hx_fields.specs.Line.{Field}
-use Rattle.hx_vary.specs.declared.marks.Mark.{Mark}
+use Rattle.hx_vary.specs.declared.marks.VariantMark.{VariantMark}
 use Rattle.hx_vary.specs.Marks.{mark_of_values, mark_may_match}
-use Rattle.hx_vary.specs.Combined.{HasEachValue}
+use Rattle.hx_vary.specs.Combined.{MapHasEachCombinedValue}
 use Rattle.hx_vary.specs.Vary.{vary_matches}
 use Rattle.hx_vary.specs.declared.nominated_values.NominatedValue.{NominatedValue}
 use Rattle.hx_vary.proofs.ValueLemmas.{kept_alike}
 use Rattle.hx_store.specs.Serials.{serial_is_in, insert_ascending}
 use Rattle.hx_store.specs.Stored.{Stored}
-use Rattle.hx_store.specs.Shelf.{find_entry, entry_matches, without_serials, holds_serial}
+use Rattle.hx_store.specs.Shelf.{find_entry, entry_matches_request, without_serials, holds_serial}
 use Rattle.hx_store.specs.Index.{EachMarkIsOfItsEntry, without_first_serial, entry_matches_values, serials_that_may_match}
 use Rattle.hx_store.proofs.EntryLists.{eqb_comm, not_only, find_none, find-serial, without_gone}
 
 -- ---- the serials alone
 
-put-step : (s : ℕ) (m : Mark) (p : ℕ × Mark) (ps : List (ℕ × Mark)) → keys_of (insert_entry nat_cmp ps s m) ≡ insert_ascending s (keys_of ps) → eqb p.0 s ≡ false →
+put-step : (s : ℕ) (m : VariantMark) (p : ℕ × VariantMark) (ps : List (ℕ × VariantMark)) → keys_of (insert_entry nat_cmp ps s m) ≡ insert_ascending s (keys_of ps) → eqb p.0 s ≡ false →
     keys_of (insert_entry nat_cmp (p ∷ ps) s m) ≡ insert_ascending s (keys_of (p ∷ ps))
 put-step s m p ps h n = grind (arith, nat_tests, h)
 
-pub keys-put : (s : ℕ) (m : Mark) (ps : List (ℕ × Mark)) → serial_is_in s (keys_of ps) ≡ false →
+pub keys-put : (s : ℕ) (m : VariantMark) (ps : List (ℕ × VariantMark)) → serial_is_in s (keys_of ps) ≡ false →
     keys_of (insert_entry nat_cmp ps s m) ≡ insert_ascending s (keys_of ps)
 keys-put s m [] h = refl
 keys-put s m (p ∷ ps) h = let q = or_parts (eqb p.0 s) (serial_is_in s (keys_of ps)) h in put-step s m p ps (keys-put s m ps q.1) q.0
 
-pub keys-marked : (test : ℕ → Bool) (m : Mark) (ps : List (ℕ × Mark)) → keys_of (set_value test ps m) ≡ keys_of ps
+pub keys-marked : (test : ℕ → Bool) (m : VariantMark) (ps : List (ℕ × VariantMark)) → keys_of (set_value test ps m) ≡ keys_of ps
 keys-marked test m [] = refl
 keys-marked test m (p ∷ ps) =
     elim (test p.0) as (λ b. keys_of (cond b ((p.0, m) ∷ ps) (p ∷ set_value test ps m)) ≡ p.0 ∷ keys_of ps) [
@@ -44,7 +44,7 @@ keys-marked test m (p ∷ ps) =
 pub at-eqb : (s t : ℕ) → is_at (nat_cmp s) t ≡ eqb t s
 at-eqb s t = grind (arith, nat_tests)
 
-pub keys-removed : (s : ℕ) (ps : List (ℕ × Mark)) → keys_of (remove_entry (is_at (nat_cmp s)) ps) ≡ without_first_serial s (keys_of ps)
+pub keys-removed : (s : ℕ) (ps : List (ℕ × VariantMark)) → keys_of (remove_entry (is_at (nat_cmp s)) ps) ≡ without_first_serial s (keys_of ps)
 keys-removed s [] = refl
 keys-removed s (p ∷ ps) =
     ap (λ b. keys_of (cond b ps (p ∷ remove_entry (is_at (nat_cmp s)) ps))) (at-eqb s p.0)
@@ -59,7 +59,7 @@ has-first (x ∷ xs) = grind (arith, nat_tests)
 
 -- ---- a new mark
 
-pub set_absent : (test : ℕ → Bool) (ps : List (ℕ × Mark)) (m : Mark) → lookup test ps ≡ None → set_value test ps m ≡ ps
+pub set_absent : (test : ℕ → Bool) (ps : List (ℕ × VariantMark)) (m : VariantMark) → lookup test ps ≡ None → set_value test ps m ≡ ps
 set_absent test [] m h = refl
 set_absent test (p ∷ ps) m h = elim (cases_Bool (test p.0)) [
   | inl t ↦ (
@@ -70,21 +70,21 @@ set_absent test (p ∷ ps) m h = elim (cases_Bool (test p.0)) [
       ∙ ap (λ qs. p ∷ qs) (set_absent test ps m (sym (ap (λ b. cond b (Some p.1) (lookup test ps)) f) ∙ h))
 ]
 
-not_cleared : (b : Bool) (p q : ℕ × Mark) (ps qs : List (ℕ × Mark)) → cond b (p ∷ ps) (q ∷ qs) ≡ [] → ⊥
+not_cleared : (b : Bool) (p q : ℕ × VariantMark) (ps qs : List (ℕ × VariantMark)) → cond b (p ∷ ps) (q ∷ qs) ≡ [] → ⊥
 not_cleared true p q ps qs h = cc
 not_cleared false p q ps qs h = cc
 
-pub set_nothing : (test : ℕ → Bool) (ps : List (ℕ × Mark)) (m : Mark) → set_value test ps m ≡ [] → ps ≡ []
+pub set_nothing : (test : ℕ → Bool) (ps : List (ℕ × VariantMark)) (m : VariantMark) → set_value test ps m ≡ [] → ps ≡ []
 set_nothing test [] m h = refl
 set_nothing test (p ∷ ps) m h = absurd (not_cleared (test p.0) (p.0, m) p ps (set_value test ps m) h)
 
 -- ---- the marks
 
 -- this mark is that of the entry that the serial finds, if it finds one
-abbrev pub Fits : ℕ → List Stored → ℕ → Mark → Type 0
+abbrev pub Fits : ℕ → List Stored → ℕ → VariantMark → Type 0
 Fits seed es s m = IfSome (find_entry s es) (λ e. m ≡ mark_of_values seed e.nominated)
 
-put_by : (seed : ℕ) (es : List Stored) (s : ℕ) (m : Mark) (p : ℕ × Mark) (ps : List (ℕ × Mark)) (o : Ordering) → (o ≡ Equal → s ≡ p.0) → Fits seed es s m → EachMarkIsOfItsEntry seed es (p ∷ ps) →
+put_by : (seed : ℕ) (es : List Stored) (s : ℕ) (m : VariantMark) (p : ℕ × VariantMark) (ps : List (ℕ × VariantMark)) (o : Ordering) → (o ≡ Equal → s ≡ p.0) → Fits seed es s m → EachMarkIsOfItsEntry seed es (p ∷ ps) →
     EachMarkIsOfItsEntry seed es (insert_entry nat_cmp ps s m) → EachMarkIsOfItsEntry seed es (match_ordering o ((s, m) ∷ p ∷ ps) ((p.0, m) ∷ ps) (p ∷ insert_entry nat_cmp ps s m))
 put_by seed es s m p ps Less e f h more = (f, h)
 put_by seed es s m p ps Equal e f h more = (subst (λ t. Fits seed es t m) (e refl) f, h.1)
@@ -93,11 +93,11 @@ put_by seed es s m p ps Greater e f h more = (h.0, more)
 same_number : (s t : ℕ) → nat_cmp s t ≡ Equal → s ≡ t
 same_number s t h = grind (arith, nat_tests)
 
-pub marks-put : (seed : ℕ) (es : List Stored) (s : ℕ) (m : Mark) (ps : List (ℕ × Mark)) → Fits seed es s m → EachMarkIsOfItsEntry seed es ps → EachMarkIsOfItsEntry seed es (insert_entry nat_cmp ps s m)
+pub marks-put : (seed : ℕ) (es : List Stored) (s : ℕ) (m : VariantMark) (ps : List (ℕ × VariantMark)) → Fits seed es s m → EachMarkIsOfItsEntry seed es ps → EachMarkIsOfItsEntry seed es (insert_entry nat_cmp ps s m)
 marks-put seed es s m [] f h = (f, tt)
 marks-put seed es s m (p ∷ ps) f h = put_by seed es s m p ps (nat_cmp s p.0) (same_number s p.0) f h (marks-put seed es s m ps f h.1)
 
-pub marks-removed : (seed : ℕ) (test : ℕ → Bool) (es : List Stored) (ps : List (ℕ × Mark)) → EachMarkIsOfItsEntry seed es ps → EachMarkIsOfItsEntry seed es (remove_entry test ps)
+pub marks-removed : (seed : ℕ) (test : ℕ → Bool) (es : List Stored) (ps : List (ℕ × VariantMark)) → EachMarkIsOfItsEntry seed es ps → EachMarkIsOfItsEntry seed es (remove_entry test ps)
 marks-removed seed test es [] h = tt
 marks-removed seed test es (p ∷ ps) h =
     elim (test p.0) as (λ b. EachMarkIsOfItsEntry seed es (cond b ps (p ∷ remove_entry test ps))) [ true ↦ h.1 | false ↦ (h.0, marks-removed seed test es ps h.1) ]
@@ -106,7 +106,7 @@ marks-removed seed test es (p ∷ ps) h =
 abbrev pub IsPart : List Stored → List Stored → Type 0
 IsPart zs es = (s : ℕ) → (find_entry s zs ≡ None) ⊎ (find_entry s zs ≡ find_entry s es)
 
-pub marks-part : (seed : ℕ) (es zs : List Stored) (ps : List (ℕ × Mark)) → IsPart zs es → EachMarkIsOfItsEntry seed es ps → EachMarkIsOfItsEntry seed zs ps
+pub marks-part : (seed : ℕ) (es zs : List Stored) (ps : List (ℕ × VariantMark)) → IsPart zs es → EachMarkIsOfItsEntry seed es ps → EachMarkIsOfItsEntry seed zs ps
 marks-part seed es zs [] part h = tt
 marks-part seed es zs (p ∷ ps) part h =
     let at : Fits seed zs p.0 p.1 = elim (part p.0) [
@@ -116,7 +116,7 @@ marks-part seed es zs (p ∷ ps) part h =
     (at, marks-part seed es zs ps part h.1)
 
 -- an entry in front whose serial isn't there
-pub marks-more : (seed : ℕ) (x : Stored) (es : List Stored) (ps : List (ℕ × Mark)) → serial_is_in x.serial (keys_of ps) ≡ false → EachMarkIsOfItsEntry seed es ps → EachMarkIsOfItsEntry seed (x ∷ es) ps
+pub marks-more : (seed : ℕ) (x : Stored) (es : List Stored) (ps : List (ℕ × VariantMark)) → serial_is_in x.serial (keys_of ps) ≡ false → EachMarkIsOfItsEntry seed es ps → EachMarkIsOfItsEntry seed (x ∷ es) ps
 marks-more seed x es [] n h = tt
 marks-more seed x es (p ∷ ps) n h =
     let q = or_parts (eqb p.0 x.serial) (serial_is_in x.serial (keys_of ps)) n in
@@ -124,7 +124,7 @@ marks-more seed x es (p ∷ ps) n h =
     (rw apart h.0, marks-more seed x es ps q.1 h.1)
 
 -- an entry in front whose serial stands there once, and is marked anew
-pub marks-anew : (seed : ℕ) (s : ℕ) (x : Stored) (es : List Stored) (ps : List (ℕ × Mark)) → x.serial ≡ s → serial_is_in s (without_first_serial s (keys_of ps)) ≡ false → EachMarkIsOfItsEntry seed es ps →
+pub marks-anew : (seed : ℕ) (s : ℕ) (x : Stored) (es : List Stored) (ps : List (ℕ × VariantMark)) → x.serial ≡ s → serial_is_in s (without_first_serial s (keys_of ps)) ≡ false → EachMarkIsOfItsEntry seed es ps →
     EachMarkIsOfItsEntry seed (x ∷ es) (set_value (is_at (nat_cmp s)) ps (mark_of_values seed x.nominated))
 marks-anew seed s x es [] is n h = tt
 marks-anew seed s x es (p ∷ ps) is n h =
@@ -188,42 +188,42 @@ part-front s es x h t =
 abbrev pub PassesMatches : ℕ → List Field → (ℕ → Bool) → Type 0
 PassesMatches seed request has = (kept : List NominatedValue) → vary_matches kept request ≡ true → mark_may_match has (mark_of_values seed kept) ≡ true
 
-mark_passes : (seed : ℕ) (request : List Field) (has : ℕ → Bool) → PassesMatches seed request has → (es : List Stored) (s : ℕ) (m : Mark) → Fits seed es s m →
-    entry_matches request (find_entry s es) ≡ true → mark_may_match has m ≡ true
+mark_passes : (seed : ℕ) (request : List Field) (has : ℕ → Bool) → PassesMatches seed request has → (es : List Stored) (s : ℕ) (m : VariantMark) → Fits seed es s m →
+    entry_matches_request request (find_entry s es) ≡ true → mark_may_match has m ≡ true
 mark_passes seed request has passes es s m f h = by (find_entry s es) f h
   where
-    by : (o : Option Stored) → IfSome o (λ (e : Stored). m ≡ mark_of_values seed e.nominated) → entry_matches request o ≡ true → mark_may_match has m ≡ true
+    by : (o : Option Stored) → IfSome o (λ (e : Stored). m ≡ mark_of_values seed e.nominated) → entry_matches_request request o ≡ true → mark_may_match has m ≡ true
     by None f h = absurd (false≢true h)
     by (Some e) f h = ap (mark_may_match has) f ∙ passes e.nominated h
 
 -- what isn't looked at doesn't match
-pub looks_enough : (seed : ℕ) (request : List Field) (has : ℕ → Bool) → PassesMatches seed request has → (es : List Stored) (ps : List (ℕ × Mark)) → EachMarkIsOfItsEntry seed es ps →
-    filter (λ s. entry_matches request (find_entry s es)) (serials_that_may_match has ps) ≡ filter (λ s. entry_matches request (find_entry s es)) (keys_of ps)
+pub looks_enough : (seed : ℕ) (request : List Field) (has : ℕ → Bool) → PassesMatches seed request has → (es : List Stored) (ps : List (ℕ × VariantMark)) → EachMarkIsOfItsEntry seed es ps →
+    filter (λ s. entry_matches_request request (find_entry s es)) (serials_that_may_match has ps) ≡ filter (λ s. entry_matches_request request (find_entry s es)) (keys_of ps)
 looks_enough seed request has passes es [] h = refl
 looks_enough seed request has passes es (p ∷ ps) h =
-    let is : ℕ → Bool = λ s. entry_matches request (find_entry s es) in
+    let is : ℕ → Bool = λ s. entry_matches_request request (find_entry s es) in
     let more = looks_enough seed request has passes es ps h.1 in
     elim (cases_Bool (mark_may_match has p.1)) [
-      | inl y ↦ ap (λ b. filter is (keys_of (cond b (p ∷ filter (λ (q : ℕ × Mark). mark_may_match has q.1) ps) (filter (λ (q : ℕ × Mark). mark_may_match has q.1) ps)))) y
+      | inl y ↦ ap (λ b. filter is (keys_of (cond b (p ∷ filter (λ (q : ℕ × VariantMark). mark_may_match has q.1) ps) (filter (λ (q : ℕ × VariantMark). mark_may_match has q.1) ps)))) y
           ∙ ap (λ xs. cond (is p.0) (p.0 ∷ xs) xs) more
       | inr n ↦ (
           let no : is p.0 ≡ false = elim (cases_Bool (is p.0)) [
             | inl t ↦ absurd (false≢true (sym n ∙ mark_passes seed request has passes es p.0 p.1 h.0 t))
             | inr f ↦ f
           ] in
-          ap (λ b. filter is (keys_of (cond b (p ∷ filter (λ (q : ℕ × Mark). mark_may_match has q.1) ps) (filter (λ (q : ℕ × Mark). mark_may_match has q.1) ps)))) n
+          ap (λ b. filter is (keys_of (cond b (p ∷ filter (λ (q : ℕ × VariantMark). mark_may_match has q.1) ps) (filter (λ (q : ℕ × VariantMark). mark_may_match has q.1) ps)))) n
           ∙ more ∙ sym (ap (λ b. cond b (p.0 ∷ filter is (keys_of ps)) (filter is (keys_of ps))) no)
           )
     ]
 
 -- values that are the request's decide as it would
-pub by_values : (request : List Field) (values : BTreeMap (List ℕ) (List ℕ)) → HasEachValue request values → (es : List Stored) (ss : List ℕ) →
-    filter (λ s. entry_matches_values values (find_entry s es)) ss ≡ filter (λ s. entry_matches request (find_entry s es)) ss
+pub by_values : (request : List Field) (values : BTreeMap (List ℕ) (List ℕ)) → MapHasEachCombinedValue request values → (es : List Stored) (ss : List ℕ) →
+    filter (λ s. entry_matches_values values (find_entry s es)) ss ≡ filter (λ s. entry_matches_request request (find_entry s es)) ss
 by_values request values h es [] = refl
 by_values request values h es (s ∷ ss) =
     ap (λ b. cond b (s ∷ filter (λ (t : ℕ). entry_matches_values values (find_entry t es)) ss) (filter (λ (t : ℕ). entry_matches_values values (find_entry t es)) ss)) (same (find_entry s es))
-    ∙ ap (λ xs. cond (entry_matches request (find_entry s es)) (s ∷ xs) xs) (by_values request values h es ss)
+    ∙ ap (λ xs. cond (entry_matches_request request (find_entry s es)) (s ∷ xs) xs) (by_values request values h es ss)
   where
-    same : (o : Option Stored) → entry_matches_values values o ≡ entry_matches request o
+    same : (o : Option Stored) → entry_matches_values values o ≡ entry_matches_request request o
     same None = refl
     same (Some e) = kept_alike request values h e.nominated

@@ -6,8 +6,8 @@ use Rattle.std.proofs.lemmas.Bool.{cases_Bool, and_parts, or_cases, and_from, or
 use Rattle.std.proofs.lemmas.Bool.Decides.{nat_tests}
 use Rattle.std.proofs.lemmas.List.{take-append-drop, append-nil, length-take}
 use Rattle.std.proofs.lemmas.List.Elements.{filter-append}
-use Rattle.hx_store.specs.Serials.{serial_is_in, Distinct}
-use Rattle.hx_store.specs.Recency.{StoreChange, is_that_serial, stores_or_uses, moved_to_front, recent_after_change, recent_of, count_before, NoChangeTouches, Held, is_held_by_count, is_held, held_of, bounded_of, IsStoredAndNotRemoved, NoChangeRemoves}
+use Rattle.hx_store.specs.Serials.{serial_is_in, SerialsAreDistinct}
+use Rattle.hx_store.specs.Recency.{StoreChange, option_is_serial, stores_or_uses, moved_to_front, recent_after_change, recent_of, count_before_serial, NoChangeStoresOrUsesSerial, Held, stayed_within_count, is_held, held_serials_of, lru_list_of, SerialIsStoredAndNotRemoved, NoChangeRemovesSerial}
 
 or_assoc : (a b c : Bool) → (a || (b || c)) ≡ (a || b || c)
 or_assoc true b c = refl
@@ -44,7 +44,7 @@ place_step : (e : Bool) (m n : ℕ) → (e ≡ false → m ≡ n) → cond e 0 (
 place_step true m n h = refl
 place_step false m n h = ap suc (h refl)
 
-pub place-append : (s : ℕ) (xs ys : List ℕ) → serial_is_in s xs ≡ true → count_before s (xs ++ ys) ≡ count_before s xs
+pub place-append : (s : ℕ) (xs ys : List ℕ) → serial_is_in s xs ≡ true → count_before_serial s (xs ++ ys) ≡ count_before_serial s xs
 place-append s [] ys h = cc
 place-append s (x ∷ xs) ys h =
     place_step (eqb x s) _ _ (λ e. place-append s xs ys (let k : (false || serial_is_in s xs) ≡ true = rw e at h in k))
@@ -54,18 +54,18 @@ take_step true m p n = grind (arith, nat_tests)
 take_step false true p n = grind (arith, nat_tests)
 take_step false false p n = refl
 
-pub is_in-take : (s n : ℕ) (xs : List ℕ) → serial_is_in s (take n xs) ≡ (serial_is_in s xs && ltb (count_before s xs) n)
+pub is_in-take : (s n : ℕ) (xs : List ℕ) → serial_is_in s (take n xs) ≡ (serial_is_in s xs && ltb (count_before_serial s xs) n)
 is_in-take s zero [] = refl
 is_in-take s (suc n) [] = refl
-is_in-take s zero (x ∷ xs) = rw (le-ltb (count_before s (x ∷ xs)) 0 (omega arith)) (sym (and_false _))
-is_in-take s (suc n) (x ∷ xs) = rw (is_in-take s n xs) (take_step (eqb x s) (serial_is_in s xs) (count_before s xs) n)
+is_in-take s zero (x ∷ xs) = rw (le-ltb (count_before_serial s (x ∷ xs)) 0 (omega arith)) (sym (and_false _))
+is_in-take s (suc n) (x ∷ xs) = rw (is_in-take s n xs) (take_step (eqb x s) (serial_is_in s xs) (count_before_serial s xs) n)
 
 front_step : (e f m : Bool) → (e ≡ false → f ≡ false) → (e || (m && not f)) ≡ (e || m)
 front_step true f m h = refl
 front_step false f true h = rw (h refl) refl
 front_step false f false h = refl
 
-is_in-to_front : (s : ℕ) (o : Option ℕ) (xs : List ℕ) → serial_is_in s (moved_to_front o xs) ≡ (is_that_serial o s || serial_is_in s xs)
+is_in-to_front : (s : ℕ) (o : Option ℕ) (xs : List ℕ) → serial_is_in s (moved_to_front o xs) ≡ (option_is_serial o s || serial_is_in s xs)
 is_in-to_front s None xs = refl
 is_in-to_front s (Some x) xs =
     rw (is_in-filter s (λ y. not (eqb y x)) xs) (front_step (eqb x s) (eqb s x) (serial_is_in s xs) (λ e. grind (arith, nat_tests)))
@@ -78,7 +78,7 @@ is_in-after s i xs =
       is_in-to_front s i.stored (moved_to_front i.used xs),
       is_in-to_front s i.used xs,
     )
-    (ap (λ b. b && not (serial_is_in s i.removed)) (or_assoc (is_that_serial i.stored s) (is_that_serial i.used s) (serial_is_in s xs)))
+    (ap (λ b. b && not (serial_is_in s i.removed)) (or_assoc (option_is_serial i.stored s) (option_is_serial i.used s) (serial_is_in s xs)))
 
 -- the front of a list stays a front
 to_front-append : (o : Option ℕ) (xs ys : List ℕ) → (rest : List ℕ) × (moved_to_front o xs ++ rest ≡ moved_to_front o (xs ++ ys))
@@ -97,12 +97,12 @@ after-append i xs ys =
     )
 
 -- the bounded list is a front of the recent serials
-pub bounded_front : (C : ℕ) (past : List StoreChange) → (rest : List ℕ) × (bounded_of C past ++ rest ≡ recent_of past)
+pub bounded_front : (C : ℕ) (past : List StoreChange) → (rest : List ℕ) × (lru_list_of C past ++ rest ≡ recent_of past)
 bounded_front C [] = ([], refl)
 bounded_front C (i ∷ past) =
     let h = bounded_front C past in
-    let a = after-append i (bounded_of C past) h.0 in
-    let xs = recent_after_change i (bounded_of C past) in (
+    let a = after-append i (lru_list_of C past) h.0 in
+    let xs = recent_after_change i (lru_list_of C past) in (
       drop C xs ++ a.0,
       sym (append_assoc (take C xs) (drop C xs) a.0)
           ∙ ap (λ zs. zs ++ a.0) (take-append-drop C xs)
@@ -129,42 +129,42 @@ held_step false true false true l m h = sym (and_false m)
 held_step false true false false l m h = refl
 held_step false false k n l m h = refl
 
-pub is_in-bounded : (C : ℕ) (past : List StoreChange) (s : ℕ) → serial_is_in s (bounded_of C past) ≡ is_held C past s
+pub is_in-bounded : (C : ℕ) (past : List StoreChange) (s : ℕ) → serial_is_in s (lru_list_of C past) ≡ is_held C past s
 is_in-bounded C [] s = refl
 is_in-bounded C (i ∷ past) s =
     let h = bounded_front C past in
-    let xs = recent_after_change i (bounded_of C past) in
+    let xs = recent_after_change i (lru_list_of C past) in
     let gone = serial_is_in s i.removed in
-    let a = after-append i (bounded_of C past) h.0 in
-    let e : recent_after_change i (bounded_of C past) ++ a.0 ≡ recent_after_change i (recent_of past) = a.1 ∙ ap (recent_after_change i) h.1 in
+    let a = after-append i (lru_list_of C past) h.0 in
+    let e : recent_after_change i (lru_list_of C past) ++ a.0 ≡ recent_after_change i (recent_of past) = a.1 ∙ ap (recent_after_change i) h.1 in
     let m : serial_is_in s xs ≡ ((stores_or_uses i s || is_held C past s) && not gone) =
-    is_in-after s i (bounded_of C past) ∙ ap (λ b. (stores_or_uses i s || b) && not gone) (is_in-bounded C past s)
+    is_in-after s i (lru_list_of C past) ∙ ap (λ b. (stores_or_uses i s || b) && not gone) (is_in-bounded C past s)
     in
     is_in-take s C xs
-    ∙ ap (λ b. b && ltb (count_before s xs) C) m
-    ∙ held_step (stores_or_uses i s) (serial_is_in s (recent_of past)) (is_held_by_count C s past) (not gone) (ltb (count_before s xs) C) (ltb (count_before s (recent_of (i ∷ past))) C)
-    (λ g. ap (λ n. ltb n C) (sym (place-append s xs a.0 (m ∙ g)) ∙ ap (count_before s) e))
-    ∙ ap (λ b. b && (ltb (count_before s (recent_of (i ∷ past))) C && (stores_or_uses i s || is_held_by_count C s past))) (sym (is_in-after s i (recent_of past)))
+    ∙ ap (λ b. b && ltb (count_before_serial s xs) C) m
+    ∙ held_step (stores_or_uses i s) (serial_is_in s (recent_of past)) (stayed_within_count C s past) (not gone) (ltb (count_before_serial s xs) C) (ltb (count_before_serial s (recent_of (i ∷ past))) C)
+    (λ g. ap (λ n. ltb n C) (sym (place-append s xs a.0 (m ∙ g)) ∙ ap (count_before_serial s) e))
+    ∙ ap (λ b. b && (ltb (count_before_serial s (recent_of (i ∷ past))) C && (stores_or_uses i s || stayed_within_count C s past))) (sym (is_in-after s i (recent_of past)))
 
-pub Distinct-filter : (p : ℕ → Bool) (xs : List ℕ) → Distinct xs → Distinct (filter p xs)
-Distinct-filter p [] d = tt
-Distinct-filter p (x ∷ xs) d =
-    elim (p x) as (λ b. Distinct (cond b (x ∷ filter p xs) (filter p xs))) [
-      | true ↦ (is_in-filter x p xs ∙ ap (λ b. b && p x) d.0, Distinct-filter p xs d.1)
-      | false ↦ Distinct-filter p xs d.1
+pub SerialsAreDistinct-filter : (p : ℕ → Bool) (xs : List ℕ) → SerialsAreDistinct xs → SerialsAreDistinct (filter p xs)
+SerialsAreDistinct-filter p [] d = tt
+SerialsAreDistinct-filter p (x ∷ xs) d =
+    elim (p x) as (λ b. SerialsAreDistinct (cond b (x ∷ filter p xs) (filter p xs))) [
+      | true ↦ (is_in-filter x p xs ∙ ap (λ b. b && p x) d.0, SerialsAreDistinct-filter p xs d.1)
+      | false ↦ SerialsAreDistinct-filter p xs d.1
     ]
 
-pub Distinct-to_front : (o : Option ℕ) (xs : List ℕ) → Distinct xs → Distinct (moved_to_front o xs)
-Distinct-to_front None xs d = d
-Distinct-to_front (Some s) xs d = (
+pub SerialsAreDistinct-to_front : (o : Option ℕ) (xs : List ℕ) → SerialsAreDistinct xs → SerialsAreDistinct (moved_to_front o xs)
+SerialsAreDistinct-to_front None xs d = d
+SerialsAreDistinct-to_front (Some s) xs d = (
   is_in-filter s (λ y. not (eqb y s)) xs ∙ ap (λ b. serial_is_in s xs && not b) (eq-eqb s s refl) ∙ and_false (serial_is_in s xs),
-  Distinct-filter (λ y. not (eqb y s)) xs d,
+  SerialsAreDistinct-filter (λ y. not (eqb y s)) xs d,
 )
 
-pub Distinct-recent : (past : List StoreChange) → Distinct (recent_of past)
-Distinct-recent [] = tt
-Distinct-recent (i ∷ past) =
-    Distinct-filter _ _ (Distinct-to_front i.stored _ (Distinct-to_front i.used _ (Distinct-recent past)))
+pub SerialsAreDistinct-recent : (past : List StoreChange) → SerialsAreDistinct (recent_of past)
+SerialsAreDistinct-recent [] = tt
+SerialsAreDistinct-recent (i ∷ past) =
+    SerialsAreDistinct-filter _ _ (SerialsAreDistinct-to_front i.stored _ (SerialsAreDistinct-to_front i.used _ (SerialsAreDistinct-recent past)))
 
 pub filter_all : (p : ℕ → Bool) (xs : List ℕ) → ((s : ℕ) → serial_is_in s xs ≡ true → p s ≡ true) → filter p xs ≡ xs
 filter_all p [] h = refl
@@ -179,7 +179,7 @@ filter_none p (x ∷ xs) h =
     ∙ filter_none p xs (λ s e. h s (or_right (eqb x s) (serial_is_in s xs) e))
 
 -- what stands behind the front does not stand in it
-pub apart : (xs ys : List ℕ) (s : ℕ) → Distinct (xs ++ ys) → serial_is_in s ys ≡ true → serial_is_in s xs ≡ false
+pub apart : (xs ys : List ℕ) (s : ℕ) → SerialsAreDistinct (xs ++ ys) → serial_is_in s ys ≡ true → serial_is_in s xs ≡ false
 apart [] ys s d h = refl
 apart (x ∷ xs) ys s d h =
     let no : eqb x s ≡ true → ⊥ = λ e.
@@ -189,20 +189,20 @@ apart (x ∷ xs) ys s d h =
     ap (λ b. b || serial_is_in s xs) (false_from_ne_true (eqb x s) no) ∙ apart xs ys s d.1 h
 
 -- a test that holds of just a front of a list keeps that front
-pub filter_front : (p : ℕ → Bool) (xs ys : List ℕ) → ((s : ℕ) → serial_is_in s xs ≡ p s) → Distinct (xs ++ ys) → filter p (xs ++ ys) ≡ xs
+pub filter_front : (p : ℕ → Bool) (xs ys : List ℕ) → ((s : ℕ) → serial_is_in s xs ≡ p s) → SerialsAreDistinct (xs ++ ys) → filter p (xs ++ ys) ≡ xs
 filter_front p xs ys h d =
     filter-append p xs ys
     ∙ ap (λ zs. filter p xs ++ zs) (filter_none p ys (λ s e. sym (h s) ∙ apart xs ys s d e))
     ∙ append-nil (filter p xs)
     ∙ filter_all p xs (λ s e. sym (h s) ∙ e)
 
-pub law : (C : ℕ) (past : List StoreChange) → bounded_of C past ≡ held_of C past
+pub law : (C : ℕ) (past : List StoreChange) → lru_list_of C past ≡ held_serials_of C past
 law C past =
     let h = bounded_front C past in
     sym (
     ap (filter (is_held C past)) (sym h.1)
-    ∙ filter_front (is_held C past) (bounded_of C past) h.0 (is_in-bounded C past)
-    (subst Distinct (sym h.1) (Distinct-recent past))
+    ∙ filter_front (is_held C past) (lru_list_of C past) h.0 (is_in-bounded C past)
+    (subst SerialsAreDistinct (sym h.1) (SerialsAreDistinct-recent past))
     )
 
 -- the part of "in the recent list, and touched or not" that goes down to the item before
@@ -211,12 +211,12 @@ in_before true r n h e = absurd (false≢true (sym e))
 in_before false true n h e = refl
 in_before false false n h e = h
 
-pub counted : (C : ℕ) (s : ℕ) (past : List StoreChange) → serial_is_in s (recent_of past) ≡ true → is_held_by_count C s past ≡ true →
-    (later earlier : List StoreChange) → later ++ earlier ≡ past → NoChangeTouches later s → count_before s (recent_of earlier) < C
+pub counted : (C : ℕ) (s : ℕ) (past : List StoreChange) → serial_is_in s (recent_of past) ≡ true → stayed_within_count C s past ≡ true →
+    (later earlier : List StoreChange) → later ++ earlier ≡ past → NoChangeStoresOrUsesSerial later s → count_before_serial s (recent_of earlier) < C
 counted C s [] i k [] earlier e n = absurd (false≢true i)
 counted C s (x ∷ past) i k [] earlier e n =
-    let l : count_before s (recent_of (x ∷ past)) < C = ltb-true _ _ (and_parts _ _ k).0 in
-    subst (λ zs. count_before s (recent_of zs) < C) (sym e) l
+    let l : count_before_serial s (recent_of (x ∷ past)) < C = ltb-true _ _ (and_parts _ _ k).0 in
+    subst (λ zs. count_before_serial s (recent_of zs) < C) (sym e) l
 counted C s [] i k (y ∷ later) earlier e n = absurd (cc)
 counted C s (x ∷ past) i k (y ∷ later) earlier e n =
     let same : y ≡ x = cc in
@@ -228,8 +228,8 @@ counted C s (x ∷ past) i k (y ∷ later) earlier e n =
     later earlier rest n.1
 
 pub keeps : (C : ℕ) (s : ℕ) (past : List StoreChange) → serial_is_in s (recent_of past) ≡ true →
-    ((later earlier : List StoreChange) → later ++ earlier ≡ past → NoChangeTouches later s → count_before s (recent_of earlier) < C) →
-    is_held_by_count C s past ≡ true
+    ((later earlier : List StoreChange) → later ++ earlier ≡ past → NoChangeStoresOrUsesSerial later s → count_before_serial s (recent_of earlier) < C) →
+    stayed_within_count C s past ≡ true
 keeps C s [] i h = refl
 keeps C s (x ∷ past) i h =
     and_from _ _ (lt-ltb _ _ (h [] (x ∷ past) refl tt)) (
@@ -250,22 +250,22 @@ Decides-held C past s = (
 )
 
 -- one item more, said of the held serials alone
-pub held_more : (C : ℕ) (i : StoreChange) (past : List StoreChange) → held_of C (i ∷ past) ≡ take C (recent_after_change i (held_of C past))
+pub held_more : (C : ℕ) (i : StoreChange) (past : List StoreChange) → held_serials_of C (i ∷ past) ≡ take C (recent_after_change i (held_serials_of C past))
 held_more C i past = sym (law C (i ∷ past)) ∙ ap (λ xs. take C (recent_after_change i xs)) (law C past)
 
 -- the held serials are a front of the recent ones
-pub held_front : (C : ℕ) (past : List StoreChange) → (rest : List ℕ) × (held_of C past ++ rest ≡ recent_of past)
+pub held_front : (C : ℕ) (past : List StoreChange) → (rest : List ℕ) × (held_serials_of C past ++ rest ≡ recent_of past)
 held_front C past = let h = bounded_front C past in (h.0, ap (λ xs. xs ++ h.0) (sym (law C past)) ∙ h.1)
 
-pub is_in-held : (C : ℕ) (past : List StoreChange) (s : ℕ) → Decides (serial_is_in s (held_of C past)) (Held C past s)
+pub is_in-held : (C : ℕ) (past : List StoreChange) (s : ℕ) → Decides (serial_is_in s (held_serials_of C past)) (Held C past s)
 is_in-held C past s =
-    let e : serial_is_in s (held_of C past) ≡ is_held C past s = ap (serial_is_in s) (sym (law C past)) ∙ is_in-bounded C past s in
+    let e : serial_is_in s (held_serials_of C past) ≡ is_held C past s = ap (serial_is_in s) (sym (law C past)) ∙ is_in-bounded C past s in
     let d = Decides-held C past s in
     (λ h. d.0 (sym e ∙ h), λ h. e ∙ d.1 h)
 
-pub held_at_most : (C : ℕ) (past : List StoreChange) → length (held_of C past) ≤ C
+pub held_at_most : (C : ℕ) (past : List StoreChange) → length (held_serials_of C past) ≤ C
 held_at_most C [] = omega arith
-held_at_most C (i ∷ past) = rw (held_more C i past) (omega (arith, length-take C (recent_after_change i (held_of C past))))
+held_at_most C (i ∷ past) = rw (held_more C i past) (omega (arith, length-take C (recent_after_change i (held_serials_of C past))))
 
 pub and_not : (a b : Bool) → a ≡ true → b ≡ false → (a && not b) ≡ true
 and_not a b h k = ap (λ x. x && not b) h ∙ ap not k
@@ -274,7 +274,7 @@ not_true : (b : Bool) → not b ≡ true → b ≡ false
 not_true true h = absurd (false≢true h)
 not_true false h = refl
 
-is_listed : (past : List StoreChange) (s : ℕ) → serial_is_in s (recent_of past) ≡ true → IsStoredAndNotRemoved past s
+is_listed : (past : List StoreChange) (s : ℕ) → serial_is_in s (recent_of past) ≡ true → SerialIsStoredAndNotRemoved past s
 is_listed [] s h = absurd (false≢true h)
 is_listed (i ∷ past) s h =
     let p = and_parts (stores_or_uses i s || serial_is_in s (recent_of past)) _ (sym (is_in-after s i (recent_of past)) ∙ h) in
@@ -287,14 +287,14 @@ is_listed (i ∷ past) s h =
           )
     ]
 
-listed_is : (later : List StoreChange) (i : StoreChange) (earlier : List StoreChange) (s : ℕ) → stores_or_uses i s ≡ true → serial_is_in s i.removed ≡ false → NoChangeRemoves later s →
+listed_is : (later : List StoreChange) (i : StoreChange) (earlier : List StoreChange) (s : ℕ) → stores_or_uses i s ≡ true → serial_is_in s i.removed ≡ false → NoChangeRemovesSerial later s →
     serial_is_in s (recent_of (later ++ i ∷ earlier)) ≡ true
 listed_is [] i earlier s t off n = is_in-after s i (recent_of earlier) ∙ and_not _ _ (or_left _ _ t) off
 listed_is (j ∷ later) i earlier s t off n =
     is_in-after s j (recent_of (later ++ i ∷ earlier)) ∙ and_not _ _ (or_right _ _ (listed_is later i earlier s t off n.1)) n.0
 
 -- the recent serials are those stored or used and not removed since
-pub Decides-recent : (past : List StoreChange) (s : ℕ) → Decides (serial_is_in s (recent_of past)) (IsStoredAndNotRemoved past s)
+pub Decides-recent : (past : List StoreChange) (s : ℕ) → Decides (serial_is_in s (recent_of past)) (SerialIsStoredAndNotRemoved past s)
 Decides-recent past s = (
   is_listed past s,
   λ q. ap (λ zs. serial_is_in s (recent_of zs)) (sym q.3) ∙ listed_is q.0 q.1 q.2 s q.4 q.5 q.6,

@@ -35,53 +35,53 @@ abbrev pub fourth : Stored
 fourth = entry_of_path 4 (codes "/c")
 
 -- the first and the second, expired at a moment
-abbrev pub first_expired_at : ℕ → Stored
-first_expired_at now = record first { times = record first.times { expired = Some now } }
+abbrev pub entry_of_a_expired_at : ℕ → Stored
+entry_of_a_expired_at now = record first { times = record first.times { expired = Some now } }
 
-abbrev pub second_expired_at : ℕ → Stored
-second_expired_at now = record second { times = record second.times { expired = Some now } }
+abbrev pub entry_of_b_expired_at : ℕ → Stored
+entry_of_b_expired_at now = record second { times = record second.times { expired = Some now } }
 
 -- the first with five bytes of content, and with a line of eleven bytes
-abbrev pub first_with_content : Stored
-first_with_content = record first { content = codes "hello" }
+abbrev pub entry_of_a_with_content : Stored
+entry_of_a_with_content = record first { content = codes "hello" }
 
-abbrev pub first_with_a_line : Stored
-first_with_a_line = record first { fields = record { name = codes "ETag"; value = codes "abc" } ∷ [] }
+abbrev pub entry_of_a_with_a_line : Stored
+entry_of_a_with_a_line = record first { fields = record { name = codes "ETag"; value = codes "abc" } ∷ [] }
 
 -- the first where its request's language counts, which the request has or hasn't
-abbrev pub first_in_english : Stored
-first_in_english = record first { nominated = record { name = codes "Accept-Language"; value = Some (codes "en") } ∷ [] }
+abbrev pub entry_of_a_in_english : Stored
+entry_of_a_in_english = record first { nominated = record { name = codes "Accept-Language"; value = Some (codes "en") } ∷ [] }
 
-abbrev pub first_in_no_language : Stored
-first_in_no_language = record first { nominated = record { name = codes "Accept-Language"; value = None } ∷ [] }
+abbrev pub entry_of_a_in_no_language : Stored
+entry_of_a_in_no_language = record first { nominated = record { name = codes "Accept-Language"; value = None } ∷ [] }
 
 -- room for so many bytes, and for more entries than the cases have
-abbrev pub room_for_bytes : ℕ → StoreBounds
-room_for_bytes most = record { entries = 9; bytes = Some most }
+abbrev pub bounds_of_bytes : ℕ → StoreBounds
+bounds_of_bytes most = record { entries = 9; bytes = Some most }
 
 -- each weighs 100, but one serial so much
-abbrev pub weighs_100_but : ℕ → ℕ → ℕ → ℕ
-weighs_100_but serial weight s = cond (s == serial) weight 100
+abbrev pub weights_of_100_except : ℕ → ℕ → ℕ → ℕ
+weights_of_100_except serial weight s = cond (s == serial) weight 100
 
 -- steps that store a serial, use it or remove it, after which it weighs so much
 abbrev pub stores : ℕ → ℕ → WeighedChange
 stores serial weight = record {
   change = record { stored = Some serial; used = None; removed = [] };
-  weights = weighs_100_but serial weight;
+  weights = weights_of_100_except serial weight;
 }
 
 abbrev pub uses : ℕ → ℕ → WeighedChange
 uses serial weight = record {
   change = record { stored = None; used = Some serial; removed = [] };
-  weights = weighs_100_but serial weight;
+  weights = weights_of_100_except serial weight;
 }
 
 abbrev pub removes : ℕ → WeighedChange
 removes serial = record {
   change = record { stored = None; used = None; removed = serial ∷ [] };
-  weights = weighs_100_but 0 0;
+  weights = weights_of_100_except 0 0;
 }
 
 -- 1, 2 and 3 were stored, of 100 each
-abbrev pub three_were_stored : List WeighedChange
-three_were_stored = stores 3 100 ∷ stores 2 100 ∷ stores 1 100 ∷ []
+abbrev pub changes_storing_three : List WeighedChange
+changes_storing_three = stores 3 100 ∷ stores 2 100 ∷ stores 1 100 ∷ []

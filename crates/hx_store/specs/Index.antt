@@ -11,14 +11,14 @@ use Rattle.hx_target.specs.declared.keys.Key.{Key}
 use Rattle.hx_target.specs.Keys.{same_key}
 use Rattle.hx_store.specs.declared.key_index.KeyIndex.{KeyIndex}
 use Rattle.hx_vary.specs.Marks.{mark_of_values, mark_may_match}
-use Rattle.hx_vary.specs.declared.marks.Mark.{Mark}
-use Rattle.hx_vary.specs.Combined.{all_kept_by}
+use Rattle.hx_vary.specs.declared.marks.VariantMark.{VariantMark}
+use Rattle.hx_vary.specs.Combined.{values_match_all_nominated}
 use Rattle.hx_store.specs.Serials.{serial_is_in}
 use Rattle.hx_store.specs.Stored.{Stored}
-use Rattle.hx_store.specs.Shelf.{find_entry, serials_of}
+use Rattle.hx_store.specs.Shelf.{find_entry, serials_of_key}
 
 -- the serials that the index has at a key, beside their marks
-abbrev pub serials_and_marks_at : KeyIndex → Key → List (ℕ × Mark)
+abbrev pub serials_and_marks_at : KeyIndex → Key → List (ℕ × VariantMark)
 serials_and_marks_at index key = unwrap_or (get same_key index.serials key) []
 
 -- the serials alone
@@ -26,13 +26,13 @@ abbrev pub serials_in_index : KeyIndex → Key → List ℕ
 serials_in_index index key = keys_of (serials_and_marks_at index key)
 
 -- the serials whose marks a request with these tags may match
-abbrev pub serials_that_may_match : (ℕ → Bool) → List (ℕ × Mark) → List ℕ
+abbrev pub serials_that_may_match : (ℕ → Bool) → List (ℕ × VariantMark) → List ℕ
 serials_that_may_match has marks = keys_of (filter (λ p. mark_may_match has p.1) marks)
 
 -- the entry that was found nominates what these values have
 abbrev pub entry_matches_values : BTreeMap (List ℕ) (List ℕ) → Option Stored → Bool
 entry_matches_values values None = false
-entry_matches_values values (Some e) = all_kept_by values e.nominated
+entry_matches_values values (Some e) = values_match_all_nominated values e.nominated
 
 -- serials but the first that is this one
 abbrev pub without_first_serial : ℕ → List ℕ → List ℕ
@@ -41,19 +41,19 @@ without_first_serial s (x ∷ xs) = if x == s then xs else x ∷ without_first_s
 
 -- at a key, what is there once a serial was put in at another with its mark, once it was marked anew there, and once it
 -- was taken out there
-abbrev pub SerialIsPutIn : KeyIndex → Key → ℕ → Mark → KeyIndex → Type 0
-SerialIsPutIn old key s mark new =
+abbrev pub SerialIsInsertedInIndex : KeyIndex → Key → ℕ → VariantMark → KeyIndex → Type 0
+SerialIsInsertedInIndex old key s mark new =
     (q : Key) → serials_and_marks_at new q
     ≡ (if same_key key q then insert_entry nat_cmp (serials_and_marks_at old q) s mark else serials_and_marks_at old q)
 
-abbrev pub SerialIsMarkedAnew : KeyIndex → Key → ℕ → Mark → KeyIndex → Type 0
-SerialIsMarkedAnew old key s mark new =
+abbrev pub SerialMarkIsReplacedInIndex : KeyIndex → Key → ℕ → VariantMark → KeyIndex → Type 0
+SerialMarkIsReplacedInIndex old key s mark new =
     (q : Key) → serials_and_marks_at new q
     ≡ (if same_key key q then set_value (is_at (nat_cmp s)) (serials_and_marks_at old q) mark
     else serials_and_marks_at old q)
 
-abbrev pub SerialIsTakenOut : KeyIndex → Key → ℕ → KeyIndex → Type 0
-SerialIsTakenOut old key s new =
+abbrev pub SerialIsRemovedFromIndex : KeyIndex → Key → ℕ → KeyIndex → Type 0
+SerialIsRemovedFromIndex old key s new =
     (q : Key) → serials_and_marks_at new q
     ≡ (if same_key key q then remove_entry (is_at (nat_cmp s)) (serials_and_marks_at old q)
     else serials_and_marks_at old q)
@@ -62,25 +62,25 @@ abbrev pub IsSameKeyIndex : KeyIndex → KeyIndex → Type 0
 IsSameKeyIndex old new = (q : Key) → serials_and_marks_at new q ≡ serials_and_marks_at old q
 
 -- the serial was put in where its key has others, and else nothing was done
-abbrev pub SerialIsPutInIf : Bool → KeyIndex → Key → ℕ → Mark → KeyIndex → Type 0
-SerialIsPutInIf true old key s mark new = SerialIsPutIn old key s mark new
-SerialIsPutInIf false old key s mark new = IsSameKeyIndex old new × (serials_and_marks_at old key ≡ [])
+abbrev pub SerialIsInsertedInIndexIf : Bool → KeyIndex → Key → ℕ → VariantMark → KeyIndex → Type 0
+SerialIsInsertedInIndexIf true old key s mark new = SerialIsInsertedInIndex old key s mark new
+SerialIsInsertedInIndexIf false old key s mark new = IsSameKeyIndex old new × (serials_and_marks_at old key ≡ [])
 
 -- no key is in the index for nothing
-abbrev pub HasNoUnusedKey : KeyIndex → Type 0
-HasNoUnusedKey index = (q : Key) → ForSome (get same_key index.serials q) (λ marks. marks ≡ [] → ⊥)
+abbrev pub IndexHasNoEmptyKey : KeyIndex → Type 0
+IndexHasNoEmptyKey index = (q : Key) → ForSome (get same_key index.serials q) (λ marks. marks ≡ [] → ⊥)
 
 -- the same of each key but this one
-abbrev pub HasNoOtherUnusedKey : Key → KeyIndex → Type 0
-HasNoOtherUnusedKey key index =
+abbrev pub IndexHasNoEmptyKeyExcept : Key → KeyIndex → Type 0
+IndexHasNoEmptyKeyExcept key index =
     (q : Key) → same_key key q ≡ false → ForSome (get same_key index.serials q) (λ marks. marks ≡ [] → ⊥)
 
 -- the index has the serials of these entries at each key
 abbrev pub IsKeyIndexOf : List Stored → KeyIndex → Type 0
-IsKeyIndexOf es index = (q : Key) → serials_in_index index q ≡ serials_of q es
+IsKeyIndexOf es index = (q : Key) → serials_in_index index q ≡ serials_of_key q es
 
 -- each mark is that of the entry that its serial finds, by the seed, if it finds one
-abbrev pub EachMarkIsOfItsEntry : ℕ → List Stored → List (ℕ × Mark) → Type 0
+abbrev pub EachMarkIsOfItsEntry : ℕ → List Stored → List (ℕ × VariantMark) → Type 0
 EachMarkIsOfItsEntry seed es [] = Unit {0}
 EachMarkIsOfItsEntry seed es (p ∷ ps) = IfSome (find_entry p.0 es) (λ e. p.1 ≡ mark_of_values seed e.nominated)
     × EachMarkIsOfItsEntry seed es ps
@@ -89,5 +89,5 @@ abbrev pub MarksAreOfTheirEntries : ℕ → List Stored → KeyIndex → Type 0
 MarksAreOfTheirEntries seed es index = (q : Key) → EachMarkIsOfItsEntry seed es (serials_and_marks_at index q)
 
 -- the entries but those with these serials, and that of the serial `kept` in any case
-abbrev pub entries_but_others : ℕ → List ℕ → List Stored → List Stored
-entries_but_others kept gone es = filter (λ e. (e.serial == kept) || not (serial_is_in e.serial gone)) es
+abbrev pub entries_without_serials_but_one : ℕ → List ℕ → List Stored → List Stored
+entries_without_serials_but_one kept gone es = filter (λ e. (e.serial == kept) || not (serial_is_in e.serial gone)) es

@@ -1,13 +1,13 @@
 -- The serials of one key beside their marks, as they are kept: one that stands alone, or those of a map.
 use Rattle.std.specs.Prelude.{◌≡◌, ℕ, List, [], ◌∷◌, Option, Some, None}
-use Rattle.hx_vary.specs.declared.marks.Mark.{Mark}
+use Rattle.hx_vary.specs.declared.marks.VariantMark.{VariantMark}
 
 -- the pairs
-abbrev pub kept_marks : Option (ℕ × Mark) → List (ℕ × Mark) → List (ℕ × Mark)
-kept_marks (Some p) more = p ∷ []
-kept_marks None more = more
+abbrev pub marks_of_one_or_map : Option (ℕ × VariantMark) → List (ℕ × VariantMark) → List (ℕ × VariantMark)
+marks_of_one_or_map (Some p) more = p ∷ []
+marks_of_one_or_map None more = more
 
 -- where one stands alone, the map is empty
-abbrev pub IsOneOrAMap : Option (ℕ × Mark) → List (ℕ × Mark) → Type 0
-IsOneOrAMap (Some p) more = more ≡ []
-IsOneOrAMap None more = Unit {0}
+abbrev pub MapIsEmptyBesideOneMark : Option (ℕ × VariantMark) → List (ℕ × VariantMark) → Type 0
+MapIsEmptyBesideOneMark (Some p) more = more ≡ []
+MapIsEmptyBesideOneMark None more = Unit {0}

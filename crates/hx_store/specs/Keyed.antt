@@ -2,7 +2,7 @@
 use Rattle.std.specs.Prelude.{◌≡◌, ℕ, List, [], ◌∷◌}
 use Rattle.std.specs.Map.{values_of}
 use Rattle.hx_store.specs.Stored.{Stored}
-use Rattle.hx_store.specs.Serials.{Distinct}
+use Rattle.hx_store.specs.Serials.{SerialsAreDistinct}
 use Rattle.hx_store.specs.Shelf.{serials}
 
 -- each serial is its entry's own
@@ -12,4 +12,4 @@ EntriesHaveTheirSerials (p ∷ ps) = (p.0 ≡ p.1.serial) × EntriesHaveTheirSer
 
 -- and no serial stands twice
 abbrev pub EntriesHaveDistinctSerials : List (ℕ × Stored) → Type 0
-EntriesHaveDistinctSerials ps = EntriesHaveTheirSerials ps × Distinct (serials (values_of ps))
+EntriesHaveDistinctSerials ps = EntriesHaveTheirSerials ps × SerialsAreDistinct (serials (values_of ps))

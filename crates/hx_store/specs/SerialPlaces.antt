@@ -5,13 +5,13 @@ use Rattle.hx_store.specs.Stored.{Stored}
 use Rattle.hx_store.specs.Shelf.{holds_serial, find_entry, without_serials}
 
 -- what taking out the entry at this place needs to know
-pub record IsPlaceOfSerial (s : ℕ) (es : List Stored) (i : ℕ) : Type 0 where
+pub record IsIndexOfSerial (s : ℕ) (es : List Stored) (i : ℕ) : Type 0 where
   pub within : i < length es
   pub held : holds_serial s es ≡ true
   pub found : (d : Stored) → find_entry s es ≡ Some (slice_index_or es i d)
   pub rest : remove es i ≡ without_serials (s ∷ []) es
 
-pub record SerialIsAbsent (s : ℕ) (es : List Stored) : Type 0 where
+pub record SerialIsInNoEntry (s : ℕ) (es : List Stored) : Type 0 where
   pub not_held : holds_serial s es ≡ false
   pub not_found : find_entry s es ≡ None
   pub stays : without_serials (s ∷ []) es ≡ es

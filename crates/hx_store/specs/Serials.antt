@@ -6,9 +6,9 @@ serial_is_in s [] = false
 serial_is_in s (x ∷ xs) = (x == s) || serial_is_in s xs
 
 -- no serial stands twice
-abbrev pub Distinct : List ℕ → Type 0
-Distinct [] = Unit {0}
-Distinct (x ∷ xs) = (serial_is_in x xs ≡ false) × Distinct xs
+abbrev pub SerialsAreDistinct : List ℕ → Type 0
+SerialsAreDistinct [] = Unit {0}
+SerialsAreDistinct (x ∷ xs) = (serial_is_in x xs ≡ false) × SerialsAreDistinct xs
 
 -- a serial before the first that isn't below it
 abbrev pub insert_ascending : ℕ → List ℕ → List ℕ

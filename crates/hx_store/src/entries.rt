@@ -4,7 +4,7 @@
 
 ghost use Rattle.std.specs.Prelude.{◌≡◌, ◌==◌, IfOk};
 ghost use Rattle.hx_target.specs.Keys.{same_key};
-ghost use Rattle.hx_age.specs.Age.{expired_times};
+ghost use Rattle.hx_age.specs.Age.{times_once_purged};
 ghost use Rattle.hx_store.specs.Serials.{serial_is_in};
 ghost use Rattle.hx_store.specs.Shelf.{expired_entry};
 
@@ -89,13 +89,13 @@ impl Entry {
 
     /// Expires it at a moment, in seconds since 1970.
     pub(crate) fn expire(&mut self, now: u64)
-        ensures { self.new ≡ record self.old { times = expired_times self.old.times now } }
+        ensures { self.new ≡ record self.old { times = times_once_purged self.old.times now } }
     {
-        self.times = self.times.expired_at(now);
+        self.times = self.times.times_once_purged_at(now);
     }
 
     /// The same where it has one of these serials.
-    pub(crate) fn expire_among(&mut self, serials: &[u64], now: u64)
+    pub(crate) fn expire_if_serial_among(&mut self, serials: &[u64], now: u64)
         ensures { self.new ≡ expired_entry serials.now now self.old }
     {
         if self.is_among(serials) {

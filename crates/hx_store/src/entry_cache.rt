@@ -7,8 +7,9 @@ ghost use Rattle.std.specs.Prelude.{IfErr, OnErr, OnOk, Some};
 ghost use Rattle.std.specs.List.{filter, list_all};
 ghost use Rattle.std.specs.Map.{keys_of};
 ghost use Rattle.hx_store.specs.Index.{entry_matches_values, EachMarkIsOfItsEntry};
-ghost use Rattle.hx_store.specs.Shelf.{holds_serial, find_entry, entry_matches, without_serials, with_promoted};
-ghost use Rattle.hx_store.specs.Shelf.{serials, serials_where, with_expired};
+ghost use Rattle.hx_store.specs.Shelf.{holds_serial, find_entry, entry_matches_request, without_serials};
+ghost use Rattle.hx_store.specs.Shelf.{entries_with_promoted};
+ghost use Rattle.hx_store.specs.Shelf.{serials, serials_of_entries_that_pass, entries_with_expired};
 
 use crate::entries::Entry;
 use crate::key_marks::KeyMarks;
@@ -87,7 +88,7 @@ impl EntryCache {
         request: &Fields,
     ) -> Result<Serials, AllocError>
         ensures { IfOk result
-            (λ found. found ≡ filter (λ s. entry_matches request.now (find_entry s self.now)) serials) }
+            (λ found. found ≡ filter (λ s. entry_matches_request request.now (find_entry s self.now)) serials) }
     {
         if self.all_match(alloc, serials.as_slice(), request)? {
             return Ok(serials);
@@ -103,7 +104,7 @@ impl EntryCache {
         request: &Fields,
     ) -> Result<bool, AllocError>
         ensures { IfOk result
-            (λ all. all ≡ list_all (λ s. entry_matches request.now (find_entry s self.now)) serials.now) }
+            (λ all. all ≡ list_all (λ s. entry_matches_request request.now (find_entry s self.now)) serials.now) }
     {
         for serial in serials {
             if !self.is_match(alloc, *serial, request)? {
@@ -120,7 +121,7 @@ impl EntryCache {
         request: &Fields,
     ) -> Result<Serials, AllocError>
         ensures { IfOk result (λ found. found
-            ≡ filter (λ s. entry_matches request.now (find_entry s self.now)) serials.now) }
+            ≡ filter (λ s. entry_matches_request request.now (find_entry s self.now)) serials.now) }
     {
         let mut found = Serials::new(alloc);
         for serial in serials {
@@ -133,7 +134,7 @@ impl EntryCache {
 
     /// Whether the entry of this serial is here and nominates what the request has. Fails only where memory runs out.
     fn is_match(&self, alloc: Global, serial: u64, request: &Fields) -> Result<bool, AllocError>
-        ensures { IfOk result (λ is. is ≡ entry_matches request.now (find_entry serial self.now)) }
+        ensures { IfOk result (λ is. is ≡ entry_matches_request request.now (find_entry serial self.now)) }
     {
         match self.peek(serial) {
             Some(entry) => matches(alloc, &entry.nominated, request),
@@ -152,9 +153,9 @@ impl EntryCache {
     ) -> Result<Serials, AllocError>
         requires { EachMarkIsOfItsEntry seed self.now marks.now }
         ensures { IfOk result (λ found. found
-            ≡ filter (λ s. entry_matches request.now (find_entry s self.now)) (keys_of marks.now)) }
+            ≡ filter (λ s. entry_matches_request request.now (find_entry s self.now)) (keys_of marks.now)) }
     {
-        if !marks.is_several() {
+        if !marks.has_several_serials() {
             let found = marks.list(alloc)?;
             return self.matching(alloc, found, request);
         }
@@ -199,7 +200,7 @@ impl EntryCache {
         alloc: Global,
         test: &T,
     ) -> Result<Serials, AllocError>
-        ensures { IfOk result (λ found. found ≡ serials_where (T.takes test.now) self.now) }
+        ensures { IfOk result (λ found. found ≡ serials_of_entries_that_pass (T.takes test.now) self.now) }
     {
         let mut found = self.passing(alloc, test)?;
         found.sort();
@@ -212,7 +213,7 @@ impl EntryCache {
     {
         let mut found = Serials::new(alloc);
         for (_, entry) in self.entries.iter() {
-            if test.is_passed_by(entry) {
+            if test.entry_passes_test(entry) {
                 found.push(entry.serial)?;
             }
         }
@@ -251,14 +252,14 @@ impl EntryCache {
     /// Brings the entry of this serial to the front. No memory is taken.
     pub(crate) fn promote(&mut self, serial: u64) -> bool
         ensures value { result ≡ holds_serial serial self.old }
-        ensures entries { self.new ≡ with_promoted serial self.old }
+        ensures entries { self.new ≡ entries_with_promoted serial self.old }
     {
         self.entries.promote(&serial)
     }
 
     /// Expires the entry of this serial at a moment, if it is here. It stays where it is. No memory is taken.
     pub(crate) fn expire(&mut self, serial: u64, now: u64)
-        ensures { self.new ≡ with_expired (serial ∷ []) now self.old }
+        ensures { self.new ≡ entries_with_expired (serial ∷ []) now self.old }
     {
         if let Some(entry) = self.entries.peek_mut(&serial) {
             entry.expire(now);

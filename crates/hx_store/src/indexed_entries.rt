@@ -6,11 +6,13 @@ ghost use Rattle.std.specs.Prelude.{◌≡◌, ◌<◌, ◌≤◌, ◌+◌, ◌-
 ghost use Rattle.std.specs.Prelude.{slice_get, option_copied, IfOk, IfErr, OnErr, OnOk, Some};
 ghost use Rattle.std.specs.Option.{ForSome};
 ghost use Rattle.hx_target.specs.Keys.{same_key};
-ghost use Rattle.hx_store.specs.Serials.{Distinct};
-ghost use Rattle.hx_store.specs.Shelf.{holds_serial, find_entry, without_serials, serials, serials_of};
-ghost use Rattle.hx_store.specs.Shelf.{matching_serials, serials_where, with_expired, with_promoted, without_key};
-ghost use Rattle.hx_store.specs.Index.{entries_but_others};
-ghost use Rattle.hx_store.specs.Weights.{after_shedding, shed_entry, total_weight};
+ghost use Rattle.hx_store.specs.Serials.{SerialsAreDistinct};
+ghost use Rattle.hx_store.specs.Shelf.{holds_serial, find_entry, without_serials, serials, serials_of_key};
+ghost use Rattle.hx_store.specs.Shelf.{matching_serials, serials_of_entries_that_pass, entries_with_expired};
+ghost use Rattle.hx_store.specs.Shelf.{entries_with_promoted};
+ghost use Rattle.hx_store.specs.Shelf.{entries_without_key};
+ghost use Rattle.hx_store.specs.Index.{entries_without_serials_but_one};
+ghost use Rattle.hx_store.specs.Weights.{entries_after_weight_eviction, entry_evicted_by_weight, total_weight};
 
 use crate::entries::Entry;
 use crate::entry_cache::EntryCache;
@@ -49,17 +51,18 @@ impl Drop for IndexedEntries {
 impl Model for IndexedEntries {
     ghost use Rattle.std.specs.Prelude.{◌≡◌, List};
     ghost use Rattle.hx_store.specs.Stored.{Stored};
-    ghost use Rattle.hx_store.specs.Weights.{counted_total_weight};
-    ghost use Rattle.hx_store.specs.Index.{IsKeyIndexOf, MarksAreOfTheirEntries, HasNoUnusedKey};
-    ghost use Rattle.hx_store.specs.Serials.{Distinct};
+    ghost use Rattle.hx_store.specs.Weights.{total_of_capped_weights};
+    ghost use Rattle.hx_store.specs.Index.{IsKeyIndexOf, MarksAreOfTheirEntries, IndexHasNoEmptyKey};
+    ghost use Rattle.hx_store.specs.Serials.{SerialsAreDistinct};
     ghost use Rattle.hx_store.specs.Shelf.{serials};
 
     ghost Value = { List Stored };
 
     ghost view = { λ s. s.entries };
 
-    ghost invariant = { λ s. (Distinct (serials s.entries) × IsKeyIndexOf s.entries s.index) × HasNoUnusedKey s.index
-        × MarksAreOfTheirEntries s.seed s.entries s.index × (s.weight ≡ counted_total_weight s.entries) };
+    ghost invariant = { λ s. (SerialsAreDistinct (serials s.entries) × IsKeyIndexOf s.entries s.index)
+        × IndexHasNoEmptyKey s.index
+        × MarksAreOfTheirEntries s.seed s.entries s.index × (s.weight ≡ total_of_capped_weights s.entries) };
 }
 
 impl IndexedEntries {
@@ -106,23 +109,23 @@ impl IndexedEntries {
 
     /// The serials of the entries with this key, ascending. Fails only where memory runs out.
     pub(crate) fn find(&self, alloc: Global, key: &Key) -> Result<Serials, AllocError>
-        ensures found { IfOk result (λ found. found ≡ serials_of key.now self.now) }
-        ensures distinct { Distinct (serials self.now) }
+        ensures found { IfOk result (λ found. found ≡ serials_of_key key.now self.now) }
+        ensures distinct { SerialsAreDistinct (serials self.now) }
     {
         self.index.find(alloc, key)
     }
 
     /// The least serial of an entry with this key. Nothing is allocated.
     fn first_of(&self, key: &Key) -> Option<u64>
-        ensures first { result ≡ slice_get (serials_of key.now self.now) 0 }
-        ensures distinct { Distinct (serials self.now) }
+        ensures first { result ≡ slice_get (serials_of_key key.now self.now) 0 }
+        ensures distinct { SerialsAreDistinct (serials self.now) }
     {
         self.index.first(key)
     }
 
     /// Whether an entry with this key is here. Nothing is allocated.
     pub(crate) fn has_key(&self, key: &Key) -> bool
-        ensures { result ≡ not (length (serials_of key.now self.now) == 0) }
+        ensures { result ≡ not (length (serials_of_key key.now self.now) == 0) }
     {
         self.index.has(key)
     }
@@ -136,7 +139,7 @@ impl IndexedEntries {
         request: &Fields,
     ) -> Result<Serials, AllocError>
         ensures found { IfOk result (λ found. found ≡ matching_serials key.now request.now self.now) }
-        ensures distinct { Distinct (serials self.now) }
+        ensures distinct { SerialsAreDistinct (serials self.now) }
     {
         match self.index.at(key) {
             Some(marks) => self
@@ -152,8 +155,8 @@ impl IndexedEntries {
         alloc: Global,
         test: &T,
     ) -> Result<Serials, AllocError>
-        ensures found { IfOk result (λ found. found ≡ serials_where (T.takes test.now) self.now) }
-        ensures distinct { Distinct (serials self.now) }
+        ensures found { IfOk result (λ found. found ≡ serials_of_entries_that_pass (T.takes test.now) self.now) }
+        ensures distinct { SerialsAreDistinct (serials self.now) }
     {
         self.entries.find_where(alloc, test)
     }
@@ -207,21 +210,21 @@ impl IndexedEntries {
     /// Brings the entry of this serial to the front. Nothing is allocated.
     pub(crate) fn promote(&mut self, serial: u64) -> bool
         ensures value { result ≡ holds_serial serial self.old }
-        ensures entries { self.new ≡ with_promoted serial self.old }
+        ensures entries { self.new ≡ entries_with_promoted serial self.old }
     {
         self.entries.promote(serial)
     }
 
     /// Expires the entry of this serial at a moment, if it is here. It stays where it is. Nothing is allocated.
     fn expire_entry(&mut self, serial: u64, now: u64)
-        ensures { self.new ≡ with_expired (serial ∷ []) now self.old }
+        ensures { self.new ≡ entries_with_expired (serial ∷ []) now self.old }
     {
         self.entries.expire(serial, now);
     }
 
     /// Expires the entries with these serials at a moment, each at the cost of a look-up. Nothing is allocated.
     pub(crate) fn expire(&mut self, serials: &[u64], now: u64)
-        ensures { self.new ≡ with_expired serials.now now self.old }
+        ensures { self.new ≡ entries_with_expired serials.now now self.old }
     {
         for serial in serials {
             self.expire_entry(*serial, now);
@@ -259,7 +262,7 @@ impl IndexedEntries {
     }
 
     /// Evicts the last entry where more than `capacity` entries stand.
-    pub(crate) fn evict_last_beyond(&mut self, capacity: usize) -> Option<Entry>
+    pub(crate) fn evict_last_beyond_capacity(&mut self, capacity: usize) -> Option<Entry>
         requires { length self.old ≤ capacity + 1 }
         ensures entries { self.new ≡ take capacity self.old }
         ensures gone { result ≡ slice_get self.old capacity }
@@ -274,8 +277,8 @@ impl IndexedEntries {
     /// Evicts the last entry where the entries weigh more than `most` bytes together.
     pub(crate) fn shed(&mut self, most: u64) -> Option<Entry>
         requires { most < 2 ^ 64 - 1 }
-        ensures value { result ≡ shed_entry most self.old }
-        ensures entries { self.new ≡ after_shedding most self.old }
+        ensures value { result ≡ entry_evicted_by_weight most self.old }
+        ensures entries { self.new ≡ entries_after_weight_eviction most self.old }
     {
         if self.weight() > most {
             self.pop_last()
@@ -285,8 +288,8 @@ impl IndexedEntries {
     }
 
     /// Takes the entries with these serials out, but that of the serial `kept`.
-    pub(crate) fn remove_others(&mut self, kept: u64, gone: &[u64])
-        ensures { self.new ≡ entries_but_others kept gone.now self.old }
+    pub(crate) fn remove_serials_but_one(&mut self, kept: u64, gone: &[u64])
+        ensures { self.new ≡ entries_without_serials_but_one kept gone.now self.old }
     {
         for serial in gone {
             if *serial != kept {
@@ -297,7 +300,7 @@ impl IndexedEntries {
 
     /// Takes the entries of this key out, at the cost of taking each of them out. Nothing is allocated.
     pub(crate) fn remove_key(&mut self, key: &Key)
-        ensures { self.new ≡ without_key key.now self.old }
+        ensures { self.new ≡ entries_without_key key.now self.old }
     {
         while let Some(serial) = self.first_of(key) {
             self.remove(serial);

@@ -115,8 +115,8 @@ impl Shelf for IndexedShelf {
         let serial = entry.serial;
         // The new entry goes in first: where memory is refused, the replaced ones have to stay.
         self.held.store(entry)?;
-        self.held.remove_others(serial, replaced);
-        Ok(self.held.evict_last_beyond(self.capacity))
+        self.held.remove_serials_but_one(serial, replaced);
+        Ok(self.held.evict_last_beyond_capacity(self.capacity))
     }
 
     fn freshen(&mut self, entry: Entry) -> Entry {

@@ -9,15 +9,16 @@ ghost use Rattle.hx_target.specs.declared.keys.Key.{Key as StoreKey};
 ghost use Rattle.std.specs.HashMap.{get, hasher_of};
 ghost use Rattle.hx_target.specs.Keys.{same_key};
 ghost use Rattle.std.specs.Ordering.{nat_cmp};
-ghost use Rattle.hx_store.specs.Index.{serials_in_index, serials_and_marks_at, SerialIsMarkedAnew, SerialIsPutIn};
-ghost use Rattle.hx_store.specs.Index.{SerialIsPutInIf, SerialIsTakenOut, IsSameKeyIndex};
-ghost use Rattle.hx_store.specs.Index.{HasNoUnusedKey, HasNoOtherUnusedKey};
+ghost use Rattle.hx_store.specs.Index.{serials_in_index, serials_and_marks_at, SerialMarkIsReplacedInIndex};
+ghost use Rattle.hx_store.specs.Index.{SerialIsInsertedInIndex};
+ghost use Rattle.hx_store.specs.Index.{SerialIsInsertedInIndexIf, SerialIsRemovedFromIndex, IsSameKeyIndex};
+ghost use Rattle.hx_store.specs.Index.{IndexHasNoEmptyKey, IndexHasNoEmptyKeyExcept};
 
 use crate::key_hashing::KeyHashing;
 use crate::key_marks::KeyMarks;
 use crate::serial_list::Serials;
 use hx_target::Key;
-use hx_vary::Mark;
+use hx_vary::VariantMark;
 use std::alloc::{AllocError, Global};
 use std::collections::HashMap;
 
@@ -37,7 +38,7 @@ impl KeyIndex {
     /// No serials. Keys are hashed by the seed, so nobody who doesn't know it can choose keys of one hash.
     pub(crate) fn new(alloc: Global, seed: u64) -> KeyIndex
         ensures empty { (key : StoreKey) → serials_and_marks_at result key ≡ [] }
-        ensures trim { HasNoUnusedKey result }
+        ensures trim { IndexHasNoEmptyKey result }
         ensures seeded { (hasher_of result.serials).seed ≡ seed }
     {
         KeyIndex {
@@ -85,11 +86,11 @@ impl KeyIndex {
         alloc: Global,
         key: &Key,
         serial: u64,
-        mark: Mark,
+        mark: VariantMark,
     ) -> Result<(), AllocError>
-        ensures ok { OnOk result (SerialIsPutIn self.old key.now serial mark self.new) }
+        ensures ok { OnOk result (SerialIsInsertedInIndex self.old key.now serial mark self.new) }
         ensures err { OnErr result (IsSameKeyIndex self.old self.new) }
-        ensures trim { HasNoUnusedKey self.old → HasNoUnusedKey self.new }
+        ensures trim { IndexHasNoEmptyKey self.old → IndexHasNoEmptyKey self.new }
     {
         if self.insert_beside(alloc, key, serial, mark)? {
             return Ok(());
@@ -106,11 +107,11 @@ impl KeyIndex {
         alloc: Global,
         key: &Key,
         serial: u64,
-        mark: Mark,
+        mark: VariantMark,
     ) -> Result<bool, AllocError>
-        ensures ok { IfOk result (λ has. SerialIsPutInIf has self.old key.now serial mark self.new) }
+        ensures ok { IfOk result (λ has. SerialIsInsertedInIndexIf has self.old key.now serial mark self.new) }
         ensures err { OnErr result (IsSameKeyIndex self.old self.new) }
-        ensures trim { HasNoUnusedKey self.old → HasNoUnusedKey self.new }
+        ensures trim { IndexHasNoEmptyKey self.old → IndexHasNoEmptyKey self.new }
     {
         match self.serials.get_mut(key) {
             Some(marks) => {
@@ -122,9 +123,9 @@ impl KeyIndex {
     }
 
     /// Puts another mark beside a serial that stands at a key. Nothing is allocated.
-    pub(crate) fn mark(&mut self, key: &Key, serial: u64, mark: Mark)
-        ensures marked { SerialIsMarkedAnew self.old key.now serial mark self.new }
-        ensures trim { HasNoUnusedKey self.old → HasNoUnusedKey self.new }
+    pub(crate) fn mark(&mut self, key: &Key, serial: u64, mark: VariantMark)
+        ensures marked { SerialMarkIsReplacedInIndex self.old key.now serial mark self.new }
+        ensures trim { IndexHasNoEmptyKey self.old → IndexHasNoEmptyKey self.new }
     {
         if let Some(marks) = self.serials.get_mut(key) {
             marks.set_mark(serial, mark);
@@ -133,8 +134,8 @@ impl KeyIndex {
 
     /// Takes a serial out at a key. Nothing is allocated.
     pub(crate) fn remove(&mut self, key: &Key, serial: u64)
-        ensures taken { SerialIsTakenOut self.old key.now serial self.new }
-        ensures trim { HasNoUnusedKey self.old → HasNoUnusedKey self.new }
+        ensures taken { SerialIsRemovedFromIndex self.old key.now serial self.new }
+        ensures trim { IndexHasNoEmptyKey self.old → IndexHasNoEmptyKey self.new }
     {
         if self.take_out(key, serial) {
             self.serials.remove(key);
@@ -143,10 +144,10 @@ impl KeyIndex {
 
     /// Takes a serial out at a key, and says whether it was the last there.
     fn take_out(&mut self, key: &Key, serial: u64) -> bool
-        ensures taken { SerialIsTakenOut self.old key.now serial self.new }
+        ensures taken { SerialIsRemovedFromIndex self.old key.now serial self.new }
         ensures emptied { OnTrue result (serials_and_marks_at self.new key.now ≡ []) }
-        ensures trim_beside { HasNoUnusedKey self.old → HasNoOtherUnusedKey key.now self.new }
-        ensures trim { HasNoUnusedKey self.old → OnFalse result (HasNoUnusedKey self.new) }
+        ensures trim_beside { IndexHasNoEmptyKey self.old → IndexHasNoEmptyKeyExcept key.now self.new }
+        ensures trim { IndexHasNoEmptyKey self.old → OnFalse result (IndexHasNoEmptyKey self.new) }
     {
         match self.serials.get_mut(key) {
             Some(marks) => {

@@ -12,7 +12,7 @@ ghost use Rattle.std.specs.HashSet.{contains};
 ghost use Rattle.hx_store.specs.Index.{serials_that_may_match};
 
 use crate::serial_list::Serials;
-use hx_vary::{Mark, RequestValues};
+use hx_vary::{RequestValues, VariantMark};
 use std::alloc::{AllocError, Global};
 use std::collections::BTreeMap;
 use std::marker::Model;
@@ -20,9 +20,9 @@ use std::marker::Model;
 /// Serials and marks, of which callers see the list of pairs.
 pub(crate) struct KeyMarks {
     /// The pair that stands alone.
-    only: Option<(u64, Mark)>,
+    only: Option<(u64, VariantMark)>,
     /// The pairs where none stands alone.
-    more: BTreeMap<u64, Mark>,
+    more: BTreeMap<u64, VariantMark>,
 }
 
 /// One call drops it, wherever that is.
@@ -34,19 +34,19 @@ impl Drop for KeyMarks {
 
 impl Model for KeyMarks {
     ghost use Rattle.std.specs.Prelude.{List, ℕ};
-    ghost use Rattle.hx_store.specs.KeptMarks.{kept_marks, IsOneOrAMap};
-    ghost use Rattle.hx_vary.specs.declared.marks.Mark.{Mark};
+    ghost use Rattle.hx_store.specs.KeptMarks.{marks_of_one_or_map, MapIsEmptyBesideOneMark};
+    ghost use Rattle.hx_vary.specs.declared.marks.VariantMark.{VariantMark};
 
-    ghost Value = { List (ℕ × Mark) };
+    ghost Value = { List (ℕ × VariantMark) };
 
-    ghost view = { λ m. kept_marks m.only m.more.entries };
+    ghost view = { λ m. marks_of_one_or_map m.only m.more.entries };
 
-    ghost invariant = { λ m. IsOneOrAMap m.only m.more.entries };
+    ghost invariant = { λ m. MapIsEmptyBesideOneMark m.only m.more.entries };
 }
 
 impl KeyMarks {
     /// The list of one serial with its mark. Nothing is allocated.
-    pub(crate) fn with_one_mark(alloc: Global, serial: u64, mark: Mark) -> KeyMarks
+    pub(crate) fn with_one_mark(alloc: Global, serial: u64, mark: VariantMark) -> KeyMarks
         ensures { result ≡ (serial, mark) ∷ [] }
     {
         KeyMarks {
@@ -83,7 +83,7 @@ impl KeyMarks {
     }
 
     /// Whether there are several.
-    pub(crate) fn is_several(&self) -> bool
+    pub(crate) fn has_several_serials(&self) -> bool
         ensures { result ≡ nat_lt 1 (length self.now) }
     {
         self.only.is_none() && self.more.len() > 1
@@ -108,7 +108,7 @@ impl KeyMarks {
         &mut self,
         alloc: Global,
         serial: u64,
-        mark: Mark,
+        mark: VariantMark,
     ) -> Result<(), AllocError>
         ensures ok { OnOk result (self.new ≡ insert_entry nat_cmp self.old serial mark) }
         ensures err { OnErr result (self.new ≡ self.old) }
@@ -122,7 +122,7 @@ impl KeyMarks {
     }
 
     /// Puts another mark beside a serial, if it stands here. Nothing is allocated.
-    pub(crate) fn set_mark(&mut self, serial: u64, mark: Mark)
+    pub(crate) fn set_mark(&mut self, serial: u64, mark: VariantMark)
         ensures { self.new ≡ set_value (is_at (nat_cmp serial)) self.old mark }
     {
         match self.only {
@@ -153,10 +153,10 @@ impl KeyMarks {
 fn map_of_two(
     alloc: Global,
     first: u64,
-    its: Mark,
+    its: VariantMark,
     serial: u64,
-    mark: Mark,
-) -> Result<BTreeMap<u64, Mark>, AllocError>
+    mark: VariantMark,
+) -> Result<BTreeMap<u64, VariantMark>, AllocError>
     ensures { IfOk result (λ marks. marks.entries ≡ insert_entry nat_cmp ((first, its) ∷ []) serial mark) }
 {
     let mut marks = BTreeMap::new(alloc);
@@ -166,7 +166,11 @@ fn map_of_two(
 }
 
 /// Puts a serial in with its mark. Where memory runs out nothing has changed.
-fn insert_mark(marks: &mut BTreeMap<u64, Mark>, serial: u64, mark: Mark) -> Result<(), AllocError>
+fn insert_mark(
+    marks: &mut BTreeMap<u64, VariantMark>,
+    serial: u64,
+    mark: VariantMark,
+) -> Result<(), AllocError>
     ensures ok { OnOk result (marks.new.entries ≡ insert_entry nat_cmp marks.old.entries serial mark) }
     ensures err { OnErr result (marks.new.entries ≡ marks.old.entries) }
 {
@@ -175,7 +179,7 @@ fn insert_mark(marks: &mut BTreeMap<u64, Mark>, serial: u64, mark: Mark) -> Resu
 }
 
 /// Puts another mark beside a serial, if it stands here.
-fn set_mark(marks: &mut BTreeMap<u64, Mark>, serial: u64, mark: Mark)
+fn set_mark(marks: &mut BTreeMap<u64, VariantMark>, serial: u64, mark: VariantMark)
     ensures { marks.new.entries ≡ set_value (is_at (nat_cmp serial)) marks.old.entries mark }
 {
     if let Some(old) = marks.get_mut(&serial) {
@@ -184,14 +188,14 @@ fn set_mark(marks: &mut BTreeMap<u64, Mark>, serial: u64, mark: Mark)
 }
 
 /// Takes a serial out, if it stands here.
-fn remove_mark(marks: &mut BTreeMap<u64, Mark>, serial: u64)
+fn remove_mark(marks: &mut BTreeMap<u64, VariantMark>, serial: u64)
     ensures { marks.new.entries ≡ remove_entry (is_at (nat_cmp serial)) marks.old.entries }
 {
     marks.remove(&serial);
 }
 
 /// The least serial of a map.
-fn least_serial(marks: &BTreeMap<u64, Mark>) -> Option<u64>
+fn least_serial(marks: &BTreeMap<u64, VariantMark>) -> Option<u64>
     ensures { result ≡ slice_get (keys_of marks.now.entries) 0 }
 {
     match marks.first_key_value() {
@@ -210,7 +214,7 @@ fn serials_of_one(alloc: Global, serial: u64) -> Result<Serials, AllocError>
 }
 
 /// The serials of a map, in their order.
-fn serials_of_map(alloc: Global, marks: &BTreeMap<u64, Mark>) -> Result<Serials, AllocError>
+fn serials_of_map(alloc: Global, marks: &BTreeMap<u64, VariantMark>) -> Result<Serials, AllocError>
     ensures { IfOk result (λ list. list ≡ keys_of marks.now.entries) }
 {
     let mut list = Serials::with_capacity(alloc, marks.len())?;
@@ -224,7 +228,7 @@ fn serials_of_map(alloc: Global, marks: &BTreeMap<u64, Mark>) -> Result<Serials,
 fn possible_match_of_one(
     alloc: Global,
     serial: u64,
-    mark: &Mark,
+    mark: &VariantMark,
     asked: &RequestValues,
 ) -> Result<Serials, AllocError>
     ensures { IfOk result (λ list. list ≡ serials_that_may_match (contains nat_eq asked.now.tags)
@@ -240,7 +244,7 @@ fn possible_match_of_one(
 /// The serials of a map whose marks may match these, in their order.
 fn possible_matches_of(
     alloc: Global,
-    marks: &BTreeMap<u64, Mark>,
+    marks: &BTreeMap<u64, VariantMark>,
     asked: &RequestValues,
 ) -> Result<Serials, AllocError>
     ensures { IfOk result (λ list. list ≡ serials_that_may_match (contains nat_eq asked.now.tags) marks.now.entries) }

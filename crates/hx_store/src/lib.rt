@@ -24,6 +24,6 @@ pub use entries::Entry;
 pub use indexed_shelf::IndexedShelf;
 pub use list_shelf::ListShelf;
 pub use serial_list::Serials;
-pub use shedding::shed_to;
+pub use shedding::evict_to_weight;
 pub use shelves::{EntryTest, Shelf};
 pub use weights::weight_of_parts;

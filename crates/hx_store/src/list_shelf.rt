@@ -4,8 +4,8 @@ ghost use Rattle.std.specs.Prelude.{◌≡◌, ◌<◌, ◌≤◌, ◌+◌, ◌=
 ghost use Rattle.std.specs.Prelude.{MatchOption, IsOk, OnOk, OnErr, IfOk, IfErr, false};
 ghost use Rattle.std.specs.List.{list_any};
 ghost use Rattle.hx_target.specs.Keys.{same_key};
-ghost use Rattle.hx_store.specs.SerialPlaces.{SerialIsAbsent, IsPlaceOfSerial};
-ghost use Rattle.hx_store.specs.Shelf.{holds_serial, with_expired, without_serials, without_key};
+ghost use Rattle.hx_store.specs.SerialPlaces.{SerialIsInNoEntry, IsIndexOfSerial};
+ghost use Rattle.hx_store.specs.Shelf.{holds_serial, entries_with_expired, without_serials, entries_without_key};
 
 use crate::entries::Entry;
 use crate::serial_list::Serials;
@@ -35,14 +35,14 @@ impl Drop for ListShelf {
 
 impl Model for ListShelf {
     ghost use Rattle.std.specs.Prelude.{◌≤◌, length, vec_capacity};
-    ghost use Rattle.hx_store.specs.Serials.{Distinct};
+    ghost use Rattle.hx_store.specs.Serials.{SerialsAreDistinct};
     ghost use Rattle.hx_store.specs.Shelf.{ShelfModel, serials};
 
     ghost Value = { ShelfModel };
 
     ghost view = { λ s. record { limit = s.capacity; entries = s.entries.items; room = vec_capacity s.entries } };
 
-    ghost invariant = { λ s. (length s.entries.items ≤ s.capacity) × Distinct (serials s.entries.items) };
+    ghost invariant = { λ s. (length s.entries.items ≤ s.capacity) × SerialsAreDistinct (serials s.entries.items) };
 }
 
 impl ListShelf {
@@ -58,8 +58,8 @@ impl ListShelf {
 
     /// Where the entry of this serial stands.
     fn place(&self, serial: u64) -> Option<usize>
-        ensures { MatchOption result (SerialIsAbsent serial self.now.entries)
-            (IsPlaceOfSerial serial self.now.entries) }
+        ensures { MatchOption result (SerialIsInNoEntry serial self.now.entries)
+            (IsIndexOfSerial serial self.now.entries) }
     {
         let _entries = &self.entries;
         self.first_index_with(serial)
@@ -113,11 +113,11 @@ fn evict_last(entries: &mut Vec<Entry>, capacity: usize) -> Option<Entry>
 
 /// Those with these serials are expired where they stand.
 fn expire_each_among(entries: &mut Vec<Entry>, serials: &[u64], now: u64)
-    ensures items { entries.new.items ≡ with_expired serials.now now entries.old.items }
+    ensures items { entries.new.items ≡ entries_with_expired serials.now now entries.old.items }
     ensures room { vec_capacity entries.new ≡ vec_capacity entries.old }
 {
     for entry in entries.iter_mut() {
-        entry.expire_among(serials, now);
+        entry.expire_if_serial_among(serials, now);
     }
 }
 
@@ -192,7 +192,7 @@ impl Shelf for ListShelf {
         while rest > 0 {
             rest -= 1;
             let entry = &self.entries[rest];
-            if test.is_passed_by(entry) {
+            if test.entry_passes_test(entry) {
                 found.insert(entry.serial)?;
             }
         }

@@ -7,11 +7,12 @@ ghost use Rattle.std.specs.Prelude.{◌≡◌, ◌<◌, ◌≤◌, ◌-◌, ◌^
 ghost use Rattle.std.specs.Prelude.{Bool, take, slice_get, option_copied, IfOk, IfErr, IsOk, OnErr, OnOk, Some};
 ghost use Rattle.std.specs.Option.{ForSome};
 ghost use Rattle.hx_target.specs.Keys.{same_key};
-ghost use Rattle.hx_store.specs.Serials.{Distinct};
-ghost use Rattle.hx_store.specs.Shelf.{holds_serial, find_entry, without_serials, without_key, serials, serials_of};
-ghost use Rattle.hx_store.specs.Shelf.{matching_serials, serials_where};
-ghost use Rattle.hx_store.specs.Shelf.{with_expired, with_promoted};
-ghost use Rattle.hx_store.specs.Weights.{after_shedding, shed_entry, total_weight};
+ghost use Rattle.hx_store.specs.Serials.{SerialsAreDistinct};
+ghost use Rattle.hx_store.specs.Shelf.{holds_serial, find_entry, without_serials, entries_without_key, serials};
+ghost use Rattle.hx_store.specs.Shelf.{serials_of_key};
+ghost use Rattle.hx_store.specs.Shelf.{matching_serials, serials_of_entries_that_pass};
+ghost use Rattle.hx_store.specs.Shelf.{entries_with_expired, entries_with_promoted};
+ghost use Rattle.hx_store.specs.Weights.{entries_after_weight_eviction, entry_evicted_by_weight, total_weight};
 
 use crate::entries::Entry;
 use crate::serial_list::Serials;
@@ -27,7 +28,7 @@ pub trait EntryTest {
     ghost takes: { Self → Stored → Bool };
 
     /// Whether this entry passes. No memory is taken.
-    fn is_passed_by(&self, entry: &Entry) -> bool
+    fn entry_passes_test(&self, entry: &Entry) -> bool
         ensures { result ≡ takes self.now entry.now };
 }
 
@@ -67,12 +68,12 @@ pub trait Shelf {
 
     /// The serials of the entries with this key, ascending. Fails only where memory runs out.
     fn find(&self, alloc: Global, key: &Key) -> Result<Serials, AllocError>
-        ensures found { IfOk result (λ found. found ≡ serials_of key.now (entries self.now)) }
-        ensures distinct { Distinct (serials (entries self.now)) };
+        ensures found { IfOk result (λ found. found ≡ serials_of_key key.now (entries self.now)) }
+        ensures distinct { SerialsAreDistinct (serials (entries self.now)) };
 
     /// Whether an entry with this key is held. No memory is taken.
     fn has_key(&self, key: &Key) -> bool
-        ensures { result ≡ not (length (serials_of key.now (entries self.now)) == 0) };
+        ensures { result ≡ not (length (serials_of_key key.now (entries self.now)) == 0) };
 
     /// The serials of the entries with this key whose nominated values the request has, ascending. Fails only where
     /// memory runs out.
@@ -83,13 +84,14 @@ pub trait Shelf {
         request: &Fields,
     ) -> Result<Serials, AllocError>
         ensures found { IfOk result (λ found. found ≡ matching_serials key.now request.now (entries self.now)) }
-        ensures distinct { Distinct (serials (entries self.now)) };
+        ensures distinct { SerialsAreDistinct (serials (entries self.now)) };
 
     /// The serials of the entries that pass a test, ascending. It looks at each entry once. Fails only where memory
     /// runs out.
     fn find_where<T: EntryTest>(&self, alloc: Global, test: &T) -> Result<Serials, AllocError>
-        ensures found { IfOk result (λ found. found ≡ serials_where (T.takes test.now) (entries self.now)) }
-        ensures distinct { Distinct (serials (entries self.now)) };
+        ensures found { IfOk result (λ found. found
+            ≡ serials_of_entries_that_pass (T.takes test.now) (entries self.now)) }
+        ensures distinct { SerialsAreDistinct (serials (entries self.now)) };
 
     /// Stores an entry, first, in place of those with the serials in `replaced`. Where more than the capacity
     /// stand, the last one is handed back. Where memory runs out nothing has changed, and the new entry is handed back;
@@ -119,7 +121,7 @@ pub trait Shelf {
     /// Brings the entry of this serial to the front. No memory is taken.
     fn promote(&mut self, serial: u64) -> bool
         ensures value { result ≡ holds_serial serial (entries self.old) }
-        ensures entries { entries self.new ≡ with_promoted serial (entries self.old) }
+        ensures entries { entries self.new ≡ entries_with_promoted serial (entries self.old) }
         ensures limit { limit self.new ≡ limit self.old }
         ensures room { room self.old ≤ room self.new };
 
@@ -133,14 +135,14 @@ pub trait Shelf {
     /// Takes the entries of this key out, and says how many they were. No memory is taken.
     fn invalidate(&mut self, key: &Key) -> usize
         ensures value { result ≡ length (entries self.old) - length (entries self.new) }
-        ensures entries { entries self.new ≡ without_key key.now (entries self.old) }
+        ensures entries { entries self.new ≡ entries_without_key key.now (entries self.old) }
         ensures limit { limit self.new ≡ limit self.old }
         ensures room { room self.old ≤ room self.new };
 
     /// Expires the entries with these serials at a moment, in seconds since 1970. None is used by this, and one that is
     /// expired already stays as it is. No memory is taken.
     fn expire(&mut self, serials: &[u64], now: u64)
-        ensures entries { entries self.new ≡ with_expired serials.now now (entries self.old) }
+        ensures entries { entries self.new ≡ entries_with_expired serials.now now (entries self.old) }
         ensures limit { limit self.new ≡ limit self.old }
         ensures room { room self.old ≤ room self.new };
 
@@ -148,8 +150,8 @@ pub trait Shelf {
     /// taken.
     fn shed(&mut self, most: u64) -> Option<Entry>
         requires { most < 2 ^ 64 - 1 }
-        ensures value { result ≡ shed_entry most (entries self.old) }
-        ensures entries { entries self.new ≡ after_shedding most (entries self.old) }
+        ensures value { result ≡ entry_evicted_by_weight most (entries self.old) }
+        ensures entries { entries self.new ≡ entries_after_weight_eviction most (entries self.old) }
         ensures limit { limit self.new ≡ limit self.old }
         ensures room { room self.old ≤ room self.new };
 }

@@ -3,9 +3,10 @@
 //! The law is in `specs/Weights.antt`. Nothing here asks the system what memory it gave.
 
 ghost use Rattle.std.specs.Prelude.{◌≡◌, ◌+◌, ◌-◌, ◌^◌, min, option_copied};
-ghost use Rattle.hx_store.specs.Weights.{weight_of, weight_of_key, weight_of_line, weight_of_lines, length_if_any};
+ghost use Rattle.hx_store.specs.Weights.{weight_of_entry, weight_of_key, weight_of_line, weight_of_lines};
+ghost use Rattle.hx_store.specs.Weights.{length_if_any};
 ghost use Rattle.hx_store.specs.Weights.{total_weight, weight_of_nominated, weight_of_nominated_value};
-ghost use Rattle.hx_store.specs.Weights.{bytes_of_an_entry};
+ghost use Rattle.hx_store.specs.Weights.{overhead_bytes_of_an_entry};
 
 use crate::entries::Entry;
 use hx_fields::{Bytes, Field};
@@ -21,7 +22,7 @@ const BYTES_OF_A_LINE: u64 = 4;
 impl Entry {
     /// The bytes that it weighs in the store, 2^64 - 1 where they are more. No memory is taken.
     pub fn weight(&self) -> u64
-        ensures { result ≡ min (weight_of self.now) (2 ^ 64 - 1) }
+        ensures { result ≡ min (weight_of_entry self.now) (2 ^ 64 - 1) }
     {
         weight_of_parts(
             &self.key,
@@ -41,7 +42,7 @@ pub fn weight_of_parts(
     content: usize,
 ) -> u64
     ensures { result ≡ min (content + weight_of_lines lines.now + weight_of_nominated nominated.now
-        + weight_of_key key.now + weight_of_key key.now + bytes_of_an_entry) (2 ^ 64 - 1) }
+        + weight_of_key key.now + weight_of_key key.now + overhead_bytes_of_an_entry) (2 ^ 64 - 1) }
 {
     let key = weight_of_key(key);
     (content as u64)

@@ -10,7 +10,7 @@ use Rattle.hx_target.proofs.TablePaths.{and_parts}
 use Rattle.std.specs.Char.{to_ascii_lowercase, is_ascii_digit, digit_value}
 use Rattle.std.specs.Str.Parse.{digits_value, digits_value_after}
 use Rattle.http_uri.specs.ByteClasses.{index_of, index_after_last, rsplit_once_back}
-use Rattle.hx_target.specs.Hosts.{lowercase, is_name_byte, is_address_byte, is_name, is_address, is_host, host_part, behind_host, is_port_part, has_valid_host, short_number, port_if_valid, port_of, port_part}
+use Rattle.hx_target.specs.Hosts.{lowercase, is_name_byte, is_address_byte, is_name, is_address, is_host, host_part, text_behind_host, is_port_part, has_valid_host, number_of_few_digits, port_if_valid, port_of_text, port_of_host_value}
 
 -- bytes that are no letters, and the classes of bytes
 low_bracket : (b : ℕ) → (to_ascii_lowercase b == 91) ≡ (b == 91)
@@ -85,7 +85,7 @@ low_host_part value =
     ∙ (ap (λ b. cond t (lowercase (take (index_of 93 value + 1) value)) b) (take-map to_ascii_lowercase (index_of 58 value) value)
     ∙ sym (low_cond t (take (index_of 93 value + 1) value) (take (index_of 58 value) value))))))
 
-low_after_host : (value : List ℕ) → behind_host (lowercase value) ≡ lowercase (behind_host value)
+low_after_host : (value : List ℕ) → text_behind_host (lowercase value) ≡ lowercase (text_behind_host value)
 low_after_host value =
     ap (λ h. drop (length h) (lowercase value)) (low_host_part value)
     ∙ (ap (λ n. drop n (lowercase value)) (length-map (host_part value) to_ascii_lowercase)
@@ -120,10 +120,10 @@ low_is_port_part text =
 
 pub low_valid : (value : List ℕ) → has_valid_host (lowercase value) ≡ has_valid_host value
 low_valid value =
-    ap (λ h. is_host h && is_port_part (behind_host (lowercase value))) (low_host_part value)
+    ap (λ h. is_host h && is_port_part (text_behind_host (lowercase value))) (low_host_part value)
     ∙ (ap (λ r. is_host (lowercase (host_part value)) && is_port_part r) (low_after_host value)
-    ∙ (ap (λ t. t && is_port_part (lowercase (behind_host value))) (low_is_host (host_part value))
-    ∙ ap (λ t. is_host (host_part value) && t) (low_is_port_part (behind_host value))))
+    ∙ (ap (λ t. t && is_port_part (lowercase (text_behind_host value))) (low_is_host (host_part value))
+    ∙ ap (λ t. is_host (host_part value) && t) (low_is_port_part (text_behind_host value))))
 
 low_digits : (n : ℕ) (text : List ℕ) → list_all is_ascii_digit text ≡ true → digits_value_after 10 n (lowercase text) ≡ digits_value_after 10 n text
 low_digits n [] h = refl
@@ -131,8 +131,8 @@ low_digits n (c ∷ cs) h =
     let both = and_parts (is_ascii_digit c) (list_all is_ascii_digit cs) h in
     ap (λ d. digits_value_after 10 (n * 10 + digit_value d) (lowercase cs)) (low_digit_value c both.0) ∙ low_digits (n * 10 + digit_value c) cs both.1
 
-low_short_number : (text : List ℕ) → short_number (lowercase text) ≡ short_number text
-unfolding short_number
+low_short_number : (text : List ℕ) → number_of_few_digits (lowercase text) ≡ number_of_few_digits text
+unfolding number_of_few_digits
 low_short_number text =
     ap (λ n. cond (nat_le 1 n && nat_le n 5 && list_all is_ascii_digit (lowercase text)) (Some (digits_value 10 (lowercase text))) None) (length-map text to_ascii_lowercase)
     ∙ (ap (λ t. cond (nat_le 1 (length text) && nat_le (length text) 5 && t) (Some (digits_value 10 (lowercase text))) None) (low_all is_ascii_digit low_digit text)
@@ -144,16 +144,16 @@ low_short_number text =
     by_digits false e true = refl
     by_digits false e false = refl
 
-low_port_of : (text : List ℕ) → port_of (lowercase text) ≡ port_of text
-unfolding port_of
+low_port_of : (text : List ℕ) → port_of_text (lowercase text) ≡ port_of_text text
+unfolding port_of_text
 low_port_of text =
-    ap (λ n. cond (n == 0) (Some 80) (option_and_then port_if_valid (short_number (lowercase text)))) (length-map text to_ascii_lowercase)
+    ap (λ n. cond (n == 0) (Some 80) (option_and_then port_if_valid (number_of_few_digits (lowercase text)))) (length-map text to_ascii_lowercase)
     ∙ ap (λ o. cond (length text == 0) (Some 80) (option_and_then port_if_valid o)) (low_short_number text)
 
-pub low_port_part : (value : List ℕ) → port_part (lowercase value) ≡ port_part value
+pub low_port_part : (value : List ℕ) → port_of_host_value (lowercase value) ≡ port_of_host_value value
 low_port_part value =
-    ap (λ r. port_of (drop 1 r)) (low_after_host value)
-    ∙ (ap port_of (drop-map to_ascii_lowercase 1 (behind_host value)) ∙ low_port_of (drop 1 (behind_host value)))
+    ap (λ r. port_of_text (drop 1 r)) (low_after_host value)
+    ∙ (ap port_of_text (drop-map to_ascii_lowercase 1 (text_behind_host value)) ∙ low_port_of (drop 1 (text_behind_host value)))
 
 low_low : (text : List ℕ) → lowercase (lowercase text) ≡ lowercase text
 low_low [] = refl

@@ -11,9 +11,9 @@ use Rattle.http_uri.proofs.Theorems.{Spells_unique}
 use Rattle.hx_target.specs.declared.target_fault.TargetFault.{TargetFault}
 use Rattle.hx_target.specs.declared.target_fault.TargetFault.TheVariants.{Form, Scheme, Host, Port, Userinfo, Escape, DotSegment, TooLong}
 use Rattle.hx_target.specs.declared.targets.Target.{Target}
-use Rattle.hx_target.specs.Paths.{has_bad_escape, has_dot_segment, table_path_of, is_normal}
+use Rattle.hx_target.specs.Paths.{has_bad_escape, has_dot_segment, table_path_of, has_only_normal_escapes}
 use Rattle.hx_target.proofs.NormalPaths.{table-normal}
-use Rattle.hx_target.specs.Judgement.{Question, TargetIsJudged, question_of, judged_of, target_fault_applies, first_fault, fault_or_target, target_of, table_path_of_target}
+use Rattle.hx_target.specs.Judgement.{TargetParts, TargetIsJudged, target_parts_of, judged_of, target_fault_applies, first_target_fault, fault_or_target, target_of_parts, table_path_of_target}
 
 pub one_judgement : (target : List ℕ) (hosts : List (List ℕ)) (r s : Result Target TargetFault) → TargetIsJudged target hosts r → TargetIsJudged target hosts s → r ≡ s
 one_judgement target hosts r s (inl h) (inl k) = h.1 ∙ sym k.1
@@ -26,7 +26,7 @@ one_judgement target hosts r s (inr (inr h)) (inl k) = let bad = k.0 in let good
 one_judgement target hosts r s (inr (inr (good, (u, cut, is)))) (inr (inl k)) = absurd (k.0 (uri_scheme u) (uri_authority u) (uri_data u) cut)
 one_judgement target hosts r s (inr (inr (good, (u, cut, is)))) (inr (inr (good₂, (v, cut₂, is₂)))) =
     let same = Spells_unique target u v cut cut₂ in
-    let e : question_of target u hosts ≡ question_of target v hosts = cc in
+    let e : target_parts_of target u hosts ≡ target_parts_of target v hosts = cc in
     is ∙ (ap judged_of e ∙ sym is₂)
 
 -- a fault that stands is not passed over
@@ -34,11 +34,11 @@ pub none_applies : {A : Type 0} (b : Bool) (o : Option A) (x : A) → cond b (So
 none_applies true o x e = cc
 none_applies false o x e = (refl, e)
 
-abbrev pub PassedPath : Question → Type 0
+abbrev pub PassedPath : TargetParts → Type 0
 PassedPath q = (has_bad_escape (path_of q.kept) ≡ false) × (has_dot_segment (table_path_of_target q) ≡ false)
 
 -- what has no fault has neither a bad escape nor a dot segment
-no_fault : (q : Question) → first_fault q ≡ None → PassedPath q
+no_fault : (q : TargetParts) → first_target_fault q ≡ None → PassedPath q
 no_fault q none =
     let form = none_applies (target_fault_applies Form q) (find (λ fault. target_fault_applies fault q) (Scheme ∷ Host ∷ Port ∷ Userinfo ∷ Escape ∷ DotSegment ∷ TooLong ∷ [])) Form none in
     let scheme = none_applies (target_fault_applies Scheme q) (find (λ fault. target_fault_applies fault q) (Host ∷ Port ∷ Userinfo ∷ Escape ∷ DotSegment ∷ TooLong ∷ [])) Scheme form.1 in
@@ -49,7 +49,7 @@ no_fault q none =
     let dots = none_applies (target_fault_applies DotSegment q) (find (λ fault. target_fault_applies fault q) (TooLong ∷ [])) DotSegment escape.1 in
     (escape.0, dots.0)
 
-passes : (q : Question) (o : Option TargetFault) (aim : Target) → first_fault q ≡ o → Ok aim ≡ fault_or_target o q → PassedPath q × (aim ≡ target_of q)
+passes : (q : TargetParts) (o : Option TargetFault) (aim : Target) → first_target_fault q ≡ o → Ok aim ≡ fault_or_target o q → PassedPath q × (aim ≡ target_of_parts q)
 passes q (Some fault) aim is e = cc
 passes q None aim is e = (no_fault q is, cc)
 
@@ -60,8 +60,8 @@ unfolding judged_of
 read_path target hosts aim (inl h) = let e = h.1 in cc
 read_path target hosts aim (inr (inl h)) = let e = h.1 in cc
 read_path target hosts aim (inr (inr (good, (u, cut, is)))) =
-    let q = question_of target u hosts in
-    let p = passes q (first_fault q) aim refl is in
+    let q = target_parts_of target u hosts in
+    let p = passes q (first_target_fault q) aim refl is in
     (path_of q.kept, p.0.0, p.0.1, ap (λ (t : Target). t.table_path) p.1)
 
 pub no_dots_pass : (target : List ℕ) (hosts : List (List ℕ)) (aim : Target) → TargetIsJudged target hosts (Ok aim) → has_dot_segment aim.table_path ≡ false
@@ -69,13 +69,13 @@ no_dots_pass target hosts aim judged =
     let (path, escapes, dots, is) = read_path target hosts aim judged in
     ap has_dot_segment is ∙ dots
 
-pub normal_pass : (target : List ℕ) (hosts : List (List ℕ)) (aim : Target) → TargetIsJudged target hosts (Ok aim) → is_normal aim.table_path ≡ true
+pub normal_pass : (target : List ℕ) (hosts : List (List ℕ)) (aim : Target) → TargetIsJudged target hosts (Ok aim) → has_only_normal_escapes aim.table_path ≡ true
 normal_pass target hosts aim judged =
     let (path, escapes, dots, is) = read_path target hosts aim judged in
-    ap is_normal is ∙ table-normal path escapes
+    ap has_only_normal_escapes is ∙ table-normal path escapes
 
 -- an authority alone is no target
-pub authority_alone : (target : List ℕ) (u : Uri) (hosts : List (List ℕ)) → Spells target u → None ≡ uri_path_and_query u → first_fault (question_of target u hosts) ≡ Some Form
+pub authority_alone : (target : List ℕ) (u : Uri) (hosts : List (List ℕ)) → Spells target u → None ≡ uri_path_and_query u → first_target_fault (target_parts_of target u hosts) ≡ Some Form
 authority_alone target u hosts spelled none = rw (no_form (uri_scheme u) (uri_authority u) (uri_data u) spelled none) refl
   where
     no_form : (s a : Option (List ℕ)) (kept : List ℕ) → IsUriText target s a kept → None ≡ cond (is_some s || not (is_some a)) (Some kept) None → not ((slice_index target 0 == slash) || (is_some s && is_some a)) ≡ true

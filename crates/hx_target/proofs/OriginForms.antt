@@ -14,7 +14,7 @@ use Rattle.http_uri.specs.ByteClasses.{slash, is_path_byte, is_query_byte, index
 use Rattle.http_uri.specs.Grammar.{AllPass, IsPathAndQuery, IsPathInput, without_fragment}
 use Rattle.http_uri.proofs.RunLemmas.{AllPass-take, AllPass-from, index_of_is, index_of_before, index_of_le}
 use Rattle.hx_target.proofs.TablePaths.{or_parts, and_parts}
-use Rattle.hx_target.specs.Judgement.{is_malformed, is_bad_byte}
+use Rattle.hx_target.specs.Judgement.{is_malformed, is_forbidden_target_byte}
 
 abbrev pub is_rare : ℕ → Bool
 is_rare b = nat_lt b 0x21 || nat_lt 0x7e b || (b == 34) || (b == 35) || (b == 60) || (b == 62) || (b == 96)
@@ -31,10 +31,10 @@ in_path b h other = grind (arith, nat_tests)
 no_hash : (b : ℕ) → is_rare b ≡ false → b ≢ 35
 no_hash b h = grind (arith, nat_tests)
 
-good : (b : ℕ) → is_rare b ≡ false → is_bad_byte b ≡ false
+good : (b : ℕ) → is_rare b ≡ false → is_forbidden_target_byte b ≡ false
 good b h = grind (arith, nat_tests)
 
-no_bad_byte : (text : List ℕ) → list_any is_rare text ≡ false → list_any is_bad_byte text ≡ false
+no_bad_byte : (text : List ℕ) → list_any is_rare text ≡ false → list_any is_forbidden_target_byte text ≡ false
 no_bad_byte [] h = refl
 no_bad_byte (b ∷ rest) h =
     let none = or_parts (is_rare b) (list_any is_rare rest) h in

@@ -3,7 +3,7 @@ use Rattle.std.proofs.Common.{◌≡◌, ℕ, ◌+◌, ◌<◌, ◌≤◌, true,
 use Rattle.std.specs.Char.{is_ascii_hexdigit, to_ascii_uppercase}
 use Rattle.std.proofs.lemmas.List.{drop_more, drop-drop, get_or-drop, length-drop}
 use Rattle.std.proofs.lemmas.Bool.Decides.{Decides-eqb}
-use Rattle.hx_target.specs.Paths.{is_escape, begins_escape, begins_bad_escape, has_bad_escape, normal_escape, octet_of, is_unreserved, table_path_of}
+use Rattle.hx_target.specs.Paths.{is_escape, begins_escape, begins_bad_escape, has_bad_escape, normal_form_of_escape, octet_of_hex_digits, is_unreserved, table_path_of}
 
 -- a byte that begins no escape stands as it is
 pub table-plain : (b : ℕ) (bs : List ℕ) → begins_escape (b ∷ bs) ≡ false → table_path_of (b ∷ bs) ≡ b ∷ table_path_of bs
@@ -12,7 +12,7 @@ table-plain b (c ∷ []) h = refl
 table-plain b (c ∷ (d ∷ rest)) h = rw h refl
 
 -- an escape at the beginning
-pub table-escape : (b c d : ℕ) (rest : List ℕ) → is_escape b c d ≡ true → table_path_of (b ∷ (c ∷ (d ∷ rest))) ≡ normal_escape c d ++ table_path_of rest
+pub table-escape : (b c d : ℕ) (rest : List ℕ) → is_escape b c d ≡ true → table_path_of (b ∷ (c ∷ (d ∷ rest))) ≡ normal_form_of_escape c d ++ table_path_of rest
 table-escape b c d rest h = rw h refl
 
 no_escape : (b : Bool) → (b && false) ≡ true → ⊥
@@ -41,7 +41,7 @@ pub table_at_plain : (text : List ℕ) → 0 < length text → begins_escape tex
 table_at_plain [] some h = absurd (omega arith)
 table_at_plain (b ∷ bs) some h = table-plain b bs h
 
-pub table_at_escape : (text : List ℕ) → begins_escape text ≡ true → table_path_of text ≡ normal_escape (slice_index text 1) (slice_index text 2) ++ table_path_of (drop 3 text)
+pub table_at_escape : (text : List ℕ) → begins_escape text ≡ true → table_path_of text ≡ normal_form_of_escape (slice_index text 1) (slice_index text 2) ++ table_path_of (drop 3 text)
 table_at_escape [] h = cc
 table_at_escape (b ∷ []) h = absurd (no_escape ((b == 37) && false) h)
 table_at_escape (b ∷ (c ∷ [])) h = absurd (no_escape ((b == 37) && is_ascii_hexdigit c) h)
@@ -53,12 +53,12 @@ table_step_plain path i within h =
     ap table_path_of (drop_more path i 0 within)
     ∙ table-plain (slice_index path i) (drop (i + 1) path) (ap begins_escape (sym (drop_more path i 0 within)) ∙ h)
 
-pub table_step_escape : (path : List ℕ) (i : ℕ) → begins_escape (drop i path) ≡ true → table_path_of (drop i path) ≡ normal_escape (slice_index path (i + 1)) (slice_index path (i + 2)) ++ table_path_of (drop (i + 3) path)
+pub table_step_escape : (path : List ℕ) (i : ℕ) → begins_escape (drop i path) ≡ true → table_path_of (drop i path) ≡ normal_form_of_escape (slice_index path (i + 1)) (slice_index path (i + 2)) ++ table_path_of (drop (i + 3) path)
 table_step_escape path i h =
     table_at_escape (drop i path) h
-    ∙ (ap (λ c. normal_escape c (slice_index (drop i path) 2) ++ table_path_of (drop 3 (drop i path))) (get_or-drop i path 1 0)
-    ∙ (ap (λ d. normal_escape (slice_index path (i + 1)) d ++ table_path_of (drop 3 (drop i path))) (get_or-drop i path 2 0)
-    ∙ ap (λ rest. normal_escape (slice_index path (i + 1)) (slice_index path (i + 2)) ++ table_path_of rest) (drop-drop 3 i path)))
+    ∙ (ap (λ c. normal_form_of_escape c (slice_index (drop i path) 2) ++ table_path_of (drop 3 (drop i path))) (get_or-drop i path 1 0)
+    ∙ (ap (λ d. normal_form_of_escape (slice_index path (i + 1)) d ++ table_path_of (drop 3 (drop i path))) (get_or-drop i path 2 0)
+    ∙ ap (λ rest. normal_form_of_escape (slice_index path (i + 1)) (slice_index path (i + 2)) ++ table_path_of rest) (drop-drop 3 i path)))
 
 -- what is found so far grows by what is taken off the rest
 pub found_step : (found more rest whole : List ℕ) {grown text : List ℕ} → grown ≡ found ++ more → text ≡ more ++ rest → found ++ text ≡ whole → grown ++ rest ≡ whole
@@ -88,16 +88,16 @@ table-dot (b ∷ bs) h =
     let is : b ≡ 46 = (Decides-eqb b 46).0 h in
     table-plain b bs (ap (λ n. (n == 37) && is_ascii_hexdigit (slice_index bs 0) && is_ascii_hexdigit (slice_index bs 1)) is) ∙ ap (λ n. n ∷ table_path_of bs) is
 
-pub table-escaped_dot : (text : List ℕ) → (begins_escape text && (octet_of (slice_index text 1) (slice_index text 2) == 46)) ≡ true → table_path_of text ≡ 46 ∷ table_path_of (drop 3 text)
+pub table-escaped_dot : (text : List ℕ) → (begins_escape text && (octet_of_hex_digits (slice_index text 1) (slice_index text 2) == 46)) ≡ true → table_path_of text ≡ 46 ∷ table_path_of (drop 3 text)
 table-escaped_dot text h =
     let c = slice_index text 1 in
     let d = slice_index text 2 in
-    let both = and_parts (begins_escape text) (octet_of c d == 46) h in
+    let both = and_parts (begins_escape text) (octet_of_hex_digits c d == 46) h in
     table_at_escape text both.0
-    ∙ ap (λ n. cond (is_unreserved n) (n ∷ []) (37 ∷ (to_ascii_uppercase c ∷ (to_ascii_uppercase d ∷ []))) ++ table_path_of (drop 3 text)) ((Decides-eqb (octet_of c d) 46).0 both.1)
+    ∙ ap (λ n. cond (is_unreserved n) (n ∷ []) (37 ∷ (to_ascii_uppercase c ∷ (to_ascii_uppercase d ∷ []))) ++ table_path_of (drop 3 text)) ((Decides-eqb (octet_of_hex_digits c d) 46).0 both.1)
 
 -- no dot at the beginning
-pub table-no_dot : (text : List ℕ) → (slice_index text 0 == 46) ≡ false → (begins_escape text && (octet_of (slice_index text 1) (slice_index text 2) == 46)) ≡ false → (slice_index (table_path_of text) 0 == 46) ≡ false
+pub table-no_dot : (text : List ℕ) → (slice_index text 0 == 46) ≡ false → (begins_escape text && (octet_of_hex_digits (slice_index text 1) (slice_index text 2) == 46)) ≡ false → (slice_index (table_path_of text) 0 == 46) ≡ false
 table-no_dot [] plain escaped = refl
 table-no_dot (b ∷ bs) plain escaped = by_escape (begins_escape (b ∷ bs)) refl
   where
@@ -114,7 +114,7 @@ table-no_dot (b ∷ bs) plain escaped = by_escape (begins_escape (b ∷ bs)) ref
         let c = slice_index (b ∷ bs) 1 in
         let d = slice_index (b ∷ bs) 2 in
         ap (λ t. slice_index t 0 == 46) (table_at_escape (b ∷ bs) e)
-        ∙ at_escape (is_unreserved (octet_of c d)) (octet_of c d) (to_ascii_uppercase c) (to_ascii_uppercase d) (table_path_of (drop 3 (b ∷ bs))) (octet_is (begins_escape (b ∷ bs)) (octet_of c d == 46) e escaped)
+        ∙ at_escape (is_unreserved (octet_of_hex_digits c d)) (octet_of_hex_digits c d) (to_ascii_uppercase c) (to_ascii_uppercase d) (table_path_of (drop 3 (b ∷ bs))) (octet_is (begins_escape (b ∷ bs)) (octet_of_hex_digits c d == 46) e escaped)
     by_escape false e = ap (λ t. slice_index t 0 == 46) (table-plain b bs e) ∙ plain
 
 -- what is left decides how long the table path is
@@ -122,9 +122,9 @@ pub table-nonempty : (text : List ℕ) → 0 < length text → 0 < length (table
 table-nonempty [] some = some
 table-nonempty (b ∷ []) some = omega arith
 table-nonempty (b ∷ (c ∷ [])) some = omega arith
-table-nonempty (b ∷ (c ∷ (d ∷ rest))) some = by_escape (is_escape b c d) (is_unreserved (octet_of c d))
+table-nonempty (b ∷ (c ∷ (d ∷ rest))) some = by_escape (is_escape b c d) (is_unreserved (octet_of_hex_digits c d))
   where
-    by_escape : (t u : Bool) → 0 < length (cond t (cond u (octet_of c d ∷ []) (37 ∷ (to_ascii_uppercase c ∷ (to_ascii_uppercase d ∷ []))) ++ table_path_of rest) (b ∷ table_path_of (c ∷ (d ∷ rest))))
+    by_escape : (t u : Bool) → 0 < length (cond t (cond u (octet_of_hex_digits c d ∷ []) (37 ∷ (to_ascii_uppercase c ∷ (to_ascii_uppercase d ∷ []))) ++ table_path_of rest) (b ∷ table_path_of (c ∷ (d ∷ rest))))
     by_escape true true = omega arith
     by_escape true false = omega arith
     by_escape false u = omega arith

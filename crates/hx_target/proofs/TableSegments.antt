@@ -3,7 +3,7 @@ use Rattle.std.proofs.Common.{◌≡◌, ℕ, true, false, Bool, List, [], ◌�
 use Rattle.std.proofs.lemmas.Bool.Decides.{nat_tests}
 use Rattle.std.specs.List.{list_any}
 use Rattle.std.specs.Char.{is_ascii_hexdigit, to_ascii_uppercase}
-use Rattle.hx_target.specs.Paths.{segments, in_front, is_dot_segment, has_dot_segment, is_escape, begins_escape, normal_escape, octet_of, is_unreserved, table_path_of}
+use Rattle.hx_target.specs.Paths.{segments, in_front, is_dot_segment, has_dot_segment, is_escape, begins_escape, normal_form_of_escape, octet_of_hex_digits, is_unreserved, table_path_of}
 use Rattle.hx_target.proofs.Segments.{all_in_front, all_in_front-nil, segments-goes_on}
 use Rattle.hx_target.proofs.TablePaths.{table-escape, table-nonempty, and_parts, or_parts, excludes}
 
@@ -22,11 +22,11 @@ segments-front (f ∷ fs) rest h =
 upper_is_no_slash : (c : ℕ) → is_ascii_hexdigit c ≡ true → (to_ascii_uppercase c == 47) ≡ false
 upper_is_no_slash c h = grind (arith, nat_tests)
 
-pub escape_has_no_slash : (c d : ℕ) → is_ascii_hexdigit c ≡ true → is_ascii_hexdigit d ≡ true → list_any (λ b. b == 47) (normal_escape c d) ≡ false
-escape_has_no_slash c d hc hd = by_class (is_unreserved (octet_of c d)) refl
+pub escape_has_no_slash : (c d : ℕ) → is_ascii_hexdigit c ≡ true → is_ascii_hexdigit d ≡ true → list_any (λ b. b == 47) (normal_form_of_escape c d) ≡ false
+escape_has_no_slash c d hc hd = by_class (is_unreserved (octet_of_hex_digits c d)) refl
   where
-    by_class : (u : Bool) → is_unreserved (octet_of c d) ≡ u → list_any (λ b. b == 47) (cond u (octet_of c d ∷ []) (37 ∷ (to_ascii_uppercase c ∷ (to_ascii_uppercase d ∷ [])))) ≡ false
-    by_class true e = rw (excludes is_unreserved (octet_of c d) 47 e refl) refl
+    by_class : (u : Bool) → is_unreserved (octet_of_hex_digits c d) ≡ u → list_any (λ b. b == 47) (cond u (octet_of_hex_digits c d ∷ []) (37 ∷ (to_ascii_uppercase c ∷ (to_ascii_uppercase d ∷ [])))) ≡ false
+    by_class true e = rw (excludes is_unreserved (octet_of_hex_digits c d) 47 e refl) refl
     by_class false e = rw (upper_is_no_slash c hc, upper_is_no_slash d hd) refl
 
 -- a byte that begins no escape, in front of the first segment
@@ -47,8 +47,8 @@ plain_in_front b (c ∷ (d ∷ rest)) h = by_slashes (c == 47) (d == 47) (segmen
     by_slashes false false (s ∷ ss) = rw h refl
 
 -- an escape in front of the first segment
-pub escape_in_front : (b c d : ℕ) (ss : List (List ℕ)) → is_escape b c d ≡ true → map table_path_of (in_front b (in_front c (in_front d ss))) ≡ all_in_front (normal_escape c d) (map table_path_of ss)
-escape_in_front b c d [] h = rw h (ap (λ s. s ∷ []) (append-nil (normal_escape c d)))
+pub escape_in_front : (b c d : ℕ) (ss : List (List ℕ)) → is_escape b c d ≡ true → map table_path_of (in_front b (in_front c (in_front d ss))) ≡ all_in_front (normal_form_of_escape c d) (map table_path_of ss)
+escape_in_front b c d [] h = rw h (ap (λ s. s ∷ []) (append-nil (normal_form_of_escape c d)))
 escape_in_front b c d (s ∷ ss) h = ap (λ t. t ∷ map table_path_of ss) (table-escape b c d s h)
 
 pub segments-table : (path : List ℕ) → segments (table_path_of path) ≡ map table_path_of (segments path)
@@ -79,8 +79,8 @@ segments-table (b ∷ (c ∷ (d ∷ rest))) = by_escape (is_escape b c d) refl (
         let first = and_parts ((b == 37) && is_ascii_hexdigit c) (is_ascii_hexdigit d) e in
         let second = and_parts (b == 37) (is_ascii_hexdigit c) first.0 in
         ap segments (table-escape b c d rest e)
-        ∙ (segments-front (normal_escape c d) (table_path_of rest) (escape_has_no_slash c d second.1 first.1)
-        ∙ (ap (all_in_front (normal_escape c d)) ih
+        ∙ (segments-front (normal_form_of_escape c d) (table_path_of rest) (escape_has_no_slash c d second.1 first.1)
+        ∙ (ap (all_in_front (normal_form_of_escape c d)) ih
         ∙ (sym (escape_in_front b c d (segments rest) e)
         ∙ sym (ap (map table_path_of) (three_go_on (excludes (λ n. n == 37) b 47 second.0 refl) (excludes is_ascii_hexdigit c 47 second.1 refl) (excludes is_ascii_hexdigit d 47 first.1 refl))))))
       where

@@ -4,7 +4,7 @@ use Rattle.std.proofs.lemmas.Bool.Decides.{nat_tests}
 use Rattle.std.specs.Char.{is_ascii_uppercase, to_ascii_lowercase}
 use Rattle.std.specs.List.{list_any}
 use Rattle.hx_target.specs.Hosts.{lowercase}
-use Rattle.hx_target.specs.Paths.{is_normal, table_path_of}
+use Rattle.hx_target.specs.Paths.{has_only_normal_escapes, table_path_of}
 use Rattle.hx_target.proofs.TablePaths.{or_parts}
 use Rattle.hx_target.proofs.NormalPaths.{plain_is_normal, normal-table}
 
@@ -17,7 +17,7 @@ host_stays (b ∷ rest) h =
     let none = or_parts (is_ascii_uppercase b) (list_any is_ascii_uppercase rest) h in
     ap (λ (c : ℕ). c ∷ lowercase rest) (byte_stays b none.0) ∙ ap (λ (cs : List ℕ). b ∷ cs) (host_stays rest none.1)
 
-without_escape : (path : List ℕ) → list_any (λ (b : ℕ). b == 37) path ≡ false → is_normal path ≡ true
+without_escape : (path : List ℕ) → list_any (λ (b : ℕ). b == 37) path ≡ false → has_only_normal_escapes path ≡ true
 without_escape [] h = refl
 without_escape (b ∷ rest) h =
     let none = or_parts (b == 37) (list_any (λ (b : ℕ). b == 37) rest) h in

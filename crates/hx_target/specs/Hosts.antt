@@ -39,8 +39,8 @@ host_part value =
     if slice_index value 0 == left_bracket then split_once_through right_bracket value else split_once_front colon value
 
 -- what a Host value has after its host
-abbrev pub behind_host : List ℕ → List ℕ
-behind_host value = drop (length (host_part value)) value
+abbrev pub text_behind_host : List ℕ → List ℕ
+text_behind_host value = drop (length (host_part value)) value
 
 -- nothing, or `:` and a port, valid or not
 abbrev pub is_port_part : List ℕ → Bool
@@ -48,11 +48,11 @@ is_port_part text = (length text == 0) || (slice_index text 0 == colon)
 
 -- a Host value of a valid host, then nothing or a `:`
 abbrev pub has_valid_host : List ℕ → Bool
-has_valid_host value = is_host (host_part value) && is_port_part (behind_host value)
+has_valid_host value = is_host (host_part value) && is_port_part (text_behind_host value)
 
 -- the number that one to five digits spell
-unfoldable pub short_number : List ℕ → Option ℕ
-short_number text =
+unfoldable pub number_of_few_digits : List ℕ → Option ℕ
+number_of_few_digits text =
     if nat_le 1 (length text) && nat_le (length text) 5 && list_all is_ascii_digit text
     then Some (digits_value 10 text) else None
 
@@ -61,12 +61,12 @@ abbrev pub port_if_valid : ℕ → Option ℕ
 port_if_valid n = if nat_le 1 n && nat_le n 65535 then Some n else None
 
 -- the port that a text spells; an empty one is 80, the default of `http` (RFC 9110, section 4.2.1)
-unfoldable pub port_of : List ℕ → Option ℕ
-port_of text = if length text == 0 then Some 80 else option_and_then port_if_valid (short_number text)
+unfoldable pub port_of_text : List ℕ → Option ℕ
+port_of_text text = if length text == 0 then Some 80 else option_and_then port_if_valid (number_of_few_digits text)
 
 -- the port of a Host value
-abbrev pub port_part : List ℕ → Option ℕ
-port_part value = port_of (drop 1 (behind_host value))
+abbrev pub port_of_host_value : List ℕ → Option ℕ
+port_of_host_value value = port_of_text (drop 1 (text_behind_host value))
 
 -- ASCII letters in lower case
 abbrev pub lowercase : List ℕ → List ℕ

@@ -8,8 +8,8 @@ use Rattle.hx_target.specs.declared.keys.Key.{Key}
 use Rattle.hx_target.specs.Keys.{same_key}
 
 -- the writes, in their order
-abbrev pub key_writes : Key → List (List ℕ)
-key_writes k = (k.path_query ∷ []) ++ u16 k.port ++ k.host ∷ []
+abbrev pub writes_of_key_to_hasher : Key → List (List ℕ)
+writes_of_key_to_hasher k = (k.path_query ∷ []) ++ u16 k.port ++ k.host ∷ []
 
 both : (a b : Bool) → (a && b) ≡ true → (a ≡ true) × (b ≡ true)
 both true b h = (refl, h)
@@ -25,5 +25,5 @@ same_keys_are_equal a b h =
     let path_query = (bytes_decides a.path_query b.path_query).0 p.1 in
     λ i. record { host = host i; port = port i; path_query = path_query i }
 
-pub same_keys_hash_alike : (a b : Key) → IsTrue (same_key a b) → key_writes a ≡ key_writes b
-same_keys_hash_alike a b h = ap key_writes (same_keys_are_equal a b h)
+pub same_keys_hash_alike : (a b : Key) → IsTrue (same_key a b) → writes_of_key_to_hasher a ≡ writes_of_key_to_hasher b
+same_keys_hash_alike a b h = ap writes_of_key_to_hasher (same_keys_are_equal a b h)

@@ -48,8 +48,8 @@ same_tests false port true false as_many = refl
 same_tests false port false true as_many = refl
 same_tests false port false false as_many = refl
 
-pub key_ties : (a b : Key) → same_key a b ≡ eq_by_cmp key_cmp a b
-key_ties a b =
+pub key_cmp_ties_are_same : (a b : Key) → same_key a b ≡ eq_by_cmp key_cmp a b
+key_cmp_ties_are_same a b =
     same_tests (bytes_eq a.host b.host) (a.port == b.port) (bytes_eq a.path_query b.path_query)
     (length a.path_query == length b.path_query)
     (λ e. eq-eqb (length a.path_query) (length b.path_query)

@@ -3,8 +3,9 @@
 //! The definitions are in `specs/Paths.antt`. A path is read as it came: nothing here decodes it twice.
 ghost use Rattle.std.specs.Prelude.{◌≡◌, ◌≤◌, ◌++◌, length, drop, IfOk, OnOk, true};
 ghost use Rattle.std.specs.Char.{is_ascii_hexdigit, to_ascii_uppercase};
-ghost use Rattle.hx_target.specs.Paths.{is_unreserved, octet_of, begins_escape, begins_bad_escape, has_bad_escape};
-ghost use Rattle.hx_target.specs.Paths.{normal_escape, table_path_of};
+ghost use Rattle.hx_target.specs.Paths.{is_unreserved, octet_of_hex_digits, begins_escape, begins_bad_escape};
+ghost use Rattle.hx_target.specs.Paths.{has_bad_escape};
+ghost use Rattle.hx_target.specs.Paths.{normal_form_of_escape, table_path_of};
 
 use hx_fields::{Bytes, digit_value};
 use std::alloc::{AllocError, Global};
@@ -49,10 +50,10 @@ pub fn has_bad_escape(path: &[u8]) -> bool
 }
 
 /// The byte that two hexadecimal digits spell.
-pub(crate) fn octet_of(high: u8, low: u8) -> u8
+pub(crate) fn octet_of_hex_digits(high: u8, low: u8) -> u8
     requires high { is_ascii_hexdigit high ≡ true }
     requires low { is_ascii_hexdigit low ≡ true }
-    ensures { result ≡ octet_of high low }
+    ensures { result ≡ octet_of_hex_digits high low }
 {
     16 * digit_value(high) + digit_value(low)
 }
@@ -61,9 +62,9 @@ pub(crate) fn octet_of(high: u8, low: u8) -> u8
 fn push_escape(found: &mut Vec<u8>, high: u8, low: u8) -> Result<(), AllocError>
     requires high { is_ascii_hexdigit high ≡ true }
     requires low { is_ascii_hexdigit low ≡ true }
-    ensures { OnOk result (found.new.items ≡ found.old.items ++ normal_escape high low) }
+    ensures { OnOk result (found.new.items ≡ found.old.items ++ normal_form_of_escape high low) }
 {
-    let octet = octet_of(high, low);
+    let octet = octet_of_hex_digits(high, low);
     if is_unreserved(octet) {
         found.push(octet)?;
     } else {

@@ -9,7 +9,8 @@ ghost use Rattle.std.specs.List.{list_all};
 ghost use Rattle.std.specs.Str.Parse.{digits_value};
 ghost use Rattle.http_uri.specs.ByteClasses.{index_of, index_after_last};
 ghost use Rattle.hx_target.specs.Hosts.{is_name_byte, is_address_byte, is_name, is_address, is_host, host_part};
-ghost use Rattle.hx_target.specs.Hosts.{behind_host, has_valid_host, short_number, port_of, port_part, lowercase};
+ghost use Rattle.hx_target.specs.Hosts.{text_behind_host, has_valid_host, number_of_few_digits, port_of_text};
+ghost use Rattle.hx_target.specs.Hosts.{port_of_host_value, lowercase};
 
 use hx_fields::{Bytes, number_up_to};
 use std::alloc::{AllocError, Global};
@@ -116,8 +117,8 @@ pub fn host_part(value: &[u8]) -> &[u8]
 }
 
 /// What a Host value has after its host.
-fn behind_host(value: &[u8]) -> &[u8]
-    ensures { result.now ≡ behind_host value.now }
+fn text_behind_host(value: &[u8]) -> &[u8]
+    ensures { result.now ≡ text_behind_host value.now }
 {
     &value[host_part(value).len()..]
 }
@@ -142,9 +143,9 @@ fn value_of(digits: &[u8]) -> u32
 }
 
 /// The number that one to five digits spell.
-#[tactic(auto, unfolding(crate::specs::Hosts::short_number))]
-pub fn short_number(text: &[u8]) -> Option<u32>
-    ensures { result ≡ short_number text.now }
+#[tactic(auto, unfolding(crate::specs::Hosts::number_of_few_digits))]
+pub fn number_of_few_digits(text: &[u8]) -> Option<u32>
+    ensures { result ≡ number_of_few_digits text.now }
 {
     if text.is_empty() || text.len() > 5 || !are_digits(text) {
         return None;
@@ -153,28 +154,28 @@ pub fn short_number(text: &[u8]) -> Option<u32>
 }
 
 /// The port that a text spells, 80 where it is empty.
-#[tactic(auto, unfolding(crate::specs::Hosts::port_of))]
-fn port_of(text: &[u8]) -> Option<u16>
-    ensures { result ≡ port_of text.now }
+#[tactic(auto, unfolding(crate::specs::Hosts::port_of_text))]
+fn port_of_text(text: &[u8]) -> Option<u16>
+    ensures { result ≡ port_of_text text.now }
 {
     if text.is_empty() {
         return Some(80);
     }
-    match short_number(text) {
+    match number_of_few_digits(text) {
         Some(port) if 1 <= port && port <= 65_535 => Some(port as u16),
         _ => None,
     }
 }
 
 /// The port of a Host value with a valid host.
-pub fn port_part(value: &[u8]) -> Option<u16>
-    ensures { result ≡ port_part value.now }
+pub fn port_of_host_value(value: &[u8]) -> Option<u16>
+    ensures { result ≡ port_of_host_value value.now }
 {
-    let rest = behind_host(value);
+    let rest = text_behind_host(value);
     if rest.is_empty() {
-        port_of(rest)
+        port_of_text(rest)
     } else {
-        port_of(&rest[1..])
+        port_of_text(&rest[1..])
     }
 }
 

@@ -1,12 +1,12 @@
 //! What a hash function is fed of a key, by which a shelf finds its entries. Keys that are one feed it the same
 //! (`specs/KeyHash.antt`).
-ghost use Rattle.hx_target.specs.KeyHash.{key_writes, same_keys_hash_alike};
+ghost use Rattle.hx_target.specs.KeyHash.{writes_of_key_to_hasher, same_keys_hash_alike};
 
 use crate::keys::Key;
 use std::hash::{Hash, Hasher};
 
 impl Hash for Key {
-    ghost hash_input = { key_writes };
+    ghost hash_input = { writes_of_key_to_hasher };
 
     ghost respects_eq = { same_keys_hash_alike };
 

@@ -5,7 +5,7 @@
 ghost use Rattle.std.specs.Prelude.{Some, refl};
 ghost use Rattle.std.specs.Cmp.{partial_equiv_from_equiv, partial_order_from_agreeing_total};
 ghost use Rattle.hx_target.specs.Keys.{same_key};
-ghost use Rattle.hx_target.specs.KeyOrder.{key_cmp, key_cmp_total, key_ties, same_key_equiv};
+ghost use Rattle.hx_target.specs.KeyOrder.{key_cmp, key_cmp_total, key_cmp_ties_are_same, same_key_equiv};
 
 use crate::keys::Key;
 use std::cmp::Ordering;
@@ -27,7 +27,7 @@ impl Eq for Key {
 impl PartialOrd for Key {
     ghost partial_cmp = { λ a b. Some (key_cmp a b) };
 
-    ghost laws = { partial_order_from_agreeing_total key_cmp key_cmp_total (λ _ _. refl) key_ties };
+    ghost laws = { partial_order_from_agreeing_total key_cmp key_cmp_total (λ _ _. refl) key_cmp_ties_are_same };
 
     fn partial_cmp(&self, other: &Key) -> Option<Ordering> {
         Some(self.cmp(other))
@@ -41,7 +41,7 @@ impl Ord for Key {
 
     ghost matches_partial_cmp = { λ _ _. refl };
 
-    ghost matches_eq = { key_ties };
+    ghost matches_eq = { key_cmp_ties_are_same };
 
     fn cmp(&self, other: &Key) -> Ordering {
         self.path_query

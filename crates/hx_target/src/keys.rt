@@ -42,7 +42,7 @@ impl Key {
 
     /// A key of the same bytes in buffers of its own, so that it keeps no head in memory. Its only
     /// error is out of memory.
-    pub fn detached(&self, alloc: Global) -> Result<Key, AllocError>
+    pub fn copy_in_own_buffers(&self, alloc: Global) -> Result<Key, AllocError>
         ensures { IfOk result (λ key. key ≡ self.now) }
     {
         Ok(Key {

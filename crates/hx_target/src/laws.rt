@@ -9,20 +9,21 @@ ghost use Rattle.hx_target.specs.declared.target_fault.TargetFault.TheVariants.{
 ghost use Rattle.hx_target.specs.declared.target_fault.TargetFault.TheVariants.{Escape};
 ghost use Rattle.hx_target.specs.declared.target_fault.TargetFault.TheVariants.{DotSegment, TooLong};
 ghost use Rattle.hx_target.specs.Examples.{target_in_origin_form, target_in_absolute_form, target_of_text};
-ghost use Rattle.hx_target.specs.Hosts.{has_valid_host, host_part, is_host, is_name, is_name_byte, lowercase, port_of};
-ghost use Rattle.hx_target.specs.Hosts.{port_part};
+ghost use Rattle.hx_target.specs.Hosts.{has_valid_host, host_part, is_host, is_name, is_name_byte, lowercase};
+ghost use Rattle.hx_target.specs.Hosts.{port_of_text};
+ghost use Rattle.hx_target.specs.Hosts.{port_of_host_value};
 ghost use Rattle.hx_target.specs.Keys.{same_key};
-ghost use Rattle.hx_target.specs.Paths.{has_bad_escape, has_dot_segment, is_normal, table_path_of};
-ghost use Rattle.hx_target.specs.Judgement.{TargetIsJudged, Question, is_malformed, judged_of};
+ghost use Rattle.hx_target.specs.Paths.{has_bad_escape, has_dot_segment, has_only_normal_escapes, table_path_of};
+ghost use Rattle.hx_target.specs.Judgement.{TargetIsJudged, TargetParts, is_malformed, judged_of};
 
 /// A target and its Host lines are judged in one way.
-pub fn a_target_is_judged_in_one_way()
+pub fn judgement_of_a_target_is_unique()
     ensures { (target : List ℕ) (hosts : List (List ℕ)) (r s : Result Aim Fault) → TargetIsJudged target hosts r
         → TargetIsJudged target hosts s → r ≡ s }
 {}
 
 /// The table path of a target that is read has no dot segment.
-pub fn no_dot_segment_passes()
+pub fn no_table_path_has_a_dot_segment()
     ensures { (target : List ℕ) (hosts : List (List ℕ)) (aim : Aim) → TargetIsJudged target hosts (Ok aim)
         → has_dot_segment aim.table_path ≡ false }
 {}
@@ -31,16 +32,17 @@ pub fn no_dot_segment_passes()
 /// is in upper case; so it is its own table path.
 pub fn a_table_path_is_normal()
     ensures normal { (target : List ℕ) (hosts : List (List ℕ)) (aim : Aim) → TargetIsJudged target hosts (Ok aim)
-        → is_normal aim.table_path ≡ true }
+        → has_only_normal_escapes aim.table_path ≡ true }
     ensures stays { (target : List ℕ) (hosts : List (List ℕ)) (aim : Aim) → TargetIsJudged target hosts (Ok aim)
         → table_path_of aim.table_path ≡ aim.table_path }
 {}
 
 /// A path is normalised once: where each of its `%` begins an escape, its table path is normal and is its
 /// own table path.
-pub fn normalising_twice_is_once()
-    ensures normal { (path : List ℕ) → has_bad_escape path ≡ false → is_normal (table_path_of path) ≡ true }
-    ensures stays { (path : List ℕ) → is_normal path ≡ true → table_path_of path ≡ path }
+pub fn normalising_a_path_is_idempotent()
+    ensures normal { (path : List ℕ) → has_bad_escape path ≡ false → has_only_normal_escapes (table_path_of path)
+        ≡ true }
+    ensures stays { (path : List ℕ) → has_only_normal_escapes path ≡ true → table_path_of path ≡ path }
     ensures once { (path : List ℕ) → has_bad_escape path ≡ false
         → table_path_of (table_path_of path) ≡ table_path_of path }
 {}
@@ -55,12 +57,12 @@ pub fn worked_paths_are_normalised()
     ensures good_is_found { has_bad_escape (codes "/%2fa%C3") ≡ false }
     ensures escaped_dots { has_dot_segment (table_path_of (codes "/a/%2e%2E/b")) ≡ true }
     ensures three_dots { has_dot_segment (table_path_of (codes "/.%2e./.%2F.")) ≡ false }
-    ensures lower_digits { is_normal (codes "/%2f") ≡ false }
-    ensures upper_digits { is_normal (codes "/%2F") ≡ true }
+    ensures lower_digits { has_only_normal_escapes (codes "/%2f") ≡ false }
+    ensures upper_digits { has_only_normal_escapes (codes "/%2F") ≡ true }
 {}
 
 /// Worked targets (RFC 9112, sections 3.2.1 and 3.2.2; RFC 3986, section 3.2): what their parts ask for.
-#[tactic(auto, unfolding(crate::specs::Judgement::judged_of, crate::specs::Hosts::is_host, crate::specs::Hosts::short_number, crate::specs::Hosts::port_of, crate::specs::Paths::has_dot_segment))]
+#[tactic(auto, unfolding(crate::specs::Judgement::judged_of, crate::specs::Hosts::is_host, crate::specs::Hosts::number_of_few_digits, crate::specs::Hosts::port_of_text, crate::specs::Paths::has_dot_segment))]
 pub fn worked_targets_are_judged()
     ensures origin_form { judged_of (target_in_origin_form (codes "/%61?%") (codes "H:08080"))
         ≡ Ok (record {
@@ -83,17 +85,17 @@ pub fn worked_targets_are_judged()
 
 /// The case of the letters of a scheme, of an authority and of a Host line changes nothing (RFC 3986,
 /// section 6.2.2.1).
-pub fn case_names_nothing()
-    ensures scheme { (q : Question) (a b : List ℕ) → lowercase a ≡ lowercase b
+pub fn case_of_scheme_and_host_is_ignored()
+    ensures scheme { (q : TargetParts) (a b : List ℕ) → lowercase a ≡ lowercase b
         → judged_of (record q { scheme = Some a }) ≡ judged_of (record q { scheme = Some b }) }
-    ensures authority { (q : Question) (a b : List ℕ) → lowercase a ≡ lowercase b
+    ensures authority { (q : TargetParts) (a b : List ℕ) → lowercase a ≡ lowercase b
         → judged_of (record q { authority = Some a }) ≡ judged_of (record q { authority = Some b }) }
-    ensures host_line { (q : Question) (a b : List ℕ) → lowercase a ≡ lowercase b
+    ensures host_line { (q : TargetParts) (a b : List ℕ) → lowercase a ≡ lowercase b
         → judged_of (record q { hosts = a ∷ [] }) ≡ judged_of (record q { hosts = b ∷ [] }) }
 {}
 
 /// Keys that are the same are one, and a key is the same as itself.
-pub fn equal_keys_are_one()
+pub fn same_keys_are_equal_records()
     ensures equal { (a b : StoreKey) → same_key a b ≡ true → a ≡ b }
     ensures itself { (a : StoreKey) → same_key a a ≡ true }
 {}
@@ -120,7 +122,7 @@ pub fn worked_hosts()
 
 /// A host ends at the first colon, an address at its bracket; a port is 1 to 65535, of five digits
 /// at most, and 80 where it is empty.
-#[tactic(auto, unfolding(crate::specs::Hosts::is_host, crate::specs::Hosts::short_number, crate::specs::Hosts::port_of))]
+#[tactic(auto, unfolding(crate::specs::Hosts::is_host, crate::specs::Hosts::number_of_few_digits, crate::specs::Hosts::port_of_text))]
 pub fn worked_ports()
     ensures before_port { host_part (codes "h:80") ≡ codes "h" }
     ensures before_port_of_address { host_part (codes "[::1]:80") ≡ codes "[::1]" }
@@ -128,16 +130,16 @@ pub fn worked_ports()
     ensures with_port { has_valid_host (codes "[::1]:x") ≡ true }
     ensures behind_address { has_valid_host (codes "[::1]80") ≡ false }
     ensures no_host { has_valid_host (codes ":80") ≡ false }
-    ensures empty { port_of [] ≡ Some 80 }
-    ensures zero { port_of (codes "0") ≡ None }
-    ensures one { port_of (codes "1") ≡ Some 1 }
-    ensures greatest { port_of (codes "65535") ≡ Some 65535 }
-    ensures too_great { port_of (codes "65536") ≡ None }
-    ensures zeros { port_of (codes "00443") ≡ Some 443 }
-    ensures six_digits { port_of (codes "000443") ≡ None }
-    ensures letter { port_of (codes "8a") ≡ None }
-    ensures of_a_value { port_part (codes "h:8080") ≡ Some 8080 }
-    ensures none_of_a_value { port_part (codes "h:") ≡ Some 80 }
+    ensures empty { port_of_text [] ≡ Some 80 }
+    ensures zero { port_of_text (codes "0") ≡ None }
+    ensures one { port_of_text (codes "1") ≡ Some 1 }
+    ensures greatest { port_of_text (codes "65535") ≡ Some 65535 }
+    ensures too_great { port_of_text (codes "65536") ≡ None }
+    ensures zeros { port_of_text (codes "00443") ≡ Some 443 }
+    ensures six_digits { port_of_text (codes "000443") ≡ None }
+    ensures letter { port_of_text (codes "8a") ≡ None }
+    ensures of_a_value { port_of_host_value (codes "h:8080") ≡ Some 8080 }
+    ensures none_of_a_value { port_of_host_value (codes "h:") ≡ Some 80 }
 {}
 
 /// Bytes that no target has: blanks, controls, those above 7E (hex) and the hash sign (RFC 3986, section 2).
@@ -166,7 +168,7 @@ pub fn worked_segments_and_escapes()
 
 /// One Host line has to stand, whatever the target; the forms of CONNECT and OPTIONS aren't read;
 /// an authority replaces Host.
-#[tactic(auto, unfolding(crate::specs::Judgement::judged_of, crate::specs::Hosts::is_host, crate::specs::Hosts::short_number, crate::specs::Hosts::port_of, crate::specs::Paths::has_dot_segment))]
+#[tactic(auto, unfolding(crate::specs::Judgement::judged_of, crate::specs::Hosts::is_host, crate::specs::Hosts::number_of_few_digits, crate::specs::Hosts::port_of_text, crate::specs::Paths::has_dot_segment))]
 pub fn worked_forms_are_judged()
     ensures no_host { judged_of (record (target_in_origin_form (codes "/a") []) { hosts = [] }) ≡ Err Host }
     ensures two_hosts { judged_of (record (target_in_origin_form (codes "/a") []) { hosts = codes "h" ∷ codes "h" ∷ [] })
@@ -190,7 +192,7 @@ pub fn worked_forms_are_judged()
 
 /// A name has 1 to 253 bytes (own). A target has 8,192 at most (own; RFC 9110, section 4.1 wants
 /// 8,000 to be read), and what is wrong with its path is told before that.
-pub fn lengths_are_limited()
+pub fn host_names_and_targets_have_length_limits()
     ensures names { (text : List ℕ) → is_name text ≡ true → length text ≤ 253 }
     ensures each_name { (text : List ℕ) → list_all is_name_byte text ≡ true → 1 ≤ length text → length text ≤ 253
         → is_name text ≡ true }

@@ -20,7 +20,7 @@ mod target_reading;
 mod targets;
 
 pub use escapes::{has_bad_escape, table_path};
-pub use hosts::{is_host, short_number};
+pub use hosts::{is_host, number_of_few_digits};
 pub use keys::Key;
 pub use paths::{has_dot_segment, names_a_dot_segment};
 pub use target_fault::TargetFault;

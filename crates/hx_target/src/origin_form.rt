@@ -9,13 +9,13 @@ ghost use Rattle.http_uri.specs.ByteClasses.{slash};
 ghost use Rattle.http_uri.specs.Grammar.{path_of};
 ghost use Rattle.hx_fields.specs.FieldLines.{values_of};
 ghost use Rattle.hx_target.specs.Hosts.{host_part, lowercase};
-ghost use Rattle.hx_target.specs.Judgement.{first_fault, judged_of};
+ghost use Rattle.hx_target.specs.Judgement.{first_target_fault, judged_of};
 ghost use Rattle.hx_target.specs.Paths.{table_path_of};
 
 use crate::escapes::table_path;
-use crate::hosts::{host_part, index_of, lowercase, port_part};
+use crate::hosts::{host_part, index_of, lowercase, port_of_host_value};
 use crate::limits::MOST_TARGET_BYTES;
-use crate::sharing::{has_capital, has_percent_sign};
+use crate::sharing::{has_percent_sign, has_uppercase_letter};
 use crate::target_reading::valid_host_line;
 use crate::{Key, Target, TargetFault, has_bad_escape, names_a_dot_segment};
 use hx_fields::{Bytes, Field, Fields};
@@ -57,7 +57,7 @@ fn path_of(target: &[u8]) -> &[u8]
 }
 
 /// The path as the operator's table compares it. One without escapes shares the buffer of the target.
-fn compared_path(alloc: Global, path: &[u8], target: &Bytes) -> Result<Bytes, AllocError>
+fn path_as_table_compares(alloc: Global, path: &[u8], target: &Bytes) -> Result<Bytes, AllocError>
     requires front { path.now ≡ take (length path.now) target.now }
     requires within { length path.now ≤ length target.now }
     ensures { IfOk result (λ compared. compared ≡ table_path_of path.now) }
@@ -74,7 +74,7 @@ fn host_of_line(alloc: Global, line: &Field) -> Result<Bytes, AllocError>
     ensures { IfOk result (λ host. host ≡ lowercase (host_part line.now.value)) }
 {
     let host = host_part(line.value());
-    if has_capital(host) {
+    if has_uppercase_letter(host) {
         lowercase(alloc, host)
     } else {
         line.value_part(alloc, host.len())
@@ -97,7 +97,7 @@ pub(crate) fn judge_origin_form(
       kept = target.now;
       hosts = values_of fields.now (codes "Host");
     }) }
-    ensures memory_last { result ≡ Err TargetFault.OutOfMemory → first_fault (record {
+    ensures memory_last { result ≡ Err TargetFault.OutOfMemory → first_target_fault (record {
       target = target.now;
       scheme = None;
       authority = None;
@@ -108,7 +108,7 @@ pub(crate) fn judge_origin_form(
     let Some(line) = valid_host_line(fields) else {
         return Err(TargetFault::Host);
     };
-    let Some(port) = port_part(line.value()) else {
+    let Some(port) = port_of_host_value(line.value()) else {
         return Err(TargetFault::Port);
     };
     let path = path_of(target.as_slice());
@@ -124,6 +124,6 @@ pub(crate) fn judge_origin_form(
             port,
             path_query: target.copy(alloc)?,
         },
-        table_path: compared_path(alloc, path, target)?,
+        table_path: path_as_table_compares(alloc, path, target)?,
     })
 }

@@ -1,9 +1,9 @@
 //! Segments of a path, and dot segments among them (RFC 3986, sections 3.3 and 5.2.4).
 ghost use Rattle.std.specs.Prelude.{◌≡◌, ◌==◌, ◌&&◌, ◌<◌, ◌∷◌, [], length, slice_index, false, MatchOption, IfSome};
-ghost use Rattle.hx_target.specs.Paths.{segments, is_dot_segment, has_dot_segment, begins_escape, octet_of};
+ghost use Rattle.hx_target.specs.Paths.{segments, is_dot_segment, has_dot_segment, begins_escape, octet_of_hex_digits};
 ghost use Rattle.hx_target.specs.Paths.{table_path_of};
 
-use crate::escapes::{after, begins_escape, octet_of};
+use crate::escapes::{after, begins_escape, octet_of_hex_digits};
 
 /// Whether a segment is `.` or `..`.
 fn is_dot_segment(segment: &[u8]) -> bool
@@ -53,9 +53,10 @@ fn begins_dot(text: &[u8]) -> bool
 
 /// Whether an escape of a dot comes first.
 fn begins_escaped_dot(text: &[u8]) -> bool
-    ensures { result ≡ begins_escape text.now && (octet_of (slice_index text.now 1) (slice_index text.now 2) == 46) }
+    ensures { result ≡ begins_escape text.now
+        && (octet_of_hex_digits (slice_index text.now 1) (slice_index text.now 2) == 46) }
 {
-    begins_escape(text) && octet_of(text[1], text[2]) == b'.'
+    begins_escape(text) && octet_of_hex_digits(text[1], text[2]) == b'.'
 }
 
 /// What follows a dot at the beginning, be it escaped or not.

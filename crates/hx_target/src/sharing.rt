@@ -57,21 +57,25 @@ fn copy_of_value(alloc: Global, text: &[u8], line: &Field) -> Result<Bytes, Allo
 pub(crate) fn lowercase_host(alloc: Global, host: &[u8], line: &Field) -> Result<Bytes, AllocError>
     ensures { IfOk result (λ lower. lower ≡ lowercase host.now) }
 {
-    if has_capital(host) {
+    if has_uppercase_letter(host) {
         lowercase(alloc, host)
     } else {
         copy_of_value(alloc, host, line)
     }
 }
 
-pub(crate) fn has_capital(text: &[u8]) -> bool
+pub(crate) fn has_uppercase_letter(text: &[u8]) -> bool
     ensures { result ≡ list_any is_ascii_uppercase text.now }
 {
     text.iter().any(|b| b.is_ascii_uppercase())
 }
 
 /// The path as the operator's table compares it. One without escapes is that as it came.
-pub(crate) fn compared_path(alloc: Global, path: &[u8], whole: &Bytes) -> Result<Bytes, AllocError>
+pub(crate) fn path_as_table_compares(
+    alloc: Global,
+    path: &[u8],
+    whole: &Bytes,
+) -> Result<Bytes, AllocError>
     ensures { IfOk result (λ compared. compared ≡ table_path_of path.now) }
 {
     if has_percent_sign(path) {

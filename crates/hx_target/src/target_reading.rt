@@ -11,22 +11,25 @@ ghost use Rattle.http_uri.specs.Error.{IsOutOfMemory, UnlessOutOfMemory};
 ghost use Rattle.http_uri.specs.Uri.{Spells, SpellsNone, uri_scheme, uri_authority};
 ghost use Rattle.hx_fields.specs.FieldLines.{values_of};
 ghost use Rattle.hx_target.specs.Hosts.{has_valid_host};
-ghost use Rattle.hx_target.specs.Judgement.{is_bad_byte, is_malformed, is_http, has_other_scheme, host_value};
+ghost use Rattle.hx_target.specs.Judgement.{is_forbidden_target_byte, is_malformed, is_http_scheme};
+ghost use Rattle.hx_target.specs.Judgement.{has_scheme_other_than_http};
+ghost use Rattle.hx_target.specs.Judgement.{valid_host_value};
 ghost use Rattle.hx_target.specs.Judgement.{authority_or_host};
-ghost use Rattle.hx_target.specs.Judgement.{has_userinfo, path_query_of, question_of, first_fault, judged_of};
+ghost use Rattle.hx_target.specs.Judgement.{has_userinfo, path_query_of, target_parts_of, first_target_fault};
+ghost use Rattle.hx_target.specs.Judgement.{judged_of};
 ghost use Rattle.hx_target.specs.Judgement.{TargetIsJudged};
 
-use crate::hosts::{has_valid_host, host_part, index_after_last, port_part};
+use crate::hosts::{has_valid_host, host_part, index_after_last, port_of_host_value};
 use crate::limits::MOST_TARGET_BYTES;
 use crate::origin_form::{is_plain_origin_form, judge_origin_form};
-use crate::sharing::{compared_path, copy_of, host_line, lowercase_host};
+use crate::sharing::{copy_of, host_line, lowercase_host, path_as_table_compares};
 use crate::{Key, Target, TargetFault, has_bad_escape, names_a_dot_segment};
 use http_uri::{PathAndQuery, Uri, UriError};
 use hx_fields::{Bytes, Field, Fields};
 use std::alloc::{AllocError, Global};
 
 fn has_bad_byte(target: &[u8]) -> bool
-    ensures { result ≡ list_any is_bad_byte target.now }
+    ensures { result ≡ list_any is_forbidden_target_byte target.now }
 {
     target.iter().any(|b| *b < 0x21 || *b > 0x7e || *b == b'#')
 }
@@ -40,24 +43,24 @@ fn is_malformed(target: &[u8]) -> bool
 }
 
 /// Whether a target is in origin form or in absolute form.
-fn has_read_form(target: &[u8], uri: &Uri) -> bool
+fn has_origin_or_absolute_form(target: &[u8], uri: &Uri) -> bool
     ensures { result
         ≡ ((slice_index target.now 0 == slash) || (is_some (uri_scheme uri.now) && is_some (uri_authority uri.now))) }
 {
     target.first() == Some(&b'/') || (uri.scheme().is_some() && uri.authority().is_some())
 }
 
-fn is_http(scheme: &[u8]) -> bool
-    ensures { result ≡ is_http scheme.now }
+fn is_http_scheme(scheme: &[u8]) -> bool
+    ensures { result ≡ is_http_scheme scheme.now }
 {
     scheme.eq_ignore_ascii_case(b"http")
 }
 
-fn has_other_scheme(uri: &Uri) -> bool
-    ensures { result ≡ has_other_scheme (uri_scheme uri.now) }
+fn has_scheme_other_than_http(uri: &Uri) -> bool
+    ensures { result ≡ has_scheme_other_than_http (uri_scheme uri.now) }
 {
     match uri.scheme_str() {
-        Some(scheme) => !is_http(scheme.as_bytes()),
+        Some(scheme) => !is_http_scheme(scheme.as_bytes()),
         None => false,
     }
 }
@@ -65,7 +68,7 @@ fn has_other_scheme(uri: &Uri) -> bool
 /// The only Host line, where the host in its value is valid.
 pub(crate) fn valid_host_line(fields: &Fields) -> Option<&Field>
     ensures value { option_map (λ line. line.value) (option_copied result)
-        ≡ host_value (values_of fields.now (codes "Host")) }
+        ≡ valid_host_value (values_of fields.now (codes "Host")) }
     ensures valid { IfSome result (λ line. has_valid_host line.now.value ≡ true) }
 {
     if fields.count(b"Host") != 1 {
@@ -150,7 +153,7 @@ fn judge_parts(
       kept = kept.now;
       hosts = values_of fields.now (codes "Host");
     }) }
-    ensures memory_last { result ≡ Err TargetFault.OutOfMemory → first_fault (record {
+    ensures memory_last { result ≡ Err TargetFault.OutOfMemory → first_target_fault (record {
       target = target.now;
       scheme = uri_scheme uri.now;
       authority = uri_authority uri.now;
@@ -158,10 +161,10 @@ fn judge_parts(
       hosts = values_of fields.now (codes "Host");
     }) ≡ None }
 {
-    if !has_read_form(target.as_slice(), uri) {
+    if !has_origin_or_absolute_form(target.as_slice(), uri) {
         return Err(TargetFault::Form);
     }
-    if has_other_scheme(uri) {
+    if has_scheme_other_than_http(uri) {
         return Err(TargetFault::Scheme);
     }
     let Some(line) = valid_host_line(fields) else {
@@ -171,7 +174,7 @@ fn judge_parts(
     if !names_valid_host(uri, line.value()) {
         return Err(TargetFault::Host);
     }
-    let (Some(_), Some(port)) = (port_part(line.value()), port_part(named)) else {
+    let (Some(_), Some(port)) = (port_of_host_value(line.value()), port_of_host_value(named)) else {
         return Err(TargetFault::Port);
     };
     if has_userinfo(uri) {
@@ -193,7 +196,7 @@ fn judge_parts(
             port,
             path_query: path_query(alloc, kept, target)?,
         },
-        table_path: compared_path(alloc, path, target)?,
+        table_path: path_as_table_compares(alloc, path, target)?,
     })
 }
 
@@ -206,9 +209,9 @@ fn judge_target(
 ) -> Result<Target, TargetFault>
     requires cut { Spells target.now uri.now }
     ensures judged { ¬ (result ≡ Err TargetFault.OutOfMemory)
-        → result ≡ judged_of (question_of target.now uri.now (values_of fields.now (codes "Host"))) }
+        → result ≡ judged_of (target_parts_of target.now uri.now (values_of fields.now (codes "Host"))) }
     ensures memory_last { result ≡ Err TargetFault.OutOfMemory
-        → first_fault (question_of target.now uri.now (values_of fields.now (codes "Host"))) ≡ None }
+        → first_target_fault (target_parts_of target.now uri.now (values_of fields.now (codes "Host"))) ≡ None }
 {
     match uri.path_and_query() {
         Some(kept) => judge_parts(alloc, target, uri, kept, fields),
@@ -231,7 +234,8 @@ fn judge_cut_target(
     ensures judged { ¬ (result ≡ Err TargetFault.OutOfMemory)
         → TargetIsJudged target.now (values_of fields.now (codes "Host")) result }
     ensures memory_last { result ≡ Err TargetFault.OutOfMemory → MatchResult cut
-        (λ uri. first_fault (question_of target.now uri (values_of fields.now (codes "Host"))) ≡ None) IsOutOfMemory }
+        (λ uri. first_target_fault (target_parts_of target.now uri (values_of fields.now (codes "Host")))
+        ≡ None) IsOutOfMemory }
 {
     match cut {
         Ok(uri) => judge_target(alloc, target, &uri, fields),

@@ -4,11 +4,11 @@ use Rattle.std.proofs.lemmas.Bool.Decides.{nat_tests}
 use Rattle.std.specs.Prelude.{◌==◌, ◌&&◌, nat_le, nat_lt, min, not, bytes_eq, codes, take, drop, Option, Some, None, option_map, option_and_then}
 use Rattle.hx_fields.specs.Line.{Field}
 use Rattle.hx_fields.specs.FieldLines.{only_value}
-use Rattle.hx_fields.specs.Names.{cut_at, is_nonempty, is_same_name}
+use Rattle.hx_fields.specs.Names.{split_at_first_byte, is_nonempty, is_same_name}
 use Rattle.hx_hop.specs.declared.request_view.Asked.{Asked}
 use Rattle.hx_store.specs.Stored.{Stored}
-use Rattle.hx_validate.specs.Ranges.{answer_to_range, answer_to_asked, heeds_range, if_range_holds, in_form_of, int_range, range_asked, range_of_value, range_of_cut, range_of_parts, range_answer, range_answer_of, position_of, PartIsIn}
-use Rattle.hx_validate.specs.RangeWords.{FailedIfRangeSendsTheWhole, IsAskedFor, IsReadRange, OnlyA200HasParts, PartIsWhatIsAsked, PartIsWithin, RangeOfAnotherMethodIsIgnored, UnsatisfiableIsBeyond, WithoutARangeTheWholeIsSent}
+use Rattle.hx_validate.specs.Ranges.{answer_to_range, answer_to_any_range, range_is_answered, if_range_holds, response_in_form_of, byte_range_of_positions, range_asked, byte_range_of_value, byte_range_of_cut_text, byte_range_of_texts, range_answer, range_answer_of, range_position_of, PartLiesWithinTotal}
+use Rattle.hx_validate.specs.RangeWords.{FailedIfRangeSendsTheWhole, ByteIsAskedForByRange, RangeIsInOrder, OnlyA200HasParts, PartHasExactlyTheBytesAskedFor, PartIsWithinTheContent, RangeOfAnotherMethodIsIgnored, UnsatisfiableRangeAsksForNoByte, WithoutOneByteRangeTheWholeIsSent}
 use Rattle.hx_validate.specs.declared.ranges.ByteRange.{ByteRange}
 use Rattle.hx_validate.specs.declared.ranges.ByteRange.TheVariants.{FromTo, From, Last}
 use Rattle.hx_validate.specs.declared.ranges.RangeAnswer.{RangeAnswer}
@@ -24,48 +24,48 @@ not_none n h = grind (arith, nat_tests)
 
 -- ---- what is read isn't turned
 
-by_order : (first last : ℕ) (range : ByteRange) (t : Bool) → nat_le first last ≡ t → cond t (Some (FromTo first last)) None ≡ Some range → IsReadRange range
-by_order first last range true le h = subst IsReadRange (some_same h) (le_of first last le)
+by_order : (first last : ℕ) (range : ByteRange) (t : Bool) → nat_le first last ≡ t → cond t (Some (FromTo first last)) None ≡ Some range → RangeIsInOrder range
+by_order first last range true le h = subst RangeIsInOrder (some_same h) (le_of first last le)
   where
     some_same : Some (FromTo first last) ≡ Some range → FromTo first last ≡ range
     some_same e = cc
 by_order first last range false le h = cc
 
-in_order : (first last : Option ℕ) (range : ByteRange) → int_range first last ≡ Some range → IsReadRange range
+in_order : (first last : Option ℕ) (range : ByteRange) → byte_range_of_positions first last ≡ Some range → RangeIsInOrder range
 in_order (Some first) (Some last) range h = by_order first last range (nat_le first last) refl h
 in_order (Some first) None range h = cc
 in_order None last range h = cc
 
-last_read : (most : Option ℕ) (range : ByteRange) → option_map Last most ≡ Some range → IsReadRange range
-last_read (Some n) range h = let same : Last n ≡ range = cc in subst IsReadRange same tt
+last_read : (most : Option ℕ) (range : ByteRange) → option_map Last most ≡ Some range → RangeIsInOrder range
+last_read (Some n) range h = let same : Last n ≡ range = cc in subst RangeIsInOrder same tt
 last_read None range h = cc
 
-from_read : (first : Option ℕ) (range : ByteRange) → option_map From first ≡ Some range → IsReadRange range
-from_read (Some n) range h = let same : From n ≡ range = cc in subst IsReadRange same tt
+from_read : (first : Option ℕ) (range : ByteRange) → option_map From first ≡ Some range → RangeIsInOrder range
+from_read (Some n) range h = let same : From n ≡ range = cc in subst RangeIsInOrder same tt
 from_read None range h = cc
 
-parts_read : (first last : List ℕ) (range : ByteRange) → range_of_parts first last ≡ Some range → IsReadRange range
+parts_read : (first last : List ℕ) (range : ByteRange) → byte_range_of_texts first last ≡ Some range → RangeIsInOrder range
 parts_read first last range h = by_first (is_nonempty first) (is_nonempty last) h
   where
-    by_first : (f l : Bool) → cond (not f) (option_map Last (position_of last)) (cond (not l) (option_map From (position_of first)) (int_range (position_of first) (position_of last))) ≡ Some range → IsReadRange range
-    by_first false l e = last_read (position_of last) range e
-    by_first true false e = from_read (position_of first) range e
-    by_first true true e = in_order (position_of first) (position_of last) range e
+    by_first : (f l : Bool) → cond (not f) (option_map Last (range_position_of last)) (cond (not l) (option_map From (range_position_of first)) (byte_range_of_positions (range_position_of first) (range_position_of last))) ≡ Some range → RangeIsInOrder range
+    by_first false l e = last_read (range_position_of last) range e
+    by_first true false e = from_read (range_position_of first) range e
+    by_first true true e = in_order (range_position_of first) (range_position_of last) range e
 
-cut_read : (cut : Option (List ℕ × List ℕ)) (range : ByteRange) → range_of_cut cut ≡ Some range → IsReadRange range
+cut_read : (cut : Option (List ℕ × List ℕ)) (range : ByteRange) → byte_range_of_cut_text cut ≡ Some range → RangeIsInOrder range
 cut_read (Some (first, last)) range h = parts_read first last range h
 cut_read None range h = cc
 
-value_read : (value : List ℕ) (range : ByteRange) → range_of_value value ≡ Some range → IsReadRange range
+value_read : (value : List ℕ) (range : ByteRange) → byte_range_of_value value ≡ Some range → RangeIsInOrder range
 value_read value range h = by_unit (is_same_name (take 6 value) (codes "bytes=")) h
   where
-    by_unit : (t : Bool) → cond t (range_of_cut (cut_at 45 (drop 6 value))) None ≡ Some range → IsReadRange range
-    by_unit true e = cut_read (cut_at 45 (drop 6 value)) range e
+    by_unit : (t : Bool) → cond t (byte_range_of_cut_text (split_at_first_byte 45 (drop 6 value))) None ≡ Some range → RangeIsInOrder range
+    by_unit true e = cut_read (split_at_first_byte 45 (drop 6 value)) range e
     by_unit false e = cc
 
 -- ---- a part
 
-pub within : PartIsWithin
+pub within : PartIsWithinTheContent
 within total (FromTo first last) a b h read = by_test (nat_lt first total) refl h
   where
     by_test : (t : Bool) → nat_lt first total ≡ t → cond t (Part first (min last (total - 1))) Unsatisfiable ≡ Part a b → (a ≤ b) × (b < total)
@@ -98,29 +98,29 @@ within total (Last most) a b h read = by_test (most == 0) (total == 0) refl refl
 
 -- ---- what answers a request
 
-by_range : (total : ℕ) (asked : Option ByteRange) → ((range : ByteRange) → asked ≡ Some range → IsReadRange range) → PartIsIn (answer_to_asked total asked) total
+by_range : (total : ℕ) (asked : Option ByteRange) → ((range : ByteRange) → asked ≡ Some range → RangeIsInOrder range) → PartLiesWithinTotal (answer_to_any_range total asked) total
 by_range total None read = tt
 by_range total (Some range) read = by_answer (answer_to_range total range) refl
   where
-    by_answer : (answer : RangeAnswer) → answer_to_range total range ≡ answer → PartIsIn answer total
+    by_answer : (answer : RangeAnswer) → answer_to_range total range ≡ answer → PartLiesWithinTotal answer total
     by_answer Whole e = tt
     by_answer Unsatisfiable e = tt
     by_answer (Part a b) e = within total range a b e (read range refl)
 
-value_if_one : (value : Option (List ℕ)) (range : ByteRange) → option_and_then range_of_value value ≡ Some range → IsReadRange range
+value_if_one : (value : Option (List ℕ)) (range : ByteRange) → option_and_then byte_range_of_value value ≡ Some range → RangeIsInOrder range
 value_if_one None range h = cc
 value_if_one (Some value) range h = value_read value range h
 
-pub answer_is_in : (asked : Asked) (status date : ℕ) (fields : List Field) (total : ℕ) → PartIsIn (range_answer_of asked status date fields total) total
-answer_is_in asked status date fields total = by_test (heeds_range asked status date fields)
+pub answer_is_in : (asked : Asked) (status date : ℕ) (fields : List Field) (total : ℕ) → PartLiesWithinTotal (range_answer_of asked status date fields total) total
+answer_is_in asked status date fields total = by_test (range_is_answered asked status date fields)
   where
-    by_test : (t : Bool) → PartIsIn (cond t (answer_to_asked total (range_asked asked.fields)) Whole) total
+    by_test : (t : Bool) → PartLiesWithinTotal (cond t (answer_to_any_range total (range_asked asked.fields)) Whole) total
     by_test true = by_range total (range_asked asked.fields) (λ range is. value_if_one (only_value asked.fields (codes "Range")) range is)
     by_test false = tt
 
 -- ---- just what is asked for
 
-pub what_is_asked : PartIsWhatIsAsked
+pub what_is_asked : PartHasExactlyTheBytesAskedFor
 what_is_asked total (FromTo first last) a b at h there = by_test (nat_lt first total) refl h
   where
     by_test : (t : Bool) → nat_lt first total ≡ t → cond t (Part first (min last (total - 1))) Unsatisfiable ≡ Part a b → ((a ≤ at) × (at ≤ b) → (first ≤ at) × (at ≤ last)) × ((first ≤ at) × (at ≤ last) → (a ≤ at) × (at ≤ b))
@@ -153,7 +153,7 @@ not_below m n h = grind (arith, nat_tests)
 is_none_at_all : (n : ℕ) → (n == 0) ≡ true → n ≡ 0
 is_none_at_all n h = grind (arith, nat_tests)
 
-pub none_is_asked : UnsatisfiableIsBeyond
+pub none_is_asked : UnsatisfiableRangeAsksForNoByte
 none_is_asked total (FromTo first last) at h there asked = by_test (nat_lt first total) refl h
   where
     by_test : (t : Bool) → nat_lt first total ≡ t → cond t (Part first (min last (total - 1))) Unsatisfiable ≡ Unsatisfiable → ⊥
@@ -173,8 +173,8 @@ none_is_asked total (Last most) at h there asked = by_test (most == 0) (total ==
 
 -- ---- what is sent whole
 
-unheeded : (asked : Asked) (e : Stored) → heeds_range asked e.status e.times.date e.fields ≡ false → in_form_of (range_answer asked e) e ≡ e
-unheeded asked e off = ap (λ t. in_form_of (cond t (answer_to_asked (length e.content) (range_asked asked.fields)) Whole) e) off
+unheeded : (asked : Asked) (e : Stored) → range_is_answered asked e.status e.times.date e.fields ≡ false → response_in_form_of (range_answer asked e) e ≡ e
+unheeded asked e off = ap (λ t. response_in_form_of (cond t (answer_to_any_range (length e.content) (range_asked asked.fields)) Whole) e) off
 
 method_is_not : (m : List ℕ) → (m ≡ codes "GET" → ⊥) → bytes_eq m (codes "GET") ≡ false
 method_is_not m other = by_test (bytes_eq m (codes "GET")) refl
@@ -199,13 +199,13 @@ of_another_response asked e off =
     (last_absent (bytes_eq asked.method (codes "GET")) ((e.status == 200) && if_range_holds asked.fields e.times.date e.fields)
     (last_absent (e.status == 200) (if_range_holds asked.fields e.times.date e.fields) off))
 
-pub of_no_range : WithoutARangeTheWholeIsSent
-of_no_range asked e none = by_test (heeds_range asked e.status e.times.date e.fields)
+pub of_no_range : WithoutOneByteRangeTheWholeIsSent
+of_no_range asked e none = by_test (range_is_answered asked e.status e.times.date e.fields)
   where
-    by_asked : (o : Option ByteRange) → o ≡ None → in_form_of (answer_to_asked (length e.content) o) e ≡ e
+    by_asked : (o : Option ByteRange) → o ≡ None → response_in_form_of (answer_to_any_range (length e.content) o) e ≡ e
     by_asked None is = refl
     by_asked (Some range) is = cc
 
-    by_test : (t : Bool) → in_form_of (cond t (answer_to_asked (length e.content) (range_asked asked.fields)) Whole) e ≡ e
+    by_test : (t : Bool) → response_in_form_of (cond t (answer_to_any_range (length e.content) (range_asked asked.fields)) Whole) e ≡ e
     by_test true = by_asked (range_asked asked.fields) none
     by_test false = refl

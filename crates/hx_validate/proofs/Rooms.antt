@@ -7,7 +7,7 @@ use Rattle.std.proofs.lemmas.Bool.Decides.{nat_tests}
 use Rattle.hx_fields.specs.Line.{Field}
 use Rattle.hx_fields.specs.Examples.{line}
 use Rattle.hx_framing.specs.Text.{field_line_text, field_lines_text}
-use Rattle.hx_validate.specs.Room.{LeavesRoomForAll, LeavesRoomForNoMore, LeavesRoomToTheByte, head_leaves_room}
+use Rattle.hx_validate.specs.Room.{LeftRoomHoldsAddedLines, FittingLinesLeaveRoom, HeadRoomIsExactToTheByte, head_leaves_room}
 
 whole_length : (front lines behind : List ℕ) → length (front ++ lines ++ behind) ≡ length front + length lines + length behind
 whole_length front lines behind =
@@ -15,7 +15,7 @@ whole_length front lines behind =
     let inner = length-append front lines in
     omega (arith, outer, inner)
 
-pub leaves_room_for_all : LeavesRoomForAll
+pub leaves_room_for_all : LeftRoomHoldsAddedLines
 leaves_room_for_all fields beside front behind h few short =
     let parts = and_parts (nat_le (length fields + 4) 100) (nat_le (length (field_lines_text fields) + 256) 32768) h in
     let lines = leb-true (length fields + 4) 100 parts.0 in
@@ -24,7 +24,7 @@ leaves_room_for_all fields beside front behind h few short =
     let whole = whole_length front (field_lines_text fields) behind in
     (omega (arith, lines, count, few), omega (arith, bytes, whole, short))
 
-pub leaves_room_for_no_more : LeavesRoomForNoMore
+pub leaves_room_for_no_more : FittingLinesLeaveRoom
 leaves_room_for_no_more fields beside front behind four rest few short =
     let count = length-append fields beside in
     let whole = whole_length front (field_lines_text fields) behind in
@@ -40,7 +40,7 @@ same_test a b is = by_test (nat_le b 32507) refl
     by_test true low = let few = leb-true b 32507 low in le-leb (a + 256) 32768 (omega (arith, is, few))
     by_test false high = grind (arith, nat_tests, is, high)
 
-pub leaves_room_to_the_byte : LeavesRoomToTheByte
+pub leaves_room_to_the_byte : HeadRoomIsExactToTheByte
 leaves_room_to_the_byte value fields few =
     let lines = length (field_lines_text (line (codes "X") value ∷ fields)) in
     ap (λ (t : Bool). t && nat_le (lines + 256) 32768) (le-leb (length (line (codes "X") value ∷ fields) + 4) 100 (omega (arith, few)))

@@ -8,8 +8,8 @@ use Rattle.std.proofs.lemmas.Bool.Decides.{nat_tests}
 use Rattle.std.proofs.lemmas.List.{take_all, take-append-drop}
 use Rattle.std.proofs.lemmas.Option.{same_Some}
 use Rattle.std.proofs.lemmas.Slice.Eq.{bytes_eq-Decides}
-use Rattle.hx_validate.specs.EntityTags.{EntityTagParts, both_are_tags_and, without_first_and_last, is_opaque_tag, is_tag_byte, opaque_tag_of, are_strongly_equal, entity_tag_of, tagged, are_weakly_equal}
-use Rattle.hx_validate.specs.TagsAndFreshening.{EqualityIsSymmetric, EachEntityTagIsRead, EntityTagIsOfTheGrammar, StrongEqualityIsNarrower, entity_tag_text, weak_prefix}
+use Rattle.hx_validate.specs.EntityTags.{EntityTagParts, both_are_tags_that_compare, without_first_and_last, is_opaque_tag, is_tag_byte, opaque_tag_of, are_strongly_equal, entity_tag_of, tagged, are_weakly_equal}
+use Rattle.hx_validate.specs.TagsAndFreshening.{EqualityIsSymmetric, EachEntityTagIsRead, EntityTagIsOfTheGrammar, StrongEqualityImpliesWeak, entity_tag_text, weak_prefix}
 use Rattle.hx_validate.proofs.Lines.{bytes_eq-sym}
 
 -- an opaque tag
@@ -92,12 +92,12 @@ by_front text tag false e h =
 pub reads_the_grammar : EntityTagIsOfTheGrammar
 reads_the_grammar text tag h = by_front text tag (bytes_eq (take 2 text) (codes "W/")) refl h
 
-narrower : (s t : Option EntityTagParts) → both_are_tags_and are_strongly_equal s t ≡ true → both_are_tags_and are_weakly_equal s t ≡ true
+narrower : (s t : Option EntityTagParts) → both_are_tags_that_compare are_strongly_equal s t ≡ true → both_are_tags_that_compare are_weakly_equal s t ≡ true
 narrower None t h = cc
 narrower (Some a) None h = cc
 narrower (Some a) (Some b) h = (and_parts _ _ h).1
 
-pub strong_is_weak : StrongEqualityIsNarrower
+pub strong_is_weak : StrongEqualityImpliesWeak
 strong_is_weak a b h = narrower (entity_tag_of a) (entity_tag_of b) h
 
 strong_turned : (v w : Bool) (e f : Bool) → e ≡ f → (not v && not w && e) ≡ (not w && not v && f)
@@ -106,7 +106,7 @@ strong_turned true false e f same = refl
 strong_turned false true e f same = refl
 strong_turned false false e f same = same
 
-turned : (s t : Option EntityTagParts) → (both_are_tags_and are_strongly_equal s t ≡ both_are_tags_and are_strongly_equal t s) × (both_are_tags_and are_weakly_equal s t ≡ both_are_tags_and are_weakly_equal t s)
+turned : (s t : Option EntityTagParts) → (both_are_tags_that_compare are_strongly_equal s t ≡ both_are_tags_that_compare are_strongly_equal t s) × (both_are_tags_that_compare are_weakly_equal s t ≡ both_are_tags_that_compare are_weakly_equal t s)
 turned None None = (refl, refl)
 turned None (Some b) = (refl, refl)
 turned (Some a) None = (refl, refl)

@@ -7,7 +7,7 @@ use Rattle.std.specs.Prelude.{codes, Option, Some, None}
 use Rattle.hx_fields.specs.Line.{Field}
 use Rattle.hx_fields.specs.FieldLines.{has_field, is_named, only_value}
 use Rattle.hx_age.specs.declared.moments.Times.{Times}
-use Rattle.hx_vary.specs.Vary.{is_same_value, nominated_with}
+use Rattle.hx_vary.specs.Vary.{is_same_value, nomination_with}
 use Rattle.hx_vary.specs.declared.nominated_values.NominatedValue.{NominatedValue}
 use Rattle.hx_vary.specs.declared.nominations.Nomination.{Nomination}
 use Rattle.hx_vary.specs.declared.nominations.Nomination.TheVariants.{Star, Names}
@@ -19,60 +19,60 @@ use Rattle.hx_validate.specs.EntityTags.{EntityTagParts, strong_eq, entity_tag_o
 use Rattle.hx_validate.specs.Validators.{conditions_of}
 
 -- what was sent is what the stored response has now
-abbrev pub are_same_conditions : Conditions → Conditions → Bool
-are_same_conditions held sent = is_same_value held.etag sent.etag && is_same_value held.modified sent.modified
+abbrev pub conditions_are_unchanged : Conditions → Conditions → Bool
+conditions_are_unchanged held sent = is_same_value held.etag sent.etag && is_same_value held.modified sent.modified
 
 -- a strong entity tag asks for strong equality, a weak one for weak, and what is none equals nothing
-abbrev pub tag_agrees_with : Option EntityTagParts → List ℕ → List ℕ → Bool
-tag_agrees_with None held given = false
-tag_agrees_with (Some tag) held given = if tag.weak then weak_eq held given else strong_eq held given
+abbrev pub tag_matches_by_strength : Option EntityTagParts → List ℕ → List ℕ → Bool
+tag_matches_by_strength None held given = false
+tag_matches_by_strength (Some tag) held given = if tag.weak then weak_eq held given else strong_eq held given
 
 -- an ETag that agrees with the entity tag that was sent
-abbrev pub tag_agrees : Option (List ℕ) → Option (List ℕ) → Bool
-tag_agrees (Some held) (Some given) = tag_agrees_with (entity_tag_of given) held given
-tag_agrees (Some held) None = false
-tag_agrees None given = false
+abbrev pub etag_matches_sent : Option (List ℕ) → Option (List ℕ) → Bool
+etag_matches_sent (Some held) (Some given) = tag_matches_by_strength (entity_tag_of given) held given
+etag_matches_sent (Some held) None = false
+etag_matches_sent None given = false
 
 -- a Last-Modified of the bytes that were sent
-abbrev pub modified_agrees : Option (List ℕ) → Option (List ℕ) → Bool
-modified_agrees (Some held) (Some given) = bytes_eq held given
-modified_agrees (Some held) None = false
-modified_agrees None given = false
+abbrev pub last_modified_matches_sent : Option (List ℕ) → Option (List ℕ) → Bool
+last_modified_matches_sent (Some held) (Some given) = bytes_eq held given
+last_modified_matches_sent (Some held) None = false
+last_modified_matches_sent None given = false
 
 -- The validators of the 304 are those that were sent: its ETag if it has one, else its Last-Modified. Two lines of
 -- a name agree with nothing.
 -- own: without any it answers, though the standard says so only of a single stored response without validators
 -- ("A 304 without validators answers")
-abbrev pub validators_agree : Conditions → List Field → Bool
-validators_agree sent fields =
-    if has_field fields (codes "ETag") then tag_agrees sent.etag (only_value fields (codes "ETag"))
-    else if has_field fields (codes "Last-Modified") then modified_agrees sent.modified (only_value fields (codes "Last-Modified"))
+abbrev pub validators_match_sent : Conditions → List Field → Bool
+validators_match_sent sent fields =
+    if has_field fields (codes "ETag") then etag_matches_sent sent.etag (only_value fields (codes "ETag"))
+    else if has_field fields (codes "Last-Modified") then last_modified_matches_sent sent.modified (only_value fields (codes "Last-Modified"))
     else true
 
 -- whether a 304 to these conditions answers a stored response
 abbrev pub answers304 : Stored → Conditions → Answered → Bool
 answers304 entry sent answered
-    = are_same_conditions (conditions_of entry.fields) sent && validators_agree sent answered.fields
+    = conditions_are_unchanged (conditions_of entry.fields) sent && validators_match_sent sent answered.fields
 
 -- a line that a 304 can bring: the length is that of the stored content (RFC 9111, section 3.2)
 -- own: nor does it bring an Age, which is counted anew
-abbrev pub is_line_of_304 : Field → Bool
-is_line_of_304 line = not (is_named (codes "Content-Length") line || is_named (codes "Age") line)
+abbrev pub is_field_taken_from_304 : Field → Bool
+is_field_taken_from_304 line = not (is_named (codes "Content-Length") line || is_named (codes "Age") line)
 
 -- a stored line of a name that the 304 brings
-abbrev pub is_replaced_by_304 : List Field → Field → Bool
-is_replaced_by_304 fields line = is_line_of_304 line && has_field fields line.name
+abbrev pub is_stored_field_replaced_by_304 : List Field → Field → Bool
+is_stored_field_replaced_by_304 fields line = is_field_taken_from_304 line && has_field fields line.name
 
 -- the stored lines of other names, then those of the 304
 abbrev pub freshened_fields : List Field → List Field → List Field
-freshened_fields stored fields = filter (λ line. not (is_replaced_by_304 fields line)) stored
-    ++ filter is_line_of_304 fields
+freshened_fields stored fields = filter (λ line. not (is_stored_field_replaced_by_304 fields line)) stored
+    ++ filter is_field_taken_from_304 fields
 
 -- own: where the new lines nominate everything, nothing is kept of the request, since the entry isn't kept
 -- ("What a star nominates is not kept")
-abbrev pub nominated_or_none : Nomination → List NominatedValue
-nominated_or_none Star = []
-nominated_or_none (Names values) = values
+abbrev pub nominated_values_unless_star : Nomination → List NominatedValue
+nominated_values_unless_star Star = []
+nominated_values_unless_star (Names values) = values
 
 -- the stored response as a 304 to this request leaves it, with the moments of the 304, where further names count as if
 -- its Vary had them
@@ -82,7 +82,7 @@ freshened_of further entry answered asked times =
     record {
       serial = entry.serial;
       key = entry.key;
-      nominated = nominated_or_none (nominated_with further fields asked.fields);
+      nominated = nominated_values_unless_star (nomination_with further fields asked.fields);
       status = entry.status;
       fields = fields;
       content = entry.content;

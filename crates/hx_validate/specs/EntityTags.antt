@@ -47,14 +47,15 @@ abbrev pub are_weakly_equal : EntityTagParts → EntityTagParts → Bool
 are_weakly_equal a b = bytes_eq a.opaque b.opaque
 
 -- both are entity tags, and they compare so
-abbrev pub both_are_tags_and : (EntityTagParts → EntityTagParts → Bool) → Option EntityTagParts → Option EntityTagParts
+abbrev pub both_are_tags_that_compare : (EntityTagParts → EntityTagParts → Bool) → Option EntityTagParts
+    → Option EntityTagParts
     → Bool
-both_are_tags_and compares (Some a) (Some b) = compares a b
-both_are_tags_and compares (Some a) None = false
-both_are_tags_and compares None b = false
+both_are_tags_that_compare compares (Some a) (Some b) = compares a b
+both_are_tags_that_compare compares (Some a) None = false
+both_are_tags_that_compare compares None b = false
 
 abbrev pub strong_eq : List ℕ → List ℕ → Bool
-strong_eq a b = both_are_tags_and are_strongly_equal (entity_tag_of a) (entity_tag_of b)
+strong_eq a b = both_are_tags_that_compare are_strongly_equal (entity_tag_of a) (entity_tag_of b)
 
 abbrev pub weak_eq : List ℕ → List ℕ → Bool
-weak_eq a b = both_are_tags_and are_weakly_equal (entity_tag_of a) (entity_tag_of b)
+weak_eq a b = both_are_tags_that_compare are_weakly_equal (entity_tag_of a) (entity_tag_of b)

@@ -1,7 +1,7 @@
 -- Which stored response a 304 answers, without the tests and their order (RFC 9111, section 4.3.4).
 --
--- StoredHasTheSentValidators: the stored validators are those with which the origin was asked
--- ResponseIdentifiesStored: the validators of the 304 name what they were sent for
+-- StoredStillHasTheSentValidators: the stored validators are those with which the origin was asked
+-- FieldsOf304IdentifyStored: the validators of the 304 name what they were sent for
 -- Below them are the statements that the laws of `src/laws.rt` prove.
 use Rattle.std.specs.Prelude.{◌≡◌, ◌⊎◌, ℕ, true, false, List, codes, Some, None}
 use Rattle.hx_fields.specs.Line.{Field}
@@ -11,62 +11,62 @@ use Rattle.hx_hop.specs.declared.response_view.Answered.{Answered}
 use Rattle.hx_hop.specs.declared.conditions.Conditions.{Conditions}
 use Rattle.hx_validate.specs.Answering.{answers304}
 use Rattle.hx_validate.specs.EntityTags.{EntityTagParts, strong_eq, entity_tag_of, weak_eq}
-use Rattle.hx_validate.specs.Validators.{modified_value, tag_value}
+use Rattle.hx_validate.specs.Validators.{date_validator, etag_validator}
 
 -- the stored response has still the validators that were sent
-abbrev pub StoredHasTheSentValidators : Stored → Conditions → Type 0
-StoredHasTheSentValidators entry sent = (tag_value entry.fields ≡ sent.etag) ×
-    (modified_value entry.fields ≡ sent.modified)
+abbrev pub StoredStillHasTheSentValidators : Stored → Conditions → Type 0
+StoredStillHasTheSentValidators entry sent = (etag_validator entry.fields ≡ sent.etag) ×
+    (date_validator entry.fields ≡ sent.modified)
 
 -- "If the new response contains one or more strong validators": a strong tag by strong comparison;
 -- "no strong validators but .. one or more weak validators": a weak one by weak comparison. What is
 -- no entity tag names nothing.
-abbrev pub TagsAgree : List ℕ → List ℕ → Type 0
-TagsAgree held given =
+abbrev pub TagOf304MatchesSentTag : List ℕ → List ℕ → Type 0
+TagOf304MatchesSentTag held given =
     (tag : EntityTagParts) × (entity_tag_of given ≡ Some tag)
     × (((tag.weak ≡ false) × (strong_eq held given ≡ true)) ⊎ ((tag.weak ≡ true) × (weak_eq held given ≡ true)))
 
 -- one ETag line, that agrees with the tag that was sent
-abbrev pub ResponseHasTheSentTag : Conditions → List Field → Type 0
-ResponseHasTheSentTag sent fields =
+abbrev pub FieldsOf304MatchSentTag : Conditions → List Field → Type 0
+FieldsOf304MatchSentTag sent fields =
     (held : List ℕ) × (given : List ℕ) × (sent.etag ≡ Some held) × (only_value fields (codes "ETag") ≡ Some given)
-    × TagsAgree held given
+    × TagOf304MatchesSentTag held given
 
 -- one Last-Modified line, of the bytes that were sent
-abbrev pub ResponseHasTheSentDate : Conditions → List Field → Type 0
-ResponseHasTheSentDate sent fields = (date : List ℕ) ×
+abbrev pub FieldsOf304MatchSentLastModified : Conditions → List Field → Type 0
+FieldsOf304MatchSentLastModified sent fields = (date : List ℕ) ×
     (sent.modified ≡ Some date) × (only_value fields (codes "Last-Modified") ≡ Some date)
 
 -- by its tag if it has one, else by its date, else by having neither
 -- own: the standard says the last only of a single stored response without validators ("A 304
 -- without validators answers")
-abbrev pub ResponseIdentifiesStored : Conditions → List Field → Type 0
-ResponseIdentifiesStored sent fields =
-    ((has_field fields (codes "ETag") ≡ true) × ResponseHasTheSentTag sent fields)
+abbrev pub FieldsOf304IdentifyStored : Conditions → List Field → Type 0
+FieldsOf304IdentifyStored sent fields =
+    ((has_field fields (codes "ETag") ≡ true) × FieldsOf304MatchSentTag sent fields)
     ⊎ (((has_field fields (codes "ETag") ≡ false) × (has_field fields (codes "Last-Modified") ≡ true)
-    × ResponseHasTheSentDate sent fields)
+    × FieldsOf304MatchSentLastModified sent fields)
     ⊎ ((has_field fields (codes "ETag") ≡ false) × (has_field fields (codes "Last-Modified") ≡ false)))
 
 -- ---- the statements
 
-abbrev pub AnswersTheIdentifiedResponse : Type 0
-AnswersTheIdentifiedResponse = (entry : Stored) (sent : Conditions) (answered : Answered) →
-    StoredHasTheSentValidators entry sent → ResponseIdentifiesStored sent answered.fields
+abbrev pub A304AnswersTheStoredItIdentifies : Type 0
+A304AnswersTheStoredItIdentifies = (entry : Stored) (sent : Conditions) (answered : Answered) →
+    StoredStillHasTheSentValidators entry sent → FieldsOf304IdentifyStored sent answered.fields
     → answers304 entry sent answered ≡ true
 
-abbrev pub AnswersNoOtherResponse : Type 0
-AnswersNoOtherResponse = (entry : Stored) (sent : Conditions) (answered : Answered) →
-    answers304 entry sent answered ≡ true → StoredHasTheSentValidators entry sent
-    × ResponseIdentifiesStored sent answered.fields
+abbrev pub A304AnswersOnlyTheStoredItIdentifies : Type 0
+A304AnswersOnlyTheStoredItIdentifies = (entry : Stored) (sent : Conditions) (answered : Answered) →
+    answers304 entry sent answered ≡ true → StoredStillHasTheSentValidators entry sent
+    × FieldsOf304IdentifyStored sent answered.fields
 
 -- whatever was sent, a 304 with one ETag line answers only a stored response whose own tag agrees with that
-abbrev pub NeverFreshensAnotherResponse : Type 0
-NeverFreshensAnotherResponse = (entry : Stored) (sent : Conditions) (answered : Answered) (given : List ℕ) →
+abbrev pub A304FreshensOnlyAStoredOfItsTag : Type 0
+A304FreshensOnlyAStoredOfItsTag = (entry : Stored) (sent : Conditions) (answered : Answered) (given : List ℕ) →
     only_value answered.fields (codes "ETag") ≡ Some given → answers304 entry sent answered ≡ true →
-    (held : List ℕ) × (tag_value entry.fields ≡ Some held) × TagsAgree held given
+    (held : List ℕ) × (etag_validator entry.fields ≡ Some held) × TagOf304MatchesSentTag held given
 
 -- and one with several never answers any
-abbrev pub SeveralTagsAnswerNothing : Type 0
-SeveralTagsAnswerNothing = (entry : Stored) (sent : Conditions) (answered : Answered) →
+abbrev pub A304WithSeveralTagsAnswersNothing : Type 0
+A304WithSeveralTagsAnswersNothing = (entry : Stored) (sent : Conditions) (answered : Answered) →
     has_field answered.fields (codes "ETag") ≡ true → only_value answered.fields (codes "ETag") ≡ None
     → answers304 entry sent answered ≡ true → ⊥

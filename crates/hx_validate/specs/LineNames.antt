@@ -6,5 +6,6 @@ use Rattle.hx_fields.specs.FieldLines.{has_field}
 use Rattle.hx_fields.specs.Line.{Field}
 
 -- each name that a line has, and no other
-abbrev pub HasEachName : List Field → BTreeSet (List ℕ) → Type 0
-HasEachName lines names = (name : List ℕ) → contains folded_cmp names (folded name) ≡ has_field lines name
+abbrev pub SetHasExactlyTheFieldNames : List Field → BTreeSet (List ℕ) → Type 0
+SetHasExactlyTheFieldNames lines names = (name : List ℕ) → contains folded_cmp names (folded name)
+    ≡ has_field lines name

@@ -1,18 +1,18 @@
 -- When a client's own condition is met by what it would be sent, and what the 304 in its place carries
 -- (RFC 9110, sections 13.1.2, 13.1.3 and 15.4.5; RFC 9111, section 4.3.2).
 --
--- gets_304, fields_of_304: of a stored response
+-- stored_gets_304, fields_of_304: of a stored response
 -- answer_gets_304, fields_of_304_to_answer: of an answer of the origin
 use Rattle.std.specs.Prelude.{ℕ, nat_le, ◌==◌, if◌then◌else◌, Bool, false, not, ◌&&◌, ◌||◌, List, filter, bytes_eq}
 use Rattle.std.specs.Prelude.{codes, option_and_then, unwrap_or, Option, Some, None}
 use Rattle.std.specs.List.{list_any}
 use Rattle.hx_fields.specs.Line.{Field}
 use Rattle.hx_fields.specs.FieldLines.{combined_of, has_field, is_named, members_of, values_of}
-use Rattle.hx_age.specs.Dates.{single_date}
+use Rattle.hx_age.specs.Dates.{single_valid_date}
 use Rattle.hx_store.specs.Stored.{Stored}
 use Rattle.hx_hop.specs.declared.request_view.Asked.{Asked}
-use Rattle.hx_validate.specs.EntityTags.{EntityTagParts, both_are_tags_and, entity_tag_of, are_weakly_equal}
-use Rattle.hx_validate.specs.Validators.{tag_value}
+use Rattle.hx_validate.specs.EntityTags.{EntityTagParts, both_are_tags_that_compare, entity_tag_of, are_weakly_equal}
+use Rattle.hx_validate.specs.Validators.{etag_validator}
 
 -- the whole value is this text
 abbrev pub is_whole_value : List ℕ → Option (List ℕ) → Bool
@@ -20,12 +20,12 @@ is_whole_value text None = false
 is_whole_value text (Some value) = bytes_eq value text
 
 -- the entity tag of a stored response, if it has one
-abbrev pub tag_of_stored : List Field → Option EntityTagParts
-tag_of_stored fields = option_and_then entity_tag_of (tag_value fields)
+abbrev pub etag_of_fields : List Field → Option EntityTagParts
+etag_of_fields fields = option_and_then entity_tag_of (etag_validator fields)
 
 -- an entity tag is weakly equal to this member
 abbrev pub is_weakly_equal_tag : EntityTagParts → List ℕ → Bool
-is_weakly_equal_tag held member = both_are_tags_and are_weakly_equal (Some held) (entity_tag_of member)
+is_weakly_equal_tag held member = both_are_tags_that_compare are_weakly_equal (Some held) (entity_tag_of member)
 
 -- a member of If-None-Match is the entity tag that is held
 abbrev pub if_none_match_lists : List Field → Option EntityTagParts → Bool
@@ -33,68 +33,69 @@ if_none_match_lists request None = false
 if_none_match_lists request (Some held) = list_any (is_weakly_equal_tag held) (members_of request (codes "If-None-Match"))
 
 -- If-None-Match = "*" / #entity-tag: it names the stored response
-abbrev pub if_none_match_names : List Field → List Field → Bool
-if_none_match_names request fields =
-    is_whole_value (codes "*") (combined_of request (codes "If-None-Match")) || if_none_match_lists request (tag_of_stored fields)
+abbrev pub if_none_match_matches_fields : List Field → List Field → Bool
+if_none_match_matches_fields request fields =
+    is_whole_value (codes "*") (combined_of request (codes "If-None-Match")) || if_none_match_lists request (etag_of_fields fields)
 
 -- when the stored response last changed: by Last-Modified, where that is a validator, else by its Date
-abbrev pub last_changed : Stored → ℕ
-last_changed entry = unwrap_or (single_date (values_of entry.fields (codes "Last-Modified"))) entry.times.date
+abbrev pub last_modified_or_date : Stored → ℕ
+last_modified_or_date entry = unwrap_or (single_valid_date (values_of entry.fields (codes "Last-Modified"))) entry.times.date
 
 -- a moment that isn't before another; without one there is none
-abbrev pub is_not_before : Option ℕ → ℕ → Bool
-is_not_before None changed = false
-is_not_before (Some moment) changed = nat_le changed moment
+abbrev pub moment_is_not_before : Option ℕ → ℕ → Bool
+moment_is_not_before None changed = false
+moment_is_not_before (Some moment) changed = nat_le changed moment
 
 -- If-Modified-Since = HTTP-date: the stored response hasn't changed since
-abbrev pub is_unchanged_since : List Field → Stored → Bool
-is_unchanged_since request entry = is_not_before (single_date (values_of request (codes "If-Modified-Since"))) (last_changed entry)
+abbrev pub is_unmodified_since : List Field → Stored → Bool
+is_unmodified_since request entry =
+    moment_is_not_before (single_valid_date (values_of request (codes "If-Modified-Since"))) (last_modified_or_date entry)
 
 -- If-None-Match hides If-Modified-Since (RFC 9110, section 13.1.3)
-abbrev pub gets_304 : Asked → Stored → Bool
-gets_304 asked entry =
+abbrev pub stored_gets_304 : Asked → Stored → Bool
+stored_gets_304 asked entry =
     (entry.status == 200)
-    && (if has_field asked.fields (codes "If-None-Match") then if_none_match_names asked.fields entry.fields
-    else is_unchanged_since asked.fields entry)
+    && (if has_field asked.fields (codes "If-None-Match") then if_none_match_matches_fields asked.fields entry.fields
+    else is_unmodified_since asked.fields entry)
 
 -- a line that a 304 carries (RFC 9110, section 15.4.5)
 -- own: Last-Modified where no ETag line stands, which the standard leaves open ("A 304 carries few lines")
-abbrev pub is_carried_by_304 : Bool → Field → Bool
-is_carried_by_304 tagged line =
+abbrev pub is_field_of_304 : Bool → Field → Bool
+is_field_of_304 tagged line =
     is_named (codes "Cache-Control") line || is_named (codes "Content-Location") line || is_named (codes "Date") line
     || is_named (codes "ETag") line || is_named (codes "Expires") line || is_named (codes "Vary") line
     || (not tagged && is_named (codes "Last-Modified") line)
 
 abbrev pub fields_of_304 : List Field → List Field
-fields_of_304 fields = filter (is_carried_by_304 (has_field fields (codes "ETag"))) fields
+fields_of_304 fields = filter (is_field_of_304 (has_field fields (codes "ETag"))) fields
 
 -- ---- in place of an answer of the origin
 
 -- a moment that isn't before another, if both are known
 abbrev pub is_not_before_if_stated : Option ℕ → Option ℕ → Bool
 is_not_before_if_stated since None = false
-is_not_before_if_stated since (Some changed) = is_not_before since changed
+is_not_before_if_stated since (Some changed) = moment_is_not_before since changed
 
 -- If-Modified-Since = HTTP-date: the answer states when it last changed, which isn't later. Where it doesn't state it
 -- the field is ignored (RFC 9110, section 13.1.3); a Date stands for it in a stored response alone (RFC 9111,
 -- section 4.3.2).
-abbrev pub is_stated_unchanged_since : List Field → List Field → Bool
-is_stated_unchanged_since request fields =
-    is_not_before_if_stated (single_date (values_of request (codes "If-Modified-Since")))
-    (single_date (values_of fields (codes "Last-Modified")))
+abbrev pub states_unmodified_since : List Field → List Field → Bool
+states_unmodified_since request fields =
+    is_not_before_if_stated (single_valid_date (values_of request (codes "If-Modified-Since")))
+    (single_valid_date (values_of fields (codes "Last-Modified")))
 
 -- a client has the answer of this status and these lines already
 abbrev pub answer_gets_304 : Asked → ℕ → List Field → Bool
 answer_gets_304 asked status fields =
     (status == 200)
-    && (if has_field asked.fields (codes "If-None-Match") then if_none_match_names asked.fields fields
-    else is_stated_unchanged_since asked.fields fields)
+    && (if has_field asked.fields (codes "If-None-Match") then if_none_match_matches_fields asked.fields fields
+    else states_unmodified_since asked.fields fields)
 
 -- own: the 304 to the one who asked has the answer's Age and its cookies too, since no other response brings them
 -- ("What a 304 in place of an answer carries")
-abbrev pub is_carried_to_asker : Bool → Field → Bool
-is_carried_to_asker tagged line =
-    is_carried_by_304 tagged line || (is_named (codes "Age") line || is_named (codes "Set-Cookie") line)
+abbrev pub is_field_of_304_to_answer : Bool → Field → Bool
+is_field_of_304_to_answer tagged line =
+    is_field_of_304 tagged line || (is_named (codes "Age") line || is_named (codes "Set-Cookie") line)
 
 abbrev pub fields_of_304_to_answer : List Field → List Field
-fields_of_304_to_answer fields = filter (is_carried_to_asker (has_field fields (codes "ETag"))) fields
+fields_of_304_to_answer fields = filter (is_field_of_304_to_answer (has_field fields (codes "ETag"))) fields

@@ -5,8 +5,9 @@
 -- if_range_holds: what If-Range asks for is the response
 -- answer_to_range: what of a content of a length answers a range
 -- range_answer_of, range_answer: what of a response, and of a stored one, answers a request
--- PartIsIn: a part is of what is there
--- fields_of_part, fields_of_416: the lines of both answers           response_in_range: the response in their form
+-- PartLiesWithinTotal: a part is of what is there
+-- fields_of_206, fields_of_416: the lines of both answers           response_as_range_or_whole: the response in their
+-- form
 -- fields_of_416_to_answer: those of a 416 in place of an answer of the origin
 use Rattle.std.specs.Prelude.{ℕ, ◌+◌, ◌-◌, ◌==◌, ◌≤◌, ◌<◌, nat_le, nat_lt, min, if◌then◌else◌, cond, Bool, true}
 use Rattle.std.specs.Prelude.{false, not}
@@ -18,13 +19,13 @@ use Rattle.std.specs.Str.Parse.{digits_value}
 use Rattle.hx_fields.specs.Line.{Field}
 use Rattle.hx_fields.specs.Examples.{line}
 use Rattle.hx_fields.specs.FieldLines.{has_field, is_named, only_value, values_of, without_named}
-use Rattle.hx_fields.specs.Names.{cut_at, is_nonempty, is_same_name}
-use Rattle.hx_age.specs.Dates.{single_date}
+use Rattle.hx_fields.specs.Names.{split_at_first_byte, is_nonempty, is_same_name}
+use Rattle.hx_age.specs.Dates.{single_valid_date}
 use Rattle.hx_hop.specs.declared.request_view.Asked.{Asked}
 use Rattle.hx_store.specs.Stored.{Stored}
 use Rattle.hx_validate.specs.EntityTags.{strong_eq}
 use Rattle.hx_validate.specs.Room.{head_leaves_room}
-use Rattle.hx_validate.specs.Validators.{modified_value, tag_value}
+use Rattle.hx_validate.specs.Validators.{date_validator, etag_validator}
 use Rattle.hx_validate.specs.declared.ranges.ByteRange.{ByteRange}
 use Rattle.hx_validate.specs.declared.ranges.ByteRange.TheVariants.{FromTo, From, Last}
 use Rattle.hx_validate.specs.declared.ranges.RangeAnswer.{RangeAnswer}
@@ -38,70 +39,72 @@ abbrev pub counted : ℕ → ℕ
 counted n = min n 18446744073709551615
 
 -- first-pos = 1*DIGIT, last-pos = 1*DIGIT, suffix-length = 1*DIGIT (RFC 9110, section 14.1.1)
-abbrev pub position_of : List ℕ → Option ℕ
-position_of digits =
+abbrev pub range_position_of : List ℕ → Option ℕ
+range_position_of digits =
     if is_nonempty digits && list_all is_ascii_digit digits then Some (counted (digits_value 10 digits)) else None
 
 -- "An int-range is invalid if the last-pos value is present and less than first-pos" (RFC 9110, section 14.1.1)
-abbrev pub int_range : Option ℕ → Option ℕ → Option ByteRange
-int_range (Some first) (Some last) = if nat_le first last then Some (FromTo first last) else None
-int_range (Some first) None = None
-int_range None last = None
+abbrev pub byte_range_of_positions : Option ℕ → Option ℕ → Option ByteRange
+byte_range_of_positions (Some first) (Some last) = if nat_le first last then Some (FromTo first last) else None
+byte_range_of_positions (Some first) None = None
+byte_range_of_positions None last = None
 
 -- int-range = first-pos "-" [ last-pos ], suffix-range = "-" suffix-length (RFC 9110, section 14.1.1)
-abbrev pub range_of_parts : List ℕ → List ℕ → Option ByteRange
-range_of_parts first last =
-    if not (is_nonempty first) then option_map Last (position_of last)
-    else if not (is_nonempty last) then option_map From (position_of first)
-    else int_range (position_of first) (position_of last)
+abbrev pub byte_range_of_texts : List ℕ → List ℕ → Option ByteRange
+byte_range_of_texts first last =
+    if not (is_nonempty first) then option_map Last (range_position_of last)
+    else if not (is_nonempty last) then option_map From (range_position_of first)
+    else byte_range_of_positions (range_position_of first) (range_position_of last)
 
-abbrev pub range_of_cut : Option (List ℕ × List ℕ) → Option ByteRange
-range_of_cut None = None
-range_of_cut (Some (first, last)) = range_of_parts first last
+abbrev pub byte_range_of_cut_text : Option (List ℕ × List ℕ) → Option ByteRange
+byte_range_of_cut_text None = None
+byte_range_of_cut_text (Some (first, last)) = byte_range_of_texts first last
 
 -- the one range of bytes that a value asks for: ranges-specifier = range-unit "=" range-set, whose unit is "bytes",
 -- without case (RFC 9110, sections 14.1 and 14.1.2)
 -- own: several ranges, and any other unit, ask for the whole, as each server may answer (section 14.2)
-abbrev pub range_of_value : List ℕ → Option ByteRange
-range_of_value value =
-    if is_same_name (take 6 value) (codes "bytes=") then range_of_cut (cut_at 45 (drop 6 value)) else None
+abbrev pub byte_range_of_value : List ℕ → Option ByteRange
+byte_range_of_value value =
+    if is_same_name (take 6 value)
+    (codes "bytes=") then byte_range_of_cut_text (split_at_first_byte 45 (drop 6 value)) else None
 
 abbrev pub range_asked : List Field → Option ByteRange
-range_asked fields = option_and_then range_of_value (only_value fields (codes "Range"))
+range_asked fields = option_and_then byte_range_of_value (only_value fields (codes "Range"))
 
 -- ---- whether it is wanted of the response
 
 -- the value is the entity tag, and neither is weak (RFC 9110, section 8.8.3.2)
-abbrev pub equals_tag : List ℕ → Option (List ℕ) → Bool
-equals_tag value None = false
-equals_tag value (Some held) = strong_eq value held
+abbrev pub if_range_equals_tag : List ℕ → Option (List ℕ) → Bool
+if_range_equals_tag value None = false
+if_range_equals_tag value (Some held) = strong_eq value held
 
 -- "If the HTTP-date validator provided exactly matches the Last-Modified field value"
-abbrev pub equals_modified : List ℕ → Option (List ℕ) → Bool
-equals_modified value None = false
-equals_modified value (Some held) = bytes_eq value held
+abbrev pub if_range_equals_last_modified : List ℕ → Option (List ℕ) → Bool
+if_range_equals_last_modified value None = false
+if_range_equals_last_modified value (Some held) = bytes_eq value held
 
 -- a date is a strong validator where the response was made later (RFC 9110, section 8.8.2.2)
 -- own: by a minute, so that no clocks need agree
-abbrev pub is_made_later : ℕ → Option ℕ → Bool
-is_made_later date None = false
-is_made_later date (Some changed) = nat_le 60 (date - changed)
+abbrev pub is_dated_a_minute_later : ℕ → Option ℕ → Bool
+is_dated_a_minute_later date None = false
+is_dated_a_minute_later date (Some changed) = nat_le 60 (date - changed)
 
 -- of a response of a Date and of lines
-abbrev pub is_strong_date : ℕ → List Field → Bool
-is_strong_date date fields = is_made_later date (single_date (values_of fields (codes "Last-Modified")))
+abbrev pub last_modified_is_strong : ℕ → List Field → Bool
+last_modified_is_strong date fields = is_dated_a_minute_later date (single_valid_date (values_of fields (codes "Last-Modified")))
 
 -- If-Range = entity-tag / HTTP-date (RFC 9110, section 13.1.5)
-abbrev pub is_current_validator : Option (List ℕ) → ℕ → List Field → Bool
-is_current_validator None date fields = false
-is_current_validator (Some value) date fields =
-    equals_tag value (tag_value fields) || (is_strong_date date fields && equals_modified value (modified_value fields))
+abbrev pub if_range_names_current_validator : Option (List ℕ) → ℕ → List Field → Bool
+if_range_names_current_validator None date fields = false
+if_range_names_current_validator (Some value) date fields =
+    if_range_equals_tag value (etag_validator fields)
+    || (last_modified_is_strong date fields && if_range_equals_last_modified value (date_validator fields))
 
 -- without If-Range nothing is asked
 abbrev pub if_range_holds : List Field → ℕ → List Field → Bool
 if_range_holds request date fields =
     not (has_field request (codes "If-Range"))
-    || is_current_validator (only_value request (codes "If-Range")) date fields
+    || if_range_names_current_validator (only_value request (codes "If-Range")) date fields
 
 -- ---- what answers it
 
@@ -117,27 +120,27 @@ answer_to_range total (From first) = if nat_lt first total then Part first (tota
 answer_to_range total (Last most) =
     if most == 0 then Unsatisfiable else if total == 0 then Whole else Part (total - most) (total - 1)
 
-abbrev pub answer_to_asked : ℕ → Option ByteRange → RangeAnswer
-answer_to_asked total None = Whole
-answer_to_asked total (Some range) = answer_to_range total range
+abbrev pub answer_to_any_range : ℕ → Option ByteRange → RangeAnswer
+answer_to_any_range total None = Whole
+answer_to_any_range total (Some range) = answer_to_range total range
 
 -- a part is of what is there: of so many bytes it has one at least
-abbrev pub PartIsIn : RangeAnswer → ℕ → Type 0
-PartIsIn Whole total = Unit {0}
-PartIsIn (Part first last) total = (first ≤ last) × (last < total)
-PartIsIn Unsatisfiable total = Unit {0}
+abbrev pub PartLiesWithinTotal : RangeAnswer → ℕ → Type 0
+PartLiesWithinTotal Whole total = Unit {0}
+PartLiesWithinTotal (Part first last) total = (first ≤ last) × (last < total)
+PartLiesWithinTotal Unsatisfiable total = Unit {0}
 
 -- "A server MUST ignore a Range header field received with a request method that is unrecognized or for which range
 -- handling is not defined. For this specification, GET is the only method for which range handling is defined"; and
 -- only a response that would be a 200 has parts (RFC 9110, section 14.2)
-abbrev pub heeds_range : Asked → ℕ → ℕ → List Field → Bool
-heeds_range asked status date fields =
+abbrev pub range_is_answered : Asked → ℕ → ℕ → List Field → Bool
+range_is_answered asked status date fields =
     bytes_eq asked.method (codes "GET") && ((status == 200) && if_range_holds asked.fields date fields)
 
 -- of a response of a status, a Date, lines and a content of so many bytes
 abbrev pub range_answer_of : Asked → ℕ → ℕ → List Field → ℕ → RangeAnswer
 range_answer_of asked status date fields total =
-    if heeds_range asked status date fields then answer_to_asked total (range_asked asked.fields) else Whole
+    if range_is_answered asked status date fields then answer_to_any_range total (range_asked asked.fields) else Whole
 
 abbrev pub range_answer : Asked → Stored → RangeAnswer
 range_answer asked e = range_answer_of asked e.status e.times.date e.fields (length e.content)
@@ -152,47 +155,47 @@ abbrev pub unsatisfied_text : ℕ → List ℕ
 unsatisfied_text total = codes "bytes */" ++ decimal total
 
 -- the lines of a 206: those of the 200, and which part it is (RFC 9110, section 15.3.7)
-abbrev pub fields_of_part : List Field → ℕ → ℕ → ℕ → List Field
-fields_of_part fields first last total =
+abbrev pub fields_of_206 : List Field → ℕ → ℕ → ℕ → List Field
+fields_of_206 fields first last total =
     without_named fields (codes "Content-Range") ++ line (codes "Content-Range") (part_text first last total) ∷ []
 
 -- the lines of a 416: nothing lets it be stored (RFC 9110, section 15.5.17)
-abbrev pub is_carried_by_416 : Field → Bool
-is_carried_by_416 field = is_named (codes "Date") field || is_named (codes "ETag") field || is_named (codes "Vary") field
+abbrev pub is_field_of_416 : Field → Bool
+is_field_of_416 field = is_named (codes "Date") field || is_named (codes "ETag") field || is_named (codes "Vary") field
 
 abbrev pub fields_of_416 : List Field → ℕ → List Field
 fields_of_416 fields total =
-    filter is_carried_by_416 fields ++ line (codes "Content-Range") (unsatisfied_text total) ∷ []
+    filter is_field_of_416 fields ++ line (codes "Content-Range") (unsatisfied_text total) ∷ []
 
 -- own: that to the one who asked has the answer's Age and its cookies too, since no other response brings them ("What a
 -- 304 in place of an answer carries")
-abbrev pub is_carried_by_416_to_asker : Field → Bool
-is_carried_by_416_to_asker field =
-    is_carried_by_416 field || (is_named (codes "Age") field || is_named (codes "Set-Cookie") field)
+abbrev pub is_field_of_416_to_answer : Field → Bool
+is_field_of_416_to_answer field =
+    is_field_of_416 field || (is_named (codes "Age") field || is_named (codes "Set-Cookie") field)
 
 abbrev pub fields_of_416_to_answer : List Field → ℕ → List Field
 fields_of_416_to_answer fields total =
-    filter is_carried_by_416_to_asker fields ++ line (codes "Content-Range") (unsatisfied_text total) ∷ []
+    filter is_field_of_416_to_answer fields ++ line (codes "Content-Range") (unsatisfied_text total) ∷ []
 
-abbrev pub part_of : Stored → ℕ → ℕ → Stored
-part_of e first last = record e {
+abbrev pub response_206_of_part : Stored → ℕ → ℕ → Stored
+response_206_of_part e first last = record e {
   status = 206;
-  fields = fields_of_part e.fields first last (length e.content);
+  fields = fields_of_206 e.fields first last (length e.content);
   content = slice_range e.content first (last + 1);
 }
 
-abbrev pub unsatisfied_of : Stored → Stored
-unsatisfied_of e = record e { status = 416; fields = fields_of_416 e.fields (length e.content); content = [] }
+abbrev pub response_416_of : Stored → Stored
+response_416_of e = record e { status = 416; fields = fields_of_416 e.fields (length e.content); content = [] }
 
 -- own: where its head leaves no room for the line more the whole is sent, as each server may
-abbrev pub if_room : Stored → Stored → Stored
-if_room e form = cond (head_leaves_room form.fields) form e
+abbrev pub form_if_head_leaves_room : Stored → Stored → Stored
+form_if_head_leaves_room e form = cond (head_leaves_room form.fields) form e
 
-abbrev pub in_form_of : RangeAnswer → Stored → Stored
-in_form_of Whole e = e
-in_form_of (Part first last) e = if_room e (part_of e first last)
-in_form_of Unsatisfiable e = if_room e (unsatisfied_of e)
+abbrev pub response_in_form_of : RangeAnswer → Stored → Stored
+response_in_form_of Whole e = e
+response_in_form_of (Part first last) e = form_if_head_leaves_room e (response_206_of_part e first last)
+response_in_form_of Unsatisfiable e = form_if_head_leaves_room e (response_416_of e)
 
 -- the response as it answers a request, for a range or not
-abbrev pub response_in_range : Asked → Stored → Stored
-response_in_range asked e = in_form_of (range_answer asked e) e
+abbrev pub response_as_range_or_whole : Asked → Stored → Stored
+response_as_range_or_whole asked e = response_in_form_of (range_answer asked e) e

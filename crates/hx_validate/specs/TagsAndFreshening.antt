@@ -8,10 +8,10 @@ use Rattle.hx_hop.specs.declared.response_view.Answered.{Answered}
 use Rattle.hx_store.specs.Stored.{Stored}
 use Rattle.hx_age.specs.declared.moments.Times.{Times}
 use Rattle.hx_hop.specs.declared.request_view.Asked.{Asked}
-use Rattle.hx_vary.specs.Vary.{is_star, kept_values_with}
+use Rattle.hx_vary.specs.Vary.{vary_is_star, nominated_values_with}
 use Rattle.hx_validate.specs.Answering.{answers304, freshened_fields, freshened_of}
 use Rattle.hx_validate.specs.EntityTags.{EntityTagParts, is_tag_byte, strong_eq, entity_tag_of, weak_eq}
-use Rattle.hx_validate.specs.Validators.{conditions_of, tag_value}
+use Rattle.hx_validate.specs.Validators.{conditions_of, etag_validator}
 
 -- entity-tag = [ weak ] opaque-tag; weak = %s"W/"; opaque-tag = DQUOTE *etagc DQUOTE
 abbrev pub weak_prefix : Bool → List ℕ
@@ -32,57 +32,58 @@ EachEntityTagIsRead = (tag : EntityTagParts) → list_all is_tag_byte tag.opaque
     (entity_tag_text tag) ≡ Some tag
 
 -- strong equality is the narrower one
-abbrev pub StrongEqualityIsNarrower : Type 0
-StrongEqualityIsNarrower = (a b : List ℕ) → strong_eq a b ≡ true → weak_eq a b ≡ true
+abbrev pub StrongEqualityImpliesWeak : Type 0
+StrongEqualityImpliesWeak = (a b : List ℕ) → strong_eq a b ≡ true → weak_eq a b ≡ true
 
 -- neither depends on which value stands first
 abbrev pub EqualityIsSymmetric : Type 0
 EqualityIsSymmetric = (a b : List ℕ) → (strong_eq a b ≡ strong_eq b a) × (weak_eq a b ≡ weak_eq b a)
 
 -- a name that a 304 doesn't bring
-abbrev pub is_name_kept_from_304 : List ℕ → Bool
-is_name_kept_from_304 name = is_same_name name (codes "Content-Length") || is_same_name name (codes "Age")
+abbrev pub is_content_length_or_age : List ℕ → Bool
+is_content_length_or_age name = is_same_name name (codes "Content-Length") || is_same_name name (codes "Age")
 
 -- a 304 replaces the lines of its names
-abbrev pub LinesOfItsNamesAreReplaced : Type 0
-LinesOfItsNamesAreReplaced = (stored fields : List Field) (name : List ℕ) → is_name_kept_from_304 name ≡ false
+abbrev pub FieldsOf304ReplaceStoredOnes : Type 0
+FieldsOf304ReplaceStoredOnes = (stored fields : List Field) (name : List ℕ) → is_content_length_or_age name ≡ false
     → has_field fields name ≡ true
     → values_of (freshened_fields stored fields) name ≡ values_of fields name
 
 -- and leaves those of others
-abbrev pub LinesOfOtherNamesStay : Type 0
-LinesOfOtherNamesStay = (stored fields : List Field) (name : List ℕ) → has_field fields name ≡ false
+abbrev pub OtherStoredFieldsAreUnchanged : Type 0
+OtherStoredFieldsAreUnchanged = (stored fields : List Field) (name : List ℕ) → has_field fields name ≡ false
     → values_of (freshened_fields stored fields) name ≡ values_of stored name
 
 -- the length of the content and the age stay the stored ones
-abbrev pub LengthAndAgeStay : Type 0
-LengthAndAgeStay = (stored fields : List Field) (name : List ℕ) → is_name_kept_from_304 name ≡ true
+abbrev pub LengthAndAgeAreUnchangedBy304 : Type 0
+LengthAndAgeAreUnchangedBy304 = (stored fields : List Field) (name : List ℕ) → is_content_length_or_age name ≡ true
     → values_of (freshened_fields stored fields) name ≡ values_of stored name
 
 -- a 304 that gives the entity tag back answers the response whose validators were sent
-abbrev pub SameTagAnswers : Type 0
-SameTagAnswers = (entry : Stored) (answered : Answered) (value : List ℕ) → tag_value entry.fields ≡ Some value
-    → tag_value answered.fields ≡ Some value → answers304 entry (conditions_of entry.fields) answered ≡ true
+abbrev pub A304WithTheSameTagAnswers : Type 0
+A304WithTheSameTagAnswers = (entry : Stored) (answered : Answered) (value : List ℕ) → etag_validator entry.fields
+    ≡ Some value
+    → etag_validator answered.fields ≡ Some value → answers304 entry (conditions_of entry.fields) answered ≡ true
 
 -- what a 304 leaves: serial, key, status and content are the stored ones, the moments those of the
 -- 304 (RFC 9111, section 4.3.4)
-abbrev pub TheRestStays : Type 0
-TheRestStays = (further : List (List ℕ)) (entry : Stored) (answered : Answered) (asked : Asked)
+abbrev pub FresheningChangesOnlyFieldsAndTimes : Type 0
+FresheningChangesOnlyFieldsAndTimes = (further : List (List ℕ)) (entry : Stored) (answered : Answered) (asked : Asked)
     (times : Times) →
     let now = freshened_of further entry answered asked times in
     (now.serial ≡ entry.serial) × (now.key ≡ entry.key) × (now.status ≡ entry.status) × (now.content ≡ entry.content)
     × (now.times ≡ times)
 
 -- and the request that it answered is told by the new lines (RFC 9111, section 4.1), and by the further names
-abbrev pub NominatedByTheNewLines : Type 0
-NominatedByTheNewLines = (further : List (List ℕ)) (entry : Stored) (answered : Answered) (asked : Asked)
+abbrev pub FreshenedIsNominatedByNewFields : Type 0
+FreshenedIsNominatedByNewFields = (further : List (List ℕ)) (entry : Stored) (answered : Answered) (asked : Asked)
     (times : Times) →
     let now = freshened_of further entry answered asked times in
-    is_star now.fields ≡ false → now.nominated ≡ kept_values_with further now.fields asked.fields
+    vary_is_star now.fields ≡ false → now.nominated ≡ nominated_values_with further now.fields asked.fields
 
 -- own: of a request whose answer nominates everything nothing is kept ("What a star nominates is not kept")
-abbrev pub StarNominatesNothing : Type 0
-StarNominatesNothing = (further : List (List ℕ)) (entry : Stored) (answered : Answered) (asked : Asked)
+abbrev pub FreshenedWithVaryStarNominatesNothing : Type 0
+FreshenedWithVaryStarNominatesNothing = (further : List (List ℕ)) (entry : Stored) (answered : Answered) (asked : Asked)
     (times : Times) →
     let now = freshened_of further entry answered asked times in
-    is_star now.fields ≡ true → now.nominated ≡ []
+    vary_is_star now.fields ≡ true → now.nominated ≡ []

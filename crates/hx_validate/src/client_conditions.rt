@@ -7,15 +7,17 @@ ghost use Rattle.std.specs.List.{list_any};
 ghost use Rattle.hx_fields.specs.FieldLines.{members_of};
 ghost use Rattle.hx_fields.specs.Names.{members_of_value};
 ghost use Rattle.hx_validate.specs.EntityTags.{tagged};
-ghost use Rattle.hx_validate.specs.NotModified.{last_changed, tag_of_stored, is_carried_by_304, is_not_before};
+ghost use Rattle.hx_validate.specs.NotModified.{last_modified_or_date, etag_of_fields, is_field_of_304};
+ghost use Rattle.hx_validate.specs.NotModified.{moment_is_not_before};
 ghost use Rattle.hx_validate.specs.NotModified.{is_weakly_equal_tag, if_none_match_lists};
-ghost use Rattle.hx_validate.specs.NotModified.{if_none_match_names, fields_of_304, is_unchanged_since, gets_304};
-ghost use Rattle.hx_validate.specs.NotModified.{is_not_before_if_stated, is_stated_unchanged_since, answer_gets_304};
-ghost use Rattle.hx_validate.specs.NotModified.{is_carried_to_asker, fields_of_304_to_answer};
+ghost use Rattle.hx_validate.specs.NotModified.{if_none_match_matches_fields, fields_of_304, is_unmodified_since};
+ghost use Rattle.hx_validate.specs.NotModified.{stored_gets_304};
+ghost use Rattle.hx_validate.specs.NotModified.{is_not_before_if_stated, states_unmodified_since, answer_gets_304};
+ghost use Rattle.hx_validate.specs.NotModified.{is_field_of_304_to_answer, fields_of_304_to_answer};
 
 use crate::entity_tags::EntityTag;
-use crate::stored_validators::tag_value;
-use hx_age::single_date;
+use crate::stored_validators::etag_validator;
+use hx_age::single_valid_date;
 use hx_fields::{Field, Fields, is_same_name, next_member};
 use hx_hop::Asked;
 use hx_store::Entry;
@@ -25,10 +27,10 @@ use std::alloc::{AllocError, Global};
 const OK: u16 = 200;
 
 /// The entity tag of a stored response, if it has one.
-fn tag_of_stored(fields: &Fields) -> Option<EntityTag<'_>>
-    ensures { option_map (λ tag. tagged tag.weak tag.opaque.now) result ≡ tag_of_stored fields.now }
+fn etag_of_fields(fields: &Fields) -> Option<EntityTag<'_>>
+    ensures { option_map (λ tag. tagged tag.weak tag.opaque.now) result ≡ etag_of_fields fields.now }
 {
-    match tag_value(fields) {
+    match etag_validator(fields) {
         Some(value) => EntityTag::of(value),
         None => None,
     }
@@ -72,31 +74,31 @@ fn if_none_match_lists(request: &Fields, held: EntityTag) -> bool
 
 /// Whether a member of If-None-Match is the entity tag of a stored response.
 fn if_none_match_lists_tag_of(request: &Fields, fields: &Fields) -> bool
-    ensures { result ≡ if_none_match_lists request.now (tag_of_stored fields.now) }
+    ensures { result ≡ if_none_match_lists request.now (etag_of_fields fields.now) }
 {
-    match tag_of_stored(fields) {
+    match etag_of_fields(fields) {
         Some(held) => if_none_match_lists(request, held),
         None => false,
     }
 }
 
 /// Whether If-None-Match names a stored response.
-fn if_none_match_names(request: &Fields, fields: &Fields) -> bool
-    ensures { result ≡ if_none_match_names request.now fields.now }
+fn if_none_match_matches_fields(request: &Fields, fields: &Fields) -> bool
+    ensures { result ≡ if_none_match_matches_fields request.now fields.now }
 {
     request.only_value(b"If-None-Match") == Some(b"*".as_slice())
         || if_none_match_lists_tag_of(request, fields)
 }
 
 /// When a stored response last changed, in Unix seconds.
-fn last_changed(entry: &Entry) -> u64
-    ensures { result ≡ last_changed entry.now }
+fn last_modified_or_date(entry: &Entry) -> u64
+    ensures { result ≡ last_modified_or_date entry.now }
 {
-    single_date(&entry.fields, b"Last-Modified").unwrap_or(entry.times.date)
+    single_valid_date(&entry.fields, b"Last-Modified").unwrap_or(entry.times.date)
 }
 
-fn is_not_before(moment: Option<u64>, changed: u64) -> bool
-    ensures { result ≡ is_not_before moment changed }
+fn moment_is_not_before(moment: Option<u64>, changed: u64) -> bool
+    ensures { result ≡ moment_is_not_before moment changed }
 {
     match moment {
         Some(moment) => changed <= moment,
@@ -105,25 +107,25 @@ fn is_not_before(moment: Option<u64>, changed: u64) -> bool
 }
 
 /// Whether If-Modified-Since finds a stored response unchanged.
-fn is_unchanged_since(request: &Fields, entry: &Entry) -> bool
-    ensures { result ≡ is_unchanged_since request.now entry.now }
+fn is_unmodified_since(request: &Fields, entry: &Entry) -> bool
+    ensures { result ≡ is_unmodified_since request.now entry.now }
 {
-    is_not_before(
-        single_date(request, b"If-Modified-Since"),
-        last_changed(entry),
+    moment_is_not_before(
+        single_valid_date(request, b"If-Modified-Since"),
+        last_modified_or_date(entry),
     )
 }
 
 /// Whether a client has a stored response already, so that a 304 is sent in its place. No memory is taken.
 pub fn client_wants_304(asked: &Asked, entry: &Entry) -> bool
-    ensures { result ≡ gets_304 asked.now entry.now }
+    ensures { result ≡ stored_gets_304 asked.now entry.now }
 {
     if entry.status != OK {
         false
     } else if asked.fields.has(b"If-None-Match") {
-        if_none_match_names(&asked.fields, &entry.fields)
+        if_none_match_matches_fields(&asked.fields, &entry.fields)
     } else {
-        is_unchanged_since(&asked.fields, entry)
+        is_unmodified_since(&asked.fields, entry)
     }
 }
 
@@ -131,39 +133,39 @@ fn is_not_before_if_stated(moment: Option<u64>, changed: Option<u64>) -> bool
     ensures { result ≡ is_not_before_if_stated moment changed }
 {
     match changed {
-        Some(changed) => is_not_before(moment, changed),
+        Some(changed) => moment_is_not_before(moment, changed),
         None => false,
     }
 }
 
 /// Whether an answer states that it hasn't changed since If-Modified-Since.
-fn is_stated_unchanged_since(request: &Fields, fields: &Fields) -> bool
-    ensures { result ≡ is_stated_unchanged_since request.now fields.now }
+fn states_unmodified_since(request: &Fields, fields: &Fields) -> bool
+    ensures { result ≡ states_unmodified_since request.now fields.now }
 {
     is_not_before_if_stated(
-        single_date(request, b"If-Modified-Since"),
-        single_date(fields, b"Last-Modified"),
+        single_valid_date(request, b"If-Modified-Since"),
+        single_valid_date(fields, b"Last-Modified"),
     )
 }
 
 /// Whether a client has an answer of the origin already, so that a 304 is sent in its place: the status and the lines
 /// of the answer, as rules see them, are handed in. Without Last-Modified its If-Modified-Since is ignored (RFC 9110,
 /// section 13.1.3). No memory is taken.
-pub fn client_has_answer(asked: &Asked, status: u16, fields: &Fields) -> bool
+pub fn client_wants_304_for_answer(asked: &Asked, status: u16, fields: &Fields) -> bool
     ensures { result ≡ answer_gets_304 asked.now status fields.now }
 {
     if status != OK {
         false
     } else if asked.fields.has(b"If-None-Match") {
-        if_none_match_names(&asked.fields, fields)
+        if_none_match_matches_fields(&asked.fields, fields)
     } else {
-        is_stated_unchanged_since(&asked.fields, fields)
+        states_unmodified_since(&asked.fields, fields)
     }
 }
 
 /// Whether a 304 carries a line of a stored response, which has an ETag line or not.
-fn is_carried_by_304(line: &Field, tagged: bool) -> bool
-    ensures { result ≡ is_carried_by_304 tagged line.now }
+fn is_field_of_304(line: &Field, tagged: bool) -> bool
+    ensures { result ≡ is_field_of_304 tagged line.now }
 {
     let name = line.name();
     is_same_name(name, b"Cache-Control")
@@ -182,7 +184,7 @@ pub fn not_modified(alloc: Global, entry: &Entry) -> Result<Fields, AllocError>
     let tagged = entry.fields.has(b"ETag");
     let mut carried = Fields::new(alloc);
     for line in entry.fields.as_slice() {
-        if is_carried_by_304(line, tagged) {
+        if is_field_of_304(line, tagged) {
             carried.push(line.name(), line.value())?;
         }
     }
@@ -190,13 +192,11 @@ pub fn not_modified(alloc: Global, entry: &Entry) -> Result<Fields, AllocError>
 }
 
 /// Whether a 304 in place of an answer carries a line of it.
-fn is_carried_to_asker(line: &Field, tagged: bool) -> bool
-    ensures { result ≡ is_carried_to_asker tagged line.now }
+fn is_field_of_304_to_answer(line: &Field, tagged: bool) -> bool
+    ensures { result ≡ is_field_of_304_to_answer tagged line.now }
 {
     let name = line.name();
-    is_carried_by_304(line, tagged)
-        || is_same_name(name, b"Age")
-        || is_same_name(name, b"Set-Cookie")
+    is_field_of_304(line, tagged) || is_same_name(name, b"Age") || is_same_name(name, b"Set-Cookie")
 }
 
 /// The lines of the 304 that stands for an answer of these lines. Its only error is out of memory.
@@ -206,7 +206,7 @@ pub fn answer_not_modified(alloc: Global, fields: &Fields) -> Result<Fields, All
     let tagged = fields.has(b"ETag");
     let mut carried = Fields::new(alloc);
     for line in fields.as_slice() {
-        if is_carried_to_asker(line, tagged) {
+        if is_field_of_304_to_answer(line, tagged) {
             carried.push(line.name(), line.value())?;
         }
     }

@@ -2,10 +2,11 @@
 //!
 //! The definition is in `specs/Answering.antt`.
 ghost use Rattle.std.specs.Prelude.{◌≡◌, ◌++◌, [], filter, not, IfOk, OnOk};
-ghost use Rattle.hx_vary.specs.Vary.{nominated_with};
-ghost use Rattle.hx_validate.specs.LineNames.{HasEachName};
-ghost use Rattle.hx_validate.specs.Answering.{freshened_fields, freshened_of, is_line_of_304, is_replaced_by_304};
-ghost use Rattle.hx_validate.specs.Answering.{nominated_or_none};
+ghost use Rattle.hx_vary.specs.Vary.{nomination_with};
+ghost use Rattle.hx_validate.specs.LineNames.{SetHasExactlyTheFieldNames};
+ghost use Rattle.hx_validate.specs.Answering.{freshened_fields, freshened_of, is_field_taken_from_304};
+ghost use Rattle.hx_validate.specs.Answering.{is_stored_field_replaced_by_304};
+ghost use Rattle.hx_validate.specs.Answering.{nominated_values_unless_star};
 
 use hx_age::Times;
 use hx_directives::Directives;
@@ -20,16 +21,16 @@ use std::collections::BTreeSet;
 const FEW_LINES: usize = 16;
 
 /// Whether a 304 can bring this line.
-fn is_line_of_304(line: &Field) -> bool
-    ensures { result ≡ is_line_of_304 line.now }
+fn is_field_taken_from_304(line: &Field) -> bool
+    ensures { result ≡ is_field_taken_from_304 line.now }
 {
     !is_same_name(line.name(), b"Content-Length") && !is_same_name(line.name(), b"Age")
 }
 
-fn is_replaced_by_304(fields: &Fields, line: &Field) -> bool
-    ensures { result ≡ is_replaced_by_304 fields.now line.now }
+fn is_stored_field_replaced_by_304(fields: &Fields, line: &Field) -> bool
+    ensures { result ≡ is_stored_field_replaced_by_304 fields.now line.now }
 {
-    is_line_of_304(line) && fields.has(line.name())
+    is_field_taken_from_304(line) && fields.has(line.name())
 }
 
 /// Puts the stored lines that stay at the end.
@@ -40,7 +41,7 @@ fn push_stored(
     answered: &Fields,
 ) -> Result<(), AllocError>
     ensures { OnOk result (fields.new ≡ fields.old ++ filter
-        (λ line. not (is_replaced_by_304 answered.now line)) stored.now) }
+        (λ line. not (is_stored_field_replaced_by_304 answered.now line)) stored.now) }
 {
     if answered.len() > FEW_LINES {
         return push_unreplaced_by_many_lines(alloc, fields, stored, answered);
@@ -55,10 +56,10 @@ fn push_unreplaced_by_few_lines(
     answered: &Fields,
 ) -> Result<(), AllocError>
     ensures { OnOk result (fields.new ≡ fields.old ++ filter
-        (λ line. not (is_replaced_by_304 answered.now line)) stored.now) }
+        (λ line. not (is_stored_field_replaced_by_304 answered.now line)) stored.now) }
 {
     for line in stored {
-        if !is_replaced_by_304(answered, line) {
+        if !is_stored_field_replaced_by_304(answered, line) {
             fields.push(line.name(), line.value())?;
         }
     }
@@ -73,13 +74,13 @@ fn push_unreplaced_by_many_lines(
     answered: &Fields,
 ) -> Result<(), AllocError>
     ensures { OnOk result (fields.new ≡ fields.old ++ filter
-        (λ line. not (is_replaced_by_304 answered.now line)) stored.now) }
+        (λ line. not (is_stored_field_replaced_by_304 answered.now line)) stored.now) }
 {
     let names = line_names(alloc, answered.as_slice())?;
     let mut name = FoldedName::new(alloc);
     for line in stored {
         name.set(line.name())?;
-        if !(is_line_of_304(line) && names.contains(&name)) {
+        if !(is_field_taken_from_304(line) && names.contains(&name)) {
             fields.push(line.name(), line.value())?;
         }
     }
@@ -88,7 +89,7 @@ fn push_unreplaced_by_many_lines(
 
 /// The names of these lines.
 fn line_names(alloc: Global, lines: &[Field]) -> Result<BTreeSet<FoldedName>, AllocError>
-    ensures { IfOk result (λ names. HasEachName lines.now names) }
+    ensures { IfOk result (λ names. SetHasExactlyTheFieldNames lines.now names) }
 {
     let mut names = BTreeSet::new(alloc);
     for line in lines {
@@ -99,10 +100,10 @@ fn line_names(alloc: Global, lines: &[Field]) -> Result<BTreeSet<FoldedName>, Al
 
 /// Puts the lines that a 304 brings at the end.
 fn push_brought(fields: &mut Fields, lines: &[Field]) -> Result<(), AllocError>
-    ensures { OnOk result (fields.new ≡ fields.old ++ filter is_line_of_304 lines.now) }
+    ensures { OnOk result (fields.new ≡ fields.old ++ filter is_field_taken_from_304 lines.now) }
 {
     for line in lines {
-        if is_line_of_304(line) {
+        if is_field_taken_from_304(line) {
             fields.push(line.name(), line.value())?;
         }
     }
@@ -131,14 +132,14 @@ fn no_names(alloc: Global) -> Result<Nominated, AllocError>
 
 /// What the new lines and the further names nominate of the request, which is nothing where the lines nominate
 /// everything.
-fn nominated_or_none(
+fn nominated_values_unless_star(
     alloc: Global,
     further: &FieldNames,
     fields: &Fields,
     request: &Fields,
 ) -> Result<Nominated, AllocError>
     ensures { IfOk result (λ nominated. nominated
-        ≡ nominated_or_none (nominated_with further.now fields.now request.now)) }
+        ≡ nominated_values_unless_star (nomination_with further.now fields.now request.now)) }
 {
     match Nominated::with(alloc, further, fields, request)? {
         Nomination::Names(nominated) => Ok(nominated),
@@ -164,7 +165,7 @@ pub fn freshened(
     Ok(Entry {
         serial: entry.serial,
         key: entry.key.copy(alloc)?,
-        nominated: nominated_or_none(alloc, further, &fields, &asked.fields)?,
+        nominated: nominated_values_unless_star(alloc, further, &fields, &asked.fields)?,
         status: entry.status,
         directives: Directives::of(alloc, &fields)?,
         fields,

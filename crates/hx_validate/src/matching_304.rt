@@ -5,12 +5,13 @@ ghost use Rattle.std.specs.Prelude.{◌≡◌, codes, option_copied};
 ghost use Rattle.hx_vary.specs.Vary.{is_same_value};
 ghost use Rattle.hx_validate.specs.EntityTags.{entity_tag_of};
 ghost use Rattle.hx_validate.specs.Validators.{conditions_of};
-ghost use Rattle.hx_validate.specs.Answering.{validators_agree, tag_agrees_with, answers304, modified_agrees};
-ghost use Rattle.hx_validate.specs.Answering.{are_same_conditions};
-ghost use Rattle.hx_validate.specs.Answering.{tag_agrees};
+ghost use Rattle.hx_validate.specs.Answering.{validators_match_sent, tag_matches_by_strength, answers304};
+ghost use Rattle.hx_validate.specs.Answering.{last_modified_matches_sent};
+ghost use Rattle.hx_validate.specs.Answering.{conditions_are_unchanged};
+ghost use Rattle.hx_validate.specs.Answering.{etag_matches_sent};
 
 use crate::entity_tags::{EntityTag, strong_eq, weak_eq};
-use crate::stored_validators::{modified_value, tag_value};
+use crate::stored_validators::{date_validator, etag_validator};
 use hx_fields::{Bytes, Fields};
 use hx_hop::{Answered, Conditions};
 use hx_store::Entry;
@@ -27,15 +28,15 @@ fn is_same_value(held: Option<&[u8]>, sent: Option<&Bytes>) -> bool
 
 /// Whether the validators that were sent are those of these fields.
 fn validators_are_as_sent(fields: &Fields, sent: &Conditions) -> bool
-    ensures { result ≡ are_same_conditions (conditions_of fields.now) sent.now }
+    ensures { result ≡ conditions_are_unchanged (conditions_of fields.now) sent.now }
 {
-    is_same_value(tag_value(fields), sent.etag.as_ref())
-        && is_same_value(modified_value(fields), sent.modified.as_ref())
+    is_same_value(etag_validator(fields), sent.etag.as_ref())
+        && is_same_value(date_validator(fields), sent.modified.as_ref())
 }
 
 /// Whether a tag of a 304 is equal to the one that was sent, by the strength of its own.
-fn tag_agrees_with(held: &[u8], given: &[u8]) -> bool
-    ensures { result ≡ tag_agrees_with (entity_tag_of given.now) held.now given.now }
+fn tag_matches_by_strength(held: &[u8], given: &[u8]) -> bool
+    ensures { result ≡ tag_matches_by_strength (entity_tag_of given.now) held.now given.now }
 {
     match EntityTag::of(given) {
         Some(tag) => {
@@ -49,17 +50,17 @@ fn tag_agrees_with(held: &[u8], given: &[u8]) -> bool
     }
 }
 
-fn tag_agrees(held: Option<&Bytes>, given: Option<&[u8]>) -> bool
-    ensures { result ≡ tag_agrees (option_copied held.entry) (option_copied given.entry) }
+fn etag_matches_sent(held: Option<&Bytes>, given: Option<&[u8]>) -> bool
+    ensures { result ≡ etag_matches_sent (option_copied held.entry) (option_copied given.entry) }
 {
     match (held, given) {
-        (Some(held), Some(given)) => tag_agrees_with(held.as_slice(), given),
+        (Some(held), Some(given)) => tag_matches_by_strength(held.as_slice(), given),
         _ => false,
     }
 }
 
-fn modified_agrees(held: Option<&Bytes>, given: Option<&[u8]>) -> bool
-    ensures { result ≡ modified_agrees (option_copied held.entry) (option_copied given.entry) }
+fn last_modified_matches_sent(held: Option<&Bytes>, given: Option<&[u8]>) -> bool
+    ensures { result ≡ last_modified_matches_sent (option_copied held.entry) (option_copied given.entry) }
 {
     match (held, given) {
         (Some(held), Some(given)) => held.as_slice() == given,
@@ -68,13 +69,13 @@ fn modified_agrees(held: Option<&Bytes>, given: Option<&[u8]>) -> bool
 }
 
 /// Whether the validators of a 304 are those that were sent.
-fn validators_agree(sent: &Conditions, fields: &Fields) -> bool
-    ensures { result ≡ validators_agree sent.now fields.now }
+fn validators_match_sent(sent: &Conditions, fields: &Fields) -> bool
+    ensures { result ≡ validators_match_sent sent.now fields.now }
 {
     if fields.has(b"ETag") {
-        tag_agrees(sent.etag.as_ref(), fields.only_value(b"ETag"))
+        etag_matches_sent(sent.etag.as_ref(), fields.only_value(b"ETag"))
     } else if fields.has(b"Last-Modified") {
-        modified_agrees(sent.modified.as_ref(), fields.only_value(b"Last-Modified"))
+        last_modified_matches_sent(sent.modified.as_ref(), fields.only_value(b"Last-Modified"))
     } else {
         true
     }
@@ -85,5 +86,5 @@ fn validators_agree(sent: &Conditions, fields: &Fields) -> bool
 pub fn answers(entry: &Entry, sent: &Conditions, answered: &Answered) -> bool
     ensures { result ≡ answers304 entry.now sent.now answered.now }
 {
-    validators_are_as_sent(&entry.fields, sent) && validators_agree(sent, &answered.fields)
+    validators_are_as_sent(&entry.fields, sent) && validators_match_sent(sent, &answered.fields)
 }

@@ -5,19 +5,20 @@ ghost use Rattle.std.specs.Prelude.{◌≡◌, ◌++◌, IfOk, OnOk, decimal, le
 ghost use Rattle.std.specs.List.{list_all};
 ghost use Rattle.std.specs.Char.{is_ascii_digit};
 ghost use Rattle.std.specs.Str.Parse.{digits_value};
-ghost use Rattle.hx_validate.specs.Ranges.{counted, position_of, range_of_parts, range_of_value};
-ghost use Rattle.hx_validate.specs.Ranges.{equals_tag, equals_modified};
-ghost use Rattle.hx_validate.specs.Validators.{modified_value, tag_value};
-ghost use Rattle.hx_validate.specs.Ranges.{int_range, range_asked, is_strong_date};
+ghost use Rattle.hx_validate.specs.Ranges.{counted, range_position_of, byte_range_of_texts, byte_range_of_value};
+ghost use Rattle.hx_validate.specs.Ranges.{if_range_equals_tag, if_range_equals_last_modified};
+ghost use Rattle.hx_validate.specs.Validators.{date_validator, etag_validator};
+ghost use Rattle.hx_validate.specs.Ranges.{byte_range_of_positions, range_asked, last_modified_is_strong};
 ghost use Rattle.hx_validate.specs.Ranges.{if_range_holds, answer_to_range};
-ghost use Rattle.hx_validate.specs.Ranges.{PartIsIn, heeds_range, range_answer, part_text, unsatisfied_text};
-ghost use Rattle.hx_validate.specs.Ranges.{range_answer_of, fields_of_part, is_carried_by_416, fields_of_416};
-ghost use Rattle.hx_validate.specs.Ranges.{is_carried_by_416_to_asker, fields_of_416_to_answer};
+ghost use Rattle.hx_validate.specs.Ranges.{PartLiesWithinTotal, range_is_answered, range_answer, part_text};
+ghost use Rattle.hx_validate.specs.Ranges.{unsatisfied_text};
+ghost use Rattle.hx_validate.specs.Ranges.{range_answer_of, fields_of_206, is_field_of_416, fields_of_416};
+ghost use Rattle.hx_validate.specs.Ranges.{is_field_of_416_to_answer, fields_of_416_to_answer};
 
 use crate::entity_tags::strong_eq;
-use crate::stored_validators::{modified_value, tag_value};
-use hx_age::single_date;
-use hx_fields::{Bytes, Field, Fields, cut_at, is_same_name, number_up_to};
+use crate::stored_validators::{date_validator, etag_validator};
+use hx_age::single_valid_date;
+use hx_fields::{Bytes, Field, Fields, is_same_name, number_up_to, split_at_first_byte};
 use hx_hop::Asked;
 use hx_store::Entry;
 use itoa::Buffer;
@@ -73,8 +74,8 @@ fn counted(digits: &[u8]) -> u64
 }
 
 /// The position or the number that digits spell.
-fn position_of(digits: &[u8]) -> Option<u64>
-    ensures { result ≡ position_of digits.now }
+fn range_position_of(digits: &[u8]) -> Option<u64>
+    ensures { result ≡ range_position_of digits.now }
 {
     if digits.is_empty() || !are_digits(digits) {
         return None;
@@ -82,8 +83,8 @@ fn position_of(digits: &[u8]) -> Option<u64>
     Some(counted(digits))
 }
 
-fn int_range(first: Option<u64>, last: Option<u64>) -> Option<ByteRange>
-    ensures { result ≡ int_range first last }
+fn byte_range_of_positions(first: Option<u64>, last: Option<u64>) -> Option<ByteRange>
+    ensures { result ≡ byte_range_of_positions first last }
 {
     match (first, last) {
         (Some(first), Some(last)) if first <= last => Some(ByteRange::FromTo(first, last)),
@@ -92,28 +93,28 @@ fn int_range(first: Option<u64>, last: Option<u64>) -> Option<ByteRange>
 }
 
 /// The range that stands before and behind a hyphen.
-fn range_of_parts(first: &[u8], last: &[u8]) -> Option<ByteRange>
-    ensures { result ≡ range_of_parts first.now last.now }
+fn byte_range_of_texts(first: &[u8], last: &[u8]) -> Option<ByteRange>
+    ensures { result ≡ byte_range_of_texts first.now last.now }
 {
     if first.is_empty() {
-        position_of(last).map(ByteRange::Last)
+        range_position_of(last).map(ByteRange::Last)
     } else if last.is_empty() {
-        position_of(first).map(ByteRange::From)
+        range_position_of(first).map(ByteRange::From)
     } else {
-        int_range(position_of(first), position_of(last))
+        byte_range_of_positions(range_position_of(first), range_position_of(last))
     }
 }
 
 /// The one range of bytes that a Range asks for.
-fn range_of_value(value: &[u8]) -> Option<ByteRange>
-    ensures { result ≡ range_of_value value.now }
+fn byte_range_of_value(value: &[u8]) -> Option<ByteRange>
+    ensures { result ≡ byte_range_of_value value.now }
 {
     let (unit, range) = value.split_at(value.len().min(UNIT.len()));
     if !is_same_name(unit, UNIT) {
         return None;
     }
-    match cut_at(b'-', range) {
-        Some((first, last)) => range_of_parts(first, last),
+    match split_at_first_byte(b'-', range) {
+        Some((first, last)) => byte_range_of_texts(first, last),
         None => None,
     }
 }
@@ -123,33 +124,33 @@ pub fn range_asked(request: &Fields) -> Option<ByteRange>
     ensures { result ≡ range_asked request.now }
 {
     match request.only_value(b"Range") {
-        Some(value) => range_of_value(value),
+        Some(value) => byte_range_of_value(value),
         None => None,
     }
 }
 
-fn is_strong_date(date: u64, fields: &Fields) -> bool
-    ensures { result ≡ is_strong_date date fields.now }
+fn last_modified_is_strong(date: u64, fields: &Fields) -> bool
+    ensures { result ≡ last_modified_is_strong date fields.now }
 {
-    match single_date(fields, b"Last-Modified") {
+    match single_valid_date(fields, b"Last-Modified") {
         Some(changed) => SECONDS_LATER <= date.saturating_sub(changed),
         None => false,
     }
 }
 
 fn is_current_tag(value: &[u8], fields: &Fields) -> bool
-    ensures { result ≡ equals_tag value.now (tag_value fields.now) }
+    ensures { result ≡ if_range_equals_tag value.now (etag_validator fields.now) }
 {
-    match tag_value(fields) {
+    match etag_validator(fields) {
         Some(held) => strong_eq(value, held),
         None => false,
     }
 }
 
 fn is_current_date(value: &[u8], fields: &Fields) -> bool
-    ensures { result ≡ equals_modified value.now (modified_value fields.now) }
+    ensures { result ≡ if_range_equals_last_modified value.now (date_validator fields.now) }
 {
-    match modified_value(fields) {
+    match date_validator(fields) {
         Some(held) => value == held,
         None => false,
     }
@@ -166,7 +167,7 @@ fn if_range_holds(request: &Fields, date: u64, fields: &Fields) -> bool
     match request.only_value(b"If-Range") {
         Some(value) => {
             is_current_tag(value, fields)
-                || (is_strong_date(date, fields) && is_current_date(value, fields))
+                || (last_modified_is_strong(date, fields) && is_current_date(value, fields))
         }
         None => false,
     }
@@ -202,8 +203,8 @@ pub fn answer_to_range(total: usize, range: ByteRange) -> RangeAnswer
     }
 }
 
-fn heeds_range(asked: &Asked, status: u16, date: u64, fields: &Fields) -> bool
-    ensures { result ≡ heeds_range asked.now status date fields.now }
+fn range_is_answered(asked: &Asked, status: u16, date: u64, fields: &Fields) -> bool
+    ensures { result ≡ range_is_answered asked.now status date fields.now }
 {
     asked.method.as_str() == "GET" && status == OK && if_range_holds(&asked.fields, date, fields)
 }
@@ -219,9 +220,9 @@ pub fn range_answer_of(
     total: usize,
 ) -> RangeAnswer
     ensures answer { result ≡ range_answer_of asked.now status date fields.now total }
-    ensures part { PartIsIn result total }
+    ensures part { PartLiesWithinTotal result total }
 {
-    if !heeds_range(asked, status, date, fields) {
+    if !range_is_answered(asked, status, date, fields) {
         return RangeAnswer::Whole;
     }
     match range_asked(&asked.fields) {
@@ -233,7 +234,7 @@ pub fn range_answer_of(
 /// The same of a stored response. No memory is taken.
 pub fn range_answer(asked: &Asked, entry: &Entry) -> RangeAnswer
     ensures answer { result ≡ range_answer asked.now entry.now }
-    ensures part { PartIsIn result (length entry.now.content) }
+    ensures part { PartLiesWithinTotal result (length entry.now.content) }
 {
     range_answer_of(
         asked,
@@ -275,14 +276,14 @@ fn unsatisfied_text(alloc: Global, total: usize) -> Result<Bytes, AllocError>
 
 /// The lines of the 206 that has the bytes from the first to the last of a response of these lines and of so many bytes
 /// (RFC 9110, sections 14.4 and 15.3.7). Its only error is out of memory.
-pub fn part_fields(
+pub fn fields_of_206_part(
     alloc: Global,
     fields: &Fields,
     first: usize,
     last: usize,
     total: usize,
 ) -> Result<Fields, AllocError>
-    ensures { IfOk result (λ lines. lines ≡ fields_of_part fields.now first last total) }
+    ensures { IfOk result (λ lines. lines ≡ fields_of_206 fields.now first last total) }
 {
     let text = part_text(alloc, first, last, total)?;
     let mut lines = fields.copy(alloc)?;
@@ -291,8 +292,8 @@ pub fn part_fields(
     Ok(lines)
 }
 
-fn is_carried_by_416(line: &Field) -> bool
-    ensures { result ≡ is_carried_by_416 line.now }
+fn is_field_of_416(line: &Field) -> bool
+    ensures { result ≡ is_field_of_416 line.now }
 {
     let name = line.name();
     is_same_name(name, b"Date") || is_same_name(name, b"ETag") || is_same_name(name, b"Vary")
@@ -306,7 +307,7 @@ pub fn unsatisfied_fields(alloc: Global, entry: &Entry) -> Result<Fields, AllocE
     let text = unsatisfied_text(alloc, entry.content.len())?;
     let mut carried = Fields::new(alloc);
     for line in entry.fields.as_slice() {
-        if is_carried_by_416(line) {
+        if is_field_of_416(line) {
             carried.push(line.name(), line.value())?;
         }
     }
@@ -314,11 +315,11 @@ pub fn unsatisfied_fields(alloc: Global, entry: &Entry) -> Result<Fields, AllocE
     Ok(carried)
 }
 
-fn is_carried_by_416_to_asker(line: &Field) -> bool
-    ensures { result ≡ is_carried_by_416_to_asker line.now }
+fn is_field_of_416_to_answer(line: &Field) -> bool
+    ensures { result ≡ is_field_of_416_to_answer line.now }
 {
     let name = line.name();
-    is_carried_by_416(line) || is_same_name(name, b"Age") || is_same_name(name, b"Set-Cookie")
+    is_field_of_416(line) || is_same_name(name, b"Age") || is_same_name(name, b"Set-Cookie")
 }
 
 /// The lines of the 416 in place of an answer of these lines and of so many bytes. Its only error is out of memory.
@@ -332,7 +333,7 @@ pub fn answer_unsatisfied_fields(
     let text = unsatisfied_text(alloc, total)?;
     let mut carried = Fields::new(alloc);
     for line in fields.as_slice() {
-        if is_carried_by_416_to_asker(line) {
+        if is_field_of_416_to_answer(line) {
             carried.push(line.name(), line.value())?;
         }
     }

@@ -3,8 +3,9 @@
 //! The definitions are in `specs/Validators.antt`. A validator that is repeated or malformed is none, and no
 //! condition is sent for it.
 ghost use Rattle.std.specs.Prelude.{◌≡◌, IfOk, option_copied};
-ghost use Rattle.hx_validate.specs.Validators.{conditions_of, has_validator, is_date, is_entity_tag, modified_value};
-ghost use Rattle.hx_validate.specs.Validators.{tag_value};
+ghost use Rattle.hx_validate.specs.Validators.{conditions_of, has_validator, value_is_http_date, is_entity_tag};
+ghost use Rattle.hx_validate.specs.Validators.{date_validator};
+ghost use Rattle.hx_validate.specs.Validators.{etag_validator};
 
 use crate::entity_tags::EntityTag;
 use httpdate::HttpDate;
@@ -19,15 +20,15 @@ fn is_entity_tag(value: &[u8]) -> bool
     EntityTag::of(value).is_some()
 }
 
-fn is_date(value: &[u8]) -> bool
-    ensures { result ≡ is_date value.now }
+fn value_is_http_date(value: &[u8]) -> bool
+    ensures { result ≡ value_is_http_date value.now }
 {
     HttpDate::parse_ascii(value).is_ok()
 }
 
 /// The ETag that is a validator.
-pub(crate) fn tag_value(fields: &Fields) -> Option<&[u8]>
-    ensures { option_copied result ≡ tag_value fields.now }
+pub(crate) fn etag_validator(fields: &Fields) -> Option<&[u8]>
+    ensures { option_copied result ≡ etag_validator fields.now }
 {
     match fields.only_value(b"ETag") {
         Some(value) if is_entity_tag(value) => Some(value),
@@ -36,11 +37,11 @@ pub(crate) fn tag_value(fields: &Fields) -> Option<&[u8]>
 }
 
 /// The Last-Modified that is a validator.
-pub(crate) fn modified_value(fields: &Fields) -> Option<&[u8]>
-    ensures { option_copied result ≡ modified_value fields.now }
+pub(crate) fn date_validator(fields: &Fields) -> Option<&[u8]>
+    ensures { option_copied result ≡ date_validator fields.now }
 {
     match fields.only_value(b"Last-Modified") {
-        Some(value) if is_date(value) => Some(value),
+        Some(value) if value_is_http_date(value) => Some(value),
         _ => None,
     }
 }
@@ -49,7 +50,7 @@ pub(crate) fn modified_value(fields: &Fields) -> Option<&[u8]>
 pub fn has_validator(fields: &Fields) -> bool
     ensures { result ≡ has_validator fields.now }
 {
-    tag_value(fields).is_some() || modified_value(fields).is_some()
+    etag_validator(fields).is_some() || date_validator(fields).is_some()
 }
 
 fn copied_value(alloc: Global, value: Option<&[u8]>) -> Result<Option<Bytes>, AllocError>
@@ -67,7 +68,7 @@ pub fn conditions(alloc: Global, entry: &Entry) -> Result<Conditions, AllocError
     ensures { IfOk result (λ conditions. conditions ≡ conditions_of entry.now.fields) }
 {
     Ok(Conditions {
-        etag: copied_value(alloc, tag_value(&entry.fields))?,
-        modified: copied_value(alloc, modified_value(&entry.fields))?,
+        etag: copied_value(alloc, etag_validator(&entry.fields))?,
+        modified: copied_value(alloc, date_validator(&entry.fields))?,
     })
 }

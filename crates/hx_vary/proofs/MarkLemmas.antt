@@ -6,31 +6,31 @@ use Rattle.hx_fields.specs.FieldLines.{combined_of}
 use Rattle.hx_fields.specs.Line.{Field}
 use Rattle.hx_vary.specs.declared.nominated_values.NominatedValue.{NominatedValue}
 use Rattle.hx_vary.specs.Vary.{is_same_value, vary_matches}
-use Rattle.hx_vary.specs.Marks.{RequestHasTags, mark_of_values, tag_may_be, mark_may_match, value_tag_at, tags_with_value, value_tag, value_tags}
+use Rattle.hx_vary.specs.Marks.{RequestValuesHaveTags, mark_of_values, tag_may_match, mark_may_match, value_tag_at, tags_with_value, value_tag, tags_of_values}
 
 same_value : (value : List ℕ) (other : Option (List ℕ)) → is_same_value (Some value) other ≡ true → other ≡ Some value
 same_value value None h = absurd (false≢true h)
 same_value value (Some w) h = ap Some (sym ((bytes_eq-Decides value w).0 h))
 
 passes : (seed : ℕ) (has : ℕ → Bool) (rest : List ℕ) (value : Option (List ℕ)) → ((v : List ℕ) → value ≡ Some v → has (value_tag seed v) ≡ true) →
-    ((n : ℕ) → tag_may_be has (value_tag_at n rest) ≡ true) → (n : ℕ) → tag_may_be has (value_tag_at n (tags_with_value seed rest value)) ≡ true
+    ((n : ℕ) → tag_may_match has (value_tag_at n rest) ≡ true) → (n : ℕ) → tag_may_match has (value_tag_at n (tags_with_value seed rest value)) ≡ true
 passes seed has rest None h more n = more n
 passes seed has rest (Some v) h more n =
-    elim (eqb n 0) as (λ b. tag_may_be has (cond b (value_tag seed v) (value_tag_at (n - 1) rest)) ≡ true) [
+    elim (eqb n 0) as (λ b. tag_may_match has (cond b (value_tag seed v) (value_tag_at (n - 1) rest)) ≡ true) [
       | true ↦ or_right (eqb (value_tag seed v) 0) (has (value_tag seed v)) (h v refl)
       | false ↦ more (n - 1)
     ]
 
-each_passes : (seed : ℕ) (kept : List NominatedValue) (request : List Field) (has : ℕ → Bool) → RequestHasTags seed request has →
-    vary_matches kept request ≡ true → (n : ℕ) → tag_may_be has (value_tag_at n (value_tags seed kept)) ≡ true
+each_passes : (seed : ℕ) (kept : List NominatedValue) (request : List Field) (has : ℕ → Bool) → RequestValuesHaveTags seed request has →
+    vary_matches kept request ≡ true → (n : ℕ) → tag_may_match has (value_tag_at n (tags_of_values seed kept)) ≡ true
 each_passes seed [] request has tags h n = refl
 each_passes seed (k ∷ kept) request has tags h n =
     let p = and_parts (is_same_value k.value (combined_of request k.name)) (vary_matches kept request) h in
-    passes seed has (value_tags seed kept) k.value
+    passes seed has (tags_of_values seed kept) k.value
     (λ v e. tags k.name v (same_value v (combined_of request k.name) (ap (λ o. is_same_value o (combined_of request k.name)) (sym e) ∙ p.0)))
     (each_passes seed kept request has tags p.1) n
 
-pub misses_nothing : (seed : ℕ) (kept : List NominatedValue) (request : List Field) (has : ℕ → Bool) → RequestHasTags seed request has →
+pub misses_nothing : (seed : ℕ) (kept : List NominatedValue) (request : List Field) (has : ℕ → Bool) → RequestValuesHaveTags seed request has →
     vary_matches kept request ≡ true → mark_may_match has (mark_of_values seed kept) ≡ true
 misses_nothing seed kept request has tags h =
     let m = each_passes seed kept request has tags h in

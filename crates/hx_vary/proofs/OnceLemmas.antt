@@ -10,7 +10,7 @@ use Rattle.hx_fields.specs.Folded.{folded}
 use Rattle.hx_fields.specs.FieldLines.{combined_of}
 use Rattle.hx_fields.specs.Names.{is_same_name, joined}
 use Rattle.hx_fields.specs.Line.{Field}
-use Rattle.hx_vary.specs.Vary.{each_once}
+use Rattle.hx_vary.specs.Vary.{names_without_repeats}
 
 -- two names that are one have one value
 pub one_value : (request : List Field) (a b : List ℕ) → is_same_name a b ≡ true → combined_of request a ≡ combined_of request b
@@ -31,11 +31,11 @@ without_same P respects x h (y ∷ ys) =
     ]
 
 pub once_all : (P : List ℕ → Bool) (respects : (a b : List ℕ) → is_same_name a b ≡ true → P a ≡ P b) (names : List (List ℕ)) →
-    list_all P (each_once names) ≡ list_all P names
+    list_all P (names_without_repeats names) ≡ list_all P names
 once_all P respects [] = refl
 once_all P respects (x ∷ xs) = elim (cases_Bool (P x)) [
-  | inl t ↦ ap (λ b. P x && b) (without_same P respects x t (each_once xs) ∙ once_all P respects xs)
-  | inr f ↦ ap (λ b. b && list_all P (filter (λ other. not (is_same_name x other)) (each_once xs))) f ∙ sym (ap (λ b. b && list_all P xs) f)
+  | inl t ↦ ap (λ b. P x && b) (without_same P respects x t (names_without_repeats xs) ∙ once_all P respects xs)
+  | inr f ↦ ap (λ b. b && list_all P (filter (λ other. not (is_same_name x other)) (names_without_repeats xs))) f ∙ sym (ap (λ b. b && list_all P xs) f)
 ]
 
 filter_more : (p : List ℕ → Bool) (xs : List (List ℕ)) (y : List ℕ) → filter p (xs ++ y ∷ []) ≡ filter p xs ++ cond (p y) (y ∷ []) []
@@ -49,11 +49,11 @@ filter_more p (x ∷ xs) y =
 
 -- one name more counts where none of those before is the same
 pub once_more : (names : List (List ℕ)) (y : List ℕ) →
-    each_once (names ++ y ∷ []) ≡ cond (list_any (λ name. is_same_name name y) names) (each_once names) (each_once names ++ y ∷ [])
+    names_without_repeats (names ++ y ∷ []) ≡ cond (list_any (λ name. is_same_name name y) names) (names_without_repeats names) (names_without_repeats names ++ y ∷ [])
 once_more [] y = refl
 once_more (x ∷ xs) y =
     let p : List ℕ → Bool = λ other. not (is_same_name x other) in
-    let ys = each_once xs in
+    let ys = names_without_repeats xs in
     let any = list_any (λ (name : List ℕ). is_same_name name y) xs in
     ap (λ zs. x ∷ filter p zs) (once_more xs y)
     ∙ (elim any as (λ b. x ∷ filter p (cond b ys (ys ++ y ∷ [])) ≡ cond (is_same_name x y || b) (x ∷ filter p ys) (x ∷ (filter p ys ++ y ∷ []))) [
@@ -73,11 +73,11 @@ once_more (x ∷ xs) y =
 abbrev pub seen_in : List (List ℕ) → List ℕ → Bool
 seen_in names q = list_any (λ (name : List ℕ). bytes_eq (folded name) q) names
 
-pub kept_same : (done : List (List ℕ)) (name : List ℕ) → seen_in done (folded name) ≡ true → each_once (done ++ name ∷ []) ≡ each_once done
-kept_same done name h = once_more done name ∙ ap (λ b. cond b (each_once done) (each_once done ++ name ∷ [])) h
+pub kept_same : (done : List (List ℕ)) (name : List ℕ) → seen_in done (folded name) ≡ true → names_without_repeats (done ++ name ∷ []) ≡ names_without_repeats done
+kept_same done name h = once_more done name ∙ ap (λ b. cond b (names_without_repeats done) (names_without_repeats done ++ name ∷ [])) h
 
-pub kept_more : (done : List (List ℕ)) (name : List ℕ) → seen_in done (folded name) ≡ false → each_once (done ++ name ∷ []) ≡ each_once done ++ name ∷ []
-kept_more done name h = once_more done name ∙ ap (λ b. cond b (each_once done) (each_once done ++ name ∷ [])) h
+pub kept_more : (done : List (List ℕ)) (name : List ℕ) → seen_in done (folded name) ≡ false → names_without_repeats (done ++ name ∷ []) ≡ names_without_repeats done ++ name ∷ []
+kept_more done name h = once_more done name ∙ ap (λ b. cond b (names_without_repeats done) (names_without_repeats done ++ name ∷ [])) h
 
 with_one : (done : List (List ℕ)) (name q : List ℕ) → seen_in (done ++ name ∷ []) q ≡ (seen_in done q || (bytes_eq (folded name) q || false))
 with_one done name q = list_any-append (λ (n : List ℕ). bytes_eq (folded n) q) done (name ∷ [])

@@ -6,12 +6,12 @@ use Rattle.std.specs.Map.{lookup, values_of}
 use Rattle.std.specs.BTreeMap.{get, is_at}
 use Rattle.std.proofs.lemmas.Bool.{cases_Bool, false≢true}
 use Rattle.std.proofs.lemmas.Slice.Eq.{bytes_eq-Decides}
-use Rattle.hx_fields.specs.Folded.{folded, folded_cmp, folded_ties}
+use Rattle.hx_fields.specs.Folded.{folded, folded_cmp, folded_cmp_ties_are_equal}
 use Rattle.hx_fields.specs.FieldLines.{combined_of}
 use Rattle.hx_fields.specs.Names.{joined}
 use Rattle.hx_fields.specs.Line.{Field}
 use Rattle.hx_vary.specs.declared.nominated_values.NominatedValue.{NominatedValue}
-use Rattle.hx_vary.specs.Combined.{HasEachValue, all_kept_by, value_with_line}
+use Rattle.hx_vary.specs.Combined.{MapHasEachCombinedValue, values_match_all_nominated, value_combined_with_line}
 use Rattle.hx_vary.specs.Vary.{is_same_value, vary_matches}
 
 abbrev pub Values : Type 0
@@ -36,7 +36,7 @@ listed_more : (vs : List (List ℕ)) (v : List ℕ) → listed (vs ++ v ∷ []) 
 listed_more [] v = nothing_more (codes ", " ++ v)
 listed_more (w ∷ vs) v = ap (λ z. (codes ", " ++ w) ++ z) (listed_more vs v) ∙ sym (append_assoc (codes ", " ++ w) (listed vs) (codes ", " ++ v))
 
-joined_more : (vs : List (List ℕ)) (v : List ℕ) → joined (vs ++ v ∷ []) ≡ Some (value_with_line (joined vs) v)
+joined_more : (vs : List (List ℕ)) (v : List ℕ) → joined (vs ++ v ∷ []) ≡ Some (value_combined_with_line (joined vs) v)
 joined_more [] v = ap Some (nothing_more v)
 joined_more (w ∷ vs) v =
     ap (λ z. Some (w ++ z)) (listed_more vs v)
@@ -57,12 +57,12 @@ values_more p (l ∷ lines) line =
 
 -- a line more, of this name or of another
 combined_more : (lines : List Field) (line : Field) (q : List ℕ) →
-    combined_at (lines ++ line ∷ []) q ≡ cond (bytes_eq (folded line.name) q) (Some (value_with_line (combined_at lines q) line.value)) (combined_at lines q)
+    combined_at (lines ++ line ∷ []) q ≡ cond (bytes_eq (folded line.name) q) (Some (value_combined_with_line (combined_at lines q) line.value)) (combined_at lines q)
 combined_more lines line q =
     let p : Field → Bool = λ f. bytes_eq (folded f.name) q in
     let vs = map (λ (f : Field). f.value) (filter p lines) in
     ap joined (values_more p lines line)
-    ∙ (elim (p line) as (λ b. joined (vs ++ cond b (line.value ∷ []) []) ≡ cond b (Some (value_with_line (joined vs) line.value)) (joined vs)) [
+    ∙ (elim (p line) as (λ b. joined (vs ++ cond b (line.value ∷ []) []) ≡ cond b (Some (value_combined_with_line (joined vs) line.value)) (joined vs)) [
       | true ↦ joined_more vs line.value
       | false ↦ ap joined (append-nil vs)
     ])
@@ -77,7 +77,7 @@ by_name true v none g = refl
 by_name false v none g = refl
 
 pub one_line_more : (lines : List Field) (line : Field) (v : List ℕ) (old without new : Values) → Gathered lines old →
-    v ≡ value_with_line (get folded_cmp old (folded line.name)) line.value →
+    v ≡ value_combined_with_line (get folded_cmp old (folded line.name)) line.value →
     ((q : List ℕ) → get folded_cmp without q ≡ cond (is_at (folded_cmp (folded line.name)) q) None (get folded_cmp old q)) →
     ((q : List ℕ) → get folded_cmp new q ≡ cond (is_at (folded_cmp (folded line.name)) q) (Some v) (get folded_cmp without q)) →
     Gathered (lines ++ line ∷ []) new
@@ -86,14 +86,14 @@ one_line_more lines line v old without new h is out put q =
     put q
     ∙ ap (λ g. cond (is_at (folded_cmp name) q) (Some v) g) (out q)
     ∙ by_name (is_at (folded_cmp name) q) (Some v) None (get folded_cmp old q)
-    ∙ ap (λ b. cond b (Some v) (get folded_cmp old q)) (sym (folded_ties name q))
+    ∙ ap (λ b. cond b (Some v) (get folded_cmp old q)) (sym (folded_cmp_ties_are_equal name q))
     ∙ (elim (cases_Bool (bytes_eq name q)) [
       | inl t ↦ ap (λ b. cond b (Some v) (get folded_cmp old q)) t
-          ∙ ap Some (is ∙ ap (λ o. value_with_line o line.value) (h name ∙ ap (combined_at lines) (one name q t)))
-          ∙ sym (ap (λ b. cond b (Some (value_with_line (combined_at lines q) line.value)) (combined_at lines q)) t)
+          ∙ ap Some (is ∙ ap (λ o. value_combined_with_line o line.value) (h name ∙ ap (combined_at lines) (one name q t)))
+          ∙ sym (ap (λ b. cond b (Some (value_combined_with_line (combined_at lines q) line.value)) (combined_at lines q)) t)
       | inr f ↦ ap (λ b. cond b (Some v) (get folded_cmp old q)) f
           ∙ h q
-          ∙ sym (ap (λ b. cond b (Some (value_with_line (combined_at lines q) line.value)) (combined_at lines q)) f)
+          ∙ sym (ap (λ b. cond b (Some (value_combined_with_line (combined_at lines q) line.value)) (combined_at lines q)) f)
     ])
     ∙ sym (combined_more lines line q)
 
@@ -135,9 +135,9 @@ one_passes P more v left all grows it h R above rest =
 pub all_passed : (P : List ℕ → Bool) (all : List (List ℕ)) → PassesOn P [] all → list_all P all ≡ true
 all_passed P all h = h P (λ w p. p) refl
 
-pub kept_alike : (request : List Field) (values : Values) → HasEachValue request values → (kept : List NominatedValue) →
-    all_kept_by values kept ≡ vary_matches kept request
+pub kept_alike : (request : List Field) (values : Values) → MapHasEachCombinedValue request values → (kept : List NominatedValue) →
+    values_match_all_nominated values kept ≡ vary_matches kept request
 kept_alike request values h [] = refl
 kept_alike request values h (k ∷ kept) =
-    ap (λ o. is_same_value k.value o && all_kept_by values kept) (h k.name)
+    ap (λ o. is_same_value k.value o && values_match_all_nominated values kept) (h k.name)
     ∙ ap (λ b. is_same_value k.value (combined_of request k.name) && b) (kept_alike request values h kept)

@@ -14,8 +14,8 @@ mod nominations;
 mod request_values;
 
 pub use field_names::FieldNames;
-pub use limits::MOST_NAMES;
-pub use marks::Mark;
+pub use limits::MOST_VARY_NAMES;
+pub use marks::VariantMark;
 pub use nominated_values::NominatedValue;
 pub use nominations::{Nominated, Nomination, matches};
 pub use request_values::RequestValues;

@@ -5,14 +5,14 @@
 //! tag; two of one tag cost a look, and change nothing.
 
 ghost use Rattle.std.specs.Prelude.{◌≡◌};
-ghost use Rattle.hx_vary.specs.Marks.{mark_may_match, value_tag_at, value_tag, value_tags};
+ghost use Rattle.hx_vary.specs.Marks.{mark_may_match, value_tag_at, value_tag, tags_of_values};
 
 use crate::nominated_values::NominatedValue;
 use std::hash::{DefaultHasher, Hasher};
 
 /// The tags of the first four nominated values that are present; 0 where there are fewer.
 #[derive(Clone, Copy, Debug, PartialEq, Eq)]
-pub struct Mark {
+pub struct VariantMark {
     pub(crate) first: u64,
     pub(crate) second: u64,
     pub(crate) third: u64,
@@ -33,7 +33,7 @@ pub(crate) fn value_tag(seed: u64, value: &[u8]) -> u64
 
 /// The tag at a place, from 0, among those of the values that are present.
 pub(crate) fn value_tag_at(values: &[NominatedValue], seed: u64, place: usize) -> u64
-    ensures { result ≡ value_tag_at place (value_tags seed values.now) }
+    ensures { result ≡ value_tag_at place (tags_of_values seed values.now) }
 {
     let mut left = place;
     for kept in values {

@@ -34,15 +34,15 @@ impl NominatedValue {
     }
 
     /// Whether a later request has the same value of this name. Memory is taken only where several lines have the name.
-    pub(crate) fn is_of(&self, alloc: Global, request: &Fields) -> Result<bool, AllocError>
+    pub(crate) fn is_value_of(&self, alloc: Global, request: &Fields) -> Result<bool, AllocError>
         ensures { IfOk result (λ same. same ≡ is_same_value self.now.value (combined_of request.now self.now.name)) }
     {
         let name = self.name.as_slice();
         if request.count(name) > 1 {
             let value = request.combined(alloc, name)?;
-            return Ok(is_same_value(slice_of(&self.value), slice_of(&value)));
+            return Ok(is_same_value(slice_of_value(&self.value), slice_of_value(&value)));
         }
-        Ok(is_same_value(slice_of(&self.value), request.value(name)))
+        Ok(is_same_value(slice_of_value(&self.value), request.value(name)))
     }
 
     /// A copy of this value.
@@ -60,7 +60,7 @@ impl NominatedValue {
     }
 }
 
-pub(crate) fn slice_of(value: &Option<Bytes>) -> Option<&[u8]>
+pub(crate) fn slice_of_value(value: &Option<Bytes>) -> Option<&[u8]>
     ensures { option_copied result ≡ value.now }
 {
     match value {

@@ -2,13 +2,14 @@
 
 ghost use Rattle.std.specs.Prelude.{◌≡◌, ◌++◌, map, IfOk};
 ghost use Rattle.std.specs.List.{list_any};
-ghost use Rattle.hx_vary.specs.Vary.{each_once, is_star_member, kept_value, nominates_a_field, vary_matches};
-ghost use Rattle.hx_vary.specs.Vary.{compared_names};
+ghost use Rattle.hx_vary.specs.Vary.{names_without_repeats, is_star_member, nominated_value, nominates_a_field};
+ghost use Rattle.hx_vary.specs.Vary.{vary_matches};
+ghost use Rattle.hx_vary.specs.Vary.{compared_vary_names};
 ghost use Rattle.hx_vary.specs.Marks.{mark_of_values};
 
 use crate::field_names::FieldNames;
-use crate::limits::MOST_NAMES;
-use crate::marks::{Mark, value_tag_at};
+use crate::limits::MOST_VARY_NAMES;
+use crate::marks::{VariantMark, value_tag_at};
 use crate::nominated_values::NominatedValue;
 use crate::request_values::RequestValues;
 use hx_fields::{Bytes, Fields, FoldedName, Members, is_token};
@@ -44,17 +45,17 @@ pub enum Nomination {
 }
 
 impl Nominated {
-    ghost use Rattle.hx_vary.specs.Vary.{nominated_of, nominated_with};
+    ghost use Rattle.hx_vary.specs.Vary.{nomination_of, nomination_with};
 
     /// What a response nominates of the request that it answers. Fails only where memory runs out.
     pub fn of(alloc: Global, response: &Fields, request: &Fields) -> Result<Nomination, AllocError>
-        ensures { IfOk result (λ nomination. nomination ≡ nominated_of response.now request.now) }
+        ensures { IfOk result (λ nomination. nomination ≡ nomination_of response.now request.now) }
     {
-        let Some(names) = compared_names(alloc, response)? else {
+        let Some(names) = compared_vary_names(alloc, response)? else {
             return Ok(Nomination::Star);
         };
         Ok(Nomination::Names(Nominated {
-            values: kept_values(alloc, names.as_slice(), request)?,
+            values: nominated_values_of(alloc, names.as_slice(), request)?,
         }))
     }
 
@@ -65,14 +66,14 @@ impl Nominated {
         response: &Fields,
         request: &Fields,
     ) -> Result<Nomination, AllocError>
-        ensures { IfOk result (λ nomination. nomination ≡ nominated_with further.now response.now request.now) }
+        ensures { IfOk result (λ nomination. nomination ≡ nomination_with further.now response.now request.now) }
     {
-        let Some(names) = compared_names(alloc, response)? else {
+        let Some(names) = compared_vary_names(alloc, response)? else {
             return Ok(Nomination::Star);
         };
         let names = followed_by(alloc, names.as_slice(), further.as_slice())?;
         Ok(Nomination::Names(Nominated {
-            values: kept_values(alloc, names.as_slice(), request)?,
+            values: nominated_values_of(alloc, names.as_slice(), request)?,
         }))
     }
 
@@ -102,11 +103,11 @@ impl Nominated {
     }
 
     /// The mark of these values by a seed, by which a request that can't match is told. No memory is taken.
-    pub fn mark(&self, seed: u64) -> Mark
+    pub fn mark(&self, seed: u64) -> VariantMark
         ensures { result ≡ mark_of_values seed self.now }
     {
         let values = self.values.as_slice();
-        Mark {
+        VariantMark {
             first: value_tag_at(values, seed, 0),
             second: value_tag_at(values, seed, 1),
             third: value_tag_at(values, seed, 2),
@@ -124,11 +125,11 @@ impl Nominated {
 
 /// The members of Vary by which requests are compared; none where it counts as a star. What stands behind the first
 /// that are too many isn't looked at.
-fn compared_names(alloc: Global, response: &Fields) -> Result<Option<Members>, AllocError>
-    ensures { IfOk result (λ names. names ≡ compared_names response.now) }
+fn compared_vary_names(alloc: Global, response: &Fields) -> Result<Option<Members>, AllocError>
+    ensures { IfOk result (λ names. names ≡ compared_vary_names response.now) }
 {
-    let names = response.members_up_to(alloc, b"Vary", MOST_NAMES + 1)?;
-    if names.len() > MOST_NAMES || has_star(names.as_slice()) {
+    let names = response.members_up_to(alloc, b"Vary", MOST_VARY_NAMES + 1)?;
+    if names.len() > MOST_VARY_NAMES || has_star(names.as_slice()) {
         return Ok(None);
     }
     Ok(Some(names))
@@ -149,12 +150,12 @@ fn followed_by(alloc: Global, names: &[Bytes], further: &[Bytes]) -> Result<Vec<
 }
 
 /// Each name once, with what a request has of it. Fails only where memory runs out.
-fn kept_values(
+fn nominated_values_of(
     alloc: Global,
     names: &[Bytes],
     request: &Fields,
 ) -> Result<Vec<NominatedValue>, AllocError>
-    ensures { IfOk result (λ kept. kept.items ≡ map (kept_value request.now) (each_once names.now)) }
+    ensures { IfOk result (λ kept. kept.items ≡ map (nominated_value request.now) (names_without_repeats names.now)) }
 {
     let asked = RequestValues::of(alloc, request, 0)?;
     let mut kept = Vec::new(alloc);
@@ -189,7 +190,7 @@ fn matches_few(
     ensures { IfOk result (λ same. same ≡ vary_matches nominated.now request.now) }
 {
     for kept in nominated {
-        if !kept.is_of(alloc, request)? {
+        if !kept.is_value_of(alloc, request)? {
             return Ok(false);
         }
     }

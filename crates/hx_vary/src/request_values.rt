@@ -4,13 +4,14 @@ ghost use Rattle.std.specs.Prelude.{◌≡◌, nat_eq, IfOk, option_copied};
 ghost use Rattle.std.specs.BTreeMap.{get};
 ghost use Rattle.std.specs.HashSet.{contains};
 ghost use Rattle.hx_fields.specs.Folded.{folded, folded_cmp};
-ghost use Rattle.hx_vary.specs.Combined.{all_kept_by, ValuesAreTagged, value_of_folded_name, HasEachValue};
-ghost use Rattle.hx_vary.specs.Combined.{value_with_line};
-ghost use Rattle.hx_vary.specs.Marks.{RequestHasTags, tag_may_be, mark_may_match};
+ghost use Rattle.hx_vary.specs.Combined.{values_match_all_nominated, EachValueHasItsTag, value_of_folded_name};
+ghost use Rattle.hx_vary.specs.Combined.{MapHasEachCombinedValue};
+ghost use Rattle.hx_vary.specs.Combined.{value_combined_with_line};
+ghost use Rattle.hx_vary.specs.Marks.{RequestValuesHaveTags, tag_may_match, mark_may_match};
 ghost use Rattle.hx_vary.specs.Vary.{is_same_value};
 
-use crate::marks::{Mark, value_tag};
-use crate::nominated_values::{NominatedValue, is_same_value, slice_of};
+use crate::marks::{VariantMark, value_tag};
+use crate::nominated_values::{NominatedValue, is_same_value, slice_of_value};
 use crate::nominations::Nominated;
 use hx_fields::{Bytes, Field, Fields, FoldedName};
 use std::alloc::{AllocError, Global};
@@ -39,21 +40,25 @@ fn combined_values(
     alloc: Global,
     lines: &[Field],
 ) -> Result<BTreeMap<FoldedName, Bytes>, AllocError>
-    ensures { IfOk result (λ values. HasEachValue lines.now values) }
+    ensures { IfOk result (λ values. MapHasEachCombinedValue lines.now values) }
 {
     let mut values = BTreeMap::new(alloc);
     let mut name = FoldedName::new(alloc);
     for line in lines {
         name.set(line.name())?;
-        let value = value_with_line(alloc, values.remove(&name), line)?;
+        let value = value_combined_with_line(alloc, values.remove(&name), line)?;
         values.insert(FoldedName::of(alloc, line.name())?, value)?;
     }
     Ok(values)
 }
 
 /// The combined value of a name, if it had one, with that of a further line (RFC 9110, section 5.3).
-fn value_with_line(alloc: Global, before: Option<Bytes>, line: &Field) -> Result<Bytes, AllocError>
-    ensures { IfOk result (λ all. all ≡ value_with_line before line.now.value) }
+fn value_combined_with_line(
+    alloc: Global,
+    before: Option<Bytes>,
+    line: &Field,
+) -> Result<Bytes, AllocError>
+    ensures { IfOk result (λ all. all ≡ value_combined_with_line before line.now.value) }
 {
     match before {
         Some(before) => before
@@ -64,12 +69,12 @@ fn value_with_line(alloc: Global, before: Option<Bytes>, line: &Field) -> Result
 }
 
 /// The tags of these values.
-fn value_tags(
+fn tags_of_values(
     alloc: Global,
     values: &BTreeMap<FoldedName, Bytes>,
     seed: u64,
 ) -> Result<HashSet<u64>, AllocError>
-    ensures { IfOk result (λ tags. ValuesAreTagged seed values.now (contains nat_eq tags)) }
+    ensures { IfOk result (λ tags. EachValueHasItsTag seed values.now (contains nat_eq tags)) }
 {
     let mut tags = HashSet::new(alloc);
     for value in values.values() {
@@ -81,11 +86,11 @@ fn value_tags(
 impl RequestValues {
     /// Those of a request, with tags by a seed. Fails only where memory runs out.
     pub fn of(alloc: Global, request: &Fields, seed: u64) -> Result<RequestValues, AllocError>
-        ensures values { IfOk result (λ asked. HasEachValue request.now asked.values) }
-        ensures tags { IfOk result (λ asked. RequestHasTags seed request.now (contains nat_eq asked.tags)) }
+        ensures values { IfOk result (λ asked. MapHasEachCombinedValue request.now asked.values) }
+        ensures tags { IfOk result (λ asked. RequestValuesHaveTags seed request.now (contains nat_eq asked.tags)) }
     {
         let values = combined_values(alloc, request.as_slice())?;
-        let tags = value_tags(alloc, &values, seed)?;
+        let tags = tags_of_values(alloc, &values, seed)?;
         Ok(RequestValues {
             alloc,
             values,
@@ -94,7 +99,7 @@ impl RequestValues {
     }
 
     /// Whether what was kept with this mark has to be looked at.
-    pub fn may_match(&self, mark: &Mark) -> bool
+    pub fn may_match(&self, mark: &VariantMark) -> bool
         ensures { result ≡ mark_may_match (contains nat_eq self.now.tags) mark.now }
     {
         self.may_be(mark.first)
@@ -104,14 +109,14 @@ impl RequestValues {
     }
 
     fn may_be(&self, tag: u64) -> bool
-        ensures { result ≡ tag_may_be (contains nat_eq self.now.tags) tag }
+        ensures { result ≡ tag_may_match (contains nat_eq self.now.tags) tag }
     {
         tag == 0 || self.tags.contains(&tag)
     }
 
     /// Whether the request has each value that was kept. Fails only where memory runs out.
     pub fn matches(&self, nominated: &Nominated) -> Result<bool, AllocError>
-        ensures { IfOk result (λ same. same ≡ all_kept_by self.now.values nominated.now) }
+        ensures { IfOk result (λ same. same ≡ values_match_all_nominated self.now.values nominated.now) }
     {
         let mut name = FoldedName::new(self.alloc);
         for kept in nominated.as_slice() {
@@ -127,7 +132,7 @@ impl RequestValues {
     fn has(&self, name: &FoldedName, kept: &NominatedValue) -> bool
         ensures { result ≡ is_same_value kept.now.value (get folded_cmp self.now.values name.now) }
     {
-        is_same_value(slice_of(&kept.value), self.value(name))
+        is_same_value(slice_of_value(&kept.value), self.value(name))
     }
 
     /// The value at a name.

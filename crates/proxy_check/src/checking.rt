@@ -1,15 +1,15 @@
 //! What `check` tells of a table that is read: how many lines it has, what in it has no effect, and what a request
 //! meets.
 
-use crate::meeting::{Met, Question, met_in, target_of};
-use crate::questions::stored_word;
+use crate::meeting::{Question, TableVerdict, target_of, verdict_in_table};
+use crate::questions::stored_or_not_word;
 use crate::trial::{Trial, try_answer};
 use http::Method;
 use hx_allow::{Config, MOST_LINES, Verdict};
 use hx_fields::Bytes;
 use hx_policy::Policy;
 use hx_target::{Key, Target, TargetFault};
-use proxy_files::{CommandFault, print_store};
+use proxy_files::{CommandFault, print_store_memory};
 use std::alloc::AllocError;
 use std::rt::Files;
 use std::{io, str};
@@ -165,11 +165,11 @@ fn print_tried<R: Print + AllocGlobal>(
     question: &Question<'_>,
     trial: &Trial<'_>,
 ) -> Result<(), CommandFault> {
-    let Met::Allowed(_) = met_in(rt.alloc(), config, question)? else {
+    let TableVerdict::Allowed(_) = verdict_in_table(rt.alloc(), config, question)? else {
         return Ok(());
     };
     let tried = try_answer(rt.alloc(), question, trial)?;
-    let (reason, word) = (tried.reason.as_str(), stored_word(tried.is_stored));
+    let (reason, word) = (tried.reason.as_str(), stored_or_not_word(tried.is_stored));
     match println!(rt; "    with this answer: {word}, {reason}") {
         Ok(()) => Ok(()),
         Err(_) => Err(CommandFault::Write(None)),
@@ -205,7 +205,7 @@ fn print_answer<R: Print + AllocGlobal>(
 /// Tells each line that is never reached, and a limit that has no effect.
 fn print_idle<R: Print>(rt: &R, config: &Config) -> io::Result<()> {
     for line in 1..=MOST_LINES {
-        if let Some(first) = config.taken_by(line) {
+        if let Some(first) = config.first_line_that_covers(line) {
             println!(rt; "line {line} is never reached: line {first} takes all of it")?;
         }
     }
@@ -219,12 +219,12 @@ fn print_idle<R: Print>(rt: &R, config: &Config) -> io::Result<()> {
 
 fn print_table<R: Print + Files + AllocGlobal>(rt: &R, config: &Config) -> io::Result<()> {
     println!(rt; "ok {} lines", config.lines())?;
-    print_store(rt, config)?;
+    print_store_memory(rt, config)?;
     print_idle(rt, config)
 }
 
 /// Tells what a table says, and what a request meets where one is asked about, and an answer to it.
-pub fn print_checked<R: Print + Files + AllocGlobal>(
+pub fn print_check_of_table<R: Print + Files + AllocGlobal>(
     rt: &R,
     config: &Config,
     question: Option<&Question<'_>>,

@@ -1,6 +1,6 @@
 //! What a table would decide otherwise than another one, of the requests in a log.
 
-use crate::meeting::{Met, Question, met_in, question_of};
+use crate::meeting::{Question, TableVerdict, question_of, verdict_in_table};
 use hx_allow::Config;
 use hx_fields::Bytes;
 use hx_policy::Policy;
@@ -25,17 +25,17 @@ enum Way {
     Refused,
 }
 
-fn way_of(config: &Config, met: Met) -> Way {
+fn way_of(config: &Config, met: TableVerdict) -> Way {
     match met {
-        Met::Allowed(line) => match config.origin_address(line) {
+        TableVerdict::Allowed(line) => match config.origin_address(line) {
             Some(origin) => Way::To(origin, config.line_policy(line)),
             None => Way::Denied,
         },
-        Met::DeniedBy(_) => Way::Denied,
-        Met::NoLine => Way::Denied,
-        Met::Looped(_) => Way::Denied,
-        Met::Purged(_) => Way::Purged,
-        Met::Refused => Way::Refused,
+        TableVerdict::DeniedBy(_) => Way::Denied,
+        TableVerdict::NoLine => Way::Denied,
+        TableVerdict::Looped(_) => Way::Denied,
+        TableVerdict::Purged(_) => Way::Purged,
+        TableVerdict::Refused => Way::Refused,
     }
 }
 
@@ -53,7 +53,7 @@ struct Found {
     asked: u64,
     /// Lines whose request can't be asked about: none was read, or it has bytes that the log doesn't show.
     passed_over: u64,
-    changes: BTreeMap<(Met, Met), Change>,
+    changes: BTreeMap<(TableVerdict, TableVerdict), Change>,
 }
 
 /// The request of a line of the log: its third and fourth words, a method and a URL.
@@ -78,17 +78,17 @@ struct Tables<'a> {
 }
 
 /// The cookies whose requests go past the store, where they go on.
-fn session_cookies(config: &Config, met: Met) -> &[Bytes] {
+fn session_cookies(config: &Config, met: TableVerdict) -> &[Bytes] {
     match met {
-        Met::Allowed(line) => config.session_cookies(line),
+        TableVerdict::Allowed(line) => config.session_cookies(line),
         _ => &[],
     }
 }
 
 /// The fields that count as if the Vary of its answer named them.
-fn vary(config: &Config, met: Met) -> &[Bytes] {
+fn vary(config: &Config, met: TableVerdict) -> &[Bytes] {
     match met {
-        Met::Allowed(line) => config.vary(line),
+        TableVerdict::Allowed(line) => config.vary(line),
         _ => &[],
     }
 }
@@ -99,7 +99,7 @@ fn are_same(names: &[Bytes], others: &[Bytes]) -> bool {
 }
 
 /// Whether a request goes the same way in both tables, whatever its cookies, and its answer varies alike.
-fn goes_alike(tables: Tables<'_>, new: Met, old: Met) -> bool {
+fn goes_alike(tables: Tables<'_>, new: TableVerdict, old: TableVerdict) -> bool {
     way_of(tables.new, new) == way_of(tables.old, old)
         && are_same(
             session_cookies(tables.new, new),
@@ -115,8 +115,8 @@ fn compare_question(
     question: &Question<'_>,
     found: &mut Found,
 ) -> Result<(), CommandFault> {
-    let new = met_in(alloc, tables.new, question)?;
-    let old = met_in(alloc, tables.old, question)?;
+    let new = verdict_in_table(alloc, tables.new, question)?;
+    let old = verdict_in_table(alloc, tables.old, question)?;
     if goes_alike(tables, new, old) {
         return Ok(());
     }
@@ -190,9 +190,12 @@ fn compare_log<R: Files + AllocGlobal>(
 }
 
 /// Tells what a request meets, and where it goes.
-fn print_met<R: Print>(rt: &R, word: &str, config: &Config, met: Met) -> io::Result<()> {
+fn print_met<R: Print>(rt: &R, word: &str, config: &Config, met: TableVerdict) -> io::Result<()> {
     match met {
-        Met::Allowed(line) => println!(rt; "    {word} {met}, origin {}", config.origin(line)),
+        TableVerdict::Allowed(line) => println!(rt;
+            "    {word} {met}, origin {}",
+            config.origin(line)
+        ),
         _ => println!(rt; "    {word} {met}"),
     }
 }
@@ -223,7 +226,7 @@ fn print_found<R: Print>(rt: &R, tables: Tables<'_>, found: &Found) -> io::Resul
 
 /// Tells which requests of a log a table decides otherwise than another one: they go to another origin, their line has
 /// other words, or one of the tables denies them.
-pub fn print_compared<R: Print + Files + AllocGlobal>(
+pub fn print_comparison_of_tables<R: Print + Files + AllocGlobal>(
     rt: &R,
     new: &Config,
     old: &Config,

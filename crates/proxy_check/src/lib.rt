@@ -8,8 +8,8 @@ mod meeting;
 mod questions;
 mod trial;
 
-pub use crate::checking::print_checked;
-pub use crate::comparing::print_compared;
+pub use crate::checking::print_check_of_table;
+pub use crate::comparing::print_comparison_of_tables;
 pub use crate::meeting::{Question, question_of};
 pub use crate::questions::ask_all;
-pub use crate::trial::{Trial, is_answer};
+pub use crate::trial::{Trial, is_spelled_as_answer};

@@ -1,6 +1,6 @@
 //! A request that is asked about, and what it meets in a table.
 ghost use Rattle.std.specs.Prelude.{◌≡◌};
-ghost use Rattle.proxy_check.specs.Meeting.{met_by_verdict};
+ghost use Rattle.proxy_check.specs.Meeting.{table_verdict_of};
 
 use http::Method;
 use hx_allow::{Config, Verdict};
@@ -65,7 +65,7 @@ pub(crate) fn target_of(alloc: Global, question: &Question<'_>) -> Result<Target
 
 /// What a request meets in a table. Lines are counted from 1.
 #[derive(Clone, Copy, PartialEq, Eq, PartialOrd, Ord)]
-pub(crate) enum Met {
+pub(crate) enum TableVerdict {
     /// This line allows it.
     Allowed(u16),
     /// This line denies it.
@@ -80,46 +80,46 @@ pub(crate) enum Met {
     Refused,
 }
 
-impl Met {
+impl TableVerdict {
     /// By what the table says.
-    pub(crate) fn by(verdict: Verdict) -> Met
-        ensures { result ≡ met_by_verdict verdict }
+    pub(crate) fn by(verdict: Verdict) -> TableVerdict
+        ensures { result ≡ table_verdict_of verdict }
     {
         match verdict {
-            Verdict::Allowed(route) => Met::Allowed(route.number),
-            Verdict::DeniedBy(line) => Met::DeniedBy(line),
-            Verdict::NoLine => Met::NoLine,
-            Verdict::Looped(line) => Met::Looped(line),
-            Verdict::Purged(line) => Met::Purged(line),
+            Verdict::Allowed(route) => TableVerdict::Allowed(route.number),
+            Verdict::DeniedBy(line) => TableVerdict::DeniedBy(line),
+            Verdict::NoLine => TableVerdict::NoLine,
+            Verdict::Looped(line) => TableVerdict::Looped(line),
+            Verdict::Purged(line) => TableVerdict::Purged(line),
         }
     }
 }
 
-impl fmt::Display for Met {
+impl fmt::Display for TableVerdict {
     fn fmt<W: fmt::Write>(&self, f: &mut Formatter<W>) -> fmt::Result {
         match self {
-            Met::Allowed(line) => write!(f, "allowed by line {line}"),
-            Met::DeniedBy(line) => write!(f, "denied by line {line}"),
-            Met::NoLine => write!(f, "denied: no line allows it"),
-            Met::Looped(line) => write!(f, "refused by line {line} as a loop"),
-            Met::Purged(line) => write!(f, "purged by line {line}"),
-            Met::Refused => write!(f, "refused before the table is asked"),
+            TableVerdict::Allowed(line) => write!(f, "allowed by line {line}"),
+            TableVerdict::DeniedBy(line) => write!(f, "denied by line {line}"),
+            TableVerdict::NoLine => write!(f, "denied: no line allows it"),
+            TableVerdict::Looped(line) => write!(f, "refused by line {line} as a loop"),
+            TableVerdict::Purged(line) => write!(f, "purged by line {line}"),
+            TableVerdict::Refused => write!(f, "refused before the table is asked"),
         }
     }
 }
 
 /// What a request meets in a table. Fails where it has no method, or for want of memory.
-pub(crate) fn met_in(
+pub(crate) fn verdict_in_table(
     alloc: Global,
     config: &Config,
     question: &Question<'_>,
-) -> Result<Met, CommandFault> {
+) -> Result<TableVerdict, CommandFault> {
     let Ok(method) = Method::from_bytes(alloc, question.method.as_bytes()) else {
-        return Ok(Met::Refused);
+        return Ok(TableVerdict::Refused);
     };
     match target_of(alloc, question) {
-        Ok(target) => Ok(Met::by(config.judge_target(&method, &target))),
+        Ok(target) => Ok(TableVerdict::by(config.judge_target(&method, &target))),
         Err(TargetFault::OutOfMemory) => Err(CommandFault::NoMemory),
-        Err(_) => Ok(Met::Refused),
+        Err(_) => Ok(TableVerdict::Refused),
     }
 }

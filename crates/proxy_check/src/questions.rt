@@ -6,8 +6,8 @@
 ghost use Rattle.std.specs.Prelude.{◌≡◌};
 ghost use Rattle.proxy_check.specs.Meeting.{expectation_is_met};
 
-use crate::meeting::{Met, Question, met_in, question_of};
-use crate::trial::{Trial, is_answer, try_answer};
+use crate::meeting::{Question, TableVerdict, question_of, verdict_in_table};
+use crate::trial::{Trial, is_spelled_as_answer, try_answer};
 use hx_allow::Config;
 use proxy_files::CommandFault;
 use std::alloc::Global;
@@ -40,17 +40,17 @@ impl Expected {
     }
 
     /// Whether what a request meets is what was expected.
-    fn is_met(self, met: Met) -> bool
+    fn is_met(self, met: TableVerdict) -> bool
         ensures { result ≡ expectation_is_met self met }
     {
         match (self, met) {
-            (Expected::Line(n), Met::Allowed(line)) => n == line,
-            (Expected::Denied, Met::DeniedBy(_)) => true,
-            (Expected::Denied, Met::NoLine) => true,
-            (Expected::Denied, Met::Looped(_)) => true,
-            (Expected::DeniedBy(n), Met::DeniedBy(line)) => n == line,
-            (Expected::NoLine, Met::NoLine) => true,
-            (Expected::Refused, Met::Refused) => true,
+            (Expected::Line(n), TableVerdict::Allowed(line)) => n == line,
+            (Expected::Denied, TableVerdict::DeniedBy(_)) => true,
+            (Expected::Denied, TableVerdict::NoLine) => true,
+            (Expected::Denied, TableVerdict::Looped(_)) => true,
+            (Expected::DeniedBy(n), TableVerdict::DeniedBy(line)) => n == line,
+            (Expected::NoLine, TableVerdict::NoLine) => true,
+            (Expected::Refused, TableVerdict::Refused) => true,
             _ => false,
         }
     }
@@ -75,7 +75,7 @@ impl Wanted {
 }
 
 /// How it is told whether an answer is stored.
-pub(crate) fn stored_word(is_stored: bool) -> &'static str {
+pub(crate) fn stored_or_not_word(is_stored: bool) -> &'static str {
     if is_stored { "stored" } else { "not stored" }
 }
 
@@ -103,7 +103,7 @@ struct Tally {
 /// What is wrong with what a request meets, if anything is.
 fn met_otherwise(
     alloc: Global,
-    met: Met,
+    met: TableVerdict,
     expected: Expected,
 ) -> Result<Option<String>, CommandFault> {
     if expected.is_met(met) {
@@ -115,19 +115,19 @@ fn met_otherwise(
 /// What is wrong with whether an answer is stored, if anything is.
 fn stored_otherwise(
     alloc: Global,
-    met: Met,
+    met: TableVerdict,
     question: &Question<'_>,
     trial: &Trial<'_>,
     wanted: bool,
 ) -> Result<Option<String>, CommandFault> {
-    let Met::Allowed(_) = met else {
+    let TableVerdict::Allowed(_) = met else {
         return Ok(Some(format!(in alloc; "{met}")?));
     };
     let tried = try_answer(alloc, question, trial)?;
     if tried.is_stored == wanted {
         return Ok(None);
     }
-    let (word, reason) = (stored_word(tried.is_stored), tried.reason.as_str());
+    let (word, reason) = (stored_or_not_word(tried.is_stored), tried.reason.as_str());
     Ok(Some(format!(in alloc; "{word}, {reason}")?))
 }
 
@@ -144,7 +144,7 @@ fn ask_line<R: Print + AllocGlobal>(
     let Some((question, wanted)) = test_of(line) else {
         return Err(question_fault(alloc, number, line));
     };
-    let met = met_in(alloc, config, &question)?;
+    let met = verdict_in_table(alloc, config, &question)?;
     tally.asked = tally.asked.saturating_add(1);
     let otherwise = match wanted {
         Wanted::Meets(expected) => met_otherwise(alloc, met, expected)?,
@@ -181,7 +181,7 @@ pub fn ask_all<R: Print + AllocGlobal>(
             continue;
         }
         match line.strip_prefix("answer:") {
-            Some(told) if is_answer(told.trim()) => {
+            Some(told) if is_spelled_as_answer(told.trim()) => {
                 answer = String::from_str(rt.alloc(), told.trim())?;
             }
             Some(_) => return Err(question_fault(rt.alloc(), number, line)),

@@ -19,7 +19,7 @@ pub struct Trial<'a> {
 
 /// What became of an answer.
 #[derive(Drop)]
-pub(crate) struct Tried {
+pub(crate) struct TrialResult {
     /// What Cache-Status says of it behind the proxy's name; where it is no answer, what Refusal says.
     pub(crate) reason: String,
     pub(crate) is_stored: bool,
@@ -35,7 +35,7 @@ fn status_and_lines(answer: &str) -> (u16, &str) {
 }
 
 /// Whether an answer is spelled as one: each of its lines is a name, a colon and a value.
-pub fn is_answer(answer: &str) -> bool {
+pub fn is_spelled_as_answer(answer: &str) -> bool {
     let (status, lines) = status_and_lines(answer);
     if !(200..=599).contains(&status) {
         return false;
@@ -123,10 +123,10 @@ pub(crate) fn try_answer(
     alloc: Global,
     question: &Question<'_>,
     trial: &Trial<'_>,
-) -> Result<Tried, CommandFault> {
+) -> Result<TrialResult, CommandFault> {
     let script = script_of(alloc, question, trial)?;
     let effects = effects_of(alloc, script.as_slice())?;
     let reason = reason_in(alloc, str::from_utf8(effects.as_slice()).unwrap_or(""))?;
     let is_stored = reason.as_str().split(';').any(|it| it == "stored");
-    Ok(Tried { reason, is_stored })
+    Ok(TrialResult { reason, is_stored })
 }

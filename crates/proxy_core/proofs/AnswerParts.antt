@@ -8,11 +8,11 @@ use Rattle.hx_hop.specs.Answering.{answered_of}
 use Rattle.hx_hop.specs.declared.response_view.Answered.{Answered}
 use Rattle.hx_policy.specs.declared.words.Policy.{Policy}
 use Rattle.hx_storable.specs.declared.rule.StoreRule.{StoreRule}
-use Rattle.hx_validate.specs.Ranges.{fields_of_416_to_answer, fields_of_part}
+use Rattle.hx_validate.specs.Ranges.{fields_of_416_to_answer, fields_of_206}
 use Rattle.hx_validate.specs.Room.{head_leaves_room}
 use Rattle.hx_validate.specs.declared.ranges.RangeAnswer.TheVariants.{Part, Unsatisfiable}
-use Rattle.proxy_core.specs.Abouts.{about_answer_in_range, about_in_place_of_answer, about_whole_answer}
-use Rattle.proxy_core.specs.Replies.{answer_in_range_text, content_unless_head, fields_in_place_of_answer, fields_of_answer_416, fields_of_answer_part, is_head, text_in_place_of_answer, whole_answer_text}
+use Rattle.proxy_core.specs.Abouts.{about_answer_in_range, about_in_place_of_answer, about_answer_passed_whole}
+use Rattle.proxy_core.specs.Replies.{answer_in_range_text, content_unless_head, fields_in_place_of_answer, fields_of_answer_416, fields_of_partial_answer, is_head, text_in_place_of_answer, whole_answer_text}
 use Rattle.proxy_core.specs.declared.open.exchange.Exchange.{Exchange}
 
 module _ (policy : Policy) (name : List ℕ) (x : Exchange) (r : Response) (h : Answered) (now : ℕ) (stored : Bool) (rule : Option StoreRule) (same : h ≡ answered_of r now) (lines own : List Field) (laid : lines ≡ fields_in_place_of_answer policy name x h.status h.fields now stored rule own) (room : head_leaves_room own ≡ true) where
@@ -33,14 +33,14 @@ module _ (policy : Policy) (name : List ℕ) (x : Exchange) (r : Response) (h : 
   has_room : (made : Answered → List Field) → own ≡ made h → head_leaves_room (made (answered_of r now)) ≡ true
   has_room made is = sym (ap head_leaves_room (is ∙ ap made same)) ∙ room
 
-  pub part_in_place : (first last : ℕ) (content : List ℕ) → content ≡ r.content → own ≡ fields_of_part h.fields first last (length content)
+  pub part_in_place : (first last : ℕ) (content : List ℕ) → content ≡ r.content → own ≡ fields_of_206 h.fields first last (length content)
       → sent 206 (slice_range content first (last + 1)) ≡ answer_in_range_text policy name x r now stored rule (Part first last)
   part_in_place first last content whole is =
-      let made : (Answered → List Field) = λ g. fields_of_part g.fields first last (length r.content) in
-      let made_is : own ≡ made h = is ∙ ap (λ (c : List ℕ). fields_of_part h.fields first last (length c)) whole in
+      let made : (Answered → List Field) = λ g. fields_of_206 g.fields first last (length r.content) in
+      let made_is : own ≡ made h = is ∙ ap (λ (c : List ℕ). fields_of_206 h.fields first last (length c)) whole in
       ap (λ (c : List ℕ). sent 206 (slice_range c first (last + 1))) whole
       ∙ (in_place 206 (slice_range r.content first (last + 1)) made made_is
-      ∙ sym (ap (λ b. cond b (text_in_place_of_answer policy name x r now stored rule 206 (fields_of_answer_part r now first last) (slice_range r.content first (last + 1))) (whole_answer_text policy name x r now stored rule)) (has_room made made_is)))
+      ∙ sym (ap (λ b. cond b (text_in_place_of_answer policy name x r now stored rule 206 (fields_of_partial_answer r now first last) (slice_range r.content first (last + 1))) (whole_answer_text policy name x r now stored rule)) (has_room made made_is)))
 
   pub unsatisfied_in_place : (total : ℕ) → total ≡ length r.content → own ≡ fields_of_416_to_answer h.fields total
       → sent 416 [] ≡ answer_in_range_text policy name x r now stored rule Unsatisfiable
@@ -50,16 +50,16 @@ module _ (policy : Policy) (name : List ℕ) (x : Exchange) (r : Response) (h : 
       in_place 416 [] made made_is
       ∙ sym (ap (λ b. cond b (text_in_place_of_answer policy name x r now stored rule 416 (fields_of_answer_416 r now) []) (whole_answer_text policy name x r now stored rule)) (has_room made made_is))
 
-  pub about_part_in_place : (first last : ℕ) (content : List ℕ) → content ≡ r.content → own ≡ fields_of_part h.fields first last (length content)
+  pub about_part_in_place : (first last : ℕ) (content : List ℕ) → content ≡ r.content → own ≡ fields_of_206 h.fields first last (length content)
       → about_in_place_of_answer policy x r now stored rule 206 ≡ about_answer_in_range policy x r now stored rule (Part first last)
   about_part_in_place first last content whole is =
-      let made : (Answered → List Field) = λ g. fields_of_part g.fields first last (length r.content) in
-      let made_is : own ≡ made h = is ∙ ap (λ (c : List ℕ). fields_of_part h.fields first last (length c)) whole in
-      sym (ap (λ b. cond b (about_in_place_of_answer policy x r now stored rule 206) (about_whole_answer policy x r now stored rule)) (has_room made made_is))
+      let made : (Answered → List Field) = λ g. fields_of_206 g.fields first last (length r.content) in
+      let made_is : own ≡ made h = is ∙ ap (λ (c : List ℕ). fields_of_206 h.fields first last (length c)) whole in
+      sym (ap (λ b. cond b (about_in_place_of_answer policy x r now stored rule 206) (about_answer_passed_whole policy x r now stored rule)) (has_room made made_is))
 
   pub about_unsatisfied_in_place : (total : ℕ) → total ≡ length r.content → own ≡ fields_of_416_to_answer h.fields total
       → about_in_place_of_answer policy x r now stored rule 416 ≡ about_answer_in_range policy x r now stored rule Unsatisfiable
   about_unsatisfied_in_place total whole is =
       let made : (Answered → List Field) = λ g. fields_of_416_to_answer g.fields (length r.content) in
       let made_is : own ≡ made h = is ∙ ap (fields_of_416_to_answer h.fields) whole in
-      sym (ap (λ b. cond b (about_in_place_of_answer policy x r now stored rule 416) (about_whole_answer policy x r now stored rule)) (has_room made made_is))
+      sym (ap (λ b. cond b (about_in_place_of_answer policy x r now stored rule 416) (about_answer_passed_whole policy x r now stored rule)) (has_room made made_is))

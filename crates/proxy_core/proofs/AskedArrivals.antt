@@ -18,14 +18,14 @@ use Rattle.proxy_core.specs.declared.open.key_index.KeyIndex.{KeyIndex}
 use Rattle.hx_hop.specs.declared.request_view.Asked.{Asked}
 use Rattle.proxy_core.specs.declared.open.stage.Stage.{Stage}
 use Rattle.proxy_core.specs.declared.open.stage.Stage.TheVariants.{Forwarded, Waiting, Released}
-use Rattle.proxy_core.specs.Leading.{is_get, is_forwarded, waits_for, asks_for, answer_may_serve, leads_waiters, leader}
+use Rattle.proxy_core.specs.Leading.{is_get, is_forwarded, waits_for, exchange_asks_for_awaited, answer_may_serve, is_leader_for_request, leader}
 use Rattle.proxy_core.specs.declared.open.awaited.Awaited.{Awaited}
-use Rattle.proxy_core.specs.Scopes.{Scope, is_in_scope}
+use Rattle.proxy_core.specs.Scopes.{Scope, key_is_in_scope}
 use Rattle.proxy_core.specs.State.{released_exchange, overtaken_exchange}
-use Rattle.proxy_core.specs.Arrivals.{HaveDistinctArrivalsAndIds, SelectedArrivalsPass, WaitingArrivalsPass, IsExactIndexOfSelected, map_exchanges}
-use Rattle.proxy_core.specs.ByKey.{is_get_at_origin_for_key, is_get_not_at_origin_for_key, is_other_for_key, ArrivalIsMovedToOrigin, is_in_key_index, GetArrivalsPass, ArrivalIsPutWhere, ArrivalIsTakenOutWhere, AreSameKeyIndex, IsNotInKeyIndex, ArrivalIsEntered, ArrivalHasLeft, AreSameArrivals, IsInNeitherIndex, TellsAllByKey}
+use Rattle.proxy_core.specs.Arrivals.{HaveDistinctArrivalsAndIds, SelectedArrivalsPassTest, WaitingArrivalsPassTest, IsExactIndexOfSelected, map_exchanges}
+use Rattle.proxy_core.specs.ByKey.{is_get_at_origin_for_key, is_get_not_at_origin_for_key, is_for_key_but_no_get_at_origin, ArrivalIsMovedToOrigin, is_in_key_index, ArrivalsOfGetsAtOriginPassTest, ArrivalIsAddedIfSelected, ArrivalIsRemovedIfSelected, KeyIndexesHaveSameMembers, ArrivalIsNotInKeyIndex, ArrivalIsAddedToItsKeyIndex, ArrivalIsRemovedFromItsKeyIndex, ArrivalsByKeyAreUnchanged, ArrivalIsInNeitherKeyIndex, ArrivalsByKeyAreExact}
 use Rattle.proxy_core.proofs.Indexed.{lookup-removed, not_indexed, indexes-entered, indexes-left, indexes-written, indexes-on_all}
-use Rattle.proxy_core.specs.LeadingOn.{may_lead_on, leading_on, first_to_lead_on, exchanges_without}
+use Rattle.proxy_core.specs.LeadingOn.{may_lead_next, as_next_leader, first_waiter_to_lead, exchanges_without}
 use Rattle.proxy_core.proofs.FirstOf.{first_of, FirstIsLeft, none_passes, none_left, not_there, not_passing, it_is_first}
 use Rattle.proxy_core.proofs.Waiters.{none_has, overtake-stage}
 
@@ -39,17 +39,17 @@ at n k = is_at (nat_cmp n) k
 abbrev TellsAll : (Key → Exchange → Bool) → KeyIndex → Numbered → Type 0
 TellsAll which index es = (key : Key) → IsExactIndexOfSelected (which key) (is_in_key_index index key) es
 
-not_told : (which : Key → Exchange → Bool) (n : ℕ) (es : Numbered) (index : KeyIndex) → All (λ k. k < n) (keys_of es) → TellsAll which index es → IsNotInKeyIndex n index
+not_told : (which : Key → Exchange → Bool) (n : ℕ) (es : Numbered) (index : KeyIndex) → All (λ k. k < n) (keys_of es) → TellsAll which index es → ArrivalIsNotInKeyIndex n index
 not_told which n es index l h key = not_indexed (which key) (is_in_key_index index key) n es (none_has n es l) (h key)
 
-told-entered : (which : Key → Exchange → Bool) (n : ℕ) (x : Exchange) (es : Numbered) (old new : KeyIndex) → All (λ k. k < n) (keys_of es) → ArrivalIsPutWhere which x n old new →
+told-entered : (which : Key → Exchange → Bool) (n : ℕ) (x : Exchange) (es : Numbered) (old new : KeyIndex) → All (λ k. k < n) (keys_of es) → ArrivalIsAddedIfSelected which x n old new →
     TellsAll which old es → TellsAll which new (es ++ (n, x) ∷ [])
 told-entered which n x es old new l k h key = indexes-entered (which key) n x (is_in_key_index old key) (is_in_key_index new key) es (none_has n es l) (k key) (h key)
 
-told-again : (which : Key → Exchange → Bool) (es : Numbered) (old new : KeyIndex) → AreSameKeyIndex old new → TellsAll which old es → TellsAll which new es
+told-again : (which : Key → Exchange → Bool) (es : Numbered) (old new : KeyIndex) → KeyIndexesHaveSameMembers old new → TellsAll which old es → TellsAll which new es
 told-again which es old new k h key m = k key m ∙ h key m
 
-told-closed : (which : Key → Exchange → Bool) (n : ℕ) (x : Exchange) (es : Numbered) (old new : KeyIndex) → HaveDistinctArrivalsAndIds es → lookup (at n) es ≡ Some x → ArrivalIsTakenOutWhere which x n old new →
+told-closed : (which : Key → Exchange → Bool) (n : ℕ) (x : Exchange) (es : Numbered) (old new : KeyIndex) → HaveDistinctArrivalsAndIds es → lookup (at n) es ≡ Some x → ArrivalIsRemovedIfSelected which x n old new →
     TellsAll which old es → TellsAll which new (remove_entry (at n) es)
 told-closed which n x es old new a there k h key =
     indexes-left (which key) n x None (is_in_key_index old key) (is_in_key_index new key) es (remove_entry (at n) es) there refl (λ m. lookup-removed m n es a) (k key) (h key)
@@ -59,7 +59,7 @@ told-on_all which f k es index h key =
     indexes-on_all (which key) f (λ b. b) (is_in_key_index index key) (is_in_key_index index key) es refl (k key) (λ m. refl) (h key)
 
 -- what was put in and taken out again leaves what was there
-again-nothing : (which : Key → Exchange → Bool) (n : ℕ) (x : Exchange) (old mid new : KeyIndex) → IsNotInKeyIndex n old → ArrivalIsPutWhere which x n old mid → ArrivalIsTakenOutWhere which x n mid new → AreSameKeyIndex old new
+again-nothing : (which : Key → Exchange → Bool) (n : ℕ) (x : Exchange) (old mid new : KeyIndex) → ArrivalIsNotInKeyIndex n old → ArrivalIsAddedIfSelected which x n old mid → ArrivalIsRemovedIfSelected which x n mid new → KeyIndexesHaveSameMembers old new
 again-nothing which n x old mid new not_there put out key m = elim (cases_Bool (eqb n m)) [
   | inl t ↦ (
       let none : is_in_key_index old key m ≡ false = ap (is_in_key_index old key) (sym (eqb-true n m t)) ∙ not_there key in
@@ -83,36 +83,36 @@ again-nothing which n x old mid new not_there put out key m = elim (cases_Bool (
     stays false b = refl
 
 -- both
-pub asked-nothing : (n : ℕ) (x : Exchange) (old mid new : ArrivalsByKey) → IsInNeitherIndex n old → ArrivalIsEntered x n old mid → ArrivalHasLeft x n mid new → AreSameArrivals old new
+pub asked-nothing : (n : ℕ) (x : Exchange) (old mid new : ArrivalsByKey) → ArrivalIsInNeitherKeyIndex n old → ArrivalIsAddedToItsKeyIndex x n old mid → ArrivalIsRemovedFromItsKeyIndex x n mid new → ArrivalsByKeyAreUnchanged old new
 asked-nothing n x old mid new not_there put out = (
   again-nothing is_get_at_origin_for_key n x old.gets mid.gets new.gets not_there.0 put.0 out.0,
-  again-nothing is_other_for_key n x old.others mid.others new.others not_there.1 put.1 out.1,
+  again-nothing is_for_key_but_no_get_at_origin n x old.others mid.others new.others not_there.1 put.1 out.1,
 )
 
-pub asked-not : (n : ℕ) (es : Numbered) (by_key : ArrivalsByKey) → All (λ k. k < n) (keys_of es) → TellsAllByKey by_key es → IsInNeitherIndex n by_key
-asked-not n es by_key l h = (not_told is_get_at_origin_for_key n es by_key.gets l h.0, not_told is_other_for_key n es by_key.others l h.1)
+pub asked-not : (n : ℕ) (es : Numbered) (by_key : ArrivalsByKey) → All (λ k. k < n) (keys_of es) → ArrivalsByKeyAreExact by_key es → ArrivalIsInNeitherKeyIndex n by_key
+asked-not n es by_key l h = (not_told is_get_at_origin_for_key n es by_key.gets l h.0, not_told is_for_key_but_no_get_at_origin n es by_key.others l h.1)
 
-pub asked-entered : (n : ℕ) (x : Exchange) (es : Numbered) (old new : ArrivalsByKey) → All (λ k. k < n) (keys_of es) → ArrivalIsEntered x n old new →
-    TellsAllByKey old es → TellsAllByKey new (es ++ (n, x) ∷ [])
+pub asked-entered : (n : ℕ) (x : Exchange) (es : Numbered) (old new : ArrivalsByKey) → All (λ k. k < n) (keys_of es) → ArrivalIsAddedToItsKeyIndex x n old new →
+    ArrivalsByKeyAreExact old es → ArrivalsByKeyAreExact new (es ++ (n, x) ∷ [])
 asked-entered n x es old new l k h =
-    (told-entered is_get_at_origin_for_key n x es old.gets new.gets l k.0 h.0, told-entered is_other_for_key n x es old.others new.others l k.1 h.1)
+    (told-entered is_get_at_origin_for_key n x es old.gets new.gets l k.0 h.0, told-entered is_for_key_but_no_get_at_origin n x es old.others new.others l k.1 h.1)
 
-pub asked-again : (es : Numbered) (old new : ArrivalsByKey) → AreSameArrivals old new → TellsAllByKey old es → TellsAllByKey new es
-asked-again es old new k h = (told-again is_get_at_origin_for_key es old.gets new.gets k.0 h.0, told-again is_other_for_key es old.others new.others k.1 h.1)
+pub asked-again : (es : Numbered) (old new : ArrivalsByKey) → ArrivalsByKeyAreUnchanged old new → ArrivalsByKeyAreExact old es → ArrivalsByKeyAreExact new es
+asked-again es old new k h = (told-again is_get_at_origin_for_key es old.gets new.gets k.0 h.0, told-again is_for_key_but_no_get_at_origin es old.others new.others k.1 h.1)
 
-pub asked-closed : (n : ℕ) (x : Exchange) (es : Numbered) (old new : ArrivalsByKey) → HaveDistinctArrivalsAndIds es → lookup (at n) es ≡ Some x → ArrivalHasLeft x n old new →
-    TellsAllByKey old es → TellsAllByKey new (remove_entry (at n) es)
+pub asked-closed : (n : ℕ) (x : Exchange) (es : Numbered) (old new : ArrivalsByKey) → HaveDistinctArrivalsAndIds es → lookup (at n) es ≡ Some x → ArrivalIsRemovedFromItsKeyIndex x n old new →
+    ArrivalsByKeyAreExact old es → ArrivalsByKeyAreExact new (remove_entry (at n) es)
 asked-closed n x es old new a there k h =
-    (told-closed is_get_at_origin_for_key n x es old.gets new.gets a there k.0 h.0, told-closed is_other_for_key n x es old.others new.others a there k.1 h.1)
+    (told-closed is_get_at_origin_for_key n x es old.gets new.gets a there k.0 h.0, told-closed is_for_key_but_no_get_at_origin n x es old.others new.others a there k.1 h.1)
 
 -- a change that leaves what each asks for, and whether it is at the origin
 abbrev pub KeepsItsPlace : (Exchange → Exchange) → Type 0
 KeepsItsPlace f = (x : Exchange) → ((f x).asked ≡ x.asked) × (is_forwarded (f x).stage ≡ is_forwarded x.stage)
 
-pub asked-on_all : (f : Exchange → Exchange) → KeepsItsPlace f → (es : Numbered) (by_key : ArrivalsByKey) → TellsAllByKey by_key es → TellsAllByKey by_key (map_exchanges f es)
+pub asked-on_all : (f : Exchange → Exchange) → KeepsItsPlace f → (es : Numbered) (by_key : ArrivalsByKey) → ArrivalsByKeyAreExact by_key es → ArrivalsByKeyAreExact by_key (map_exchanges f es)
 asked-on_all f k es by_key h = (
   told-on_all is_get_at_origin_for_key f at_origin es by_key.gets h.0,
-  told-on_all is_other_for_key f other_place es by_key.others h.1,
+  told-on_all is_for_key_but_no_get_at_origin f other_place es by_key.others h.1,
 )
   where
     at_origin : (key : Key) (x : Exchange) → is_get_at_origin_for_key key (f x) ≡ is_get_at_origin_for_key key x
@@ -120,7 +120,7 @@ asked-on_all f k es by_key h = (
         ap (λ (a : Asked). same_key a.target.key key && (is_get a && is_forwarded (f x).stage)) (k x).0
         ∙ ap (λ b. same_key x.asked.target.key key && (is_get x.asked && b)) (k x).1
 
-    other_place : (key : Key) (x : Exchange) → is_other_for_key key (f x) ≡ is_other_for_key key x
+    other_place : (key : Key) (x : Exchange) → is_for_key_but_no_get_at_origin key (f x) ≡ is_for_key_but_no_get_at_origin key x
     other_place key x =
         ap (λ (a : Asked). same_key a.target.key key && not (is_get a && is_forwarded (f x).stage)) (k x).0
         ∙ ap (λ b. same_key x.asked.target.key key && not (is_get x.asked && b)) (k x).1
@@ -142,7 +142,7 @@ release-place q x = (
 
 pub overtake-place : (key : Scope) → KeepsItsPlace (overtaken_exchange key)
 overtake-place key x = (
-  elim (is_in_scope key x.asked.target.key) as (λ b. (cond b (record x { overtaken = true }) x).asked ≡ x.asked) [ true ↦ refl | false ↦ refl ],
+  elim (key_is_in_scope key x.asked.target.key) as (λ b. (cond b (record x { overtaken = true }) x).asked ≡ x.asked) [ true ↦ refl | false ↦ refl ],
   ap is_forwarded (overtake-stage key x),
 )
 
@@ -157,10 +157,10 @@ told-written which n x y es old new there beside here h key =
     indexes-written (which key) n x y (is_in_key_index old key) (is_in_key_index new key) es there (beside key) (here key) (h key)
 
 pub asked-moved : (n : ℕ) (x y : Exchange) (es : Numbered) (old new : ArrivalsByKey) → lookup (at n) es ≡ Some x → y.asked ≡ x.asked → is_forwarded y.stage ≡ true →
-    ArrivalIsMovedToOrigin x n old new → TellsAllByKey old es → TellsAllByKey new (set_value (at n) es y)
+    ArrivalIsMovedToOrigin x n old new → ArrivalsByKeyAreExact old es → ArrivalsByKeyAreExact new (set_value (at n) es y)
 asked-moved n x y es old new there asks out k h = (
   told-written is_get_at_origin_for_key n x y es old.gets new.gets there gets_beside gets_here h.0,
-  told-written is_other_for_key n x y es old.others new.others there others_beside others_here h.1,
+  told-written is_for_key_but_no_get_at_origin n x y es old.others new.others there others_beside others_here h.1,
 )
   where
     itself : eqb n n ≡ true
@@ -201,7 +201,7 @@ asked-moved n x y es old new there asks out k h = (
         ∙ ap (λ (a : Asked). same_key a.target.key key && (is_get a && true)) (sym asks)
         ∙ ap (λ b. same_key y.asked.target.key key && (is_get y.asked && b)) (sym out)
 
-    others_here : (key : Key) → is_in_key_index old.others key n ≡ is_other_for_key key x → is_in_key_index new.others key n ≡ is_other_for_key key y
+    others_here : (key : Key) → is_in_key_index old.others key n ≡ is_for_key_but_no_get_at_origin key x → is_in_key_index new.others key n ≡ is_for_key_but_no_get_at_origin key y
     others_here key was =
         k.1 key n ∙ ap (λ b. not (is_get_not_at_origin_for_key key x && b) && is_in_key_index old.others key n) itself
         ∙ ap (λ b. not (is_get_not_at_origin_for_key key x && true) && b) was
@@ -227,13 +227,13 @@ written_again n x (e ∷ es) h = elim (cases_Bool (at n e.0)) [
 
 -- those that lead have numbers that are still to come, and these ascend
 abbrev pub LeadersLeft : Policy → Awaited → Asked → List ℕ → Numbered → Type 0
-LeadersLeft policy awaited asked ns es = FirstIsLeft (leads_waiters policy awaited asked) ns es
+LeadersLeft policy awaited asked ns es = FirstIsLeft (is_leader_for_request policy awaited asked) ns es
 
-leader_is : (policy : Policy) (awaited : Awaited) (asked : Asked) (xs : List Exchange) → leader policy awaited asked xs ≡ option_map (λ (x : Exchange). x.id) (first_of (leads_waiters policy awaited asked) xs)
+leader_is : (policy : Policy) (awaited : Awaited) (asked : Asked) (xs : List Exchange) → leader policy awaited asked xs ≡ option_map (λ (x : Exchange). x.id) (first_of (is_leader_for_request policy awaited asked) xs)
 leader_is policy awaited asked [] = refl
 leader_is policy awaited asked (x ∷ xs) =
-    ap (λ (o : Option ℕ). cond (leads_waiters policy awaited asked x) (Some x.id) o) (leader_is policy awaited asked xs)
-    ∙ (elim (leads_waiters policy awaited asked x) as (λ b. cond b (Some x.id) (option_map (λ (x : Exchange). x.id) (first_of (leads_waiters policy awaited asked) xs)) ≡ option_map (λ (x : Exchange). x.id) (cond b (Some x) (first_of (leads_waiters policy awaited asked) xs))) [ true ↦ refl | false ↦ refl ])
+    ap (λ (o : Option ℕ). cond (is_leader_for_request policy awaited asked x) (Some x.id) o) (leader_is policy awaited asked xs)
+    ∙ (elim (is_leader_for_request policy awaited asked x) as (λ b. cond b (Some x.id) (option_map (λ (x : Exchange). x.id) (first_of (is_leader_for_request policy awaited asked) xs)) ≡ option_map (λ (x : Exchange). x.id) (cond b (Some x) (first_of (is_leader_for_request policy awaited asked) xs))) [ true ↦ refl | false ↦ refl ])
 
 parts : (a b c d : Bool) → (a && (b && (c && d))) ≡ true → (a && (b && c)) ≡ true
 parts true true true d h = refl
@@ -241,69 +241,69 @@ parts true true false d h = absurd (false≢true h)
 parts true false c d h = absurd (false≢true h)
 parts false b c d h = absurd (false≢true h)
 
-gets_lead : (policy : Policy) (awaited : Awaited) (asked : Asked) (p : ℕ → Bool) (es : Numbered) → GetArrivalsPass asked.target.key p es → SelectedArrivalsPass (leads_waiters policy awaited asked) p es
+gets_lead : (policy : Policy) (awaited : Awaited) (asked : Asked) (p : ℕ → Bool) (es : Numbered) → ArrivalsOfGetsAtOriginPassTest asked.target.key p es → SelectedArrivalsPassTest (is_leader_for_request policy awaited asked) p es
 gets_lead policy awaited asked p [] h = tt
 gets_lead policy awaited asked p (e ∷ es) h =
-    (λ w. h.0 (parts (same_key e.1.asked.target.key asked.target.key) (is_get e.1.asked) (is_forwarded e.1.stage) (asks_for awaited e.1 && answer_may_serve policy asked e.1) w), gets_lead policy awaited asked p es h.1)
+    (λ w. h.0 (parts (same_key e.1.asked.target.key asked.target.key) (is_get e.1.asked) (is_forwarded e.1.stage) (exchange_asks_for_awaited awaited e.1 && answer_may_serve policy asked e.1) w), gets_lead policy awaited asked p es h.1)
 
-pub leaders : (policy : Policy) (awaited : Awaited) (asked : Asked) (ns : List ℕ) (es : Numbered) → IsStrictlySortedBy nat_cmp ns → GetArrivalsPass asked.target.key (λ k. list_any (λ n. at k n) ns) es → LeadersLeft policy awaited asked ns es
+pub leaders : (policy : Policy) (awaited : Awaited) (asked : Asked) (ns : List ℕ) (es : Numbered) → IsStrictlySortedBy nat_cmp ns → ArrivalsOfGetsAtOriginPassTest asked.target.key (λ k. list_any (λ n. at k n) ns) es → LeadersLeft policy awaited asked ns es
 leaders policy awaited asked ns es s h = (gets_lead policy awaited asked (λ k. list_any (λ n. at k n) ns) es h, s)
 
 pub none_leads : (policy : Policy) (awaited : Awaited) (asked : Asked) (es : Numbered) → LeadersLeft policy awaited asked [] es → leader policy awaited asked (values_of es) ≡ None
-none_leads policy awaited asked es h = leader_is policy awaited asked (values_of es) ∙ ap (option_map (λ (x : Exchange). x.id)) (none_left (leads_waiters policy awaited asked) es h)
+none_leads policy awaited asked es h = leader_is policy awaited asked (values_of es) ∙ ap (option_map (λ (x : Exchange). x.id)) (none_left (is_leader_for_request policy awaited asked) es h)
 
-pub none_asks : (policy : Policy) (awaited : Awaited) (asked : Asked) (es : Numbered) → GetArrivalsPass asked.target.key (λ k. false) es → leader policy awaited asked (values_of es) ≡ None
+pub none_asks : (policy : Policy) (awaited : Awaited) (asked : Asked) (es : Numbered) → ArrivalsOfGetsAtOriginPassTest asked.target.key (λ k. false) es → leader policy awaited asked (values_of es) ≡ None
 none_asks policy awaited asked es h =
     leader_is policy awaited asked (values_of es)
-    ∙ ap (option_map (λ (x : Exchange). x.id)) (none_passes (leads_waiters policy awaited asked) es (gets_lead policy awaited asked (λ k. false) es h))
+    ∙ ap (option_map (λ (x : Exchange). x.id)) (none_passes (is_leader_for_request policy awaited asked) es (gets_lead policy awaited asked (λ k. false) es h))
 
 -- one that isn't open
 pub not_open : (policy : Policy) (awaited : Awaited) (asked : Asked) (n : ℕ) (ns : List ℕ) (es : Numbered) → None ≡ lookup (at n) es → LeadersLeft policy awaited asked (n ∷ ns) es → LeadersLeft policy awaited asked ns es
-not_open policy awaited asked n ns es none h = not_there (leads_waiters policy awaited asked) n ns es none h
+not_open policy awaited asked n ns es none h = not_there (is_leader_for_request policy awaited asked) n ns es none h
 
 -- one that doesn't lead
-pub not_leading : (policy : Policy) (awaited : Awaited) (asked : Asked) (n : ℕ) (x : Exchange) (ns : List ℕ) (es : Numbered) → IsStrictlySortedBy nat_cmp (keys_of es) → Some x ≡ lookup (at n) es → leads_waiters policy awaited asked x ≡ false →
+pub not_leading : (policy : Policy) (awaited : Awaited) (asked : Asked) (n : ℕ) (x : Exchange) (ns : List ℕ) (es : Numbered) → IsStrictlySortedBy nat_cmp (keys_of es) → Some x ≡ lookup (at n) es → is_leader_for_request policy awaited asked x ≡ false →
     LeadersLeft policy awaited asked (n ∷ ns) es → LeadersLeft policy awaited asked ns es
-not_leading policy awaited asked n x ns es s there idle h = not_passing (leads_waiters policy awaited asked) n x ns es s there idle h
+not_leading policy awaited asked n x ns es s there idle h = not_passing (is_leader_for_request policy awaited asked) n x ns es s there idle h
 
 -- one that does
-pub it_leads : (policy : Policy) (awaited : Awaited) (asked : Asked) (n : ℕ) (x : Exchange) (ns : List ℕ) (es : Numbered) → IsStrictlySortedBy nat_cmp (keys_of es) → Some x ≡ lookup (at n) es → leads_waiters policy awaited asked x ≡ true →
+pub it_leads : (policy : Policy) (awaited : Awaited) (asked : Asked) (n : ℕ) (x : Exchange) (ns : List ℕ) (es : Numbered) → IsStrictlySortedBy nat_cmp (keys_of es) → Some x ≡ lookup (at n) es → is_leader_for_request policy awaited asked x ≡ true →
     LeadersLeft policy awaited asked (n ∷ ns) es → Some x.id ≡ leader policy awaited asked (values_of es)
 it_leads policy awaited asked n x ns es s there active h =
-    ap (option_map (λ (x : Exchange). x.id)) (it_is_first (leads_waiters policy awaited asked) n x ns es s there active h) ∙ sym (leader_is policy awaited asked (values_of es))
+    ap (option_map (λ (x : Exchange). x.id)) (it_is_first (is_leader_for_request policy awaited asked) n x ns es s there active h) ∙ sym (leader_is policy awaited asked (values_of es))
 
 -- ---- the first that leads on
 
 -- of those that wait for an id the first that may lead on, but for the one of that id
 abbrev pub leads_on_for : Table → ℕ → Exchange → Bool
-leads_on_for table id x = not (x.id == id) && (waits_for id x.stage && may_lead_on table x)
+leads_on_for table id x = not (x.id == id) && (waits_for id x.stage && may_lead_next table x)
 
-pub first_to_lead_on_is : (table : Table) (id : ℕ) (xs : List Exchange) → first_to_lead_on table id (exchanges_without id xs) ≡ option_map leading_on (first_of (leads_on_for table id) xs)
+pub first_to_lead_on_is : (table : Table) (id : ℕ) (xs : List Exchange) → first_waiter_to_lead table id (exchanges_without id xs) ≡ option_map as_next_leader (first_of (leads_on_for table id) xs)
 first_to_lead_on_is table id [] = refl
 first_to_lead_on_is table id (x ∷ xs) = by_id (first_to_lead_on_is table id xs) (x.id == id)
   where
-    by_test : first_to_lead_on table id (exchanges_without id xs) ≡ option_map leading_on (first_of (leads_on_for table id) xs) → (b : Bool) →
-        cond b (Some (leading_on x)) (first_to_lead_on table id (exchanges_without id xs)) ≡ option_map leading_on (cond b (Some x) (first_of (leads_on_for table id) xs))
+    by_test : first_waiter_to_lead table id (exchanges_without id xs) ≡ option_map as_next_leader (first_of (leads_on_for table id) xs) → (b : Bool) →
+        cond b (Some (as_next_leader x)) (first_waiter_to_lead table id (exchanges_without id xs)) ≡ option_map as_next_leader (cond b (Some x) (first_of (leads_on_for table id) xs))
     by_test rest true = refl
     by_test rest false = rest
 
-    by_id : first_to_lead_on table id (exchanges_without id xs) ≡ option_map leading_on (first_of (leads_on_for table id) xs) → (b : Bool) →
-        first_to_lead_on table id (cond (not b) (x ∷ exchanges_without id xs) (exchanges_without id xs)) ≡ option_map leading_on (cond (not b && (waits_for id x.stage && may_lead_on table x)) (Some x) (first_of (leads_on_for table id) xs))
+    by_id : first_waiter_to_lead table id (exchanges_without id xs) ≡ option_map as_next_leader (first_of (leads_on_for table id) xs) → (b : Bool) →
+        first_waiter_to_lead table id (cond (not b) (x ∷ exchanges_without id xs) (exchanges_without id xs)) ≡ option_map as_next_leader (cond (not b && (waits_for id x.stage && may_lead_next table x)) (Some x) (first_of (leads_on_for table id) xs))
     by_id rest true = rest
-    by_id rest false = by_test rest (waits_for id x.stage && may_lead_on table x)
+    by_id rest false = by_test rest (waits_for id x.stage && may_lead_next table x)
 
-waiters_lead_on : (table : Table) (id : ℕ) (p : ℕ → Bool) (es : Numbered) → WaitingArrivalsPass id p es → SelectedArrivalsPass (leads_on_for table id) p es
+waiters_lead_on : (table : Table) (id : ℕ) (p : ℕ → Bool) (es : Numbered) → WaitingArrivalsPassTest id p es → SelectedArrivalsPassTest (leads_on_for table id) p es
 waiters_lead_on table id p [] h = tt
-waiters_lead_on table id p (e ∷ es) h = (λ w. h.0 (middle (not (e.1.id == id)) (waits_for id e.1.stage) (may_lead_on table e.1) w), waiters_lead_on table id p es h.1)
+waiters_lead_on table id p (e ∷ es) h = (λ w. h.0 (middle (not (e.1.id == id)) (waits_for id e.1.stage) (may_lead_next table e.1) w), waiters_lead_on table id p es h.1)
   where
     middle : (a b c : Bool) → (a && (b && c)) ≡ true → b ≡ true
     middle true true c h = refl
     middle true false c h = absurd (false≢true h)
     middle false b c h = absurd (false≢true h)
 
-pub next_leaders : (table : Table) (id : ℕ) (ns : List ℕ) (es : Numbered) → IsStrictlySortedBy nat_cmp ns → WaitingArrivalsPass id (λ k. list_any (λ n. at k n) ns) es → FirstIsLeft (leads_on_for table id) ns es
+pub next_leaders : (table : Table) (id : ℕ) (ns : List ℕ) (es : Numbered) → IsStrictlySortedBy nat_cmp ns → WaitingArrivalsPassTest id (λ k. list_any (λ n. at k n) ns) es → FirstIsLeft (leads_on_for table id) ns es
 next_leaders table id ns es s h = (waiters_lead_on table id (λ k. list_any (λ n. at k n) ns) es h, s)
 
-pub none_waits : (table : Table) (id : ℕ) (es : Numbered) → WaitingArrivalsPass id (λ k. false) es → first_to_lead_on table id (exchanges_without id (values_of es)) ≡ None
+pub none_waits : (table : Table) (id : ℕ) (es : Numbered) → WaitingArrivalsPassTest id (λ k. false) es → first_waiter_to_lead table id (exchanges_without id (values_of es)) ≡ None
 none_waits table id es h =
-    first_to_lead_on_is table id (values_of es) ∙ ap (option_map leading_on) (none_passes (leads_on_for table id) es (waiters_lead_on table id (λ k. false) es h))
+    first_to_lead_on_is table id (values_of es) ∙ ap (option_map as_next_leader) (none_passes (leads_on_for table id) es (waiters_lead_on table id (λ k. false) es h))

@@ -6,19 +6,19 @@ use Rattle.std.proofs.lemmas.Bool.{eq-eqb, eqb-true, false≢true, false_from_ne
 use Rattle.std.proofs.lemmas.List.Sums.{sum_by-cons}
 use Rattle.std.proofs.lemmas.Option.{IfSome_then}
 use Rattle.hx_store.specs.Stored.{Stored}
-use Rattle.hx_store.specs.Serials.{serial_is_in, Distinct}
+use Rattle.hx_store.specs.Serials.{serial_is_in, SerialsAreDistinct}
 use Rattle.hx_store.specs.Shelf.{serials, find_entry}
 use Rattle.hx_store.specs.Recency.{recent_after_change}
-use Rattle.hx_store.specs.Weights.{StoreBounds, IsWithin, weight_of, longest_prefix_within}
-use Rattle.hx_store.specs.WeightedRecency.{weighed_held_of, changes_of}
+use Rattle.hx_store.specs.Weights.{StoreBounds, IsWithinBounds, weight_of_entry, longest_prefix_within}
+use Rattle.hx_store.specs.WeightedRecency.{serials_within_bounds, changes_of}
 use Rattle.hx_store.proofs.Recency.{filter_all}
 use Rattle.hx_store.proofs.EntryWeights.{serials_stay}
 use Rattle.hx_store.proofs.WeightedRecency.{weighed_held_more}
-use Rattle.proxy_core.specs.Starts.{StartStands, weight_if_any, change_that_stores, changes_at_start}
+use Rattle.proxy_core.specs.Starts.{StartIsValid, weight_of_stored_if_any, change_that_stores, changes_at_start}
 use Rattle.proxy_core.proofs.HeldEntries.{EachIs, EachIs-nil, EachIs-cons, EachIs-but, EachIs-weights}
 
 -- each is found by its serial, where no serial stands twice
-pub found_at_start : (entries : List Stored) → Distinct (serials entries) → EachIs (λ s. find_entry s entries) entries
+pub found_at_start : (entries : List Stored) → SerialsAreDistinct (serials entries) → EachIs (λ s. find_entry s entries) entries
 found_at_start [] h = EachIs-nil (λ s. find_entry s [])
 found_at_start (e ∷ entries) h =
     EachIs-cons (λ s. find_entry s (e ∷ entries)) e entries
@@ -27,10 +27,10 @@ found_at_start (e ∷ entries) h =
     (λ t off. ap (λ b. cond b (Some e) (find_entry t entries)) off) (found_at_start entries h.1))
 
 -- what is behind the first of a list is within its bounds
-within_behind : (bounds : StoreBounds) (e : Stored) (entries : List Stored) → IsWithin bounds weight_of (e ∷ entries) → IsWithin bounds weight_of entries
+within_behind : (bounds : StoreBounds) (e : Stored) (entries : List Stored) → IsWithinBounds bounds weight_of_entry (e ∷ entries) → IsWithinBounds bounds weight_of_entry entries
 within_behind bounds e entries h = record {
   number = let n = h.number in omega arith;
-  weighs = IfSome_then bounds.bytes h.weighs (λ most p. omega (arith, sum_by-cons weight_of e entries));
+  weighs = IfSome_then bounds.bytes h.weighs (λ most p. omega (arith, sum_by-cons weight_of_entry e entries));
 }
 
 all_stay : (xs : List ℕ) → filter (λ x. not (serial_is_in x [])) xs ≡ xs
@@ -43,11 +43,11 @@ comes_first e xs h =
     ∙ ap (λ zs. e.serial ∷ zs) (filter_all (λ x. not (eqb x e.serial)) xs
     (λ t i. ap not (false_from_ne_true _ (λ k. false≢true (sym h ∙ ap (λ z. serial_is_in z xs) (sym (eqb-true t e.serial k)) ∙ i)))))
 
-pub held_at_start : (bounds : StoreBounds) (entries : List Stored) → Distinct (serials entries) → IsWithin bounds weight_of entries →
-    weighed_held_of bounds (changes_at_start entries) ≡ serials entries
+pub held_at_start : (bounds : StoreBounds) (entries : List Stored) → SerialsAreDistinct (serials entries) → IsWithinBounds bounds weight_of_entry entries →
+    serials_within_bounds bounds (changes_at_start entries) ≡ serials entries
 held_at_start bounds [] h k = refl
 held_at_start bounds (e ∷ entries) h k =
-    let weights : ℕ → ℕ = λ s. weight_if_any (find_entry s (e ∷ entries)) in
+    let weights : ℕ → ℕ = λ s. weight_of_stored_if_any (find_entry s (e ∷ entries)) in
     weighed_held_more bounds (record { change = change_that_stores e; weights = weights }) (changes_at_start entries)
     ∙ ap (λ xs. longest_prefix_within bounds weights (recent_after_change (change_that_stores e) xs)) (held_at_start bounds entries h.1 (within_behind bounds e entries k))
     ∙ ap (longest_prefix_within bounds weights) (comes_first e (serials entries) h.0)
@@ -59,13 +59,13 @@ changes_are_start [] = refl
 changes_are_start (e ∷ entries) = ap (λ xs. change_that_stores e ∷ xs) (changes_are_start entries)
 
 -- nothing may always be held at first
-pub nothing_stands : (bounds : StoreBounds) (first : ℕ) → StartStands bounds (Some first) []
+pub nothing_stands : (bounds : StoreBounds) (first : ℕ) → StartIsValid bounds (Some first) []
 nothing_stands bounds first = record {
   distinct = tt;
   below_next = λ s l. refl;
   within = record { number = omega arith; weighs = none_weighs bounds.bytes };
 }
   where
-    none_weighs : (bytes : Option ℕ) → IfSome bytes (λ most. sum_by weight_of [] ≤ most)
+    none_weighs : (bytes : Option ℕ) → IfSome bytes (λ most. sum_by weight_of_entry [] ≤ most)
     none_weighs None = tt
     none_weighs (Some most) = omega arith

@@ -10,10 +10,10 @@ use Rattle.hx_allow.specs.Matching.{policy_of}
 use Rattle.proxy_core.specs.Allowing.{verdict_of_asked}
 use Rattle.hx_allow.specs.declared.verdicts.Verdict.{Verdict}
 use Rattle.hx_allow.specs.declared.verdicts.Verdict.TheVariants as verdict
-use Rattle.hx_allow.specs.declared.verdicts.Route.{Route}
+use Rattle.hx_allow.specs.declared.verdicts.RequestRoute.{RequestRoute}
 use Rattle.hx_store.specs.Stored.{Stored}
 use Rattle.hx_reuse.specs.Rules.{decision_of}
-use Rattle.hx_reuse.specs.ChosenAndNamed.{IsLeastReuseRule, RuleNamesTheResponse}
+use Rattle.hx_reuse.specs.ChosenAndNamed.{IsLeastReuseRule, RuleOnChosenNamesItsSerial}
 use Rattle.hx_reuse.specs.declared.rule.ReuseRule.{ReuseRule}
 use Rattle.hx_reuse.specs.declared.decision.Decision.{Decision}
 use Rattle.hx_reuse.specs.declared.decision.Decision.TheVariants as decision
@@ -32,17 +32,17 @@ use Rattle.proxy_core.specs.declared.open.stage.Stage.{Stage}
 use Rattle.proxy_core.specs.declared.open.stage.Stage.TheVariants.{Forwarded, Waiting, Released}
 use Rattle.proxy_core.specs.declared.steps.condition.Condition.{Condition}
 use Rattle.proxy_core.specs.Leading.{is_forwarded, is_waiting, waits_for}
-use Rattle.proxy_core.specs.Outcomes.{find_exchange, exchange_id_of_event, outcome_of_arrival, outcome_of_allowed_request, outcome_of_waiting_or_forwarding, outcome_without_stored_response, outcome_of_wake, is_only_if_cached, forward_text, fallback_for, outcome_of_failure, is_error_status, outcome_of_passing_on_or_stale, outcome_of_304, outcome_of_answer, outcome_of}
-use Rattle.proxy_core.specs.Scopes.{Scope, is_in_scope}
-use Rattle.proxy_core.specs.State.{State, scope_purged, overtaken_exchange, released_exchange, forwarded_exchange, waiting_exchange, line_of_verdict, rule_of_decision, serial_named_by_decision, exchange_gone_forward, exchange_forwarded_again, exchange_sent_forward, exchanges_after_wake, open_exchanges_after, exchange_past_its_wait}
+use Rattle.proxy_core.specs.Outcomes.{find_exchange, exchange_id_of_event, outcome_of_arrival, outcome_of_allowed_request, outcome_of_waiting_or_forwarding, outcome_without_stored_response, outcome_of_wake, is_only_if_cached, forward_text, fallback_for_failed_answer, outcome_of_failure, is_error_status, outcome_of_passing_on_or_stale, outcome_of_304, outcome_of_answer, outcome_for_exchange}
+use Rattle.proxy_core.specs.Scopes.{Scope, key_is_in_scope}
+use Rattle.proxy_core.specs.State.{State, scope_purged, overtaken_exchange, released_exchange, forwarded_exchange, waiting_exchange, line_of_verdict, rule_of_decision, serial_named_by_decision, exchange_gone_forward, exchange_forwarded_again, exchange_sent_forward, exchanges_after_wake, open_exchanges_after, exchange_released_by_timeout}
 use Rattle.proxy_core.specs.Starts.{StoreAtStart}
 use Rattle.proxy_core.specs.Traces.{Item, initial_state, state_after_trace, IsGood}
 use Rattle.proxy_core.specs.Histories.{open_exchanges, IsGoodHistory}
 use Rattle.proxy_core.specs.Promises.{outcome_goes_forward, count_of_outcomes}
-use Rattle.proxy_core.specs.Carrying.{judges_a_request, second_forward_item, WentForwardOnce, WentForwardASecondTime, HasWaitedSinceItsArrival, ExchangeWasJudged, RuleWasLeastWhenJudged, OpenExchangeCarriesItsArrival}
+use Rattle.proxy_core.specs.Carrying.{is_arrival_or_wake, second_forward_item, ExchangeWentForwardOnce, ExchangeWentForwardASecondTime, HasWaitedSinceItsArrival, ExchangeWasJudged, RuleWasLeastWhenJudged, OpenExchangeRecordsHowItWasJudged}
 use Rattle.proxy_core.proofs.SentBeside.{led_over, sent_over, unless_sent}
 use Rattle.proxy_core.proofs.ExchangeLists.{overtaken_by, released_by, changed_by, find-map, find-push, find-gone_out, sent_out-id, found-id, find-purged, none_overtaken}
-use Rattle.proxy_core.specs.LeadingOn.{wait_has_an_end, exchanges_after_abandon}
+use Rattle.proxy_core.specs.LeadingOn.{wait_is_limited, exchanges_after_abandon}
 use Rattle.proxy_core.proofs.LedOn.{waits_waiting, turned_has_an_end}
 use Rattle.proxy_core.proofs.Moves.{Move, apart, opens, queues, passes, again, wakes, closes, turns, lapses, out_again, woken_form, asked_of, ended_by, move_of, and_none, failed_back, key_taken_by_step}
 use Rattle.proxy_core.proofs.Tracing.{same_table}
@@ -56,13 +56,13 @@ none_some (Some x) z h g = cc
 
 module _ (table : Table) (es : List Stored) (xs : List Exchange) (now : ℕ) (asked : Asked) where
   -- a rule stands against a stored response, and the request takes others too
-  pub record IsSentOn (line : Route) : Type 0 where
+  pub record IsSentOn (line : RequestRoute) : Type 0 where
     pub line_allows : verdict_of_asked table asked ≡ verdict.Allowed line
     pub rule : ReuseRule
     pub against : Option ℕ
     pub decided : decision_of (policy_of table.lines line) es asked now ≡ decision.Forward rule against
 
-  pub record WentBy (line : Route) (bytes : List ℕ) : Type 0 where
+  pub record WentBy (line : RequestRoute) (bytes : List ℕ) : Type 0 where
     pub on : IsSentOn line
     pub bytes_are : bytes ≡ forward_text table line asked (condition_about_serial es on.against)
 
@@ -128,14 +128,14 @@ again_by table es now x r next d = by_304 (is_304_to_own_conditions x r)
     by_error true (Refuses rule error) = tt
     by_error false fallback = tt
 
-    by_unasked : (b : Bool) → IsAgain table x (cond b (outcome_of_failure table es now x BadAnswer (Some r.status) (fallback_for (policy_of table.lines x.line) es x.asked now d))
-        (outcome_of_passing_on_or_stale table es now x r next (is_error_status r.status) (fallback_for (policy_of table.lines x.line) es x.asked now d)))
-    by_unasked true = by_fallback (fallback_for (policy_of table.lines x.line) es x.asked now d)
-    by_unasked false = by_error (is_error_status r.status) (fallback_for (policy_of table.lines x.line) es x.asked now d)
+    by_unasked : (b : Bool) → IsAgain table x (cond b (outcome_of_failure table es now x BadAnswer (Some r.status) (fallback_for_failed_answer (policy_of table.lines x.line) es x.asked now d))
+        (outcome_of_passing_on_or_stale table es now x r next (is_error_status r.status) (fallback_for_failed_answer (policy_of table.lines x.line) es x.asked now d)))
+    by_unasked true = by_fallback (fallback_for_failed_answer (policy_of table.lines x.line) es x.asked now d)
+    by_unasked false = by_error (is_error_status r.status) (fallback_for_failed_answer (policy_of table.lines x.line) es x.asked now d)
 
     by_304 : (b : Bool) → IsAgain table x (cond b (outcome_of_304 table es now x r (stored_response_validated es x r now) d)
-        (cond (is_304_without_condition (policy_of table.lines x.line) x.asked r) (outcome_of_failure table es now x BadAnswer (Some r.status) (fallback_for (policy_of table.lines x.line) es x.asked now d))
-        (outcome_of_passing_on_or_stale table es now x r next (is_error_status r.status) (fallback_for (policy_of table.lines x.line) es x.asked now d))))
+        (cond (is_304_without_condition (policy_of table.lines x.line) x.asked r) (outcome_of_failure table es now x BadAnswer (Some r.status) (fallback_for_failed_answer (policy_of table.lines x.line) es x.asked now d))
+        (outcome_of_passing_on_or_stale table es now x r next (is_error_status r.status) (fallback_for_failed_answer (policy_of table.lines x.line) es x.asked now d))))
     by_304 true = by_validation (stored_response_validated es x r now) d
     by_304 false = by_unasked (is_304_without_condition (policy_of table.lines x.line) x.asked r)
 
@@ -147,10 +147,10 @@ not_of id event p n = ap (λ b. b && p) n
 module _ (table : Table) (start : StoreAtStart) where
   -- what an exchange did since it was judged
   abbrev Went : Exchange → List Item → List Item → ℕ → Outcome → Type 0
-  Went x since before now o = WentForwardOnce table start x since before now o ⊎ (WentForwardASecondTime table x since ⊎ HasWaitedSinceItsArrival table start x since before o)
+  Went x since before now o = ExchangeWentForwardOnce table start x since before now o ⊎ (ExchangeWentForwardASecondTime table x since ⊎ HasWaitedSinceItsArrival table start x since before o)
 
   -- of another id, or of its own without judging it or sending it forward
-  further : (i : Item) (x : Exchange) (past : List Item) → (eqb (exchange_id_of_event i.event) x.id && judges_a_request i.event) ≡ false → (eqb (exchange_id_of_event i.event) x.id && outcome_goes_forward i.outcome) ≡ false →
+  further : (i : Item) (x : Exchange) (past : List Item) → (eqb (exchange_id_of_event i.event) x.id && is_arrival_or_wake i.event) ≡ false → (eqb (exchange_id_of_event i.event) x.id && outcome_goes_forward i.outcome) ≡ false →
       ExchangeWasJudged table start x past → ExchangeWasJudged table start x (i ∷ past)
   further i x past j n h = record {
     since = i ∷ h.since;
@@ -159,7 +159,7 @@ module _ (table : Table) (start : StoreAtStart) where
     now = h.now;
     past_is = ap (λ zs. i ∷ zs) h.past_is;
     judged = h.judged;
-    none_since = (j, h.none_since);
+    not_judged_since = (j, h.not_judged_since);
     line_allows = h.line_allows;
     rule_is_least = h.rule_is_least;
     went = by_going h.went;
@@ -171,7 +171,7 @@ module _ (table : Table) (start : StoreAtStart) where
       by_going : Went x h.since h.before h.now h.item.outcome → Went x (i ∷ h.since) h.before h.now h.item.outcome
       by_going (inl w) = inl (record {
         stage = w.stage;
-        since_then = uncounted h.since w.since_then;
+        no_forward_since = uncounted h.since w.no_forward_since;
         request_time = w.request_time;
         against = w.against;
         names = w.names;
@@ -185,7 +185,7 @@ module _ (table : Table) (start : StoreAtStart) where
         now = w.now;
         response = w.response;
         since_is = ap (λ zs. i ∷ zs) w.since_is;
-        since_then = uncounted w.later w.since_then;
+        no_forward_since = uncounted w.later w.no_forward_since;
         request_time = w.request_time;
         condition = w.condition;
       }))
@@ -193,7 +193,7 @@ module _ (table : Table) (start : StoreAtStart) where
         leader = w.leader;
         outcome_is = w.outcome_is;
         stage = w.stage;
-        since_then = uncounted h.since w.since_then;
+        no_forward_since = uncounted h.since w.no_forward_since;
         against = w.against;
         names = w.names;
         condition = w.condition;
@@ -208,7 +208,7 @@ module _ (table : Table) (start : StoreAtStart) where
     now = h.now;
     past_is = h.past_is;
     judged = h.judged;
-    none_since = h.none_since;
+    not_judged_since = h.not_judged_since;
     line_allows = h.line_allows;
     rule_is_least = h.rule_is_least;
     went = by_going h.went;
@@ -217,7 +217,7 @@ module _ (table : Table) (start : StoreAtStart) where
       by_going : Went z h.since h.before h.now h.item.outcome → Went (record z { overtaken = true }) h.since h.before h.now h.item.outcome
       by_going (inl w) = inl (record {
         stage = w.stage;
-        since_then = w.since_then;
+        no_forward_since = w.no_forward_since;
         request_time = w.request_time;
         against = w.against;
         names = w.names;
@@ -231,7 +231,7 @@ module _ (table : Table) (start : StoreAtStart) where
         now = w.now;
         response = w.response;
         since_is = w.since_is;
-        since_then = w.since_then;
+        no_forward_since = w.no_forward_since;
         request_time = w.request_time;
         condition = w.condition;
       }))
@@ -239,7 +239,7 @@ module _ (table : Table) (start : StoreAtStart) where
         leader = w.leader;
         outcome_is = w.outcome_is;
         stage = w.stage;
-        since_then = w.since_then;
+        no_forward_since = w.no_forward_since;
         against = w.against;
         names = w.names;
         condition = w.condition;
@@ -254,7 +254,7 @@ module _ (table : Table) (start : StoreAtStart) where
     now = h.now;
     past_is = h.past_is;
     judged = h.judged;
-    none_since = h.none_since;
+    not_judged_since = h.not_judged_since;
     line_allows = h.line_allows;
     rule_is_least = h.rule_is_least;
     went = by_going h.went;
@@ -270,14 +270,14 @@ module _ (table : Table) (start : StoreAtStart) where
         leader = w.leader;
         outcome_is = w.outcome_is;
         stage = inr (inl refl);
-        since_then = w.since_then;
+        no_forward_since = w.no_forward_since;
         against = w.against;
         names = w.names;
         condition = w.condition;
       }))
 
   -- or waits for another
-  turned : (z : Exchange) (leader : ℕ) (past : List Item) → is_forwarded z.stage ≡ false → wait_has_an_end table z ≡ true → ExchangeWasJudged table start z past → ExchangeWasJudged table start (record z { stage = Waiting leader }) past
+  turned : (z : Exchange) (leader : ℕ) (past : List Item) → is_forwarded z.stage ≡ false → wait_is_limited table z ≡ true → ExchangeWasJudged table start z past → ExchangeWasJudged table start (record z { stage = Waiting leader }) past
   turned z leader past waits ends h = record {
     since = h.since;
     before = h.before;
@@ -285,7 +285,7 @@ module _ (table : Table) (start : StoreAtStart) where
     now = h.now;
     past_is = h.past_is;
     judged = h.judged;
-    none_since = h.none_since;
+    not_judged_since = h.not_judged_since;
     line_allows = h.line_allows;
     rule_is_least = h.rule_is_least;
     went = by_going h.went;
@@ -301,20 +301,20 @@ module _ (table : Table) (start : StoreAtStart) where
         leader = w.leader;
         outcome_is = w.outcome_is;
         stage = inr (inr (refl, ends));
-        since_then = w.since_then;
+        no_forward_since = w.no_forward_since;
         against = w.against;
         names = w.names;
         condition = w.condition;
       }))
 
   overtakes : (key : Scope) (z : Exchange) (past : List Item) → ExchangeWasJudged table start z past → ExchangeWasJudged table start (overtaken_exchange key z) past
-  overtakes key z past h = elim (is_in_scope key z.asked.target.key) as (λ b. ExchangeWasJudged table start (cond b (record z { overtaken = true }) z) past) [
+  overtakes key z past h = elim (key_is_in_scope key z.asked.target.key) as (λ b. ExchangeWasJudged table start (cond b (record z { overtaken = true }) z) past) [
     | true ↦ marked z past h
     | false ↦ h
   ]
 
   overtake_id : (key : Scope) (z : Exchange) → (overtaken_exchange key z).id ≡ z.id
-  overtake_id key z = elim (is_in_scope key z.asked.target.key) as (λ b. (cond b (record z { overtaken = true }) z).id ≡ z.id) [
+  overtake_id key z = elim (key_is_in_scope key z.asked.target.key) as (λ b. (cond b (record z { overtaken = true }) z).id ≡ z.id) [
     | true ↦ refl
     | false ↦ refl
   ]
@@ -364,14 +364,14 @@ module _ (table : Table) (start : StoreAtStart) where
   carried_apart id i past key gone o x n f h =
       let c = carried_overtaken id past key (released_by gone o) x (λ z q. carried_released id past gone o z f q) h in
       let other = ap (eqb (exchange_id_of_event i.event)) c.1 ∙ n in
-      (further i x past (not_of x.id i.event (judges_a_request i.event) other) (not_of x.id i.event (outcome_goes_forward i.outcome) other) c.0, c.1)
+      (further i x past (not_of x.id i.event (is_arrival_or_wake i.event) other) (not_of x.id i.event (outcome_goes_forward i.outcome) other) c.0, c.1)
 
   -- its time to wait is over
-  carried_past : (id : ℕ) (i : Item) (past : List Item) (z : Exchange) → i.event ≡ Overdue id → i.outcome ≡ WaitsNoMore → is_waiting z.stage ≡ true → Carried id past z → Carried id (i ∷ past) (exchange_past_its_wait z)
+  carried_past : (id : ℕ) (i : Item) (past : List Item) (z : Exchange) → i.event ≡ Overdue id → i.outcome ≡ WaitsNoMore → is_waiting z.stage ≡ true → Carried id past z → Carried id (i ∷ past) (exchange_released_by_timeout z)
   carried_past id i past z e o s c =
-      let judges_not : (eqb (exchange_id_of_event i.event) z.id && judges_a_request i.event) ≡ false = ap (λ (v : Event). eqb (exchange_id_of_event v) z.id && judges_a_request v) e ∙ and_none (eqb id z.id) in
+      let judges_not : (eqb (exchange_id_of_event i.event) z.id && is_arrival_or_wake i.event) ≡ false = ap (λ (v : Event). eqb (exchange_id_of_event v) z.id && is_arrival_or_wake v) e ∙ and_none (eqb id z.id) in
       let stays : (eqb (exchange_id_of_event i.event) z.id && outcome_goes_forward i.outcome) ≡ false = ap (λ (o : Outcome). eqb (exchange_id_of_event i.event) z.id && outcome_goes_forward o) o ∙ and_none (eqb (exchange_id_of_event i.event) z.id) in
-      (further i (exchange_past_its_wait z) past judges_not stays (freed z past (not_out z.stage s) c.0), c.1)
+      (further i (exchange_released_by_timeout z) past judges_not stays (freed z past (not_out z.stage s) c.0), c.1)
     where
       not_out : (s : Stage) → is_waiting s ≡ true → is_forwarded s ≡ false
       not_out Forwarded w = absurd (false≢true w)
@@ -379,9 +379,9 @@ module _ (table : Table) (start : StoreAtStart) where
       not_out Released w = absurd (false≢true w)
 
   -- it waits for the next leader
-  carried_turned : (id : ℕ) (i : Item) (past : List Item) (z : Exchange) (j leader : ℕ) → i.event ≡ Abandon j → i.outcome ≡ Ended → is_waiting z.stage ≡ true → wait_has_an_end table z ≡ true → Carried id past z → Carried id (i ∷ past) (record z { stage = Waiting leader })
+  carried_turned : (id : ℕ) (i : Item) (past : List Item) (z : Exchange) (j leader : ℕ) → i.event ≡ Abandon j → i.outcome ≡ Ended → is_waiting z.stage ≡ true → wait_is_limited table z ≡ true → Carried id past z → Carried id (i ∷ past) (record z { stage = Waiting leader })
   carried_turned id i past z j leader e o s ends c =
-      let judges_not : (eqb (exchange_id_of_event i.event) z.id && judges_a_request i.event) ≡ false = ap (λ (v : Event). eqb (exchange_id_of_event v) z.id && judges_a_request v) e ∙ and_none (eqb j z.id) in
+      let judges_not : (eqb (exchange_id_of_event i.event) z.id && is_arrival_or_wake i.event) ≡ false = ap (λ (v : Event). eqb (exchange_id_of_event v) z.id && is_arrival_or_wake v) e ∙ and_none (eqb j z.id) in
       let stays : (eqb (exchange_id_of_event i.event) z.id && outcome_goes_forward i.outcome) ≡ false = ap (λ (o : Outcome). eqb (exchange_id_of_event i.event) z.id && outcome_goes_forward o) o ∙ and_none (eqb (exchange_id_of_event i.event) z.id) in
       (further i (record z { stage = Waiting leader }) past judges_not stays (turned z leader past (not_out z.stage s) ends c.0), c.1)
     where
@@ -423,16 +423,16 @@ module _ (table : Table) (start : StoreAtStart) (first : ℕ) where
           now = now;
           past_is = refl;
           judged = inl refl;
-          none_since = tt;
+          not_judged_since = tt;
           line_allows = on.line_allows;
           rule_is_least = subst (λ (es : List Stored). IsLeastReuseRule (policy_of table.lines line) es asked now y.rule) held (subst (λ (q : ReuseRule). IsLeastReuseRule (policy_of table.lines line) s.entries asked now q) (sym rule) named.0);
           went = inr (inr (record {
             leader = leader;
             outcome_is = refl;
             stage = inl refl;
-            since_then = refl;
+            no_forward_since = refl;
             against = on.against;
-            names = subst (λ (es : List Stored). RuleNamesTheResponse es asked y.rule on.against) held (subst (λ (q : ReuseRule). RuleNamesTheResponse s.entries asked q on.against) (sym rule) named.1);
+            names = subst (λ (es : List Stored). RuleOnChosenNamesItsSerial es asked y.rule on.against) held (subst (λ (q : ReuseRule). RuleOnChosenNamesItsSerial s.entries asked q on.against) (sym rule) named.1);
             condition = condition ∙ ap (λ (es : List Stored). condition_about_serial es on.against) held;
           }));
         },
@@ -455,15 +455,15 @@ module _ (table : Table) (start : StoreAtStart) (first : ℕ) where
           now = now;
           past_is = refl;
           judged = inl refl;
-          none_since = tt;
+          not_judged_since = tt;
           line_allows = on.line_allows;
           rule_is_least = subst (λ (es : List Stored). IsLeastReuseRule (policy_of table.lines line) es asked now y.rule) held (subst (λ (q : ReuseRule). IsLeastReuseRule (policy_of table.lines line) s.entries asked now q) (sym rule) named.0);
           went = inl (record {
             stage = refl;
-            since_then = refl;
+            no_forward_since = refl;
             request_time = refl;
             against = on.against;
-            names = subst (λ (es : List Stored). RuleNamesTheResponse es asked y.rule on.against) held (subst (λ (q : ReuseRule). RuleNamesTheResponse s.entries asked q on.against) (sym rule) named.1);
+            names = subst (λ (es : List Stored). RuleOnChosenNamesItsSerial es asked y.rule on.against) held (subst (λ (q : ReuseRule). RuleOnChosenNamesItsSerial s.entries asked q on.against) (sym rule) named.1);
             condition = condition ∙ ap (λ (es : List Stored). condition_about_serial es on.against) held;
             outcome_is = ap (λ (b : List ℕ). Forward line b) (w.bytes_are ∙ ap (forward_text table line asked) (sym condition));
           });
@@ -504,15 +504,15 @@ module _ (table : Table) (start : StoreAtStart) (first : ℕ) where
           now = now;
           past_is = refl;
           judged = inr (ap (λ n. Wake now n) (sym c.1));
-          none_since = tt;
+          not_judged_since = tt;
           line_allows = c.0.line_allows;
           rule_is_least = subst (λ (es : List Stored). IsLeastReuseRule (policy_of table.lines z.line) es z.asked now y.rule) held (subst (λ (q : ReuseRule). IsLeastReuseRule (policy_of table.lines z.line) es z.asked now q) (sym rule_is) named.0);
           went = inl (record {
             stage = refl;
-            since_then = refl;
+            no_forward_since = refl;
             request_time = refl;
             against = against;
-            names = subst (λ (es : List Stored). RuleNamesTheResponse es z.asked y.rule against) held (subst (λ (q : ReuseRule). RuleNamesTheResponse es z.asked q against) (sym rule_is) named.1);
+            names = subst (λ (es : List Stored). RuleOnChosenNamesItsSerial es z.asked y.rule against) held (subst (λ (q : ReuseRule). RuleOnChosenNamesItsSerial es z.asked q against) (sym rule_is) named.1);
             condition = condition ∙ ap (λ (es : List Stored). condition_about_serial es against) held;
             outcome_is = h ∙ ap (λ (c : Option Condition). Forward z.line (forward_text table z.line z.asked c)) (sym condition);
           });
@@ -521,7 +521,7 @@ module _ (table : Table) (start : StoreAtStart) (first : ℕ) where
       )
 
   -- behind an answer
-  carried_again : (past : List Item) (now id : ℕ) (r : Response) (z : Exchange) (line : Route) (bytes : List ℕ) (x : Exchange) → Carried table start id past z →
+  carried_again : (past : List Item) (now id : ℕ) (r : Response) (z : Exchange) (line : RequestRoute) (bytes : List ℕ) (x : Exchange) → Carried table start id past z →
       exchange id past ≡ Some z → IsAgain table z (Forward line bytes) →
       find_exchange id (map (exchange_forwarded_again id now) (state_after_trace (initial_state table start first) past).exchanges) ≡ Some x →
       Carried table start id (record { event = Answer now id r; outcome = Forward line bytes } ∷ past) x
@@ -544,7 +544,7 @@ module _ (table : Table) (start : StoreAtStart) (first : ℕ) where
           now = h.now;
           past_is = ap (λ zs. item ∷ zs) h.past_is;
           judged = h.judged;
-          none_since = (and_none (eqb id z.id), h.none_since);
+          not_judged_since = (and_none (eqb id z.id), h.not_judged_since);
           line_allows = h.line_allows;
           rule_is_least = h.rule_is_least;
           went = inr (inl (record {
@@ -554,7 +554,7 @@ module _ (table : Table) (start : StoreAtStart) (first : ℕ) where
             now = now;
             response = r;
             since_is = ap (λ (j : Item). j ∷ h.since) same;
-            since_then = refl;
+            no_forward_since = refl;
             request_time = refl;
             condition = refl;
           }));
@@ -563,8 +563,8 @@ module _ (table : Table) (start : StoreAtStart) (first : ℕ) where
       )
 
   again_at : (past : List Item) (id : ℕ) (i : Item) (z x : Exchange) → Carried table start id past z → exchange id past ≡ Some z → eqb (exchange_id_of_event i.event) id ≡ true →
-      judges_a_request i.event ≡ false → outcome_goes_forward i.outcome ≡ true →
-      i.outcome ≡ outcome_of table (state_after_trace (initial_state table start first) past).entries (state_after_trace (initial_state table start first) past).exchanges (exchange (exchange_id_of_event i.event) past) (state_after_trace (initial_state table start first) past).next i.event →
+      is_arrival_or_wake i.event ≡ false → outcome_goes_forward i.outcome ≡ true →
+      i.outcome ≡ outcome_for_exchange table (state_after_trace (initial_state table start first) past).entries (state_after_trace (initial_state table start first) past).exchanges (exchange (exchange_id_of_event i.event) past) (state_after_trace (initial_state table start first) past).next i.event →
       find_exchange id (open_exchanges_after table (state_after_trace (initial_state table start first) past).entries (state_after_trace (initial_state table start first) past).exchanges i.event i.outcome) ≡ Some x →
       Carried table start id (i ∷ past) x
   again_at past id i z x c z_is same late out is found = by_event i.event i.outcome same late out is found
@@ -589,18 +589,18 @@ module _ (table : Table) (start : StoreAtStart) (first : ℕ) where
           (carried_again past now id r z line bytes x c z_is (subst (IsAgain table z) (sym is) (again_by table es now z r next (decision_of (policy_of table.lines z.line) es z.asked now)))
           (ap (λ m. find_exchange id (map (exchange_forwarded_again m now) xs)) (sym e) ∙ found))
 
-      by_event : (event : Event) (o : Outcome) → eqb (exchange_id_of_event event) id ≡ true → judges_a_request event ≡ false → outcome_goes_forward o ≡ true →
-          o ≡ outcome_of table es xs (exchange (exchange_id_of_event event) past) next event → find_exchange id (open_exchanges_after table es xs event o) ≡ Some x →
+      by_event : (event : Event) (o : Outcome) → eqb (exchange_id_of_event event) id ≡ true → is_arrival_or_wake event ≡ false → outcome_goes_forward o ≡ true →
+          o ≡ outcome_for_exchange table es xs (exchange (exchange_id_of_event event) past) next event → find_exchange id (open_exchanges_after table es xs event o) ≡ Some x →
           Carried table start id (record { event = event; outcome = o } ∷ past) x
       by_event (Arrive now n asked) o same late out is found = absurd (false≢true (sym late))
       by_event (Answer now n r) o same late out is found =
           let e : n ≡ id = eqb-true n id same in
-          by_answer now n r o e out (is ∙ ap (λ (w : Option Exchange). outcome_of table es xs w next (Answer now n r)) (ap (λ m. exchange m past) e ∙ z_is)) found
+          by_answer now n r o e out (is ∙ ap (λ (w : Option Exchange). outcome_for_exchange table es xs w next (Answer now n r)) (ap (λ m. exchange m past) e ∙ z_is)) found
       by_event (Fail now n kind) o same late out is found =
           let w : exchange n past ≡ Some z = ap (λ m. exchange m past) (eqb-true n id same) ∙ z_is in
           let back : outcome_goes_forward o ≡ false =
-          ap outcome_goes_forward (is ∙ ap (λ (w : Option Exchange). outcome_of table es xs w next (Fail now n kind)) w)
-          ∙ failed_back table es now z kind None (fallback_for (policy_of table.lines z.line) es z.asked now (decision_of (policy_of table.lines z.line) es z.asked now)) in
+          ap outcome_goes_forward (is ∙ ap (λ (w : Option Exchange). outcome_for_exchange table es xs w next (Fail now n kind)) w)
+          ∙ failed_back table es now z kind None (fallback_for_failed_answer (policy_of table.lines z.line) es z.asked now (decision_of (policy_of table.lines z.line) es z.asked now)) in
           absurd (false≢true (sym back ∙ out))
       by_event (Wake now n) o same late out is found = absurd (false≢true (sym late))
       by_event (Abandon n) o same late out is found = absurd (false≢true (sym (ap outcome_goes_forward is) ∙ out))
@@ -620,7 +620,7 @@ module _ (table : Table) (start : StoreAtStart) (first : ℕ) where
           Carried table start id (record { event = Arrive now id asked; outcome = i.outcome } ∷ past) x
       at_arrival now asked e x_is found =
           carried_first past g.1 now id asked i.outcome x
-          (subst (Goes table s.entries s.exchanges now asked) (sym (g.0.outcome_is ∙ ap (λ (v : Event). outcome_of table s.entries s.exchanges (find_exchange (exchange_id_of_event v) s.exchanges) s.next v) e))
+          (subst (Goes table s.entries s.exchanges now asked) (sym (g.0.outcome_is ∙ ap (λ (v : Event). outcome_for_exchange table s.entries s.exchanges (find_exchange (exchange_id_of_event v) s.exchanges) s.next v) e))
           (goes_by table s.entries s.exchanges now asked (verdict_of_asked table asked) refl)) x_is found
 
       by_move : ((z : Exchange) → exchange id past ≡ Some z → Carried table start id past z) → (y : Option Exchange) → Move id (find_exchange (exchange_id_of_event i.event) s.exchanges) i.event i.outcome (exchange id past) y → y ≡ Some x → exchange id (i ∷ past) ≡ y →
@@ -642,7 +642,7 @@ module _ (table : Table) (start : StoreAtStart) (first : ℕ) where
           let item : record { event = Wake now id; outcome = i.outcome } ≡ i = ap (λ (v : Event). record { event = v; outcome = i.outcome }) (sym e) in
           subst (λ (j : Item). Carried table start id (j ∷ past) x) item
           (carried_woken past g.1 now id z i.outcome x (decision_of (policy_of table.lines z.line) s.entries z.asked now) (was z z_is) z_is refl
-          (g.0.outcome_is ∙ (ap (λ (v : Event). outcome_of table s.entries s.exchanges (find_exchange (exchange_id_of_event v) s.exchanges) s.next v) e ∙ ap (λ (w : Option Exchange). outcome_of table s.entries s.exchanges w s.next (Wake now id)) z_is)) f
+          (g.0.outcome_is ∙ (ap (λ (v : Event). outcome_for_exchange table s.entries s.exchanges (find_exchange (exchange_id_of_event v) s.exchanges) s.next v) e ∙ ap (λ (w : Option Exchange). outcome_for_exchange table s.entries s.exchanges w s.next (Wake now id)) z_is)) f
           (ap (λ (v : Event). find_exchange id (open_exchanges_after table s.entries s.exchanges v i.outcome)) (sym e) ∙ at_table ∙ k ∙ h))
       by_move was y (closes z t e x_is f q) h k = absurd (none_some y x q h)
       by_move was y (turns z j m e n z_is r f q) h k =
@@ -652,10 +652,10 @@ module _ (table : Table) (start : StoreAtStart) (first : ℕ) where
           let ends = turned_has_an_end table j id m s.exchanges z z_is n r there in
           subst (Carried table start id (i ∷ past)) same (carried_turned table start id i past z j m e f (waits_waiting j z.stage r) ends (was z z_is))
       by_move was y (lapses z e z_is s f q) h k =
-          let same : exchange_past_its_wait z ≡ x = same_Some (exchange_past_its_wait z) x (sym q ∙ h) in
+          let same : exchange_released_by_timeout z ≡ x = same_Some (exchange_released_by_timeout z) x (sym q ∙ h) in
           subst (Carried table start id (i ∷ past)) same (carried_past table start id i past z e f s (was z z_is))
 
-pub carries_its_arrival : OpenExchangeCarriesItsArrival
+pub carries_its_arrival : OpenExchangeRecordsHowItWasJudged
 carries_its_arrival table start first id trace x g h =
     let p = good_plain table start first trace g in
     carries table start first trace p id x (ap (find_exchange id) (exchanges_are_open table start first trace p) ∙ h)
@@ -671,6 +671,6 @@ least_when_judged table start first id trace x g h =
       now = a.now;
       past_is = a.past_is;
       judged = a.judged;
-      none_since = a.none_since;
+      not_judged_since = a.not_judged_since;
       least = a.rule_is_least;
     }

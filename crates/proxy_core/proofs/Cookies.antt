@@ -5,7 +5,7 @@ use Rattle.hx_fields.specs.Line.{Field}
 use Rattle.hx_fields.specs.FieldLines.{has_field, is_named, without_named}
 use Rattle.hx_store.specs.Stored.{Stored}
 use Rattle.proxy_core.specs.declared.open.exchange.Exchange.{Exchange}
-use Rattle.proxy_core.specs.Replies.{without_tags}
+use Rattle.proxy_core.specs.Replies.{fields_without_hidden_tags}
 use Rattle.proxy_core.specs.Validating.{stored_without_cookies, without_cookies}
 
 others_stay : (name : List ℕ) (fields : List Field) → has_field fields name ≡ false → without_named fields name ≡ fields
@@ -22,7 +22,7 @@ none_removed true fields none = others_stay (codes "Set-Cookie") fields none
 none_removed false fields none = refl
 
 -- the same of tags
-pub none_hidden : (hides : Bool) (fields : List Field) → (hides && has_field fields (codes "Cache-Tag")) ≡ false → without_tags hides fields ≡ fields
+pub none_hidden : (hides : Bool) (fields : List Field) → (hides && has_field fields (codes "Cache-Tag")) ≡ false → fields_without_hidden_tags hides fields ≡ fields
 none_hidden true fields none = others_stay (codes "Cache-Tag") fields none
 none_hidden false fields none = refl
 

@@ -12,7 +12,7 @@ use Rattle.proxy_core.specs.State.{serial_stored_by_outcome, next_serial_after}
 use Rattle.proxy_core.specs.Starts.{StoreAtStart}
 use Rattle.proxy_core.specs.Traces.{Item, initial_state, state_after_trace}
 use Rattle.proxy_core.specs.Histories.{IsGoodHistory, next_serial, held_entries, open_exchanges}
-use Rattle.proxy_core.specs.TraceMeaning.{count_of_stored, events_of, NextSerialIsCounted, StoredResponseHasTheNextSerial, EventsDetermineTheTrace}
+use Rattle.proxy_core.specs.TraceMeaning.{count_of_stored, events_of_trace, NextSerialIsFirstPlusStoredCount, StoredResponseHasTheNextSerial, EventsDetermineTheTrace}
 use Rattle.proxy_core.proofs.StepKinds.{Kind, idle, uses, stores, kind_in}
 use Rattle.proxy_core.proofs.HeldLaw.{good_plain, stands_for, next_is_counted}
 
@@ -48,7 +48,7 @@ more_stored first count next (Some s) h k =
     let one : s + 1 ≡ first + (count + 1) = omega arith in
     ap left_over one
 
-pub next_counted : NextSerialIsCounted
+pub next_counted : NextSerialIsFirstPlusStoredCount
 next_counted table start first [] g h =
     let none : first ≡ first + 0 = omega arith in
     sym (ap (λ b. cond b (Some first) None) h) ∙ ap left_over none
@@ -74,7 +74,7 @@ leaves_no_choice table start first [] [] g k h = refl
 leaves_no_choice table start first [] (j ∷ other) g k h = absurd (cc)
 leaves_no_choice table start first (i ∷ past) [] g k h = absurd (cc)
 leaves_no_choice table start first (i ∷ past) (j ∷ other) g k h =
-    let p = cons_parts i.event j.event (events_of past) (events_of other) h in
+    let p = cons_parts i.event j.event (events_of_trace past) (events_of_trace other) h in
     let same : past ≡ other = leaves_no_choice table start first past other g.1 k.1 p.1 in
     let outcome : i.outcome ≡ j.outcome =
     g.0.outcome_is

@@ -1,10 +1,10 @@
 -- A core that was begun and went through steps has gone through a good trace.
 use Rattle.std.proofs.Common.{◌≡◌, ℕ, List, [], ◌∷◌, ◌∙◌, ap, subst}
 use Rattle.hx_allow.specs.TableLines.{Table}
-use Rattle.proxy_core.specs.State.{State, StepIsAccepted, state_after}
+use Rattle.proxy_core.specs.State.{State, StepIsAccepted, state_after_event}
 use Rattle.proxy_core.specs.Starts.{StoreAtStart}
 use Rattle.proxy_core.specs.Traces.{Item, initial_state, state_after_trace, ItemIsAccepted, IsGood}
-use Rattle.proxy_core.specs.Driving.{CoreWentThrough, PromisesOfADrivenCore}
+use Rattle.proxy_core.specs.Driving.{CoreHasRunTrace, EachDrivenCoreKeepsThePromises}
 use Rattle.proxy_core.proofs.Tracing.{same_table, same_limit}
 use Rattle.proxy_core.proofs.HeldLaw.{good_held, entries_are_held, exchanges_are_open, next_is_counted}
 use Rattle.proxy_core.proofs.Headlines.{headline}
@@ -14,7 +14,7 @@ record IsDriven (table : Table) (start : StoreAtStart) (first : ℕ) (trace : Li
   good : IsGood (initial_state table start first) trace
   leaves : core ≡ state_after_trace (initial_state table start first) trace
 
-driven : (table : Table) (start : StoreAtStart) (first : ℕ) (trace : List Item) (core : State) → CoreWentThrough table start first trace core → IsDriven table start first trace core
+driven : (table : Table) (start : StoreAtStart) (first : ℕ) (trace : List Item) (core : State) → CoreHasRunTrace table start first trace core → IsDriven table start first trace core
 driven table start first [] core h = record { good = h.1; leaves = h.0 }
 driven table start first (item ∷ past) core h =
     let begun = initial_state table start first in
@@ -25,10 +25,10 @@ driven table start first (item ∷ past) core h =
     record { allowed = here.allowed; outcome_is = here.outcome_is } in
     record {
       good = (accepts, was.good);
-      leaves = h.2.leaves ∙ ap (λ (s : State). state_after s item.event item.outcome) was.leaves;
+      leaves = h.2.leaves ∙ ap (λ (s : State). state_after_event s item.event item.outcome) was.leaves;
     }
 
-pub promises_of_a_driven_core : PromisesOfADrivenCore
+pub promises_of_a_driven_core : EachDrivenCoreKeepsThePromises
 promises_of_a_driven_core table start first trace core h =
     let d = driven table start first trace core h in
     let good = good_held table start first trace d.good in

@@ -9,11 +9,11 @@ use Rattle.hx_reuse.specs.declared.rule.ReuseRule.{ReuseRule}
 use Rattle.proxy_core.specs.declared.steps.condition.Condition.{Condition}
 use Rattle.proxy_core.specs.declared.open.stage.Stage.TheVariants.{Released}
 use Rattle.hx_allow.specs.TableLines.{Table}
-use Rattle.proxy_core.specs.declared.open.leading_on.NextLeader.{NextLeader}
+use Rattle.proxy_core.specs.declared.open.as_next_leader.NextLeader.{NextLeader}
 use Rattle.proxy_core.specs.Leading.{waits_for, is_waiting}
-use Rattle.proxy_core.specs.LeadingOn.{next_leader, stage_after_leader, led_on_exchange, exchanges_without, exchanges_after_abandon}
-use Rattle.proxy_core.specs.Scopes.{Scope, is_in_scope}
-use Rattle.proxy_core.specs.State.{exchanges_after_close, released_exchange, overtaken_exchange, exchanges_after_end, exchanges_after_purge, exchange_gone_forward, exchange_forwarded_again, exchange_sent_forward, exchange_past_its_wait, overdue_exchange}
+use Rattle.proxy_core.specs.LeadingOn.{next_leader, stage_after_leader, after_abandon, exchanges_without, exchanges_after_abandon}
+use Rattle.proxy_core.specs.Scopes.{Scope, key_is_in_scope}
+use Rattle.proxy_core.specs.State.{exchanges_after_close, released_exchange, overtaken_exchange, exchanges_after_end, exchanges_after_purge, exchange_gone_forward, exchange_forwarded_again, exchange_sent_forward, exchange_released_by_timeout, overdue_exchange}
 
 pub find-map : (f : Exchange → Exchange) → ((x : Exchange) → (f x).id ≡ x.id) → (id : ℕ) (xs : List Exchange) →
     find_exchange id (map f xs) ≡ option_map f (find_exchange id xs)
@@ -43,20 +43,20 @@ release-id i x = elim (waits_for i x.stage) as (λ b. (cond b (record x { stage 
   | false ↦ refl
 ]
 
-pub led_on-id : (table : Table) (next : Option NextLeader) (i : ℕ) (x : Exchange) → (led_on_exchange table next i x).id ≡ x.id
+pub led_on-id : (table : Table) (next : Option NextLeader) (i : ℕ) (x : Exchange) → (after_abandon table next i x).id ≡ x.id
 led_on-id table next i x = elim (waits_for i x.stage) as (λ b. (cond b (record x { stage = stage_after_leader table next x }) x).id ≡ x.id) [
   | true ↦ refl
   | false ↦ refl
 ]
 
 pub overdue-id : (i : ℕ) (x : Exchange) → (overdue_exchange i x).id ≡ x.id
-overdue-id i x = elim (eqb x.id i && is_waiting x.stage) as (λ b. (cond b (exchange_past_its_wait x) x).id ≡ x.id) [
+overdue-id i x = elim (eqb x.id i && is_waiting x.stage) as (λ b. (cond b (exchange_released_by_timeout x) x).id ≡ x.id) [
   | true ↦ refl
   | false ↦ refl
 ]
 
 pub overtake-id : (key : Scope) (x : Exchange) → (overtaken_exchange key x).id ≡ x.id
-overtake-id key x = elim (is_in_scope key x.asked.target.key) as (λ b. (cond b (record x { overtaken = true }) x).id ≡ x.id) [
+overtake-id key x = elim (key_is_in_scope key x.asked.target.key) as (λ b. (cond b (record x { overtaken = true }) x).id ≡ x.id) [
   | true ↦ refl
   | false ↦ refl
 ]
@@ -137,14 +137,14 @@ find-without i id xs = find-but i id xs
 
 -- the client of another went away
 pub find-abandoned : (table : Table) (i id : ℕ) (xs : List Exchange) →
-    find_exchange id (exchanges_after_abandon table i xs) ≡ cond (eqb i id) None (option_map (led_on_exchange table (next_leader table i xs) i) (find_exchange id xs))
+    find_exchange id (exchanges_after_abandon table i xs) ≡ cond (eqb i id) None (option_map (after_abandon table (next_leader table i xs) i) (find_exchange id xs))
 find-abandoned table i id xs = by_next (next_leader table i xs)
   where
-    by_next : (next : Option NextLeader) → find_exchange id (map (led_on_exchange table next i) (but i xs)) ≡ cond (eqb i id) None (option_map (led_on_exchange table next i) (find_exchange id xs))
+    by_next : (next : Option NextLeader) → find_exchange id (map (after_abandon table next i) (but i xs)) ≡ cond (eqb i id) None (option_map (after_abandon table next i) (find_exchange id xs))
     by_next next =
-        find-map (led_on_exchange table next i) (led_on-id table next i) id (but i xs)
-        ∙ ap (option_map (led_on_exchange table next i)) (find-but i id xs)
-        ∙ elim (eqb i id) as (λ b. option_map (led_on_exchange table next i) (cond b None (find_exchange id xs)) ≡ cond b None (option_map (led_on_exchange table next i) (find_exchange id xs))) [
+        find-map (after_abandon table next i) (led_on-id table next i) id (but i xs)
+        ∙ ap (option_map (after_abandon table next i)) (find-but i id xs)
+        ∙ elim (eqb i id) as (λ b. option_map (after_abandon table next i) (cond b None (find_exchange id xs)) ≡ cond b None (option_map (after_abandon table next i) (find_exchange id xs))) [
           | true ↦ refl
           | false ↦ refl
         ]

@@ -5,33 +5,33 @@ use Rattle.std.specs.List.{sum_by, list_any}
 use Rattle.std.proofs.lemmas.Bool.{eq-eqb, or_parts}
 use Rattle.std.proofs.lemmas.List.Sums.{sum_by-cons}
 use Rattle.std.proofs.lemmas.Option.{IfSome_then}
-use Rattle.hx_age.specs.Age.{expired_times}
+use Rattle.hx_age.specs.Age.{times_once_purged}
 use Rattle.hx_age.specs.declared.moments.Times.{Times}
 use Rattle.hx_target.specs.declared.keys.Key.{Key}
 use Rattle.hx_hop.specs.declared.request_view.Asked.{Asked}
 use Rattle.hx_store.specs.Stored.{Stored}
-use Rattle.hx_store.specs.Serials.{serial_is_in, Distinct}
-use Rattle.hx_store.specs.Shelf.{serials, holds_serial, expired_entry, with_expired, serials_where}
+use Rattle.hx_store.specs.Serials.{serial_is_in, SerialsAreDistinct}
+use Rattle.hx_store.specs.Shelf.{serials, holds_serial, expired_entry, entries_with_expired, serials_of_entries_that_pass}
 use Rattle.hx_store.proofs.EntryLists.{eqb_comm}
 use Rattle.hx_store.proofs.PassingEntries.{finds_passing}
-use Rattle.hx_store.specs.Weights.{StoreBounds, IsWithin, weight_of}
+use Rattle.hx_store.specs.Weights.{StoreBounds, IsWithinBounds, weight_of_entry}
 use Rattle.hx_allow.specs.declared.purge_modes.PurgeMode.{PurgeMode}
 use Rattle.hx_allow.specs.declared.purge_modes.PurgeMode.TheVariants.{Remove, Stale}
 use Rattle.proxy_core.specs.declared.event.Event.{Event}
 use Rattle.proxy_core.specs.declared.event.Event.TheVariants.{Arrive, Answer, Fail, Wake, Abandon, Overdue}
 use Rattle.proxy_core.specs.declared.open.exchange.Exchange.{Exchange}
-use Rattle.proxy_core.specs.Outcomes.{outcome_of_taking}
-use Rattle.proxy_core.specs.State.{NoSerialIsHeldFrom, response_after_expiring, entries_after_expiring, entries_after, entries_after_taking}
-use Rattle.proxy_core.specs.Expiring.{expired_where}
-use Rattle.proxy_core.specs.Starts.{weight_if_any}
+use Rattle.proxy_core.specs.Outcomes.{outcome_of_purge_reply}
+use Rattle.proxy_core.specs.State.{NoSerialIsHeldFrom, response_after_expiring, entries_after_expiring, entries_after_event, entries_after_purging_serials}
+use Rattle.proxy_core.specs.Expiring.{with_lifetime_ended_if}
+use Rattle.proxy_core.specs.Starts.{weight_of_stored_if_any}
 use Rattle.proxy_core.specs.Histories.{response_if_any_after_expiring}
 use Rattle.proxy_core.proofs.Held.{NoneFrom-taken}
 use Rattle.proxy_core.proofs.HeldEntries.{EachIs, EachIs-map}
 
 -- what doesn't ask for the times stays
 entry_stays : {A : Type 0} (part : Stored → A) → ((e : Stored) (t : Times) → part (record e { times = t }) ≡ part e) → (expired : List ℕ) (now : ℕ) (e : Stored) → part (expired_entry expired now e) ≡ part e
-entry_stays part same expired now e = elim (serial_is_in e.serial expired) as (λ b. part (cond b (record e { times = expired_times e.times now }) e) ≡ part e) [
-  | true ↦ same e (expired_times e.times now)
+entry_stays part same expired now e = elim (serial_is_in e.serial expired) as (λ b. part (cond b (record e { times = times_once_purged e.times now }) e) ≡ part e) [
+  | true ↦ same e (times_once_purged e.times now)
   | false ↦ refl
 ]
 
@@ -49,10 +49,10 @@ serial_expired = stays (λ (z : Stored). z.serial) (λ e t. refl)
 pub key_expired : (event : Event) (expired : List ℕ) (e : Stored) → (response_after_expiring event expired e).key ≡ e.key
 key_expired = stays (λ (z : Stored). z.key) (λ e t. refl)
 
-weight_expired : (event : Event) (expired : List ℕ) (e : Stored) → weight_of (response_after_expiring event expired e) ≡ weight_of e
-weight_expired = stays weight_of (λ e t. refl)
+weight_expired : (event : Event) (expired : List ℕ) (e : Stored) → weight_of_entry (response_after_expiring event expired e) ≡ weight_of_entry e
+weight_expired = stays weight_of_entry (λ e t. refl)
 
-pub weight_stays : (event : Event) (expired : List ℕ) (o : Option Stored) → weight_if_any (response_if_any_after_expiring event expired o) ≡ weight_if_any o
+pub weight_stays : (event : Event) (expired : List ℕ) (o : Option Stored) → weight_of_stored_if_any (response_if_any_after_expiring event expired o) ≡ weight_of_stored_if_any o
 weight_stays event [] o = refl
 weight_stays event (s ∷ expired) None = refl
 weight_stays event (s ∷ expired) (Some e) = weight_expired event (s ∷ expired) e
@@ -74,18 +74,18 @@ pub EachIs-expired : (event : Event) (expired : List ℕ) (look : ℕ → Option
 EachIs-expired event [] look es h = h
 EachIs-expired event (s ∷ expired) look es h = EachIs-map (response_after_expiring event (s ∷ expired)) (serial_expired event (s ∷ expired)) look es h
 
-mapped_weigh : (event : Event) (expired : List ℕ) (es : List Stored) → (length (map (response_after_expiring event expired) es) ≡ length es) × (sum_by weight_of (map (response_after_expiring event expired) es) ≡ sum_by weight_of es)
+mapped_weigh : (event : Event) (expired : List ℕ) (es : List Stored) → (length (map (response_after_expiring event expired) es) ≡ length es) × (sum_by weight_of_entry (map (response_after_expiring event expired) es) ≡ sum_by weight_of_entry es)
 mapped_weigh event expired [] = (refl, refl)
 mapped_weigh event expired (e ∷ es) =
     let more = mapped_weigh event expired es in (
       ap (λ n. suc n) more.0,
-      sum_by-cons weight_of (response_after_expiring event expired e) (map (response_after_expiring event expired) es)
-          ∙ ap (λ n. n + sum_by weight_of (map (response_after_expiring event expired) es)) (weight_expired event expired e)
-          ∙ ap (λ n. weight_of e + n) more.1
-          ∙ sym (sum_by-cons weight_of e es),
+      sum_by-cons weight_of_entry (response_after_expiring event expired e) (map (response_after_expiring event expired) es)
+          ∙ ap (λ n. n + sum_by weight_of_entry (map (response_after_expiring event expired) es)) (weight_expired event expired e)
+          ∙ ap (λ n. weight_of_entry e + n) more.1
+          ∙ sym (sum_by-cons weight_of_entry e es),
     )
 
-pub within_stays_expired : (bounds : StoreBounds) (event : Event) (expired : List ℕ) (es : List Stored) → IsWithin bounds weight_of es → IsWithin bounds weight_of (entries_after_expiring event expired es)
+pub within_stays_expired : (bounds : StoreBounds) (event : Event) (expired : List ℕ) (es : List Stored) → IsWithinBounds bounds weight_of_entry es → IsWithinBounds bounds weight_of_entry (entries_after_expiring event expired es)
 within_stays_expired bounds event [] es h = h
 within_stays_expired bounds event (s ∷ expired) es h =
     let same = mapped_weigh event (s ∷ expired) es in
@@ -99,7 +99,7 @@ NoneFrom-expired None event expired es h = tt
 NoneFrom-expired (Some n) event expired es h = λ s l. ap (serial_is_in s) (serials_stay event expired es) ∙ h s l
 
 -- where none is expired, all is as it was
-pub none_expired : (now : ℕ) (es : List Stored) → with_expired [] now es ≡ es
+pub none_expired : (now : ℕ) (es : List Stored) → entries_with_expired [] now es ≡ es
 none_expired now [] = refl
 none_expired now (e ∷ es) = ap (λ zs. e ∷ zs) (none_expired now es)
 
@@ -143,7 +143,7 @@ module _ (passes : Stored → Bool) where
         told_by_one_more e test es p.1 told.1,
       )
 
-  told : (es : List Stored) → Distinct (serials es) → AreTold passes (some_passes es) es
+  told : (es : List Stored) → SerialsAreDistinct (serials es) → AreTold passes (some_passes es) es
   unfolding AreTold
   told [] d = tt
   told (e ∷ es) d = (
@@ -156,35 +156,35 @@ module _ (passes : Stored → Bool) where
       and_true true = refl
       and_true false = refl
 
-  mapped_by_test : (now : ℕ) (gone : List ℕ) (es : List Stored) → AreTold passes (λ s. serial_is_in s gone) es → with_expired gone now es ≡ map (expired_where passes now) es
+  mapped_by_test : (now : ℕ) (gone : List ℕ) (es : List Stored) → AreTold passes (λ s. serial_is_in s gone) es → entries_with_expired gone now es ≡ map (with_lifetime_ended_if passes now) es
   unfolding AreTold
   mapped_by_test now gone [] h = refl
   mapped_by_test now gone (e ∷ es) h =
-      ap (λ b. cond b (record e { times = expired_times e.times now }) e ∷ with_expired gone now es) h.0
-      ∙ ap (λ zs. expired_where passes now e ∷ zs) (mapped_by_test now gone es h.1)
+      ap (λ b. cond b (record e { times = times_once_purged e.times now }) e ∷ entries_with_expired gone now es) h.0
+      ∙ ap (λ zs. with_lifetime_ended_if passes now e ∷ zs) (mapped_by_test now gone es h.1)
 
   -- those that pass are expired, and no other
-  pub expired_are_those : (now : ℕ) (es : List Stored) → Distinct (serials es) → with_expired (serials_where passes es) now es ≡ map (expired_where passes now) es
-  expired_are_those now es d = mapped_by_test now (serials_where passes es) es
-      (told_same passes (some_passes es) (λ s. serial_is_in s (serials_where passes es)) es (λ s. finds_passing passes s es) (told es d))
+  pub expired_are_those : (now : ℕ) (es : List Stored) → SerialsAreDistinct (serials es) → entries_with_expired (serials_of_entries_that_pass passes es) now es ≡ map (with_lifetime_ended_if passes now) es
+  expired_are_those now es d = mapped_by_test now (serials_of_entries_that_pass passes es) es
+      (told_same passes (some_passes es) (λ s. serial_is_in s (serials_of_entries_that_pass passes es)) es (λ s. finds_passing passes s es) (told es d))
 
 -- ---- what a purge leaves
 
 -- as the core does it
 pub purge_leaves : (bounds : StoreBounds) (es : List Stored) (x : Option Exchange) (now id : ℕ) (asked : Asked) (bytes : List ℕ) (close : Bool) (mode : PurgeMode) (taken : List ℕ) →
-    entries_after bounds es x (Arrive now id asked) (outcome_of_taking bytes close mode taken) ≡ entries_after_taking mode taken now es
+    entries_after_event bounds es x (Arrive now id asked) (outcome_of_purge_reply bytes close mode taken) ≡ entries_after_purging_serials mode taken now es
 purge_leaves bounds es x now id asked bytes close Remove taken = refl
 purge_leaves bounds es x now id asked bytes close Stale [] = sym (none_expired now es)
 purge_leaves bounds es x now id asked bytes close Stale (s ∷ taken) = refl
 
-pub NoneFrom-purged : (next : Option ℕ) (mode : PurgeMode) (taken : List ℕ) (now : ℕ) (es : List Stored) → NoSerialIsHeldFrom next es → NoSerialIsHeldFrom next (entries_after_taking mode taken now es)
+pub NoneFrom-purged : (next : Option ℕ) (mode : PurgeMode) (taken : List ℕ) (now : ℕ) (es : List Stored) → NoSerialIsHeldFrom next es → NoSerialIsHeldFrom next (entries_after_purging_serials mode taken now es)
 NoneFrom-purged next Remove taken now es h = NoneFrom-taken next taken es h
 NoneFrom-purged None Stale taken now es h = tt
 NoneFrom-purged (Some n) Stale taken now es h = λ s l. ap (serial_is_in s) (all_serials taken now es) ∙ h s l
   where
-    all_serials : (gone : List ℕ) (now : ℕ) (es : List Stored) → serials (with_expired gone now es) ≡ serials es
+    all_serials : (gone : List ℕ) (now : ℕ) (es : List Stored) → serials (entries_with_expired gone now es) ≡ serials es
     all_serials gone now [] = refl
-    all_serials gone now (e ∷ es) = ap (λ s. s ∷ serials (with_expired gone now es)) (entry_stays (λ (z : Stored). z.serial) (λ z t. refl) gone now e) ∙ ap (λ ss. e.serial ∷ ss) (all_serials gone now es)
+    all_serials gone now (e ∷ es) = ap (λ s. s ∷ serials (entries_with_expired gone now es)) (entry_stays (λ (z : Stored). z.serial) (λ z t. refl) gone now e) ∙ ap (λ ss. e.serial ∷ ss) (all_serials gone now es)
 
 -- ---- of a response that is there behind it: it was there before, with other times at most
 
@@ -200,8 +200,8 @@ same_response f e h = cc
 expired_is : (event : Event) (expired : List ℕ) (e : Stored) → (t : Times) × (response_after_expiring event expired e ≡ record e { times = t })
 expired_is (Arrive now id asked) expired e = by_test (serial_is_in e.serial expired)
   where
-    by_test : (b : Bool) → (t : Times) × (cond b (record e { times = expired_times e.times now }) e ≡ record e { times = t })
-    by_test true = (expired_times e.times now, refl)
+    by_test : (b : Bool) → (t : Times) × (cond b (record e { times = times_once_purged e.times now }) e ≡ record e { times = t })
+    by_test true = (times_once_purged e.times now, refl)
     by_test false = (e.times, refl)
 expired_is (Answer now id r) expired e = (e.times, refl)
 expired_is (Fail now id kind) expired e = (e.times, refl)

@@ -4,7 +4,7 @@ use Rattle.hx_framing.specs.declared.messages.Response.{Response}
 use Rattle.hx_hop.specs.declared.request_view.Asked.{Asked}
 use Rattle.hx_allow.specs.TableLines.{Table}
 use Rattle.hx_allow.specs.Matching.{policy_of}
-use Rattle.hx_allow.specs.declared.verdicts.Route.{Route}
+use Rattle.hx_allow.specs.declared.verdicts.RequestRoute.{RequestRoute}
 use Rattle.hx_allow.specs.declared.verdicts.Verdict.{Verdict}
 use Rattle.hx_allow.specs.declared.verdicts.Verdict.TheVariants as verdict
 use Rattle.hx_store.specs.Stored.{Stored}
@@ -21,18 +21,18 @@ use Rattle.proxy_core.specs.declared.open.exchange.Exchange.{Exchange}
 use Rattle.proxy_core.specs.declared.outcome.Outcome.{Outcome}
 use Rattle.proxy_core.specs.declared.event.Event.{Event}
 use Rattle.proxy_core.specs.declared.event.Event.TheVariants.{Arrive, Answer, Fail, Wake, Abandon, Overdue}
-use Rattle.proxy_core.specs.Allowing.{verdict_of_asked, request_purges, is_purge}
+use Rattle.proxy_core.specs.Allowing.{verdict_of_asked, request_purges, is_purge_verdict}
 use Rattle.proxy_core.specs.Scopes.{serials_to_expire}
 use Rattle.proxy_core.specs.Validating.{condition_about_serial, is_304_to_own_conditions, stored_response_validated}
 use Rattle.proxy_core.specs.Storing.{is_304_without_condition}
-use Rattle.proxy_core.specs.Outcomes.{find_exchange, exchange_id_of_event, outcome_of_waiting_or_forwarding, outcome_without_stored_response, outcome_of_allowed_request, outcome_of_arrival, is_only_if_cached, fallback_for, outcome_of_failure, is_error_status, outcome_of_passing_on_or_stale, outcome_of_304, outcome_of_answer, outcome_of_wake, outcome_of}
+use Rattle.proxy_core.specs.Outcomes.{find_exchange, exchange_id_of_event, outcome_of_waiting_or_forwarding, outcome_without_stored_response, outcome_of_allowed_request, outcome_of_arrival, is_only_if_cached, fallback_for_failed_answer, outcome_of_failure, is_error_status, outcome_of_passing_on_or_stale, outcome_of_304, outcome_of_answer, outcome_of_wake, outcome_for_exchange}
 use Rattle.proxy_core.specs.State.{expired_by_outcome}
-use Rattle.proxy_core.specs.StoredAnswers.{ThoseAreExpired, ItemExpiresExactlyThese}
+use Rattle.proxy_core.specs.StoredAnswers.{OutcomeExpiresExactlyWhatItMust, ItemExpiresExactlyWhatItMust}
 use Rattle.proxy_core.specs.Histories.{held_entries, open_exchanges, next_serial}
 use Rattle.proxy_core.proofs.SentBeside.{led_over, sent_over, unless_sent}
 
 module _ (table : Table) (es : List Stored) (now : ℕ) where
-  module _ (xs : List Exchange) (asked : Asked) (line : Route) where
+  module _ (xs : List Exchange) (asked : Asked) (line : RequestRoute) where
     on : (condition : Option Condition) (leader : Option ℕ) → expired_by_outcome (outcome_of_waiting_or_forwarding table line asked condition leader) ≡ None
     on condition None = refl
     on condition (Some leader) = refl
@@ -47,7 +47,7 @@ module _ (table : Table) (es : List Stored) (now : ℕ) where
     allowed_by (decision.Hit s) = refl
     allowed_by (decision.Forward rule against) = unless rule (condition_about_serial es against) (is_only_if_cached asked)
 
-  arrival_expires : (xs : List Exchange) (asked : Asked) (v : Verdict) → expired_by_outcome (outcome_of_arrival table es xs now asked v) ≡ cond (is_purge v) (serials_to_expire asked es) None
+  arrival_expires : (xs : List Exchange) (asked : Asked) (v : Verdict) → expired_by_outcome (outcome_of_arrival table es xs now asked v) ≡ cond (is_purge_verdict v) (serials_to_expire asked es) None
   arrival_expires xs asked (verdict.Allowed line) = allowed_by xs asked line (decision_of (policy_of table.lines line) es asked now)
   arrival_expires xs asked (verdict.DeniedBy line) = refl
   arrival_expires xs asked verdict.NoLine = refl
@@ -71,14 +71,14 @@ module _ (table : Table) (es : List Stored) (now : ℕ) where
       by_error true (Refuses rule error) = refl
       by_error false fallback = refl
 
-      by_unasked : (b : Bool) → expired_by_outcome (cond b (outcome_of_failure table es now x BadAnswer (Some r.status) (fallback_for (policy_of table.lines x.line) es x.asked now d))
-          (outcome_of_passing_on_or_stale table es now x r next (is_error_status r.status) (fallback_for (policy_of table.lines x.line) es x.asked now d))) ≡ None
-      by_unasked true = failed x BadAnswer (Some r.status) (fallback_for (policy_of table.lines x.line) es x.asked now d)
-      by_unasked false = by_error (is_error_status r.status) (fallback_for (policy_of table.lines x.line) es x.asked now d)
+      by_unasked : (b : Bool) → expired_by_outcome (cond b (outcome_of_failure table es now x BadAnswer (Some r.status) (fallback_for_failed_answer (policy_of table.lines x.line) es x.asked now d))
+          (outcome_of_passing_on_or_stale table es now x r next (is_error_status r.status) (fallback_for_failed_answer (policy_of table.lines x.line) es x.asked now d))) ≡ None
+      by_unasked true = failed x BadAnswer (Some r.status) (fallback_for_failed_answer (policy_of table.lines x.line) es x.asked now d)
+      by_unasked false = by_error (is_error_status r.status) (fallback_for_failed_answer (policy_of table.lines x.line) es x.asked now d)
 
       by_304 : (b : Bool) → expired_by_outcome (cond b (outcome_of_304 table es now x r (stored_response_validated es x r now) d)
-          (cond (is_304_without_condition (policy_of table.lines x.line) x.asked r) (outcome_of_failure table es now x BadAnswer (Some r.status) (fallback_for (policy_of table.lines x.line) es x.asked now d))
-          (outcome_of_passing_on_or_stale table es now x r next (is_error_status r.status) (fallback_for (policy_of table.lines x.line) es x.asked now d)))) ≡ None
+          (cond (is_304_without_condition (policy_of table.lines x.line) x.asked r) (outcome_of_failure table es now x BadAnswer (Some r.status) (fallback_for_failed_answer (policy_of table.lines x.line) es x.asked now d))
+          (outcome_of_passing_on_or_stale table es now x r next (is_error_status r.status) (fallback_for_failed_answer (policy_of table.lines x.line) es x.asked now d)))) ≡ None
       by_304 true = validated (stored_response_validated es x r now) d
       by_304 false = by_unasked (is_304_without_condition (policy_of table.lines x.line) x.asked r)
 
@@ -87,19 +87,19 @@ module _ (table : Table) (es : List Stored) (now : ℕ) where
   woken x (decision.Forward rule against) = refl
 
 -- what an event expires
-abbrev expired_at : Table → List Stored → Event → Option (List ℕ)
-expired_at table held (Arrive now id asked) = cond (request_purges table asked) (serials_to_expire asked held) None
-expired_at table held (Answer now id r) = None
-expired_at table held (Fail now id kind) = None
-expired_at table held (Wake now id) = None
-expired_at table held (Abandon id) = None
-expired_at table held (Overdue id) = None
+abbrev serials_expired_by_event : Table → List Stored → Event → Option (List ℕ)
+serials_expired_by_event table held (Arrive now id asked) = cond (request_purges table asked) (serials_to_expire asked held) None
+serials_expired_by_event table held (Answer now id r) = None
+serials_expired_by_event table held (Fail now id kind) = None
+serials_expired_by_event table held (Wake now id) = None
+serials_expired_by_event table held (Abandon id) = None
+serials_expired_by_event table held (Overdue id) = None
 
-expires_by_event : (table : Table) (es : List Stored) (xs : List Exchange) (x : Option Exchange) (next : Option ℕ) (event : Event) → expired_by_outcome (outcome_of table es xs x next event) ≡ expired_at table es event
+expires_by_event : (table : Table) (es : List Stored) (xs : List Exchange) (x : Option Exchange) (next : Option ℕ) (event : Event) → expired_by_outcome (outcome_for_exchange table es xs x next event) ≡ serials_expired_by_event table es event
 expires_by_event table es xs x next (Arrive now id asked) = arrival_expires table es now xs asked (verdict_of_asked table asked)
 expires_by_event table es xs (Some x) next (Answer now id r) = answered table es now x r next (decision_of (policy_of table.lines x.line) es x.asked now)
 expires_by_event table es xs None next (Answer now id r) = refl
-expires_by_event table es xs (Some x) next (Fail now id kind) = failed table es now x kind None (fallback_for (policy_of table.lines x.line) es x.asked now (decision_of (policy_of table.lines x.line) es x.asked now))
+expires_by_event table es xs (Some x) next (Fail now id kind) = failed table es now x kind None (fallback_for_failed_answer (policy_of table.lines x.line) es x.asked now (decision_of (policy_of table.lines x.line) es x.asked now))
 expires_by_event table es xs None next (Fail now id kind) = refl
 expires_by_event table es xs (Some x) next (Wake now id) = woken table es now x (decision_of (policy_of table.lines x.line) es x.asked now)
 expires_by_event table es xs None next (Wake now id) = refl
@@ -107,7 +107,7 @@ expires_by_event table es xs x next (Abandon id) = refl
 expires_by_event table es xs x next (Overdue id) = refl
 
 -- in words
-in_words : (table : Table) (es : List Stored) (event : Event) (o : Outcome) → expired_by_outcome o ≡ expired_at table es event → ThoseAreExpired table es event o
+in_words : (table : Table) (es : List Stored) (event : Event) (o : Outcome) → expired_by_outcome o ≡ serials_expired_by_event table es event → OutcomeExpiresExactlyWhatItMust table es event o
 in_words table es (Arrive now id asked) o h = h
 in_words table es (Answer now id r) o h = h
 in_words table es (Fail now id kind) o h = h
@@ -115,10 +115,10 @@ in_words table es (Wake now id) o h = h
 in_words table es (Abandon id) o h = h
 in_words table es (Overdue id) o h = h
 
-pub expires_just_that : ItemExpiresExactlyThese
+pub expires_just_that : ItemExpiresExactlyWhatItMust
 expires_just_that table start first item past g =
     let es = held_entries table start past in
     let xs = open_exchanges table start past in
     in_words table es item.event item.outcome
-    (subst (λ (o : Outcome). expired_by_outcome o ≡ expired_at table es item.event) (sym g.0.outcome_is)
+    (subst (λ (o : Outcome). expired_by_outcome o ≡ serials_expired_by_event table es item.event) (sym g.0.outcome_is)
     (expires_by_event table es xs (find_exchange (exchange_id_of_event item.event) xs) (next_serial first past) item.event))

@@ -11,7 +11,7 @@ use Rattle.std.proofs.lemmas.Bool.{cases_Bool, eqb-true, false≢true}
 use Rattle.std.proofs.lemmas.Bool.Decides.{nat_tests}
 use Rattle.std.proofs.lemmas.Option.{same_Some}
 use Rattle.proxy_core.specs.declared.open.exchange.Exchange.{Exchange}
-use Rattle.proxy_core.specs.Arrivals.{SelectedArrivalsPass}
+use Rattle.proxy_core.specs.Arrivals.{SelectedArrivalsPassTest}
 use Rattle.proxy_core.proofs.Waiters.{pass-but, none_behind, not_at, at_is}
 
 abbrev Numbered : Type 0
@@ -26,9 +26,9 @@ first_of which (x ∷ xs) = cond (which x) (Some x) (first_of which xs)
 
 -- those that pass have numbers that are still to come, and these ascend
 abbrev pub FirstIsLeft : (Exchange → Bool) → List ℕ → Numbered → Type 0
-FirstIsLeft which ns es = SelectedArrivalsPass which (λ k. list_any (λ n. at k n) ns) es × IsStrictlySortedBy nat_cmp ns
+FirstIsLeft which ns es = SelectedArrivalsPassTest which (λ k. list_any (λ n. at k n) ns) es × IsStrictlySortedBy nat_cmp ns
 
-pub none_passes : (which : Exchange → Bool) (es : Numbered) → SelectedArrivalsPass which (λ k. false) es → first_of which (values_of es) ≡ None
+pub none_passes : (which : Exchange → Bool) (es : Numbered) → SelectedArrivalsPassTest which (λ k. false) es → first_of which (values_of es) ≡ None
 none_passes which [] h = refl
 none_passes which (e ∷ es) h = elim (cases_Bool (which e.1)) [
   | inl t ↦ absurd (false≢true (h.0 t))
@@ -53,7 +53,7 @@ pub not_passing : (which : Exchange → Bool) (n : ℕ) (x : Exchange) (ns : Lis
     FirstIsLeft which (n ∷ ns) es → FirstIsLeft which ns es
 not_passing which n x ns es s there idle h = (go es s there h.0, sorted_tail nat_cmp n ns h.1)
   where
-    go : (es : Numbered) → IsStrictlySortedBy nat_cmp (keys_of es) → Some x ≡ lookup (at n) es → SelectedArrivalsPass which (λ k. list_any (λ m. at k m) (n ∷ ns)) es → SelectedArrivalsPass which (λ k. list_any (λ m. at k m) ns) es
+    go : (es : Numbered) → IsStrictlySortedBy nat_cmp (keys_of es) → Some x ≡ lookup (at n) es → SelectedArrivalsPassTest which (λ k. list_any (λ m. at k m) (n ∷ ns)) es → SelectedArrivalsPassTest which (λ k. list_any (λ m. at k m) ns) es
     go [] s there h = tt
     go (e ∷ es) s there h = elim (cases_Bool (at n e.0)) [
       | inl t ↦ (
@@ -90,7 +90,7 @@ it_is_first which n x ns es s there active h = go (sorted_head nat_cmp n ns h.1)
         through : (m k : ℕ) → nat_cmp n m ≡ Less → nat_cmp m k ≡ Less → nat_cmp n k ≡ Less
         through m k a b = grind (arith, nat_tests, a, b)
 
-    go : AllByRecursion (λ k. nat_cmp n k ≡ Less) ns → (es : Numbered) → IsStrictlySortedBy nat_cmp (keys_of es) → Some x ≡ lookup (at n) es → SelectedArrivalsPass which (λ k. list_any (λ m. at k m) (n ∷ ns)) es → Some x ≡ first_of which (values_of es)
+    go : AllByRecursion (λ k. nat_cmp n k ≡ Less) ns → (es : Numbered) → IsStrictlySortedBy nat_cmp (keys_of es) → Some x ≡ lookup (at n) es → SelectedArrivalsPassTest which (λ k. list_any (λ m. at k m) (n ∷ ns)) es → Some x ≡ first_of which (values_of es)
     go a [] s there h = absurd (cc)
     go a (e ∷ es) s there h = elim (cases_Bool (at n e.0)) [
       | inl t ↦ (

@@ -11,9 +11,9 @@ use Rattle.proxy_core.specs.Allowing.{verdict_of_asked}
 use Rattle.hx_allow.specs.declared.verdicts.Verdict.{Verdict}
 use Rattle.hx_allow.specs.declared.verdicts.Verdict.TheVariants as verdict
 use Rattle.hx_allow.specs.declared.verdicts.Verdict.TheVariants.{Allowed}
-use Rattle.hx_allow.specs.declared.verdicts.Route.{Route}
+use Rattle.hx_allow.specs.declared.verdicts.RequestRoute.{RequestRoute}
 use Rattle.hx_store.specs.Stored.{Stored}
-use Rattle.hx_store.specs.Serials.{Distinct}
+use Rattle.hx_store.specs.Serials.{SerialsAreDistinct}
 use Rattle.hx_store.specs.Shelf.{serials}
 use Rattle.hx_reuse.specs.ChosenAndNamed.{IsLeastReuseRule}
 use Rattle.hx_reuse.specs.Rules.{decision_of}
@@ -33,7 +33,7 @@ use Rattle.proxy_core.specs.declared.steps.fallback.Fallback.TheVariants.{Sends,
 use Rattle.proxy_core.specs.declared.core_fault.CoreFault.{CoreFault}
 use Rattle.proxy_core.specs.declared.core_fault.CoreFault.TheVariants.{MomentTooLate}
 use Rattle.proxy_core.specs.declared.outcome.Outcome.{Outcome}
-use Rattle.proxy_core.specs.declared.outcome.Outcome.TheVariants.{Reply as Replied, Forward, Waits, Ended, WaitsNoMore}
+use Rattle.proxy_core.specs.declared.outcome.Outcome.TheVariants.{Reply as ReplyData, Forward, Waits, Ended, WaitsNoMore}
 use Rattle.proxy_core.specs.declared.event.Event.{Event}
 use Rattle.proxy_core.specs.declared.event.Event.TheVariants.{Arrive, Answer, Fail, Wake, Abandon, Overdue}
 use Rattle.proxy_core.specs.Moments.{moment_too_late_fault}
@@ -41,51 +41,51 @@ use Rattle.proxy_core.specs.Leading.{is_forwarded, is_released}
 use Rattle.proxy_core.specs.Storing.{is_304_without_condition}
 use Rattle.proxy_core.specs.Validating.{condition_about_serial, is_304_to_own_conditions, stored_response_validated}
 use Rattle.proxy_core.specs.Abouts.{about_by_outcome}
-use Rattle.proxy_core.specs.Outcomes.{find_exchange, exchange_id_of_event, outcome_of_event, outcome_of, fallback_for, outcome_of_wake, outcome_of_arrival, outcome_of_allowed_request, outcome_without_stored_response, outcome_of_waiting_or_forwarding, outcome_of_failure, outcome_of_passing_on_or_stale, outcome_of_304, outcome_of_answer, is_error_status, is_only_if_cached, forward_text, or_fault, fault_if_not_forwarded, fault_if_not_released, fault_at_exchange}
+use Rattle.proxy_core.specs.Outcomes.{find_exchange, exchange_id_of_event, outcome_of_event, outcome_for_exchange, fallback_for_failed_answer, outcome_of_wake, outcome_of_arrival, outcome_of_allowed_request, outcome_without_stored_response, outcome_of_waiting_or_forwarding, outcome_of_failure, outcome_of_passing_on_or_stale, outcome_of_304, outcome_of_answer, is_error_status, is_only_if_cached, forward_text, fault_else, fault_if_not_forwarded, fault_if_not_released, fault_at_exchange}
 use Rattle.proxy_core.specs.State.{serial_used_by_outcome, bounds_of}
-use Rattle.proxy_core.specs.Starts.{StoreAtStart, StartStands}
+use Rattle.proxy_core.specs.Starts.{StoreAtStart, StartIsValid}
 use Rattle.proxy_core.specs.Traces.{Item, initial_state}
 use Rattle.proxy_core.specs.Histories.{held_entries, open_exchanges, next_serial, IsGoodHistory}
 use Rattle.proxy_core.specs.Promises.{outcome_goes_forward, request_after_event, latest_request_of}
 use Rattle.proxy_core.specs.Sending.{StoredResponseMayBeSentAt, RequestReachesCacheOrOrigin}
-use Rattle.proxy_core.specs.GoingOn.{EventMayCome, NeedsSecondForward, IsClientReply, ExchangeGoesOnBy, IsConditionOfEvent}
-use Rattle.proxy_core.specs.Headline.{HoldsAtEachItem, EventComesWhereItMay, RequestReachesExactlyWhereAllowed, RequestGoesForwardWhereAllowed, ExchangeGoesOnToItsAnswer, StoredResponseIsSentExactlyWhereItMayBe, SentResponseIsTheStoredOne, OtherAnswerNamesTheFirstRule, AnswerIsStoredExactlyWhereItMayBe, StoredResponsesAreRemovedExactlyWhereTheyMustBe, ConnectionClosesAsAsked, OutcomeIsToldAsItIs, Headline, EveryGoodTraceHasTheHeadline}
+use Rattle.proxy_core.specs.GoingOn.{EventSuitsExchange, NeedsSecondForward, IsClientReply, ExchangeContinuesByEvent, ConditionIsSentAtEvent}
+use Rattle.proxy_core.specs.Headline.{HoldsAtEachItem, EachEventSuitsExchange, RequestReachesCacheOrOriginIffAllowed, RequestGoesForwardWhereAllowed, ClientIsAnsweredAtTheNextStep, StoredResponseIsSentExactlyWhereItMayBe, SentResponseIsTheStoredOne, AnswerNotFromStoreNamesFirstRule, AnswerIsStoredExactlyWhereItMayBe, StoredResponsesAreRemovedExactlyWhereTheyMustBe, ConnectionClosesAsAsked, OutcomeIsReportedTruthfully, Headline, EveryGoodTraceHasTheHeadline}
 use Rattle.proxy_core.proofs.SentBeside.{led_over, sent_over, unless_sent}
 use Rattle.proxy_core.proofs.Carries.{IsAgain, again_by, carries_its_arrival}
 use Rattle.proxy_core.proofs.FirstRules.{held_distinct, names_first_rules}
 use Rattle.proxy_core.proofs.HeldLaw.{good_plain}
 use Rattle.proxy_core.proofs.Moves.{failed_back, waiting_from}
 use Rattle.proxy_core.proofs.OpenLaws.{has_its_request}
-use Rattle.proxy_core.proofs.SendLaws.{forwards_nothing_else, reaches_where_allowed, refuses_where_not_allowed, purges_its_scope, reusable_hit, sends_what_may_be_sent, sends_nothing_else}
+use Rattle.proxy_core.proofs.SendLaws.{forwards_nothing_else, reaches_cache_or_origin_iff_allowed, refuses_where_not_allowed, purges_its_scope, reusable_hit, sends_what_may_be_sent, sends_nothing_else}
 use Rattle.proxy_core.proofs.SentResponses.{sends_what_is_held}
 use Rattle.proxy_core.proofs.Purged.{purges_where_said}
 use Rattle.proxy_core.proofs.Expiring.{expires_just_that}
-use Rattle.proxy_core.proofs.StoredAnswers.{stores_where_it_may, stores_nowhere_else, stores_the_next, removes_just_that}
-use Rattle.proxy_core.proofs.Tracing.{denied_leave_no_trace}
+use Rattle.proxy_core.proofs.StoredAnswers.{stores_where_allowed, stores_nowhere_else, stores_the_next, removes_just_that}
+use Rattle.proxy_core.proofs.Tracing.{denied_requests_leave_no_trace}
 use Rattle.proxy_core.proofs.TwiceForward.{twice_forward_one_reply}
 use Rattle.proxy_core.proofs.Unsent.{nothing_invalidated_is_sent, nothing_invalidated_since}
 
-not_forward : {P : Type 0} (o : Outcome) (line : Route) (bytes : List ℕ) → outcome_goes_forward o ≡ false → o ≡ Forward line bytes → P
+not_forward : {P : Type 0} (o : Outcome) (line : RequestRoute) (bytes : List ℕ) → outcome_goes_forward o ≡ false → o ≡ Forward line bytes → P
 not_forward {P} o line bytes back h =
     let out : false ≡ true = sym back ∙ ap outcome_goes_forward h in
     absurd (cc)
 
 -- the request of an event goes to a line that allows it, with the conditions of that moment
-abbrev Goes : Table → List Stored → List Item → Route → List ℕ → Event → Type 0
+abbrev Goes : Table → List Stored → List Item → RequestRoute → List ℕ → Event → Type 0
 Goes table es past line bytes event =
     (asked : Asked) × (condition : Option Condition) × (request_after_event (exchange_id_of_event event) event (latest_request_of (exchange_id_of_event event) past) ≡ Some asked) × (verdict_of_asked table asked ≡ Allowed line)
-    × IsConditionOfEvent (policy_of table.lines line) es asked event condition × (bytes ≡ forward_text table line asked condition)
+    × ConditionIsSentAtEvent (policy_of table.lines line) es asked event condition × (bytes ≡ forward_text table line asked condition)
 
 abbrev bytes_in : Outcome → List ℕ
 bytes_in (Forward line bytes) = bytes
 bytes_in (Waits leader) = []
-bytes_in (Replied r) = []
+bytes_in (ReplyData r) = []
 bytes_in Ended = []
 bytes_in WaitsNoMore = []
 
 -- the reply closes its connection where the request says so; another outcome is none
 abbrev close_in : Bool → Outcome → Bool
-close_in c (Replied r) = r.close
+close_in c (ReplyData r) = r.close
 close_in c (Forward line bytes) = c
 close_in c (Waits leader) = c
 close_in c Ended = c
@@ -103,7 +103,7 @@ in_time now h = by_test (ltb now END_OF_TIME) refl h
     by_test true k h = grind (arith, nat_tests, k)
     by_test false k h = absurd (cc)
 
-neither_fault : (a b : Option CoreFault) → or_fault a b ≡ None → (a ≡ None) × (b ≡ None)
+neither_fault : (a b : Option CoreFault) → fault_else a b ≡ None → (a ≡ None) × (b ≡ None)
 neither_fault None b h = (refl, h)
 neither_fault (Some fault) b h = absurd (cc)
 
@@ -117,7 +117,7 @@ may_be_woken Forwarded h = absurd (cc)
 may_be_woken (Waiting leader) h = absurd (cc)
 may_be_woken Released h = refl
 
-may_come : (x : Option Exchange) (event : Event) → fault_at_exchange x event ≡ None → EventMayCome x event
+may_come : (x : Option Exchange) (event : Event) → fault_at_exchange x event ≡ None → EventSuitsExchange x event
 may_come None (Arrive now id asked) h = in_time now h
 may_come (Some x) (Arrive now id asked) h = absurd (cc)
 may_come (Some x) (Answer now id r) h = let parts = neither_fault (moment_too_late_fault now) (fault_if_not_forwarded x.stage) h in (in_time now parts.0, at_its_origin x.stage parts.1)
@@ -149,8 +149,8 @@ module _ (table : Table) (es : List Stored) where
   some_or_not : (e : Stored) → ◌≡◌ {A = Option Stored} (Some e) None → ⊥
   some_or_not e h = cc
 
-  answer_goes_on : Distinct (serials es) → (now id : ℕ) (x : Exchange) (r : Response) (next : Option ℕ) →
-      ExchangeGoesOnBy table es (Some x) (Answer now id r) (outcome_of_answer table es now x r next (decision_of (policy_of table.lines x.line) es x.asked now))
+  answer_goes_on : SerialsAreDistinct (serials es) → (now id : ℕ) (x : Exchange) (r : Response) (next : Option ℕ) →
+      ExchangeContinuesByEvent table es (Some x) (Answer now id r) (outcome_of_answer table es now x r next (decision_of (policy_of table.lines x.line) es x.asked now))
   answer_goes_on distinct now id x r next = by_304 (is_304_to_own_conditions x r) refl
     where
       d : Decision
@@ -172,26 +172,26 @@ module _ (table : Table) (es : List Stored) where
 
       by_304 : (b : Bool) → is_304_to_own_conditions x r ≡ b →
           Is (cond b (outcome_of_304 table es now x r (stored_response_validated es x r now) d)
-          (cond (is_304_without_condition (policy_of table.lines x.line) x.asked r) (outcome_of_failure table es now x BadAnswer (Some r.status) (fallback_for (policy_of table.lines x.line) es x.asked now d)) (outcome_of_passing_on_or_stale table es now x r next (is_error_status r.status) (fallback_for (policy_of table.lines x.line) es x.asked now d))))
+          (cond (is_304_without_condition (policy_of table.lines x.line) x.asked r) (outcome_of_failure table es now x BadAnswer (Some r.status) (fallback_for_failed_answer (policy_of table.lines x.line) es x.asked now d)) (outcome_of_passing_on_or_stale table es now x r next (is_error_status r.status) (fallback_for_failed_answer (policy_of table.lines x.line) es x.asked now d))))
       by_304 true k = validates k (stored_response_validated es x r now) refl d refl
       by_304 false k = (λ asks. no_true (sym k ∙ asks.0), λ no. by_unasked (is_304_without_condition (policy_of table.lines x.line) x.asked r))
         where
-          by_unasked : (b : Bool) → IsClientReply (cond b (outcome_of_failure table es now x BadAnswer (Some r.status) (fallback_for (policy_of table.lines x.line) es x.asked now d)) (outcome_of_passing_on_or_stale table es now x r next (is_error_status r.status) (fallback_for (policy_of table.lines x.line) es x.asked now d)))
-          by_unasked true = failed_replies now x BadAnswer (Some r.status) (fallback_for (policy_of table.lines x.line) es x.asked now d)
-          by_unasked false = passed_replies now x r next (is_error_status r.status) (fallback_for (policy_of table.lines x.line) es x.asked now d)
+          by_unasked : (b : Bool) → IsClientReply (cond b (outcome_of_failure table es now x BadAnswer (Some r.status) (fallback_for_failed_answer (policy_of table.lines x.line) es x.asked now d)) (outcome_of_passing_on_or_stale table es now x r next (is_error_status r.status) (fallback_for_failed_answer (policy_of table.lines x.line) es x.asked now d)))
+          by_unasked true = failed_replies now x BadAnswer (Some r.status) (fallback_for_failed_answer (policy_of table.lines x.line) es x.asked now d)
+          by_unasked false = passed_replies now x r next (is_error_status r.status) (fallback_for_failed_answer (policy_of table.lines x.line) es x.asked now d)
 
-  wake_goes_on : (now id : ℕ) (x : Exchange) (k : Decision) → decision_of (policy_of table.lines x.line) es x.asked now ≡ k → ExchangeGoesOnBy table es (Some x) (Wake now id) (outcome_of_wake table es now x k)
+  wake_goes_on : (now id : ℕ) (x : Exchange) (k : Decision) → decision_of (policy_of table.lines x.line) es x.asked now ≡ k → ExchangeContinuesByEvent table es (Some x) (Wake now id) (outcome_of_wake table es now x k)
   wake_goes_on now id x (decision.Hit s) dk = inl (_, refl)
   wake_goes_on now id x (decision.Forward rule against) dk =
       let named = names_the_least (policy_of table.lines x.line) es x.asked now rule against dk in
       inr (rule, record { is_least = named.0; against = against; names = named.1; outcome_is = refl })
 
-  goes_on_by : Distinct (serials es) → (xs : List Exchange) (x : Option Exchange) (next : Option ℕ) (event : Event) → fault_at_exchange x event ≡ None → ExchangeGoesOnBy table es x event (outcome_of table es xs x next event)
+  goes_on_by : SerialsAreDistinct (serials es) → (xs : List Exchange) (x : Option Exchange) (next : Option ℕ) (event : Event) → fault_at_exchange x event ≡ None → ExchangeContinuesByEvent table es x event (outcome_for_exchange table es xs x next event)
   goes_on_by distinct xs x next (Arrive now id asked) h = tt
   goes_on_by distinct xs (Some x) next (Answer now id r) h = answer_goes_on distinct now id x r next
   goes_on_by distinct xs None next (Answer now id r) h = absurd (cc)
   goes_on_by distinct xs (Some x) next (Fail now id kind) h =
-      failed_replies now x kind None (fallback_for (policy_of table.lines x.line) es x.asked now (decision_of (policy_of table.lines x.line) es x.asked now))
+      failed_replies now x kind None (fallback_for_failed_answer (policy_of table.lines x.line) es x.asked now (decision_of (policy_of table.lines x.line) es x.asked now))
   goes_on_by distinct xs None next (Fail now id kind) h = absurd (cc)
   goes_on_by distinct xs (Some x) next (Wake now id) h = wake_goes_on now id x (decision_of (policy_of table.lines x.line) es x.asked now) refl
   goes_on_by distinct xs None next (Wake now id) h = absurd (cc)
@@ -238,12 +238,12 @@ module _ (table : Table) (es : List Stored) where
       passes true (Refuses rule error) = refl
       passes false fallback = refl
 
-      by_unasked : (b : Bool) → close_in x.asked.close (cond b (outcome_of_failure table es now x BadAnswer (Some r.status) (fallback_for (policy_of table.lines x.line) es x.asked now d)) (outcome_of_passing_on_or_stale table es now x r next (is_error_status r.status) (fallback_for (policy_of table.lines x.line) es x.asked now d))) ≡ x.asked.close
-      by_unasked true = failed_closes now x BadAnswer (Some r.status) (fallback_for (policy_of table.lines x.line) es x.asked now d)
-      by_unasked false = passes (is_error_status r.status) (fallback_for (policy_of table.lines x.line) es x.asked now d)
+      by_unasked : (b : Bool) → close_in x.asked.close (cond b (outcome_of_failure table es now x BadAnswer (Some r.status) (fallback_for_failed_answer (policy_of table.lines x.line) es x.asked now d)) (outcome_of_passing_on_or_stale table es now x r next (is_error_status r.status) (fallback_for_failed_answer (policy_of table.lines x.line) es x.asked now d))) ≡ x.asked.close
+      by_unasked true = failed_closes now x BadAnswer (Some r.status) (fallback_for_failed_answer (policy_of table.lines x.line) es x.asked now d)
+      by_unasked false = passes (is_error_status r.status) (fallback_for_failed_answer (policy_of table.lines x.line) es x.asked now d)
 
       by_304 : (b : Bool) → close_in x.asked.close (cond b (outcome_of_304 table es now x r (stored_response_validated es x r now) d)
-          (cond (is_304_without_condition (policy_of table.lines x.line) x.asked r) (outcome_of_failure table es now x BadAnswer (Some r.status) (fallback_for (policy_of table.lines x.line) es x.asked now d)) (outcome_of_passing_on_or_stale table es now x r next (is_error_status r.status) (fallback_for (policy_of table.lines x.line) es x.asked now d)))) ≡ x.asked.close
+          (cond (is_304_without_condition (policy_of table.lines x.line) x.asked r) (outcome_of_failure table es now x BadAnswer (Some r.status) (fallback_for_failed_answer (policy_of table.lines x.line) es x.asked now d)) (outcome_of_passing_on_or_stale table es now x r next (is_error_status r.status) (fallback_for_failed_answer (policy_of table.lines x.line) es x.asked now d)))) ≡ x.asked.close
       by_304 true = validates (stored_response_validated es x r now) d
       by_304 false = by_unasked (is_304_without_condition (policy_of table.lines x.line) x.asked r)
 
@@ -263,11 +263,11 @@ module _ (table : Table) (es : List Stored) where
   Closes x (Abandon id) o = o ≡ Ended
   Closes x (Overdue id) o = o ≡ WaitsNoMore
 
-  closes_by : (xs : List Exchange) (x : Option Exchange) (next : Option ℕ) (event : Event) → fault_at_exchange x event ≡ None → Closes x event (outcome_of table es xs x next event)
+  closes_by : (xs : List Exchange) (x : Option Exchange) (next : Option ℕ) (event : Event) → fault_at_exchange x event ≡ None → Closes x event (outcome_for_exchange table es xs x next event)
   closes_by xs x next (Arrive now id asked) h = arrival_closes xs now asked (verdict_of_asked table asked)
   closes_by xs (Some x) next (Answer now id r) h = answer_closes now x r next (decision_of (policy_of table.lines x.line) es x.asked now)
   closes_by xs None next (Answer now id r) h = absurd (cc)
-  closes_by xs (Some x) next (Fail now id kind) h = failed_closes now x kind None (fallback_for (policy_of table.lines x.line) es x.asked now (decision_of (policy_of table.lines x.line) es x.asked now))
+  closes_by xs (Some x) next (Fail now id kind) h = failed_closes now x kind None (fallback_for_failed_answer (policy_of table.lines x.line) es x.asked now (decision_of (policy_of table.lines x.line) es x.asked now))
   closes_by xs None next (Fail now id kind) h = absurd (cc)
   closes_by xs (Some x) next (Wake now id) h = wake_closes now x (decision_of (policy_of table.lines x.line) es x.asked now)
   closes_by xs None next (Wake now id) h = absurd (cc)
@@ -307,20 +307,20 @@ module _ (table : Table) (start : StoreAtStart) (first : ℕ) where
       by_arrival now id asked v (inr (inr (inr (rule, only, least, is)))) = not_forward item.outcome line bytes (ap outcome_goes_forward is) h
 
       by_answer : (now id : ℕ) (r : Response) (w : Option Exchange) → find_exchange id xs ≡ w →
-          Forward line bytes ≡ outcome_of table es xs w (next_serial first past) (Answer now id r) → Goes table es past line bytes (Answer now id r)
+          Forward line bytes ≡ outcome_for_exchange table es xs w (next_serial first past) (Answer now id r) → Goes table es past line bytes (Answer now id r)
       by_answer now id r None w_is o = absurd (cc)
       by_answer now id r (Some x) w_is o =
           let again = subst (IsAgain table x) (sym o) (again_by table es now x r (next_serial first past) (decision_of (policy_of table.lines x.line) es x.asked now)) in
           let carried = (carries_its_arrival table start first id past x g.1 w_is).0 in
           (x.asked, None, has_its_request table start first id past x g.1 w_is, carried.line_allows ∙ ap (λ n. Allowed n) (sym again.0), refl, again.1 ∙ ap (λ n. forward_text table n x.asked None) (sym again.0))
 
-      by_failure : (now id : ℕ) (kind : FailKind) (w : Option Exchange) → Forward line bytes ≡ outcome_of table es xs w (next_serial first past) (Fail now id kind) → Goes table es past line bytes (Fail now id kind)
+      by_failure : (now id : ℕ) (kind : FailKind) (w : Option Exchange) → Forward line bytes ≡ outcome_for_exchange table es xs w (next_serial first past) (Fail now id kind) → Goes table es past line bytes (Fail now id kind)
       by_failure now id kind None o = absurd (cc)
       by_failure now id kind (Some x) o =
-          not_forward _ line bytes (failed_back table es now x kind None (fallback_for (policy_of table.lines x.line) es x.asked now (decision_of (policy_of table.lines x.line) es x.asked now))) (sym o)
+          not_forward _ line bytes (failed_back table es now x kind None (fallback_for_failed_answer (policy_of table.lines x.line) es x.asked now (decision_of (policy_of table.lines x.line) es x.asked now))) (sym o)
 
       by_wake : (now id : ℕ) (w : Option Exchange) → find_exchange id xs ≡ w →
-          Forward line bytes ≡ outcome_of table es xs w (next_serial first past) (Wake now id) → Goes table es past line bytes (Wake now id)
+          Forward line bytes ≡ outcome_for_exchange table es xs w (next_serial first past) (Wake now id) → Goes table es past line bytes (Wake now id)
       by_wake now id None w_is o = absurd (cc)
       by_wake now id (Some x) w_is o = by_decision (decision_of (policy_of table.lines x.line) es x.asked now) refl o
         where
@@ -342,7 +342,7 @@ module _ (table : Table) (start : StoreAtStart) (first : ℕ) where
       by_event (Arrive now id asked) e =
           let goes = forwards_nothing_else table start first now id line asked bytes item past g e h in
           subst (Goes table es past line bytes) (sym e)
-          (by_arrival now id asked goes.0 (reaches_where_allowed table start first now id line asked item past g e goes.0))
+          (by_arrival now id asked goes.0 (reaches_cache_or_origin_iff_allowed table start first now id line asked item past g e goes.0))
       by_event (Answer now id r) e =
           subst (Goes table es past line bytes) (sym e)
           (by_answer now id r (find_exchange id xs) refl (sym h ∙ outcome_at item past g (Answer now id r) e))
@@ -359,19 +359,19 @@ module _ (table : Table) (start : StoreAtStart) (first : ℕ) where
           let none : Forward line bytes ≡ WaitsNoMore = sym h ∙ outcome_at item past g (Overdue id) e in
           absurd (cc)
 
-  comes : (item : Item) (past : List Item) → IsGoodHistory table start first (item ∷ past) → EventComesWhereItMay table start item past
+  comes : (item : Item) (past : List Item) → IsGoodHistory table start first (item ∷ past) → EachEventSuitsExchange table start item past
   comes item past g = may_come (find_exchange (exchange_id_of_event item.event) (open_exchanges table start past)) item.event g.0.allowed
 
-  goes_on : (item : Item) (past : List Item) → IsGoodHistory table start first (item ∷ past) → ExchangeGoesOnToItsAnswer table start item past
+  goes_on : (item : Item) (past : List Item) → IsGoodHistory table start first (item ∷ past) → ClientIsAnsweredAtTheNextStep table start item past
   goes_on item past g =
       let es = held_entries table start past in
       let xs = open_exchanges table start past in
       let x = find_exchange (exchange_id_of_event item.event) xs in
-      subst (ExchangeGoesOnBy table es x item.event) (sym g.0.outcome_is) (goes_on_by table es (held_distinct table start first past g.1) xs x (next_serial first past) item.event g.0.allowed)
+      subst (ExchangeContinuesByEvent table es x item.event) (sym g.0.outcome_is) (goes_on_by table es (held_distinct table start first past g.1) xs x (next_serial first past) item.event g.0.allowed)
 
   stores : (item : Item) (past : List Item) → IsGoodHistory table start first (item ∷ past) → AnswerIsStoredExactlyWhereItMayBe table start first item past
   stores item past g = (
-    λ now id x r e found unused may. stores_where_it_may table start first now id x r item past g e found unused may,
+    λ now id x r e found unused may. stores_where_allowed table start first now id x r item past g e found unused may,
     λ s stored. (stores_the_next table start first s item past g stored, stores_nowhere_else table start first s item past g stored),
   )
 
@@ -400,10 +400,10 @@ module _ (table : Table) (start : StoreAtStart) (first : ℕ) where
           (x.asked, has_its_request table start first id past x g.1 (sym (ap (λ (v : Event). find_exchange (exchange_id_of_event v) (open_exchanges table start past)) e) ∙ w_is), closed_by x.asked.close k)
       by_event (Wake now id) e None w_is k = absurd k
       by_event (Abandon id) e w w_is k =
-          let none : Replied reply ≡ Ended = sym h ∙ k in
+          let none : ReplyData reply ≡ Ended = sym h ∙ k in
           absurd (cc)
       by_event (Overdue id) e w w_is k =
-          let none : Replied reply ≡ WaitsNoMore = sym h ∙ k in
+          let none : ReplyData reply ≡ WaitsNoMore = sym h ∙ k in
           absurd (cc)
 
   each : (P : Item → List Item → Type 0) → ((item : Item) (past : List Item) → IsGoodHistory table start first (item ∷ past) → P item past) →
@@ -412,7 +412,7 @@ module _ (table : Table) (start : StoreAtStart) (first : ℕ) where
   each P f (item ∷ past) g = (f item past g, each P f past g.1)
 
   -- what is held at first may be
-  begins : (trace : List Item) → IsGoodHistory table start first trace → StartStands (bounds_of table start.limit) (Some first) start.entries
+  begins : (trace : List Item) → IsGoodHistory table start first trace → StartIsValid (bounds_of table start.limit) (Some first) start.entries
   begins [] g = g
   begins (item ∷ past) g = begins past g.1
 
@@ -420,24 +420,24 @@ module _ (table : Table) (start : StoreAtStart) (first : ℕ) where
   headline trace g =
       let plain = good_plain table start first trace g in
       record {
-        begins_as_it_may = begins trace g;
-        comes_where_it_may = each (EventComesWhereItMay table start) comes trace g;
-        reaches_where_allowed = each (RequestReachesExactlyWhereAllowed table start)
-            (λ item past g now id asked e. (λ line v. reaches_where_allowed table start first now id line asked item past g e v, (λ p. purges_its_scope table start first now id asked item past g e p, λ n p. refuses_where_not_allowed table start first now id asked item past g e n p))) trace g;
-        goes_where_allowed = each (RequestGoesForwardWhereAllowed table start) goes trace g;
-        goes_on_to_its_answer = each (ExchangeGoesOnToItsAnswer table start) goes_on trace g;
-        sends_where_one_may_be = each (StoredResponseIsSentExactlyWhereItMayBe table start)
+        store_at_start_is_valid = begins trace g;
+        events_fit_exchanges = each (EachEventSuitsExchange table start) comes trace g;
+        reaches_cache_or_origin_iff_allowed = each (RequestReachesCacheOrOriginIffAllowed table start)
+            (λ item past g now id asked e. (λ line v. reaches_cache_or_origin_iff_allowed table start first now id line asked item past g e v, (λ p. purges_its_scope table start first now id asked item past g e p, λ n p. refuses_where_not_allowed table start first now id asked item past g e n p))) trace g;
+        goes_forward_where_allowed = each (RequestGoesForwardWhereAllowed table start) goes trace g;
+        client_is_answered = each (ClientIsAnsweredAtTheNextStep table start) goes_on trace g;
+        sends_stored_where_allowed = each (StoredResponseIsSentExactlyWhereItMayBe table start)
             (λ item past g s. (λ may. sends_what_may_be_sent table start first s item past g may, λ h. sends_nothing_else table start first s item past g h)) trace g;
-        sends_that_response = each (SentResponseIsTheStoredOne table start) (λ item past g s h. sends_what_is_held table start first s item past g h) trace g;
-        names_the_first_rule = each (OtherAnswerNamesTheFirstRule table start first) (λ item past g. names_first_rules table start first item past g) trace g;
-        stores_where_it_may = each (AnswerIsStoredExactlyWhereItMayBe table start first) stores trace g;
-        removes_what_goes = each (StoredResponsesAreRemovedExactlyWhereTheyMustBe table start) (λ item past g. (removes_just_that table start first item past g, purges_where_said table start first item past g, expires_just_that table start first item past g)) trace g;
+        sends_the_stored_response = each (SentResponseIsTheStoredOne table start) (λ item past g s h. sends_what_is_held table start first s item past g h) trace g;
+        names_the_first_rule = each (AnswerNotFromStoreNamesFirstRule table start first) (λ item past g. names_first_rules table start first item past g) trace g;
+        stores_where_allowed = each (AnswerIsStoredExactlyWhereItMayBe table start first) stores trace g;
+        removes_exactly_what_must_go = each (StoredResponsesAreRemovedExactlyWhereTheyMustBe table start) (λ item past g. (removes_just_that table start first item past g, purges_where_said table start first item past g, expires_just_that table start first item past g)) trace g;
         closes_as_asked = each ConnectionClosesAsAsked closes trace g;
-        tells_what_it_is = each (OutcomeIsToldAsItIs table start first) (λ item past g. ap about_by_outcome g.0.outcome_is) trace g;
+        outcome_is_reported_truthfully = each (OutcomeIsReportedTruthfully table start first) (λ item past g. ap about_by_outcome g.0.outcome_is) trace g;
         nothing_invalidated_is_sent = nothing_invalidated_is_sent table start first trace plain;
         nothing_invalidated_since = nothing_invalidated_since table start first trace plain;
         twice_forward_one_reply = twice_forward_one_reply (initial_state table start first) trace plain;
-        denied_leave_no_trace = denied_leave_no_trace (initial_state table start first) trace plain;
+        denied_requests_leave_no_trace = denied_requests_leave_no_trace (initial_state table start first) trace plain;
       }
 
 pub every_good_trace_has_it : EveryGoodTraceHasTheHeadline

@@ -3,8 +3,8 @@ use Rattle.std.proofs.Common.{◌≡◌, ℕ, ◌+◌, true, false, cond, ◌||�
 use Rattle.std.proofs.lemmas.Bool.{false≢true, eqb-true, ne_eqb, or_parts, false_from_ne_true}
 use Rattle.std.proofs.lemmas.Option.{same_Some}
 use Rattle.hx_store.specs.Stored.{Stored}
-use Rattle.hx_store.specs.Shelf.{holds_serial, find_entry, without_serials, with_promoted, with_first_if_any}
-use Rattle.hx_store.specs.Weights.{StoreBounds, cut_to_bounds, weight_of}
+use Rattle.hx_store.specs.Shelf.{holds_serial, find_entry, without_serials, entries_with_promoted, entries_with_first_if_any}
+use Rattle.hx_store.specs.Weights.{StoreBounds, cut_to_bounds, weight_of_entry}
 use Rattle.hx_store.proofs.EntryLists.{filter_keeps, find_holds}
 use Rattle.hx_store.proofs.Fronts.{front_of_within}
 use Rattle.proxy_core.specs.declared.replies.pending.Change.{Change}
@@ -13,13 +13,13 @@ use Rattle.proxy_core.specs.State.{NoSerialIsHeldFrom, entries_without_serials, 
 use Rattle.proxy_core.specs.Pending.{serial_stored_by_change, entries_after_change, StoresUnderNextSerial, StoresNewSerial, FreshensHeldResponse}
 
 front_none : (s : ℕ) (o : Option Stored) (es rest : List Stored) → ((x : Stored) → o ≡ Some x → holds_serial x.serial es ≡ true) →
-    holds_serial s es ≡ false → holds_serial s rest ≡ false → holds_serial s (with_first_if_any o rest) ≡ false
+    holds_serial s es ≡ false → holds_serial s rest ≡ false → holds_serial s (entries_with_first_if_any o rest) ≡ false
 front_none s None es rest f h r = r
 front_none s (Some x) es rest f h r =
     let other : eqb x.serial s ≡ false = false_from_ne_true _ (λ e. false≢true (sym h ∙ ap (λ z. holds_serial z es) (sym (eqb-true x.serial s e)) ∙ f x refl)) in
     ap (λ b. b || holds_serial s rest) other ∙ r
 
-pub NoneFrom-promoted : (next : Option ℕ) (s : ℕ) (es zs : List Stored) → zs ≡ with_promoted s es → NoSerialIsHeldFrom next es → NoSerialIsHeldFrom next zs
+pub NoneFrom-promoted : (next : Option ℕ) (s : ℕ) (es zs : List Stored) → zs ≡ entries_with_promoted s es → NoSerialIsHeldFrom next es → NoSerialIsHeldFrom next zs
 NoneFrom-promoted None s es zs e h = tt
 NoneFrom-promoted (Some n) s es zs e h = λ t l.
     ap (holds_serial t) e ∙ front_none t (find_entry s es) es (without_serials (s ∷ []) es) (λ x g. find_holds s es x g) (h t l) (filter_keeps _ t es (h t l))
@@ -58,7 +58,7 @@ front_keeps s (e ∷ front) rest h =
 pub NoneFrom-cut : (next : Option ℕ) (bounds : StoreBounds) (es : List Stored) → NoSerialIsHeldFrom next es → NoSerialIsHeldFrom next (cut_to_bounds bounds es)
 NoneFrom-cut None bounds es h = tt
 NoneFrom-cut (Some n) bounds es h = λ t l.
-    let q = front_of_within bounds weight_of es in
+    let q = front_of_within bounds weight_of_entry es in
     front_keeps t (cut_to_bounds bounds es) q.0 (ap (holds_serial t) q.1 ∙ h t l)
 
 -- a pending reply leaves no serial held from the next one on
@@ -66,7 +66,7 @@ pub NoneFrom-finished : (bounds : StoreBounds) (next : Option ℕ) (removed : Li
     → NoSerialIsHeldFrom (next_serial_after next (serial_stored_by_change c)) (entries_after_change bounds removed c es)
 NoneFrom-finished bounds next removed Keep es is held h = NoneFrom-taken next removed es h
 NoneFrom-finished bounds next removed (Use serial) es is held h =
-    NoneFrom-cut next bounds _ (NoneFrom-taken next removed (with_promoted serial es) (NoneFrom-promoted next serial es _ refl h))
+    NoneFrom-cut next bounds _ (NoneFrom-taken next removed (entries_with_promoted serial es) (NoneFrom-promoted next serial es _ refl h))
 NoneFrom-finished bounds next removed (Freshen e) es is held h =
     NoneFrom-cut next bounds _ (NoneFrom-taken next removed _ (NoneFrom-fresh next e es held.0 h))
 NoneFrom-finished bounds next removed (Remove serial) es is held h =

@@ -8,13 +8,13 @@ use Rattle.hx_target.specs.declared.keys.Key.{Key}
 use Rattle.hx_target.specs.Keys.{same_key}
 use Rattle.hx_store.specs.Stored.{Stored}
 use Rattle.hx_store.specs.Serials.{serial_is_in}
-use Rattle.hx_store.specs.Weights.{StoreBounds, AreWeightsOf, cut_to_bounds, weight_of}
-use Rattle.hx_store.specs.Shelf.{serials, holds_serial, find_entry, without_serials, serials_of, serials_where}
+use Rattle.hx_store.specs.Weights.{StoreBounds, WeightsAreThoseOfEntries, cut_to_bounds, weight_of_entry}
+use Rattle.hx_store.specs.Shelf.{serials, holds_serial, find_entry, without_serials, serials_of_key, serials_of_entries_that_pass}
 use Rattle.hx_store.proofs.FoundSerials.{finds_those}
 use Rattle.hx_store.proofs.PassingEntries.{finds_passing}
 use Rattle.hx_store.proofs.Fronts.{front_of_within}
 use Rattle.proxy_core.specs.State.{entries_without_serials}
-use Rattle.proxy_core.specs.Starts.{weight_if_any}
+use Rattle.proxy_core.specs.Starts.{weight_of_stored_if_any}
 
 pub serials-filter : (p : ℕ → Bool) (es : List Stored) → serials (filter (λ e. p e.serial) es) ≡ filter p (serials es)
 serials-filter p [] = refl
@@ -63,14 +63,14 @@ EachIs-front look (e ∷ front) rest h = (h.0, EachIs-front look front rest h.1)
 
 pub EachIs-cut : (look : ℕ → Option Stored) (bounds : StoreBounds) (es : List Stored) → EachIs look es → EachIs look (cut_to_bounds bounds es)
 EachIs-cut look bounds es h =
-    let q = front_of_within bounds weight_of es in
+    let q = front_of_within bounds weight_of_entry es in
     EachIs-front look (cut_to_bounds bounds es) q.0 (subst (EachIs look) (sym q.1) h)
 
 -- by these weights of serials each weighs what it does
-pub EachIs-weights : (look : ℕ → Option Stored) (es : List Stored) → EachIs look es → AreWeightsOf (λ s. weight_if_any (look s)) es
+pub EachIs-weights : (look : ℕ → Option Stored) (es : List Stored) → EachIs look es → WeightsAreThoseOfEntries (λ s. weight_of_stored_if_any (look s)) es
 unfolding EachIs
 EachIs-weights look [] h = tt
-EachIs-weights look (e ∷ es) h = (ap weight_if_any h.0, EachIs-weights look es h.1)
+EachIs-weights look (e ∷ es) h = (ap weight_of_stored_if_any h.0, EachIs-weights look es h.1)
 
 pub EachIs-taken : (look : ℕ → Option Stored) (rm : List ℕ) (es : List Stored) → EachIs look es → EachIs look (entries_without_serials rm es)
 EachIs-taken look [] es h = h
@@ -136,7 +136,7 @@ none_any key s (e ∷ es) h =
     ∙ none_any key s es p.1
 
 -- what isn't held isn't found of a key
-pub none_of_key : (key : Key) (s : ℕ) (es : List Stored) → holds_serial s es ≡ false → serial_is_in s (serials_of key es) ≡ false
+pub none_of_key : (key : Key) (s : ℕ) (es : List Stored) → holds_serial s es ≡ false → serial_is_in s (serials_of_key key es) ≡ false
 none_of_key key s es h = finds_those key s es ∙ none_any key s es h
 
 some_any : (passes : Stored → Bool) (s : ℕ) (es : List Stored) (e : Stored) → find_entry s es ≡ Some e → passes e ≡ true →
@@ -157,5 +157,5 @@ some_any passes s (x ∷ es) e f h = elim (cases_Bool (eqb x.serial s)) [
 ]
 
 -- what is held and passes a test is found by it
-pub some_passing : (passes : Stored → Bool) (s : ℕ) (es : List Stored) (e : Stored) → find_entry s es ≡ Some e → passes e ≡ true → serial_is_in s (serials_where passes es) ≡ true
+pub some_passing : (passes : Stored → Bool) (s : ℕ) (es : List Stored) (e : Stored) → find_entry s es ≡ Some e → passes e ≡ true → serial_is_in s (serials_of_entries_that_pass passes es) ≡ true
 some_passing passes s es e f h = finds_passing passes s es ∙ some_any passes s es e f h

@@ -8,14 +8,14 @@ use Rattle.std.proofs.lemmas.Bool.Decides.{nat_tests}
 use Rattle.hx_allow.specs.TableLines.{Table}
 use Rattle.hx_store.specs.Stored.{Stored}
 use Rattle.hx_store.specs.Serials.{serial_is_in}
-use Rattle.hx_store.specs.Shelf.{serials, holds_serial, find_entry, without_serials, with_first_if_any}
-use Rattle.hx_store.specs.Recency.{is_that_serial, moved_to_front, recent_after_change}
-use Rattle.hx_store.specs.Weights.{StoreBounds, IsWithin, weight_of, longest_prefix_within, cut_to_bounds}
+use Rattle.hx_store.specs.Shelf.{serials, holds_serial, find_entry, without_serials, entries_with_first_if_any}
+use Rattle.hx_store.specs.Recency.{option_is_serial, moved_to_front, recent_after_change}
+use Rattle.hx_store.specs.Weights.{StoreBounds, IsWithinBounds, weight_of_entry, longest_prefix_within, cut_to_bounds}
 use Rattle.hx_store.proofs.Recency.{filter_all}
 use Rattle.hx_store.proofs.EntryLists.{find-serial, find_holds, without_gone, filter_keeps}
 use Rattle.hx_store.proofs.EntryWeights.{filter_is_within, serials_are_cut}
 use Rattle.hx_store.proofs.Fronts.{cut_is_longest, within_stays}
-use Rattle.hx_store.specs.WeightedRecency.{stands_within}
+use Rattle.hx_store.specs.WeightedRecency.{serial_is_within_bounds}
 use Rattle.hx_store.proofs.WeightedRecency.{is_in-within, weighed_held_more}
 use Rattle.proxy_core.specs.declared.open.exchange.Exchange.{Exchange}
 use Rattle.proxy_core.specs.declared.outcome.Outcome.{Outcome}
@@ -24,10 +24,10 @@ use Rattle.proxy_core.specs.declared.event.Event.TheVariants.{Arrive, Answer, Fa
 use Rattle.proxy_core.specs.declared.core_fault.CoreFault.{CoreFault}
 use Rattle.proxy_core.specs.Validating.{stored_response_is_answered, freshened_by_304}
 use Rattle.proxy_core.specs.Outcomes.{find_exchange, exchange_id_of_event, outcome_of_event, step_fault}
-use Rattle.proxy_core.specs.State.{State, state_after, open_exchanges_after, entries_after, NoSerialIsHeldFrom, serial_stored_by_outcome, serial_used_by_outcome, serials_removed_by_outcome, next_serial_after, serial_after_this, stored_response_by_answer, stored_response_as_used, entries_after_storing, entries_after_use, entries_without_serials, bounds_of, cut_where_touched, serials_expired_by_outcome, entries_after_expiring}
-use Rattle.proxy_core.specs.Starts.{StoreAtStart, weight_if_any}
-use Rattle.proxy_core.specs.Traces.{Item, initial_state, state_after_trace, IsGood, ItemIsAccepted, RunStopsAt}
-use Rattle.proxy_core.specs.Histories.{store_change_of, store_changes, held_serials, open_exchanges, held_entry, held_entries, next_serial, IsGoodHistory, stored_response_after, response_if_any_after_expiring, HistoryStopsAt}
+use Rattle.proxy_core.specs.State.{State, state_after_event, open_exchanges_after, entries_after_event, NoSerialIsHeldFrom, serial_stored_by_outcome, serial_used_by_outcome, serials_removed_by_outcome, next_serial_after, serial_after_this, stored_response_by_answer, stored_response_as_used, entries_after_storing, entries_after_use, entries_without_serials, bounds_of, evicted_if_stored_or_used, serials_expired_by_outcome, entries_after_expiring}
+use Rattle.proxy_core.specs.Starts.{StoreAtStart, weight_of_stored_if_any}
+use Rattle.proxy_core.specs.Traces.{Item, initial_state, state_after_trace, IsGood, ItemIsAccepted, RunStopsWithFault}
+use Rattle.proxy_core.specs.Histories.{store_change_of, store_changes, held_serials, open_exchanges, held_entry, held_entries, next_serial, IsGoodHistory, stored_response_after, response_if_any_after_expiring, HistoryStopsWithFault}
 use Rattle.proxy_core.proofs.Held.{NoneFrom-taken, NoneFrom-fresh, NoneFrom-next, NoneFrom-cut}
 use Rattle.proxy_core.proofs.Leaving.{serial_stays}
 use Rattle.proxy_core.proofs.Beginning.{held_at_start, found_at_start}
@@ -40,15 +40,15 @@ list_before : List Stored → Option Exchange → Event → Option ℕ → Optio
 list_before es x event st us rm = entries_after_storing x event st rm (entries_after_use x event us es)
 
 entries_are : (bounds : StoreBounds) (es : List Stored) (x : Option Exchange) (event : Event) (o : Outcome) →
-    entries_after bounds es x event o
+    entries_after_event bounds es x event o
     ≡ entries_after_expiring event (serials_expired_by_outcome o)
-    (cut_where_touched bounds (serial_stored_by_outcome o) (serial_used_by_outcome o) (list_before es x event (serial_stored_by_outcome o) (serial_used_by_outcome o) (serials_removed_by_outcome o)))
+    (evicted_if_stored_or_used bounds (serial_stored_by_outcome o) (serial_used_by_outcome o) (list_before es x event (serial_stored_by_outcome o) (serial_used_by_outcome o) (serials_removed_by_outcome o)))
 unfolding list_before
 entries_are bounds es x event o = refl
 
 -- the response of a serial after a step, by what it stored and used
 abbrev pub look_after : Option Exchange → Event → Option ℕ → Option ℕ → (ℕ → Option Stored) → ℕ → Option Stored
-look_after x event st us look s = cond (is_that_serial st s) (stored_response_by_answer x event s) (cond (is_that_serial us s) (option_map (stored_response_as_used x event) (look s)) (look s))
+look_after x event st us look s = cond (option_is_serial st s) (stored_response_by_answer x event s) (cond (option_is_serial us s) (option_map (stored_response_as_used x event) (look s)) (look s))
 
 used_serial : (x : Option Exchange) (event : Event) (e : Stored) → (stored_response_as_used x event e).serial ≡ e.serial
 used_serial None event e = refl
@@ -90,8 +90,8 @@ kept_uses es x event next s e rm look f h n =
     let rest = without_serials (s ∷ []) es in
     let us : u.serial ≡ s = used_serial x event e ∙ find-serial s es e f in
     let m : holds_serial s es ≡ true = ap (λ z. holds_serial z es) (sym (find-serial s es e f)) ∙ find_holds s es e f in
-    let now : entries_without_serials rm (with_first_if_any (option_map (stored_response_as_used x event) (find_entry s es)) rest) ≡ entries_without_serials rm (u ∷ rest) =
-    ap (λ o. entries_without_serials rm (with_first_if_any (option_map (stored_response_as_used x event) o) rest)) f
+    let now : entries_without_serials rm (entries_with_first_if_any (option_map (stored_response_as_used x event) (find_entry s es)) rest) ≡ entries_without_serials rm (u ∷ rest) =
+    ap (λ o. entries_without_serials rm (entries_with_first_if_any (option_map (stored_response_as_used x event) o) rest)) f
     in
     let look' : ℕ → Option Stored = λ t. cond (eqb s t) (option_map (stored_response_as_used x event) (look t)) (look t) in
     let yes : eqb s u.serial ≡ true = eq-eqb s u.serial (sym us) in
@@ -119,8 +119,8 @@ kept_stores : (es : List Stored) (x : Option Exchange) (event : Event) (next : O
     Kept (next_serial_after next (Some s)) (Some s) None rm (look_after x event (Some s) None look) es (list_before es x event (Some s) None rm)
 unfolding list_before
 kept_stores es x event next s e rm look q f us off h n =
-    let now : with_first_if_any (stored_response_by_answer x event s) (without_serials rm es) ≡ e ∷ without_serials rm es =
-    ap (λ o. with_first_if_any o (without_serials rm es)) f in
+    let now : entries_with_first_if_any (stored_response_by_answer x event s) (without_serials rm es) ≡ e ∷ without_serials rm es =
+    ap (λ o. entries_with_first_if_any o (without_serials rm es)) f in
     let gone : holds_serial s es ≡ false = subst (λ o. NoSerialIsHeldFrom o es) q n s (omega arith) in
     let look' : ℕ → Option Stored = λ t. cond (eqb s t) (stored_response_by_answer x event t) (look t) in
     let yes : eqb s e.serial ≡ true = eq-eqb s e.serial (sym us) in
@@ -157,22 +157,22 @@ kept es x event next st us rm look (stores s e a b q f k off) h n =
 
 -- ---- the last ones go
 
-within_taken : (bounds : StoreBounds) (rm : List ℕ) (es : List Stored) → IsWithin bounds weight_of es → IsWithin bounds weight_of (entries_without_serials rm es)
-within_taken bounds rm es h = subst (IsWithin bounds weight_of) (sym (taken_is rm es)) (filter_is_within bounds (λ e. not (serial_is_in e.serial rm)) es h)
+within_taken : (bounds : StoreBounds) (rm : List ℕ) (es : List Stored) → IsWithinBounds bounds weight_of_entry es → IsWithinBounds bounds weight_of_entry (entries_without_serials rm es)
+within_taken bounds rm es h = subst (IsWithinBounds bounds weight_of_entry) (sym (taken_is rm es)) (filter_is_within bounds (λ e. not (serial_is_in e.serial rm)) es h)
 
 -- where nothing was stored or used, all that stays is within the bounds as before
 touched_is_cut : (bounds : StoreBounds) (es : List Stored) (x : Option Exchange) (event : Event) (next st us : Option ℕ) (rm : List ℕ) →
-    Kind es x event next st us rm → IsWithin bounds weight_of es →
-    cut_where_touched bounds st us (list_before es x event st us rm) ≡ cut_to_bounds bounds (list_before es x event st us rm)
+    Kind es x event next st us rm → IsWithinBounds bounds weight_of_entry es →
+    evicted_if_stored_or_used bounds st us (list_before es x event st us rm) ≡ cut_to_bounds bounds (list_before es x event st us rm)
 unfolding list_before
 touched_is_cut bounds es x event next st us rm (idle a b) h =
-    let P : Option ℕ → Option ℕ → Type 0 = λ st us. cut_where_touched bounds st us (list_before es x event st us rm) ≡ cut_to_bounds bounds (list_before es x event st us rm) in
-    subst (λ o. P o us) (sym a) (subst (P None) (sym b) (sym (within_stays bounds weight_of (entries_without_serials rm es) (within_taken bounds rm es h))))
+    let P : Option ℕ → Option ℕ → Type 0 = λ st us. evicted_if_stored_or_used bounds st us (list_before es x event st us rm) ≡ cut_to_bounds bounds (list_before es x event st us rm) in
+    subst (λ o. P o us) (sym a) (subst (P None) (sym b) (sym (within_stays bounds weight_of_entry (entries_without_serials rm es) (within_taken bounds rm es h))))
 touched_is_cut bounds es x event next st us rm (uses s e a b f) h =
-    let P : Option ℕ → Option ℕ → Type 0 = λ st us. cut_where_touched bounds st us (list_before es x event st us rm) ≡ cut_to_bounds bounds (list_before es x event st us rm) in
+    let P : Option ℕ → Option ℕ → Type 0 = λ st us. evicted_if_stored_or_used bounds st us (list_before es x event st us rm) ≡ cut_to_bounds bounds (list_before es x event st us rm) in
     subst (λ o. P o us) (sym a) (subst (P None) (sym b) refl)
 touched_is_cut bounds es x event next st us rm (stores s e a b q f k off) h =
-    let P : Option ℕ → Option ℕ → Type 0 = λ st us. cut_where_touched bounds st us (list_before es x event st us rm) ≡ cut_to_bounds bounds (list_before es x event st us rm) in
+    let P : Option ℕ → Option ℕ → Type 0 = λ st us. evicted_if_stored_or_used bounds st us (list_before es x event st us rm) ≡ cut_to_bounds bounds (list_before es x event st us rm) in
     subst (λ o. P o us) (sym a) refl
 
 -- ---- one item more
@@ -181,7 +181,7 @@ touched_is_cut bounds es x event next st us rm (stores s e a b q f k off) h =
 pub held_serials_more : (table : Table) (start : StoreAtStart) (i : Item) (past : List Item) → (weights : ℕ → ℕ)
     × (held_serials table start (i ∷ past) ≡ longest_prefix_within (bounds_of table start.limit) weights (recent_after_change (store_change_of i) (held_serials table start past)))
 held_serials_more table start i past =
-    let weights : ℕ → ℕ = λ s. weight_if_any (stored_response_after (find_exchange (exchange_id_of_event i.event) (open_exchanges table start past)) i.event i.outcome (held_entry table start past) s) in
+    let weights : ℕ → ℕ = λ s. weight_of_stored_if_any (stored_response_after (find_exchange (exchange_id_of_event i.event) (open_exchanges table start past)) i.event i.outcome (held_entry table start past) s) in
     (weights, weighed_held_more (bounds_of table start.limit) (record { change = store_change_of i; weights = weights }) (store_changes table start past))
 
 -- what is held after an item was held before it, or is what it stored
@@ -190,7 +190,7 @@ pub held_before_cut : (table : Table) (start : StoreAtStart) (i : Item) (past : 
 held_before_cut table start i past s h =
     let q = held_serials_more table start i past in
     let xs = recent_after_change (store_change_of i) (held_serials table start past) in
-    (and_parts (serial_is_in s xs) (stands_within (bounds_of table start.limit) q.0 xs s)
+    (and_parts (serial_is_in s xs) (serial_is_within_bounds (bounds_of table start.limit) q.0 xs s)
     (sym (is_in-within (bounds_of table start.limit) q.0 s xs) ∙ sym (ap (serial_is_in s) q.1) ∙ h)).0
 
 -- the core stands for a trace
@@ -199,7 +199,7 @@ pub record Stands (table : Table) (start : StoreAtStart) (first : ℕ) (past : L
   pub limit_is : st.limit ≡ start.limit
   pub serials_are : serials st.entries ≡ held_serials table start past
   pub entries_are : EachIs (held_entry table start past) st.entries
-  pub within : IsWithin (bounds_of table start.limit) weight_of st.entries
+  pub within : IsWithinBounds (bounds_of table start.limit) weight_of_entry st.entries
   pub exchanges_are : st.exchanges ≡ open_exchanges table start past
   pub next_is : st.next ≡ next_serial first past
   pub fresh : NoSerialIsHeldFrom st.next st.entries
@@ -209,7 +209,7 @@ held_is table start first past st p =
     sym (EachIs-all (held_entry table start past) st.entries p.entries_are) ∙ ap (filter_map (held_entry table start past)) p.serials_are
 
 stands_more : (table : Table) (start : StoreAtStart) (first : ℕ) (past : List Item) (st : State) (i : Item) → Stands table start first past st →
-    ItemIsAccepted table st.entries st.exchanges st.next i → Stands table start first (i ∷ past) (state_after st i.event i.outcome)
+    ItemIsAccepted table st.entries st.exchanges st.next i → Stands table start first (i ∷ past) (state_after_event st i.event i.outcome)
 stands_more table start first past st i p a =
     let event = i.event in
     let o = i.outcome in
@@ -225,13 +225,13 @@ stands_more table start first past st i p a =
     let bounds_are : bounds_of st.table st.limit ≡ bounds = ap (λ (t : Table). bounds_of t st.limit) p.table_is ∙ ap (bounds_of table) p.limit_is in
     let gone : List ℕ = serials_expired_by_outcome o in
     let cut : List Stored = cut_to_bounds bounds raw in
-    let e : entries_after (bounds_of st.table st.limit) es x event o ≡ entries_after_expiring event gone cut =
+    let e : entries_after_event (bounds_of st.table st.limit) es x event o ≡ entries_after_expiring event gone cut =
     entries_are (bounds_of st.table st.limit) es x event o
-    ∙ ap (entries_after_expiring event gone) (ap (λ (b : StoreBounds). cut_where_touched b (serial_stored_by_outcome o) (serial_used_by_outcome o) raw) bounds_are
+    ∙ ap (entries_after_expiring event gone) (ap (λ (b : StoreBounds). evicted_if_stored_or_used b (serial_stored_by_outcome o) (serial_used_by_outcome o) raw) bounds_are
     ∙ touched_is_cut bounds es x event st.next (serial_stored_by_outcome o) (serial_used_by_outcome o) (serials_removed_by_outcome o) kind p.within)
     in
-    let same_weights : (s : ℕ) → weight_if_any (look_after (find_exchange (exchange_id_of_event event) (open_exchanges table start past)) event (serial_stored_by_outcome o) (serial_used_by_outcome o) look s)
-    ≡ weight_if_any (stored_response_after (find_exchange (exchange_id_of_event event) (open_exchanges table start past)) event o look s) =
+    let same_weights : (s : ℕ) → weight_of_stored_if_any (look_after (find_exchange (exchange_id_of_event event) (open_exchanges table start past)) event (serial_stored_by_outcome o) (serial_used_by_outcome o) look s)
+    ≡ weight_of_stored_if_any (stored_response_after (find_exchange (exchange_id_of_event event) (open_exchanges table start past)) event o look s) =
     λ s. sym (weight_stays event gone (look_after (find_exchange (exchange_id_of_event event) (open_exchanges table start past)) event (serial_stored_by_outcome o) (serial_used_by_outcome o) look s))
     in
     record {
@@ -239,19 +239,19 @@ stands_more table start first past st i p a =
       limit_is = p.limit_is;
       serials_are = ap serials e
           ∙ serials_stay event gone cut
-          ∙ serials_are_cut bounds (λ s. weight_if_any (look' s)) raw (EachIs-weights look' raw k.entries_are)
-          ∙ ap (longest_prefix_within bounds (λ s. weight_if_any (look' s))) k.serials_are
-          ∙ ap (λ xs. longest_prefix_within bounds (λ s. weight_if_any (look' s)) (recent_after_change item xs)) p.serials_are
-          ∙ ap (λ xs. longest_prefix_within bounds (λ s. weight_if_any (look_after (find_exchange (exchange_id_of_event event) xs) event (serial_stored_by_outcome o) (serial_used_by_outcome o) look s)) (recent_after_change item (held_serials table start past))) p.exchanges_are
+          ∙ serials_are_cut bounds (λ s. weight_of_stored_if_any (look' s)) raw (EachIs-weights look' raw k.entries_are)
+          ∙ ap (longest_prefix_within bounds (λ s. weight_of_stored_if_any (look' s))) k.serials_are
+          ∙ ap (λ xs. longest_prefix_within bounds (λ s. weight_of_stored_if_any (look' s)) (recent_after_change item xs)) p.serials_are
+          ∙ ap (λ xs. longest_prefix_within bounds (λ s. weight_of_stored_if_any (look_after (find_exchange (exchange_id_of_event event) xs) event (serial_stored_by_outcome o) (serial_used_by_outcome o) look s)) (recent_after_change item (held_serials table start past))) p.exchanges_are
           ∙ ap (λ (w : ℕ → ℕ). longest_prefix_within bounds w (recent_after_change item (held_serials table start past))) (λ i. λ s. same_weights s i)
           ∙ sym (weighed_held_more bounds (record {
             change = item;
-            weights = λ s. weight_if_any (stored_response_after (find_exchange (exchange_id_of_event event) (open_exchanges table start past)) event o look s);
+            weights = λ s. weight_of_stored_if_any (stored_response_after (find_exchange (exchange_id_of_event event) (open_exchanges table start past)) event o look s);
           }) (store_changes table start past));
       entries_are = EachIs-same (λ s. response_if_any_after_expiring event gone (look' s)) (stored_response_after (find_exchange (exchange_id_of_event event) (open_exchanges table start past)) event o look) _
           (λ s. ap (λ xs. response_if_any_after_expiring event gone (look_after (find_exchange (exchange_id_of_event event) xs) event (serial_stored_by_outcome o) (serial_used_by_outcome o) look s)) (sym p.exchanges_are))
           (subst (EachIs (λ s. response_if_any_after_expiring event gone (look' s))) (sym e) (EachIs-expired event gone look' cut (EachIs-cut look' bounds raw k.entries_are)));
-      within = subst (IsWithin bounds weight_of) (sym e) (within_stays_expired bounds event gone cut (cut_is_longest bounds weight_of raw).is_within);
+      within = subst (IsWithinBounds bounds weight_of_entry) (sym e) (within_stays_expired bounds event gone cut (cut_is_longest bounds weight_of_entry raw).is_within);
       exchanges_are = ap (λ (t : Table). open_exchanges_after t st.entries st.exchanges event o) p.table_is
           ∙ ap (λ zs. open_exchanges_after table zs st.exchanges event o) (held_is table start first past st p)
           ∙ ap (λ xs. open_exchanges_after table (held_entries table start past) xs event o) p.exchanges_are;
@@ -326,7 +326,7 @@ good_plain table start first (i ∷ past) g =
 
 -- the fault at the next event, said of the exchanges that are open
 pub stops_held : (table : Table) (start : StoreAtStart) (first : ℕ) (past : List Item) (next : Option Event) (fault : CoreFault) → IsGood (initial_state table start first) past →
-    RunStopsAt (state_after_trace (initial_state table start first) past) next fault → HistoryStopsAt (open_exchanges table start past) next fault
+    RunStopsWithFault (state_after_trace (initial_state table start first) past) next fault → HistoryStopsWithFault (open_exchanges table start past) next fault
 stops_held table start first past None fault g r = r
 stops_held table start first past (Some e) fault g r =
     let k : step_fault (state_after_trace (initial_state table start first) past).exchanges e ≡ step_fault (open_exchanges table start past) e = ap (λ xs. step_fault xs e) (exchanges_are_open table start first past g) in

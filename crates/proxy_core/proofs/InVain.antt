@@ -10,7 +10,7 @@ use Rattle.hx_hop.specs.declared.request_view.Asked.{Asked}
 use Rattle.hx_store.specs.Stored.{Stored}
 use Rattle.hx_reuse.specs.Chosen.{entries_of_key, chosen_of}
 use Rattle.hx_reuse.specs.RuleNames.{reuse_rule_number}
-use Rattle.hx_reuse.specs.Rules.{reuse_rule_applies, situation_of_request, is_fresh_situation, is_some_and, names_chosen, decision_of}
+use Rattle.hx_reuse.specs.Rules.{reuse_rule_applies, situation_of_request, is_fresh_situation, is_some_and, is_rule_on_chosen, decision_of}
 use Rattle.hx_reuse.specs.ChosenAndNamed.{IsLeastReuseRule}
 use Rattle.hx_reuse.specs.declared.rule.ReuseRule.{ReuseRule}
 use Rattle.hx_reuse.specs.declared.rule.ReuseRule.TheVariants as rules
@@ -22,9 +22,9 @@ use Rattle.hx_reuse.proofs.RuleLemmas.{some_there}
 use Rattle.hx_reuse.proofs.Choice.{member_contained}
 use Rattle.proxy_core.specs.declared.open.awaited.Awaited.{Awaited}
 use Rattle.proxy_core.specs.declared.open.awaited.Awaited.TheVariants.{Missing, Expired}
-use Rattle.proxy_core.specs.Awaiting.{asks_the_origin, RuleLeavesToAwait, RequestAwaits, looks_at_the_response, IsKeptBackByTheAnswerAlone, WhoWaitedIsKeptBackByTheAnswerAlone}
+use Rattle.proxy_core.specs.Awaiting.{no_cache_request_is_heeded, RuleAllowsAwaiting, RequestMayAwaitAnother, rule_depends_on_the_response, IsServedUnlessTheResponseForbids, WaiterIsServedUnlessTheResponseForbids}
 
-late_if_named : (rule : ReuseRule) → names_chosen rule ≡ true → 5 ≤ reuse_rule_number rule
+late_if_named : (rule : ReuseRule) → is_rule_on_chosen rule ≡ true → 5 ≤ reuse_rule_number rule
 late_if_named rules.Operator h = absurd (false≢true h)
 late_if_named rules.Method h = absurd (false≢true h)
 late_if_named rules.Content h = absurd (false≢true h)
@@ -45,7 +45,7 @@ late_if_named rules.StaleMaxAge h = omega arith
 late_if_named rules.StaleMinFresh h = omega arith
 
 -- what is awaited is left by none of the request's own rules
-late_enough : (policy : Policy) (held : List Stored) (asked : Asked) (now : ℕ) (rule : ReuseRule) (awaited : Awaited) → RuleLeavesToAwait policy held asked now rule awaited → 5 ≤ reuse_rule_number rule
+late_enough : (policy : Policy) (held : List Stored) (asked : Asked) (now : ℕ) (rule : ReuseRule) (awaited : Awaited) → RuleAllowsAwaiting policy held asked now rule awaited → 5 ≤ reuse_rule_number rule
 late_enough policy held asked now rule Missing is = le_of_eq (reuse_rule_number rule) (ap reuse_rule_number is)
   where
     le_of_eq : (n : ℕ) → n ≡ 5 → 5 ≤ n
@@ -53,7 +53,7 @@ late_enough policy held asked now rule Missing is = le_of_eq (reuse_rule_number 
 late_enough policy held asked now rule (Expired serial) is = late_if_named rule is.1
 
 module _ (policy : Policy) (held later : List Stored) (asked : Asked) (now moment : ℕ) (awaited : Awaited) (response : Stored)
-    (word : policy.waits_for_stale ≡ true) (w : RequestAwaits policy held asked now awaited) (is_held : Contains later response) (of_key : same_key response.key asked.target.key ≡ true) where
+    (word : policy.waits_for_stale ≡ true) (w : RequestMayAwaitAnother policy held asked now awaited) (is_held : Contains later response) (of_key : same_key response.key asked.target.key ≡ true) where
   own : (r : ReuseRule) → reuse_rule_number r < 5 → reuse_rule_applies r policy held asked now ≡ false
   own r early = w.is_least.none_before r (before (reuse_rule_number r) (reuse_rule_number w.rule) early (late_enough policy held asked now w.rule awaited w.leaves))
     where
@@ -63,18 +63,18 @@ module _ (policy : Policy) (held later : List Stored) (asked : Asked) (now momen
   held_for_it : nat_eq (length (entries_of_key later asked)) 0 ≡ false
   held_for_it = some_there (entries_of_key later asked) response (member_filter (λ x. same_key x.key asked.target.key) later response of_key (member_contained later response is_held))
 
-  unasked : asks_the_origin policy asked ≡ false
-  unasked = second_false policy.waits_for_stale (asks_the_origin policy asked) word w.takes_what_is_fresh
+  unasked : no_cache_request_is_heeded policy asked ≡ false
+  unasked = second_false policy.waits_for_stale (no_cache_request_is_heeded policy asked) word w.no_cache_is_not_heeded
 
-  no_cache : (test : Stored → Bool) (c : Option Stored) → is_some_and (λ e. test e && asks_the_origin policy asked) c ≡ true → ⊥
+  no_cache : (test : Stored → Bool) (c : Option Stored) → is_some_and (λ e. test e && no_cache_request_is_heeded policy asked) c ≡ true → ⊥
   no_cache test None h = false≢true h
-  no_cache test (Some e) h = by_test (test e) (asks_the_origin policy asked) unasked h
+  no_cache test (Some e) h = by_test (test e) (no_cache_request_is_heeded policy asked) unasked h
     where
       by_test : (a b : Bool) → b ≡ false → (a && b) ≡ true → ⊥
       by_test true b k h = false≢true (sym k ∙ h)
       by_test false b k h = false≢true h
 
-  looks : (rule : ReuseRule) → IsLeastReuseRule policy later asked moment rule → looks_at_the_response rule ≡ true
+  looks : (rule : ReuseRule) → IsLeastReuseRule policy later asked moment rule → rule_depends_on_the_response rule ≡ true
   looks rules.Operator least = absurd (false≢true (sym (own rules.Operator (omega arith)) ∙ least.rule_applies))
   looks rules.Method least = absurd (false≢true (sym (own rules.Method (omega arith)) ∙ least.rule_applies))
   looks rules.Content least = absurd (false≢true (sym (own rules.Content (omega arith)) ∙ least.rule_applies))
@@ -94,12 +94,12 @@ module _ (policy : Policy) (held later : List Stored) (asked : Asked) (now momen
   looks rules.StaleMaxAge least = refl
   looks rules.StaleMinFresh least = refl
 
-  kept_back : (d : Decision) → decision_of policy later asked moment ≡ d → IsKeptBackByTheAnswerAlone policy later asked moment
+  kept_back : (d : Decision) → decision_of policy later asked moment ≡ d → IsServedUnlessTheResponseForbids policy later asked moment
   kept_back (decision.Hit serial) d = inl (serial, d)
   kept_back (decision.Forward rule named) d =
       let least = (names_the_least policy later asked moment rule named d).0 in
       inr (rule, least, looks rule least)
 
-pub kept_back_by_the_answer_alone : WhoWaitedIsKeptBackByTheAnswerAlone
+pub kept_back_by_the_answer_alone : WaiterIsServedUnlessTheResponseForbids
 kept_back_by_the_answer_alone policy held later asked now moment awaited response word w is_held of_key =
     kept_back policy held later asked now moment awaited response word w is_held of_key (decision_of policy later asked moment) refl

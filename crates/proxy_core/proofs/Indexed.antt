@@ -7,7 +7,7 @@ use Rattle.std.specs.Map.{lookup, remove_entry, set_value}
 use Rattle.std.proofs.lemmas.Bool.{cases_Bool, eqb-true}
 use Rattle.std.proofs.lemmas.Bool.Decides.{nat_tests}
 use Rattle.proxy_core.specs.declared.open.exchange.Exchange.{Exchange}
-use Rattle.proxy_core.specs.Arrivals.{HaveDistinctArrivalsAndIds, SelectedArrivalsPass, is_arrival_of_selected, IsExactIndexOfSelected, map_exchanges}
+use Rattle.proxy_core.specs.Arrivals.{HaveDistinctArrivalsAndIds, SelectedArrivalsPassTest, is_arrival_of_selected, IsExactIndexOfSelected, map_exchanges}
 use Rattle.proxy_core.proofs.ExchangeLists.{cond_none, nones, swap}
 
 abbrev Numbered : Type 0
@@ -88,7 +88,7 @@ lookup-on_all f m (e ∷ es) =
 -- ---- what is told passes
 
 among : (which : Exchange → Bool) (test : ℕ → Bool) (es : Numbered) → HaveDistinctArrivalsAndIds es →
-    ((m : ℕ) (x : Exchange) → lookup (at m) es ≡ Some x → which x ≡ true → test m ≡ true) → SelectedArrivalsPass which test es
+    ((m : ℕ) (x : Exchange) → lookup (at m) es ≡ Some x → which x ≡ true → test m ≡ true) → SelectedArrivalsPassTest which test es
 among which test [] a h = tt
 among which test (e ∷ es) a h = (
   λ w. h e.0 e.1 (ap (λ b. cond b (Some e.1) (lookup (at e.0) es)) (itself e.0)) w,
@@ -104,7 +104,7 @@ among which test (e ∷ es) a h = (
 abbrev is_one : (Exchange → Bool) → Option Exchange → Bool
 is_one which o = option_map_or which o false
 
-pub passes : (which : Exchange → Bool) (test : ℕ → Bool) (es : Numbered) → HaveDistinctArrivalsAndIds es → IsExactIndexOfSelected which test es → SelectedArrivalsPass which test es
+pub passes : (which : Exchange → Bool) (test : ℕ → Bool) (es : Numbered) → HaveDistinctArrivalsAndIds es → IsExactIndexOfSelected which test es → SelectedArrivalsPassTest which test es
 passes which test es a h = among which test es a (λ m x t w. h m ∙ ap (is_one which) t ∙ w)
 
 pub not_indexed : (which : Exchange → Bool) (test : ℕ → Bool) (n : ℕ) (es : Numbered) → lookup (at n) es ≡ None → IsExactIndexOfSelected which test es → test n ≡ false

@@ -8,11 +8,11 @@ use Rattle.std.specs.BTreeSet.{BTreeSet, contains}
 use Rattle.std.proofs.lemmas.Bool.{cases_Bool, false≢true, eqb-true}
 use Rattle.std.proofs.lemmas.Bool.Decides.{nat_tests}
 use Rattle.proxy_core.specs.declared.open.key_index.KeyIndex.{KeyIndex}
-use Rattle.proxy_core.specs.Waiters.{set_contains, SetHasMembers}
-use Rattle.proxy_core.specs.ByKey.{is_in_key_index, HasNoEmptyKeys, HasNoOtherEmptyKeys}
+use Rattle.proxy_core.specs.Waiters.{set_contains, SetIsNotEmpty}
+use Rattle.proxy_core.specs.ByKey.{is_in_key_index, KeyIndexHasNoEmptySet, OtherKeysHaveNoEmptySet}
 use Rattle.hx_target.specs.declared.keys.Key.{Key}
 use Rattle.hx_target.specs.Keys.{same_key}
-use Rattle.hx_target.specs.KeyOrder.{key_cmp, key_ties}
+use Rattle.hx_target.specs.KeyOrder.{key_cmp, key_cmp_ties_are_same}
 use Rattle.std.specs.Cmp.Lexicographic.{bytes_decides}
 
 at_is : (n k : ℕ) → is_at (nat_cmp n) k ≡ eqb n k
@@ -40,7 +40,7 @@ pub written : (key : Key) (old new : KeyIndex) (w : Option (BTreeSet ℕ)) → H
 written key old new w h q m =
     let g = get key_cmp old.arrivals q in
     ap (λ o. set_contains o m) (h q)
-    ∙ ap (λ b. set_contains (cond b w g) m) (sym (key_ties key q))
+    ∙ ap (λ b. set_contains (cond b w g) m) (sym (key_cmp_ties_are_same key q))
     ∙ (elim (same_key key q) as (λ b. set_contains (cond b w g) m ≡ cond b (set_contains w m) (set_contains g m)) [ true ↦ refl | false ↦ refl ])
 
 -- what stands at the key is what was there, but at one arrival
@@ -84,7 +84,7 @@ entries_without_serials n old new h m = h m ∙ ap (λ b. cond b false (contains
 
 -- ---- no key stands there for nothing
 
-pub trim-written : (key : Key) (old new : KeyIndex) (w : Option (BTreeSet ℕ)) → Has key w old new → ForSome w SetHasMembers → HasNoEmptyKeys old → HasNoEmptyKeys new
+pub trim-written : (key : Key) (old new : KeyIndex) (w : Option (BTreeSet ℕ)) → Has key w old new → ForSome w SetIsNotEmpty → KeyIndexHasNoEmptySet old → KeyIndexHasNoEmptySet new
 trim-written key old new w h n o q set e k =
     let g = get key_cmp old.arrivals q in
     elim (cases_Bool (is_at (key_cmp key) q)) [
@@ -92,12 +92,12 @@ trim-written key old new w h n o q set e k =
       | inr f ↦ o q set (sym (h q ∙ ap (λ b. cond b w g) f) ∙ e) k
     ]
 
-pub trim-beside : (key : Key) (old new : KeyIndex) (w : Option (BTreeSet ℕ)) → Has key w old new → HasNoEmptyKeys old → HasNoOtherEmptyKeys key new
+pub trim-beside : (key : Key) (old new : KeyIndex) (w : Option (BTreeSet ℕ)) → Has key w old new → KeyIndexHasNoEmptySet old → OtherKeysHaveNoEmptySet key new
 trim-beside key old new w h o q f set e k =
     let g = get key_cmp old.arrivals q in
-    o q set (sym (h q ∙ ap (λ b. cond b w g) (sym (key_ties key q) ∙ f)) ∙ e) k
+    o q set (sym (h q ∙ ap (λ b. cond b w g) (sym (key_cmp_ties_are_same key q) ∙ f)) ∙ e) k
 
-pub trim-removed : (key : Key) (mid new : KeyIndex) → Has key None mid new → HasNoOtherEmptyKeys key mid → HasNoEmptyKeys new
+pub trim-removed : (key : Key) (mid new : KeyIndex) → Has key None mid new → OtherKeysHaveNoEmptySet key mid → KeyIndexHasNoEmptySet new
 trim-removed key mid new h b q set e k =
     let g = get key_cmp mid.arrivals q in
     elim (cases_Bool (is_at (key_cmp key) q)) [
@@ -105,8 +105,8 @@ trim-removed key mid new h b q set e k =
           let n : None ≡ Some set = sym (h q ∙ ap (λ b. cond b None g) t) ∙ e in
           absurd (cc)
           )
-      | inr f ↦ b q (key_ties key q ∙ f) set (sym (h q ∙ ap (λ b. cond b None g) f) ∙ e) k
+      | inr f ↦ b q (key_cmp_ties_are_same key q ∙ f) set (sym (h q ∙ ap (λ b. cond b None g) f) ∙ e) k
     ]
 
-pub trim-same : (old new : KeyIndex) → new.arrivals.entries ≡ old.arrivals.entries → HasNoEmptyKeys old → HasNoEmptyKeys new
+pub trim-same : (old new : KeyIndex) → new.arrivals.entries ≡ old.arrivals.entries → KeyIndexHasNoEmptySet old → KeyIndexHasNoEmptySet new
 trim-same old new s o q set e k = o q set (ap (lookup (is_at (key_cmp q))) (sym s) ∙ e) k

@@ -8,7 +8,7 @@ use Rattle.std.proofs.lemmas.Bool.{eqb-true, eq-eqb, cases_Bool, false≢true}
 use Rattle.std.proofs.lemmas.Option.{same_Some}
 use Rattle.hx_framing.specs.declared.messages.Response.{Response}
 use Rattle.hx_store.specs.Stored.{Stored}
-use Rattle.hx_store.specs.Shelf.{find_entry, holds_serial, without_serials, with_first_if_any, with_promoted}
+use Rattle.hx_store.specs.Shelf.{find_entry, holds_serial, without_serials, entries_with_first_if_any, entries_with_promoted}
 use Rattle.hx_status.specs.declared.cause.FailKind.{FailKind}
 use Rattle.hx_validate.specs.Answering.{answers304, freshened_of}
 use Rattle.hx_hop.specs.Answering.{answered_of}
@@ -23,8 +23,8 @@ use Rattle.proxy_core.specs.declared.replies.pending.AfterAnswer.{AfterAnswer}
 use Rattle.proxy_core.specs.declared.replies.pending.AfterAnswer.TheVariants.{Ends, GoesOn}
 use Rattle.proxy_core.specs.Validating.{is_304_to_own_conditions, stored_response_is_answered, condition_is_answered, stored_response_asked_about, stored_response_if_answered, stored_response_validated, freshened_by_304}
 use Rattle.hx_store.specs.Weights.{StoreBounds}
-use Rattle.proxy_core.specs.State.{cut_where_touched, entries_without_serials, stored_response_as_used, entries_after_use, entries_after_storing}
-use Rattle.proxy_core.specs.Pending.{serial_stored_by_change, serial_used_by_change, entries_before_cut, ChangeIsMadeByAnswer, ChangeStoresNothing, IsChangeAfterFreshening, StoresUnderNextSerial, FreshensHeldResponse, ReplyLeavesHeldAsStepDoes, AnswerLeavesHeldAsStepDoes, AnswerChangeFits, AnswerStoresNothing}
+use Rattle.proxy_core.specs.State.{evicted_if_stored_or_used, entries_without_serials, stored_response_as_used, entries_after_use, entries_after_storing}
+use Rattle.proxy_core.specs.Pending.{serial_stored_by_change, serial_used_by_change, entries_before_eviction, ChangeIsMadeByAnswer, ChangeStoresNothing, IsChangeAfterFreshening, StoresUnderNextSerial, FreshensHeldResponse, ReplyLeavesHeldAsStepDoes, AnswerLeavesHeldAsStepDoes, AnswerChangeIsApplicable, AnswerStoresNothing}
 
 and_left : (a b : Bool) → (a && true) ≡ false → (a && b) ≡ false
 and_left true b h = absurd (cc)
@@ -43,11 +43,11 @@ module _ (bounds : StoreBounds) (es : List Stored) (x : Exchange) (now id : ℕ)
   same_use event None h = refl
   same_use event (Some e) h = ap Some (h e)
 
-  same_used : (event : Event) (serial : ℕ) → ((e : Stored) → stored_response_as_used (Some x) event e ≡ e) → with_promoted serial es ≡ entries_after_use (Some x) event (Some serial) es
-  same_used event serial h = ap (λ (o : Option Stored). with_first_if_any o (without_serials (serial ∷ []) es)) (sym (same_use event (find_entry serial es) h))
+  same_used : (event : Event) (serial : ℕ) → ((e : Stored) → stored_response_as_used (Some x) event e ≡ e) → entries_with_promoted serial es ≡ entries_after_use (Some x) event (Some serial) es
+  same_used event serial h = ap (λ (o : Option Stored). entries_with_first_if_any o (without_serials (serial ∷ []) es)) (sym (same_use event (find_entry serial es) h))
 
   made_by : (r : Response) (removed : List ℕ) (c : Change) → ((e : Stored) → stored_response_as_used (Some x) (Answer now id r) e ≡ e) → ChangeIsMadeByAnswer x r now c
-      → entries_before_cut removed c es ≡ entries_after_storing (Some x) (Answer now id r) (serial_stored_by_change c) removed (entries_after_use (Some x) (Answer now id r) (serial_used_by_change c) es)
+      → entries_before_eviction removed c es ≡ entries_after_storing (Some x) (Answer now id r) (serial_stored_by_change c) removed (entries_after_use (Some x) (Answer now id r) (serial_used_by_change c) es)
   made_by r removed Keep h m = refl
   made_by r removed (Use serial) h m = ap (entries_without_serials removed) (same_used (Answer now id r) serial h)
   made_by r removed (Freshen e) h m = absurd m
@@ -57,11 +57,11 @@ module _ (bounds : StoreBounds) (es : List Stored) (x : Exchange) (now id : ℕ)
   -- an answer that is passed on, or in whose place a held response is sent as it is
   pub makes_leaves : (r : Response) (t : PendingReply) → is_304_to_own_conditions x r ≡ false → ChangeIsMadeByAnswer x r now t.change → ReplyLeavesHeldAsStepDoes bounds es x (Answer now id r) t
   makes_leaves r t h m =
-      ap (cut_where_touched bounds (serial_stored_by_change t.change) (serial_used_by_change t.change))
+      ap (evicted_if_stored_or_used bounds (serial_stored_by_change t.change) (serial_used_by_change t.change))
       (made_by r t.removed t.change (λ e. ap (λ b. cond b (freshened_by_304 x r now e) e) (unanswered x r now e h)) m)
 
   plain_by : (event : Event) (same : (e : Stored) → stored_response_as_used (Some x) event e ≡ e) (removed : List ℕ) (c : Change) → ChangeStoresNothing c
-      → entries_before_cut removed c es ≡ entries_after_storing (Some x) event (serial_stored_by_change c) removed (entries_after_use (Some x) event (serial_used_by_change c) es)
+      → entries_before_eviction removed c es ≡ entries_after_storing (Some x) event (serial_stored_by_change c) removed (entries_after_use (Some x) event (serial_used_by_change c) es)
   plain_by event same removed Keep m = refl
   plain_by event same removed (Use serial) m = ap (entries_without_serials removed) (same_used event serial same)
   plain_by event same removed (Freshen e) m = absurd m
@@ -70,11 +70,11 @@ module _ (bounds : StoreBounds) (es : List Stored) (x : Exchange) (now id : ℕ)
 
   -- a failure
   pub fail_leaves : (kind : FailKind) (t : PendingReply) → ChangeStoresNothing t.change → ReplyLeavesHeldAsStepDoes bounds es x (Fail now id kind) t
-  fail_leaves kind t m = ap (cut_where_touched bounds (serial_stored_by_change t.change) (serial_used_by_change t.change)) (plain_by (Fail now id kind) (λ e. refl) t.removed t.change m)
+  fail_leaves kind t m = ap (evicted_if_stored_or_used bounds (serial_stored_by_change t.change) (serial_used_by_change t.change)) (plain_by (Fail now id kind) (λ e. refl) t.removed t.change m)
 
   -- a wake
   pub wake_leaves : (t : PendingReply) → ChangeStoresNothing t.change → ReplyLeavesHeldAsStepDoes bounds es x (Wake now id) t
-  wake_leaves t m = ap (cut_where_touched bounds (serial_stored_by_change t.change) (serial_used_by_change t.change)) (plain_by (Wake now id) (λ e. refl) t.removed t.change m)
+  wake_leaves t m = ap (evicted_if_stored_or_used bounds (serial_stored_by_change t.change) (serial_used_by_change t.change)) (plain_by (Wake now id) (λ e. refl) t.removed t.change m)
 
 -- a pending reply that stores and freshens nothing
 pub plain_makes : (x : Exchange) (r : Response) (now : ℕ) (c : Change) → ChangeStoresNothing c → ChangeIsMadeByAnswer x r now c
@@ -173,10 +173,10 @@ module _ (bounds : StoreBounds) (es : List Stored) (x : Exchange) (now id : ℕ)
       let uf = stored_response_as_used (Some x) (Answer now id r) in
       let used : option_map uf (find_entry s es) ≡ Some f =
       ap (option_map uf) (ap (λ z. find_entry z es) h ∙ v.found) ∙ (ap (λ b. Some (cond b (freshened_by_304 x r now e) e)) v.answered ∙ ap Some (sym k)) in
-      ap (λ (o : Option Stored). with_first_if_any o (without_serials (s ∷ []) es)) (sym used)
+      ap (λ (o : Option Stored). entries_with_first_if_any o (without_serials (s ∷ []) es)) (sym used)
 
   refresh_by : (removed : List ℕ) (kept : Bool) (f : Stored) (c : Change) → f ≡ freshened_by_304 x r now e → IsChangeAfterFreshening kept f c → removed ≡ cond kept [] (f.serial ∷ [])
-      → entries_before_cut removed c es ≡ entries_after_storing (Some x) (Answer now id r) (serial_stored_by_change c) removed (entries_after_use (Some x) (Answer now id r) (serial_used_by_change c) es)
+      → entries_before_eviction removed c es ≡ entries_after_storing (Some x) (Answer now id r) (serial_stored_by_change c) removed (entries_after_use (Some x) (Answer now id r) (serial_used_by_change c) es)
   refresh_by removed kept f Keep k h gone = absurd h
   refresh_by removed kept f (Use serial) k h gone = absurd h
   refresh_by removed kept f (Freshen g) k h gone =
@@ -193,7 +193,7 @@ module _ (bounds : StoreBounds) (es : List Stored) (x : Exchange) (now id : ℕ)
   -- a 304 that answers a held response
   pub refresh_leaves : (kept : Bool) (f : Stored) (t : PendingReply) → f ≡ freshened_by_304 x r now e → IsChangeAfterFreshening kept f t.change → t.removed ≡ cond kept [] (f.serial ∷ []) → ReplyLeavesHeldAsStepDoes bounds es x (Answer now id r) t
   refresh_leaves kept f t k h gone =
-      ap (cut_where_touched bounds (serial_stored_by_change t.change) (serial_used_by_change t.change)) (refresh_by t.removed kept f t.change k h gone)
+      ap (evicted_if_stored_or_used bounds (serial_stored_by_change t.change) (serial_used_by_change t.change)) (refresh_by t.removed kept f t.change k h gone)
 
   held_as : ((key : Key) → same_key key key ≡ true) → (g : Stored) → g ≡ freshened_by_304 x r now e → FreshensHeldResponse (Freshen g) es
   held_as itself g k =
@@ -246,15 +246,15 @@ module _ (bounds : StoreBounds) (es : List Stored) (x : Exchange) (now id : ℕ)
   same_all s (Some e) h = ap Some (same_at s e h)
 
   retry_by : (removed : List ℕ) (c : Change) → ChangeStoresNothing c
-      → entries_before_cut removed c es ≡ entries_after_storing (Some x) (Answer now id r) (serial_stored_by_change c) removed (entries_after_use (Some x) (Answer now id r) (serial_used_by_change c) es)
+      → entries_before_eviction removed c es ≡ entries_after_storing (Some x) (Answer now id r) (serial_stored_by_change c) removed (entries_after_use (Some x) (Answer now id r) (serial_used_by_change c) es)
   retry_by removed Keep m = refl
-  retry_by removed (Use s) m = ap (λ (o : Option Stored). entries_without_serials removed (with_first_if_any o (without_serials (s ∷ []) es))) (sym (same_all s (find_entry s es) refl))
+  retry_by removed (Use s) m = ap (λ (o : Option Stored). entries_without_serials removed (entries_with_first_if_any o (without_serials (s ∷ []) es))) (sym (same_all s (find_entry s es) refl))
   retry_by removed (Freshen e) m = absurd m
   retry_by removed (Remove s) m = absurd m
   retry_by removed (Store e) m = absurd m
 
   retry_after : (c : AfterAnswer) → AnswerStoresNothing c → AnswerLeavesHeldAsStepDoes bounds es x (Answer now id r) c
-  retry_after (Ends t) m = ap (cut_where_touched bounds (serial_stored_by_change t.change) (serial_used_by_change t.change)) (retry_by t.removed t.change m)
+  retry_after (Ends t) m = ap (evicted_if_stored_or_used bounds (serial_stored_by_change t.change) (serial_used_by_change t.change)) (retry_by t.removed t.change m)
   retry_after (GoesOn bytes) m = tt
 
   -- a held response is sent as it is, or the request goes forward once more
@@ -262,10 +262,10 @@ module _ (bounds : StoreBounds) (es : List Stored) (x : Exchange) (now id : ℕ)
   retry_leaves (Ok c) m = retry_after c m
   retry_leaves (Err error) m = tt
 
-plain_after_fits : (next : Option ℕ) (es : List Stored) (c : AfterAnswer) → AnswerStoresNothing c → AnswerChangeFits next es c
+plain_after_fits : (next : Option ℕ) (es : List Stored) (c : AfterAnswer) → AnswerStoresNothing c → AnswerChangeIsApplicable next es c
 plain_after_fits next es (Ends t) m = (plain_next next t.change m, plain_held es t.change m)
 plain_after_fits next es (GoesOn bytes) m = tt
 
-pub retry_fits : {E : Type 0} (next : Option ℕ) (es : List Stored) (q : Result AfterAnswer E) → IfOk q AnswerStoresNothing → IfOk q (λ c. AnswerChangeFits next es c)
+pub retry_fits : {E : Type 0} (next : Option ℕ) (es : List Stored) (q : Result AfterAnswer E) → IfOk q AnswerStoresNothing → IfOk q (λ c. AnswerChangeIsApplicable next es c)
 retry_fits next es (Ok c) m = plain_after_fits next es c m
 retry_fits next es (Err error) m = tt

@@ -8,14 +8,14 @@ use Rattle.std.specs.Map.{lookup}
 use Rattle.std.proofs.lemmas.Bool.{eqb-true, false≢true}
 use Rattle.hx_allow.specs.TableLines.{Table}
 use Rattle.proxy_core.specs.declared.open.exchange.Exchange.{Exchange}
-use Rattle.proxy_core.specs.declared.open.leading_on.NextLeader.{NextLeader}
+use Rattle.proxy_core.specs.declared.open.as_next_leader.NextLeader.{NextLeader}
 use Rattle.proxy_core.specs.declared.open.stage.Stage.{Stage}
 use Rattle.proxy_core.specs.declared.open.stage.Stage.TheVariants.{Forwarded, Waiting, Released}
 use Rattle.proxy_core.specs.declared.open.wait_index.WaitIndex.{WaitIndex}
 use Rattle.proxy_core.specs.Leading.{waits_for}
-use Rattle.proxy_core.specs.LeadingOn.{follows_leader, led_on_exchange}
+use Rattle.proxy_core.specs.LeadingOn.{follows_next_leader, after_abandon}
 use Rattle.proxy_core.specs.Arrivals.{map_exchanges, is_arrival_of_selected}
-use Rattle.proxy_core.specs.Waiters.{is_in_wait_index, WaitersAreEntered, WaitersAreTakenOut}
+use Rattle.proxy_core.specs.Waiters.{is_in_wait_index, WaitersAreEntered, WaitersAreRemoved}
 use Rattle.proxy_core.proofs.Indexed.{lookup-on_all}
 use Rattle.proxy_core.proofs.LedOn.{led_on-stage}
 use Rattle.proxy_core.proofs.Waiters.{AllIndexed}
@@ -62,26 +62,26 @@ module _ (table : Table) (next : NextLeader) (q : ℕ) (apart : eqb next.id q �
   nobody false false = refl
 
   led : (x : Exchange) (w : Bool) → waits_for q x.stage ≡ w →
-      (not (eqb q id) && ((eqb next.id id && (w && follows_leader table next x)) || waits_for id x.stage)) ≡ waits_for id (cond w (cond (follows_leader table next x) (Waiting next.id) Released) x.stage)
+      (not (eqb q id) && ((eqb next.id id && (w && follows_next_leader table next x)) || waits_for id x.stage)) ≡ waits_for id (cond w (cond (follows_next_leader table next x) (Waiting next.id) Released) x.stage)
   led x true h =
-      ap (λ v. not (eqb q id) && ((eqb next.id id && (true && follows_leader table next x)) || v)) (other_leader q id x.stage h)
-      ∙ by_follow (eqb q id) (eqb next.id id) (follows_leader table next x) refl (not_both (eqb q id) (eqb next.id id) refl refl)
-  led x false h = stays (eqb q id) (eqb next.id id) (follows_leader table next x) (waits_for id x.stage) (λ t. ap (λ n. waits_for n x.stage) (sym (eqb-true q id t)) ∙ h)
+      ap (λ v. not (eqb q id) && ((eqb next.id id && (true && follows_next_leader table next x)) || v)) (other_leader q id x.stage h)
+      ∙ by_follow (eqb q id) (eqb next.id id) (follows_next_leader table next x) refl (not_both (eqb q id) (eqb next.id id) refl refl)
+  led x false h = stays (eqb q id) (eqb next.id id) (follows_next_leader table next x) (waits_for id x.stage) (λ t. ap (λ n. waits_for n x.stage) (sym (eqb-true q id t)) ∙ h)
 
   pub led_waits : (o : Option Exchange) →
-      (not (eqb q id) && ((eqb next.id id && (is_one (λ x. waits_for q x.stage) o && is_one (follows_leader table next) o)) || is_one (λ x. waits_for id x.stage) o))
-      ≡ is_one (λ x. waits_for id x.stage) (option_map (led_on_exchange table (Some next) q) o)
+      (not (eqb q id) && ((eqb next.id id && (is_one (λ x. waits_for q x.stage) o && is_one (follows_next_leader table next) o)) || is_one (λ x. waits_for id x.stage) o))
+      ≡ is_one (λ x. waits_for id x.stage) (option_map (after_abandon table (Some next) q) o)
   led_waits None = nobody (eqb q id) (eqb next.id id)
   led_waits (Some x) = led x (waits_for q x.stage) refl ∙ sym (ap (waits_for id) (led_on-stage table (Some next) q x))
 
 -- those that follow are under the next leader, and nobody is under the one that ended
 pub waiters-led_on : (table : Table) (next : NextLeader) (q : ℕ) → eqb next.id q ≡ false → (es : Numbered) (followers waiting : BTreeSet ℕ) (old mid new : WaitIndex) →
-    ((n : ℕ) → contains nat_cmp followers n ≡ (contains nat_cmp waiting n && is_arrival_of_selected (follows_leader table next) es n)) →
-    ((n : ℕ) → contains nat_cmp waiting n ≡ is_in_wait_index old q n) → WaitersAreEntered next.id followers old mid → WaitersAreTakenOut q mid new →
-    AllIndexed old es → AllIndexed new (map_exchanges (led_on_exchange table (Some next) q) es)
+    ((n : ℕ) → contains nat_cmp followers n ≡ (contains nat_cmp waiting n && is_arrival_of_selected (follows_next_leader table next) es n)) →
+    ((n : ℕ) → contains nat_cmp waiting n ≡ is_in_wait_index old q n) → WaitersAreEntered next.id followers old mid → WaitersAreRemoved q mid new →
+    AllIndexed old es → AllIndexed new (map_exchanges (after_abandon table (Some next) q) es)
 waiters-led_on table next q apart es followers waiting old mid new f w entered out h id m =
     out id m
-    ∙ (ap (λ b. not (eqb q id) && b) (entered id m ∙ ap (λ b. (eqb next.id id && b) || is_in_wait_index old id m) (f m ∙ ap (λ b. b && is_arrival_of_selected (follows_leader table next) es m) (w m ∙ h q m)))
-    ∙ (ap (λ b. not (eqb q id) && ((eqb next.id id && (is_arrival_of_selected (λ x. waits_for q x.stage) es m && is_arrival_of_selected (follows_leader table next) es m)) || b)) (h id m)
+    ∙ (ap (λ b. not (eqb q id) && b) (entered id m ∙ ap (λ b. (eqb next.id id && b) || is_in_wait_index old id m) (f m ∙ ap (λ b. b && is_arrival_of_selected (follows_next_leader table next) es m) (w m ∙ h q m)))
+    ∙ (ap (λ b. not (eqb q id) && ((eqb next.id id && (is_arrival_of_selected (λ x. waits_for q x.stage) es m && is_arrival_of_selected (follows_next_leader table next) es m)) || b)) (h id m)
     ∙ (led_waits table next q apart id (lookup (at m) es)
-    ∙ sym (ap (is_one (λ x. waits_for id x.stage)) (lookup-on_all (led_on_exchange table (Some next) q) m es)))))
+    ∙ sym (ap (is_one (λ x. waits_for id x.stage)) (lookup-on_all (after_abandon table (Some next) q) m es)))))

@@ -11,12 +11,12 @@ use Rattle.proxy_core.specs.declared.outcome.Outcome.{Outcome}
 use Rattle.proxy_core.specs.declared.event.Event.{Event}
 use Rattle.proxy_core.specs.declared.event.Event.TheVariants.{Arrive, Answer, Fail, Wake, Abandon, Overdue}
 use Rattle.hx_store.specs.Stored.{Stored}
-use Rattle.proxy_core.specs.Outcomes.{find_exchange, exchange_id_of_event, fault_at_exchange, outcome_of}
+use Rattle.proxy_core.specs.Outcomes.{find_exchange, exchange_id_of_event, fault_at_exchange, outcome_for_exchange}
 use Rattle.proxy_core.specs.Carrying.{ExchangeWasJudged}
-use Rattle.proxy_core.specs.Scopes.{Scope, is_in_scope, target_alone}
+use Rattle.proxy_core.specs.Scopes.{Scope, key_is_in_scope, scope_of_target_alone}
 use Rattle.proxy_core.specs.State.{overtaken_exchange}
 use Rattle.proxy_core.specs.Traces.{Item, initial_state, state_after_trace, IsGood}
-use Rattle.proxy_core.specs.Promises.{outcome_goes_forward, is_arrival_event, count_of_outcomes, request_after_event, latest_request_of, scope_overtaken_by_event, is_overtaken_key, overtakes_key, NoItemOvertakes, some_item_overtakes}
+use Rattle.proxy_core.specs.Promises.{outcome_goes_forward, is_arrival_event, count_of_outcomes, request_after_event, latest_request_of, scope_overtaken_by_event, is_overtaken_key, item_overtakes_key, NoItemOvertakesKey, some_item_overtakes_key}
 use Rattle.proxy_core.specs.declared.open.stage.Stage.TheVariants.{Forwarded, Waiting, Released}
 use Rattle.proxy_core.specs.Leading.{waits_for}
 use Rattle.proxy_core.specs.State.{released_exchange}
@@ -30,7 +30,7 @@ use Rattle.proxy_core.proofs.Tracing.{same_table}
 -- ---- the request of an open exchange is that of the latest arrival of its id
 
 overtake_asked : (key : Scope) (x : Exchange) → (overtaken_exchange key x).asked ≡ x.asked
-overtake_asked key x = elim (is_in_scope key x.asked.target.key) as (λ b. (cond b (record x { overtaken = true }) x).asked ≡ x.asked) [
+overtake_asked key x = elim (key_is_in_scope key x.asked.target.key) as (λ b. (cond b (record x { overtaken = true }) x).asked ≡ x.asked) [
   | true ↦ refl
   | false ↦ refl
 ]
@@ -106,7 +106,7 @@ key_is None (Overdue i) o b f h = absurd (cc)
 
 -- and as its outcome shows it
 shown : (table : Table) (start : StoreAtStart) (past : List Item) (es : List Stored) (xs : List Exchange) (next : Option ℕ) (w : Option Exchange) (event : Event) (o : Outcome) →
-    ((z : Exchange) → w ≡ Some z → ExchangeWasJudged table start z past) → o ≡ outcome_of table es xs w next event →
+    ((z : Exchange) → w ≡ Some z → ExchangeWasJudged table start z past) → o ≡ outcome_for_exchange table es xs w next event →
     scope_overtaken_by_event (asked_of w) event o ≡ key_taken_by_step (asked_of w) event o
 shown table start past es xs next None (Arrive now i asked) o a is = refl
 shown table start past es xs next None (Answer now i r) o a is = refl
@@ -115,7 +115,7 @@ shown table start past es xs next None (Wake now i) o a is = refl
 shown table start past es xs next None (Abandon i) o a is = refl
 shown table start past es xs next None (Overdue i) o a is = refl
 shown table start past es xs next (Some z) (Answer now i r) o a is =
-    ap (option_map target_alone) (status_is_shown table start z past (a z refl) es now r next ∙ ap (key_taken_by_answer z.asked r) (sym is))
+    ap (option_map scope_of_target_alone) (status_is_shown table start z past (a z refl) es now r next ∙ ap (key_taken_by_answer z.asked r) (sym is))
 shown table start past es xs next (Some z) (Arrive now i asked) o a is = refl
 shown table start past es xs next (Some z) (Fail now i kind) o a is = refl
 shown table start past es xs next (Some z) (Wake now i) o a is = refl
@@ -149,15 +149,15 @@ or_all : (b : Bool) → true ≡ (b || true)
 or_all true = refl
 or_all false = refl
 
-overtake_marks : (key : Scope) (x : Exchange) → (overtaken_exchange key x).overtaken ≡ (x.overtaken || is_in_scope key x.asked.target.key)
+overtake_marks : (key : Scope) (x : Exchange) → (overtaken_exchange key x).overtaken ≡ (x.overtaken || key_is_in_scope key x.asked.target.key)
 overtake_marks key x =
-    elim (is_in_scope key x.asked.target.key) as (λ b. (cond b (record x { overtaken = true }) x).overtaken ≡ (x.overtaken || b)) [
+    elim (key_is_in_scope key x.asked.target.key) as (λ b. (cond b (record x { overtaken = true }) x).overtaken ≡ (x.overtaken || b)) [
       | true ↦ or_all x.overtaken
       | false ↦ or_none x.overtaken
     ]
 
 overtake_stage : (key : Scope) (x : Exchange) → (overtaken_exchange key x).stage ≡ x.stage
-overtake_stage key x = elim (is_in_scope key x.asked.target.key) as (λ b. (cond b (record x { overtaken = true }) x).stage ≡ x.stage) [
+overtake_stage key x = elim (key_is_in_scope key x.asked.target.key) as (λ b. (cond b (record x { overtaken = true }) x).stage ≡ x.stage) [
   | true ↦ refl
   | false ↦ refl
 ]
@@ -213,10 +213,10 @@ or_swap true false = refl
 or_swap false true = refl
 or_swap false false = refl
 
-pub none_of_some : (key : Key) (items past : List Item) → some_item_overtakes key items past ≡ false → NoItemOvertakes key items past
+pub none_of_some : (key : Key) (items past : List Item) → some_item_overtakes_key key items past ≡ false → NoItemOvertakesKey key items past
 none_of_some key [] past h = tt
 none_of_some key (i ∷ items) past h =
-    let p = or_parts (overtakes_key key i (items ++ past)) (some_item_overtakes key items past) h in (p.0, none_of_some key items past p.1)
+    let p = or_parts (item_overtakes_key key i (items ++ past)) (some_item_overtakes_key key items past) h in (p.0, none_of_some key items past p.1)
 
 module _ (table : Table) (start : StoreAtStart) (first : ℕ) (f : Item) (before : List Item) (id : ℕ) where
   abbrev exchange : List Item → Option Exchange
@@ -225,12 +225,12 @@ module _ (table : Table) (start : StoreAtStart) (first : ℕ) (f : Item) (before
   -- the exchange, where its request is at the origin: that request, and its mark
   abbrev IsOut : List Item → Type 0
   IsOut items = (z : Exchange) → exchange items ≡ Some z → z.stage ≡ Forwarded →
-      (latest_request_of id (f ∷ before) ≡ Some z.asked) × (z.overtaken ≡ some_item_overtakes z.asked.target.key items (f ∷ before))
+      (latest_request_of id (f ∷ before) ≡ Some z.asked) × (z.overtaken ≡ some_item_overtakes_key z.asked.target.key items (f ∷ before))
 
   out_step : (i : Item) (items : List Item) → IsGood (initial_state table start first) (i ∷ (items ++ f ∷ before)) → (eqb (exchange_id_of_event i.event) id && outcome_goes_forward i.outcome) ≡ false →
       IsOut items → (y : Option Exchange) →
       Move id (find_exchange (exchange_id_of_event i.event) (state_after_trace (initial_state table start first) (items ++ f ∷ before)).exchanges) i.event i.outcome (exchange items) y →
-      (z : Exchange) → y ≡ Some z → z.stage ≡ Forwarded → (latest_request_of id (f ∷ before) ≡ Some z.asked) × (z.overtaken ≡ some_item_overtakes z.asked.target.key (i ∷ items) (f ∷ before))
+      (z : Exchange) → y ≡ Some z → z.stage ≡ Forwarded → (latest_request_of id (f ∷ before) ≡ Some z.asked) × (z.overtaken ≡ some_item_overtakes_key z.asked.target.key (i ∷ items) (f ∷ before))
   out_step i items g n out y (apart a e) z q stage =
       let key = key_taken_by_step (asked_of (find_exchange (exchange_id_of_event i.event) (state_after_trace (initial_state table start first) (items ++ f ∷ before)).exchanges)) i.event i.outcome in
       let u = unmarked key (released_by (ended_by i.event i.outcome) (exchange items)) z (sym e ∙ q) in
@@ -239,9 +239,9 @@ module _ (table : Table) (start : StoreAtStart) (first : ℕ) (f : Item) (before
         was.0 ∙ ap (λ r. Some r) (sym u.asked),
         u.overtaken
             ∙ ap (λ b. b || is_overtaken_key key u.was.asked.target.key) was.1
-            ∙ or_swap (some_item_overtakes u.was.asked.target.key items (f ∷ before)) (is_overtaken_key key u.was.asked.target.key)
-            ∙ ap (λ o. is_overtaken_key o u.was.asked.target.key || some_item_overtakes u.was.asked.target.key items (f ∷ before)) (sym (same_key_of_step table start first i (items ++ f ∷ before) g))
-            ∙ ap (λ (r : Asked). some_item_overtakes r.target.key (i ∷ items) (f ∷ before)) (sym u.asked),
+            ∙ or_swap (some_item_overtakes_key u.was.asked.target.key items (f ∷ before)) (is_overtaken_key key u.was.asked.target.key)
+            ∙ ap (λ o. is_overtaken_key o u.was.asked.target.key || some_item_overtakes_key u.was.asked.target.key items (f ∷ before)) (sym (same_key_of_step table start first i (items ++ f ∷ before) g))
+            ∙ ap (λ (r : Asked). some_item_overtakes_key r.target.key (i ∷ items) (f ∷ before)) (sym u.asked),
       )
   out_step i items g n out y (queues table es now asked line leader e x_is q l p) z r stage =
       let no : Waiting leader ≡ Forwarded = ap (λ (z : Exchange). z.stage) (same_Some _ z (sym p ∙ r)) ∙ stage in
@@ -269,7 +269,7 @@ module _ (table : Table) (start : StoreAtStart) (first : ℕ) (f : Item) (before
   -- since f, by which the exchange went forward last
   pub out_since : (items : List Item) → IsGood (initial_state table start first) (items ++ f ∷ before) → outcome_goes_forward f.outcome ≡ true → exchange_id_of_event f.event ≡ id →
       count_of_outcomes outcome_goes_forward id items ≡ 0 → (z : Exchange) → exchange items ≡ Some z → z.stage ≡ Forwarded →
-      (latest_request_of id (f ∷ before) ≡ Some z.asked) × (z.overtaken ≡ some_item_overtakes z.asked.target.key items (f ∷ before))
+      (latest_request_of id (f ∷ before) ≡ Some z.asked) × (z.overtaken ≡ some_item_overtakes_key z.asked.target.key items (f ∷ before))
   out_since [] g o e n = λ z q stage. (
     asked_is table start first (f ∷ before) g id z.asked (ap asked_of q),
     out_now id _ f.event f.outcome _ _ z (move_of table (state_after_trace (initial_state table start first) before) f id (same_table (initial_state table start first) before) g.0) (eq-eqb (exchange_id_of_event f.event) id e) o q,

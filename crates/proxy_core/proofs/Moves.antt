@@ -9,7 +9,7 @@ use Rattle.hx_framing.specs.declared.messages.Response.{Response}
 use Rattle.hx_hop.specs.declared.request_view.Asked.{Asked}
 use Rattle.hx_allow.specs.TableLines.{Table}
 use Rattle.hx_allow.specs.Matching.{policy_of}
-use Rattle.hx_allow.specs.declared.verdicts.Route.{Route}
+use Rattle.hx_allow.specs.declared.verdicts.RequestRoute.{RequestRoute}
 use Rattle.proxy_core.specs.Allowing.{verdict_of_asked}
 use Rattle.hx_store.specs.Stored.{Stored}
 use Rattle.hx_reuse.specs.Rules.{decision_of}
@@ -25,9 +25,9 @@ use Rattle.proxy_core.specs.declared.open.exchange.Exchange.{Exchange}
 use Rattle.proxy_core.specs.declared.core_fault.CoreFault.{CoreFault}
 use Rattle.proxy_core.specs.Moments.{moment_too_late_fault}
 use Rattle.proxy_core.specs.declared.open.stage.Stage.TheVariants.{Waiting, Released}
-use Rattle.proxy_core.specs.declared.open.leading_on.NextLeader.{NextLeader}
+use Rattle.proxy_core.specs.declared.open.as_next_leader.NextLeader.{NextLeader}
 use Rattle.proxy_core.specs.Leading.{is_forwarded, is_waiting, is_released, waits_for}
-use Rattle.proxy_core.specs.LeadingOn.{wait_has_an_end, next_leader, stage_after_leader, led_on_exchange, exchanges_without, exchanges_after_abandon}
+use Rattle.proxy_core.specs.LeadingOn.{wait_is_limited, next_leader, stage_after_leader, after_abandon, exchanges_without, exchanges_after_abandon}
 use Rattle.proxy_core.specs.declared.steps.fallback.Fallback.{Fallback}
 use Rattle.proxy_core.specs.declared.steps.fallback.Fallback.TheVariants.{Sends, Refuses}
 use Rattle.proxy_core.specs.declared.outcome.Outcome.{Outcome}
@@ -36,12 +36,12 @@ use Rattle.proxy_core.specs.declared.event.Event.{Event}
 use Rattle.proxy_core.specs.declared.event.Event.TheVariants.{Arrive, Answer, Fail, Wake, Abandon, Overdue}
 use Rattle.proxy_core.specs.Validating.{condition_about_serial, is_304_to_own_conditions, stored_response_validated}
 use Rattle.proxy_core.specs.Storing.{is_304_without_condition, key_invalidated}
-use Rattle.proxy_core.specs.Outcomes.{find_exchange, exchange_id_of_event, fallback_for, outcome_of_failure, is_error_status, outcome_of_passing_on_or_stale, outcome_of_304, outcome_of_answer, outcome_of_wake, outcome_of, or_fault, fault_if_not_forwarded, fault_if_not_released, fault_at_exchange, fault_if_not_waiting}
-use Rattle.proxy_core.specs.Scopes.{Scope, target_alone}
-use Rattle.proxy_core.specs.State.{State, state_after, open_exchanges_after, forwarded_exchange, waiting_exchange, line_of_verdict, rule_of_decision, serial_named_by_decision, exchange_gone_forward, exchange_forwarded_again, exchange_sent_forward, exchanges_after_wake, scope_invalidated_by_response, scope_purged, exchange_past_its_wait, overdue_exchange}
+use Rattle.proxy_core.specs.Outcomes.{find_exchange, exchange_id_of_event, fallback_for_failed_answer, outcome_of_failure, is_error_status, outcome_of_passing_on_or_stale, outcome_of_304, outcome_of_answer, outcome_of_wake, outcome_for_exchange, fault_else, fault_if_not_forwarded, fault_if_not_released, fault_at_exchange, fault_if_not_waiting}
+use Rattle.proxy_core.specs.Scopes.{Scope, scope_of_target_alone}
+use Rattle.proxy_core.specs.State.{State, state_after_event, open_exchanges_after, forwarded_exchange, waiting_exchange, line_of_verdict, rule_of_decision, serial_named_by_decision, exchange_gone_forward, exchange_forwarded_again, exchange_sent_forward, exchanges_after_wake, scope_invalidated_by_response, scope_purged, exchange_released_by_timeout, overdue_exchange}
 use Rattle.proxy_core.specs.Traces.{Item, ItemIsAccepted}
 use Rattle.proxy_core.specs.Promises.{outcome_goes_forward, outcome_is_reply, outcome_ends_exchange, is_arrival_event, reply_uses_no_stored_response}
-use Rattle.proxy_core.specs.Carrying.{judges_a_request}
+use Rattle.proxy_core.specs.Carrying.{is_arrival_or_wake}
 use Rattle.proxy_core.specs.TraceMeaning.{opens_an_exchange}
 use Rattle.proxy_core.proofs.UnsafeRequests.{unsafe_refuses}
 use Rattle.proxy_core.proofs.LedOn.{behind_is}
@@ -85,7 +85,7 @@ key_taken_by_answer asked r outcome =
     (Some asked.target.key) None
 
 abbrev pub key_taken_by_step : Option Asked → Event → Outcome → Option Scope
-key_taken_by_step (Some asked) (Answer now id r) outcome = option_map target_alone (key_taken_by_answer asked r outcome)
+key_taken_by_step (Some asked) (Answer now id r) outcome = option_map scope_of_target_alone (key_taken_by_answer asked r outcome)
 key_taken_by_step None (Answer now id r) outcome = None
 key_taken_by_step asked (Arrive now id other) outcome = scope_purged other outcome
 key_taken_by_step asked (Fail now id kind) outcome = None
@@ -96,17 +96,17 @@ key_taken_by_step asked (Overdue id) outcome = None
 -- of a step of the exchange w of its own id, what becomes of the exchange x of an id
 pub data Move (id : ℕ) (w : Option Exchange) (event : Event) (o : Outcome) (x y : Option Exchange) : Type 0 where
   apart : eqb (exchange_id_of_event event) id ≡ false → y ≡ changed_by (key_taken_by_step (asked_of w) event o) (ended_by event o) x → Move id w event o x y
-  opens : (table : Table) (es : List Stored) (now : ℕ) (asked : Asked) (line : Route) → event ≡ Arrive now id asked → x ≡ None → outcome_goes_forward o ≡ true → y ≡ Some (forwarded_exchange table es now id asked line) → Move id w event o x y
-  queues : (table : Table) (es : List Stored) (now : ℕ) (asked : Asked) (line : Route) (leader : ℕ) → event ≡ Arrive now id asked → x ≡ None → o ≡ Waits leader →
+  opens : (table : Table) (es : List Stored) (now : ℕ) (asked : Asked) (line : RequestRoute) → event ≡ Arrive now id asked → x ≡ None → outcome_goes_forward o ≡ true → y ≡ Some (forwarded_exchange table es now id asked line) → Move id w event o x y
+  queues : (table : Table) (es : List Stored) (now : ℕ) (asked : Asked) (line : RequestRoute) (leader : ℕ) → event ≡ Arrive now id asked → x ≡ None → o ≡ Waits leader →
       line ≡ line_of_verdict (verdict_of_asked table asked) → y ≡ Some (waiting_exchange table es now id asked line leader) → Move id w event o x y
   passes : eqb (exchange_id_of_event event) id ≡ true → is_arrival_event event ≡ true → x ≡ None → opens_an_exchange o ≡ false → y ≡ None → Move id w event o x y
   again : (z : Exchange) (now : ℕ) → eqb (exchange_id_of_event event) id ≡ true → is_arrival_event event ≡ false → x ≡ Some z → is_some z.condition ≡ true →
-      outcome_goes_forward o ≡ true → y ≡ Some (out_again now z) → judges_a_request event ≡ false → is_forwarded z.stage ≡ true → Move id w event o x y
+      outcome_goes_forward o ≡ true → y ≡ Some (out_again now z) → is_arrival_or_wake event ≡ false → is_forwarded z.stage ≡ true → Move id w event o x y
   wakes : (table : Table) (es : List Stored) (z : Exchange) (now : ℕ) → event ≡ Wake now id → x ≡ Some z → is_released z.stage ≡ true → outcome_goes_forward o ≡ true →
       y ≡ Some (woken_form table es now z) → Move id w event o x y
   closes : (z : Exchange) → eqb (exchange_id_of_event event) id ≡ true → is_arrival_event event ≡ false → x ≡ Some z → outcome_ends_exchange o ≡ true → y ≡ None → Move id w event o x y
   turns : (z : Exchange) (i next : ℕ) → event ≡ Abandon i → eqb i id ≡ false → x ≡ Some z → waits_for i z.stage ≡ true → o ≡ Ended → y ≡ Some (record z { stage = Waiting next }) → Move id w event o x y
-  lapses : (z : Exchange) → event ≡ Overdue id → x ≡ Some z → is_waiting z.stage ≡ true → o ≡ WaitsNoMore → y ≡ Some (exchange_past_its_wait z) → Move id w event o x y
+  lapses : (z : Exchange) → event ≡ Overdue id → x ≡ Some z → is_waiting z.stage ≡ true → o ≡ WaitsNoMore → y ≡ Some (exchange_released_by_timeout z) → Move id w event o x y
 
 -- ---- what an answer gives
 
@@ -141,15 +141,15 @@ again_asked : (table : Table) (es : List Stored) (now : ℕ) (x : Exchange) (r :
 again_asked table es now x r next d h = by_304 (is_304_to_own_conditions x r) h
   where
     by_304 : (b : Bool) → outcome_goes_forward (cond b (outcome_of_304 table es now x r (stored_response_validated es x r now) d)
-        (cond (is_304_without_condition (policy_of table.lines x.line) x.asked r) (outcome_of_failure table es now x BadAnswer (Some r.status) (fallback_for (policy_of table.lines x.line) es x.asked now d))
-        (outcome_of_passing_on_or_stale table es now x r next (is_error_status r.status) (fallback_for (policy_of table.lines x.line) es x.asked now d)))) ≡ true → b ≡ true
+        (cond (is_304_without_condition (policy_of table.lines x.line) x.asked r) (outcome_of_failure table es now x BadAnswer (Some r.status) (fallback_for_failed_answer (policy_of table.lines x.line) es x.asked now d))
+        (outcome_of_passing_on_or_stale table es now x r next (is_error_status r.status) (fallback_for_failed_answer (policy_of table.lines x.line) es x.asked now d)))) ≡ true → b ≡ true
     by_304 true h = refl
     by_304 false h = absurd (by_unasked (is_304_without_condition (policy_of table.lines x.line) x.asked r) h)
       where
-        by_unasked : (b : Bool) → outcome_goes_forward (cond b (outcome_of_failure table es now x BadAnswer (Some r.status) (fallback_for (policy_of table.lines x.line) es x.asked now d))
-            (outcome_of_passing_on_or_stale table es now x r next (is_error_status r.status) (fallback_for (policy_of table.lines x.line) es x.asked now d))) ≡ true → ⊥
-        by_unasked true h = false≢true (sym (failed_back table es now x BadAnswer (Some r.status) (fallback_for (policy_of table.lines x.line) es x.asked now d)) ∙ h)
-        by_unasked false h = false≢true (sym (passed_back table es now x r next (is_error_status r.status) (fallback_for (policy_of table.lines x.line) es x.asked now d)) ∙ h)
+        by_unasked : (b : Bool) → outcome_goes_forward (cond b (outcome_of_failure table es now x BadAnswer (Some r.status) (fallback_for_failed_answer (policy_of table.lines x.line) es x.asked now d))
+            (outcome_of_passing_on_or_stale table es now x r next (is_error_status r.status) (fallback_for_failed_answer (policy_of table.lines x.line) es x.asked now d))) ≡ true → ⊥
+        by_unasked true h = false≢true (sym (failed_back table es now x BadAnswer (Some r.status) (fallback_for_failed_answer (policy_of table.lines x.line) es x.asked now d)) ∙ h)
+        by_unasked false h = false≢true (sym (passed_back table es now x r next (is_error_status r.status) (fallback_for_failed_answer (policy_of table.lines x.line) es x.asked now d)) ∙ h)
 
 and_right : (a b : Bool) → (a && b) ≡ true → b ≡ true
 and_right true b h = h
@@ -170,9 +170,9 @@ same_tests true true true s h k = sym (h refl)
 same_tests true true false s h k = sym (k refl refl refl)
 
 answer_sends : (table : Table) (es : List Stored) (now : ℕ) (x : Exchange) (r : Response) (next : Option ℕ) (d : Decision) (rule : ReuseRule)
-    → (v n e : Bool) → v ≡ false → e ≡ false → fallback_for (policy_of table.lines x.line) es x.asked now d ≡ Refuses rule None
+    → (v n e : Bool) → v ≡ false → e ≡ false → fallback_for_failed_answer (policy_of table.lines x.line) es x.asked now d ≡ Refuses rule None
     → reply_uses_no_stored_response (cond v (outcome_of_304 table es now x r (stored_response_validated es x r now) d)
-    (cond n (outcome_of_failure table es now x BadAnswer (Some r.status) (fallback_for (policy_of table.lines x.line) es x.asked now d)) (outcome_of_passing_on_or_stale table es now x r next e (fallback_for (policy_of table.lines x.line) es x.asked now d)))) ≡ true
+    (cond n (outcome_of_failure table es now x BadAnswer (Some r.status) (fallback_for_failed_answer (policy_of table.lines x.line) es x.asked now d)) (outcome_of_passing_on_or_stale table es now x r next e (fallback_for_failed_answer (policy_of table.lines x.line) es x.asked now d)))) ≡ true
 answer_sends table es now x r next d rule true n e hv he f = absurd (false≢true (sym hv))
 answer_sends table es now x r next d rule false true e hv he f = ap (λ (o : Fallback). reply_uses_no_stored_response (outcome_of_failure table es now x BadAnswer (Some r.status) o)) f
 answer_sends table es now x r next d rule false false true hv he f = absurd (false≢true (sym he))
@@ -190,7 +190,7 @@ same_key_invalidated table es now x r next =
     let c = nat_le 200 r.status && nat_le r.status 399 in
     let by_304 : v ≡ true → reply_uses_no_stored_response o ≡ false = λ h.
     ap (λ b. reply_uses_no_stored_response (cond b (outcome_of_304 table es now x r (stored_response_validated es x r now) d)
-    (cond n (outcome_of_failure table es now x BadAnswer (Some r.status) (fallback_for (policy_of table.lines x.line) es x.asked now d)) (outcome_of_passing_on_or_stale table es now x r next e (fallback_for (policy_of table.lines x.line) es x.asked now d))))) h
+    (cond n (outcome_of_failure table es now x BadAnswer (Some r.status) (fallback_for_failed_answer (policy_of table.lines x.line) es x.asked now d)) (outcome_of_passing_on_or_stale table es now x r next e (fallback_for_failed_answer (policy_of table.lines x.line) es x.asked now d))))) h
     ∙ held_sent table es now x r (stored_response_validated es x r now) d
     in
     let by_status : v ≡ false → not (is_among safe_methods x.asked.method) ≡ true → c ≡ true → reply_uses_no_stored_response o ≡ true = λ hv hu hc.
@@ -226,10 +226,10 @@ other_overdue i id None n h = refl
 other_overdue i id (Some z) n h =
     let e = eqb-true z.id id (h z refl) in
     let off : eqb z.id i ≡ false = grind (arith, nat_tests) in
-    ap (λ b. Some (cond (b && is_waiting z.stage) (exchange_past_its_wait z) z)) off
+    ap (λ b. Some (cond (b && is_waiting z.stage) (exchange_released_by_timeout z) z)) off
 
 -- no fault stands of an answer or a failure
-pub forwarded_by : (a : Option CoreFault) (s : Stage) → or_fault a (fault_if_not_forwarded s) ≡ None → is_forwarded s ≡ true
+pub forwarded_by : (a : Option CoreFault) (s : Stage) → fault_else a (fault_if_not_forwarded s) ≡ None → is_forwarded s ≡ true
 forwarded_by (Some fault) s h = absurd (cc)
 forwarded_by None s h = by_test (is_forwarded s) h
   where
@@ -238,7 +238,7 @@ forwarded_by None s h = by_test (is_forwarded s) h
     by_test false h = absurd (cc)
 
 -- nor of a wake
-pub released_from : (a : Option CoreFault) (s : Stage) → or_fault a (fault_if_not_released s) ≡ None → is_released s ≡ true
+pub released_from : (a : Option CoreFault) (s : Stage) → fault_else a (fault_if_not_released s) ≡ None → is_released s ≡ true
 released_from (Some fault) s h = absurd (cc)
 released_from None s h = by_test (is_released s) h
   where
@@ -254,7 +254,7 @@ waiting_from s h = by_test (is_waiting s) h
     by_test true h = refl
     by_test false h = absurd (cc)
 
-no_key : (asked : Asked) (r : Response) (line : Route) (bytes : List ℕ) → key_taken_by_answer asked r (Forward line bytes) ≡ None
+no_key : (asked : Asked) (r : Response) (line : RequestRoute) (bytes : List ℕ) → key_taken_by_answer asked r (Forward line bytes) ≡ None
 no_key asked r line bytes = ap (λ b. cond b (Some asked.target.key) None)
     (ap (λ b. not (is_among safe_methods asked.method) && b) (and_none (nat_le 200 r.status && nat_le r.status 399)) ∙ and_none (not (is_among safe_methods asked.method)))
 
@@ -282,14 +282,14 @@ answer_either table es now x r next d = by_304 (is_304_to_own_conditions x r)
     by_error true (Refuses rule error) = refl
     by_error false fallback = refl
 
-    by_unasked : (b : Bool) → is_either (cond b (outcome_of_failure table es now x BadAnswer (Some r.status) (fallback_for (policy_of table.lines x.line) es x.asked now d))
-        (outcome_of_passing_on_or_stale table es now x r next (is_error_status r.status) (fallback_for (policy_of table.lines x.line) es x.asked now d))) ≡ true
-    by_unasked true = by_fallback (fallback_for (policy_of table.lines x.line) es x.asked now d)
-    by_unasked false = by_error (is_error_status r.status) (fallback_for (policy_of table.lines x.line) es x.asked now d)
+    by_unasked : (b : Bool) → is_either (cond b (outcome_of_failure table es now x BadAnswer (Some r.status) (fallback_for_failed_answer (policy_of table.lines x.line) es x.asked now d))
+        (outcome_of_passing_on_or_stale table es now x r next (is_error_status r.status) (fallback_for_failed_answer (policy_of table.lines x.line) es x.asked now d))) ≡ true
+    by_unasked true = by_fallback (fallback_for_failed_answer (policy_of table.lines x.line) es x.asked now d)
+    by_unasked false = by_error (is_error_status r.status) (fallback_for_failed_answer (policy_of table.lines x.line) es x.asked now d)
 
     by_304 : (b : Bool) → is_either (cond b (outcome_of_304 table es now x r (stored_response_validated es x r now) d)
-        (cond (is_304_without_condition (policy_of table.lines x.line) x.asked r) (outcome_of_failure table es now x BadAnswer (Some r.status) (fallback_for (policy_of table.lines x.line) es x.asked now d))
-        (outcome_of_passing_on_or_stale table es now x r next (is_error_status r.status) (fallback_for (policy_of table.lines x.line) es x.asked now d)))) ≡ true
+        (cond (is_304_without_condition (policy_of table.lines x.line) x.asked r) (outcome_of_failure table es now x BadAnswer (Some r.status) (fallback_for_failed_answer (policy_of table.lines x.line) es x.asked now d))
+        (outcome_of_passing_on_or_stale table es now x r next (is_error_status r.status) (fallback_for_failed_answer (policy_of table.lines x.line) es x.asked now d)))) ≡ true
     by_304 true = again_or_sent (stored_response_validated es x r now) d
     by_304 false = by_unasked (is_304_without_condition (policy_of table.lines x.line) x.asked r)
 
@@ -320,7 +320,7 @@ module _ (table : Table) (es : List Stored) (xs : List Exchange) (next : Option 
         | inr n ↦ apart n (p ∙ ap (λ b. cond b (Some (forwarded_exchange table es now i asked line)) (find_exchange id xs)) n)
       ]
   arrives now i asked (Waits leader) f =
-      let line : Route = line_of_verdict (verdict_of_asked table asked) in
+      let line : RequestRoute = line_of_verdict (verdict_of_asked table asked) in
       let p = find-push id xs (waiting_exchange table es now i asked line leader) f in
       elim (cases_Bool (eqb i id)) [
         | inl t ↦ (
@@ -361,12 +361,12 @@ module _ (table : Table) (es : List Stored) (xs : List Exchange) (next : Option 
             (p ∙ ap (option_map (exchange_forwarded_again i now)) x_is ∙ ap (λ b. Some (cond b (out_again now z) z)) (found-id i xs z f)) refl s
             )
         | inr n ↦ apart n (p ∙ other_out i now id (find_exchange id xs) n (λ z g. found-id id xs z g)
-            ∙ sym (ap (λ k. overtaken_by (option_map target_alone k) (find_exchange id xs)) (no_key z.asked r line bytes)))
+            ∙ sym (ap (λ k. overtaken_by (option_map scope_of_target_alone k) (find_exchange id xs)) (no_key z.asked r line bytes)))
       ]
   answers now i r z (Reply p) f s h = gone z (Answer now i r) (Reply p) f refl refl _ (
       find-left_open (scope_invalidated_by_response (find_exchange i xs) r) i id xs
       ∙ ap (λ k. cond (eqb i id) None (changed_by k (Some i) (find_exchange id xs)))
-      (ap (λ w. scope_invalidated_by_response w r) f ∙ ap (option_map target_alone) (same_key_invalidated table es now z r next ∙ ap (key_taken_by_answer z.asked r) (sym h)))
+      (ap (λ w. scope_invalidated_by_response w r) f ∙ ap (option_map scope_of_target_alone) (same_key_invalidated table es now z r next ∙ ap (key_taken_by_answer z.asked r) (sym h)))
       )
   answers now i r z (Waits leader) f s h = absurd (false≢true (ap is_either h ∙ answer_either table es now z r next (decision_of (policy_of table.lines z.line) es z.asked now)))
   answers now i r z Ended f s h = absurd (false≢true (ap is_either h ∙ answer_either table es now z r next (decision_of (policy_of table.lines z.line) es z.asked now)))
@@ -410,11 +410,11 @@ module _ (table : Table) (es : List Stored) (xs : List Exchange) (next : Option 
       ]
 
   -- whose client went away: another that waited for it may wait for the next leader
-  abandons_another : (i : ℕ) (w : Exchange) (next : Option NextLeader) (x : Option Exchange) → eqb i id ≡ false → (y : Option Exchange) → y ≡ option_map (led_on_exchange table next i) x → Move id (Some w) (Abandon i) Ended x y
+  abandons_another : (i : ℕ) (w : Exchange) (next : Option NextLeader) (x : Option Exchange) → eqb i id ≡ false → (y : Option Exchange) → y ≡ option_map (after_abandon table next i) x → Move id (Some w) (Abandon i) Ended x y
   abandons_another i w next None n y h = apart n h
   abandons_another i w next (Some z) n y h = by_wait (waits_for i z.stage) refl
     where
-      by_stage : (stage_after_leader table next z ≡ Released) ⊎ ((l : ℕ) × (stage_after_leader table next z ≡ Waiting l) × (wait_has_an_end table z ≡ true)) → waits_for i z.stage ≡ true → Move id (Some w) (Abandon i) Ended (Some z) y
+      by_stage : (stage_after_leader table next z ≡ Released) ⊎ ((l : ℕ) × (stage_after_leader table next z ≡ Waiting l) × (wait_is_limited table z ≡ true)) → waits_for i z.stage ≡ true → Move id (Some w) (Abandon i) Ended (Some z) y
       by_stage (inl r) e = apart n (h ∙ ap (λ b. Some (cond b (record z { stage = stage_after_leader table next z }) z)) e ∙ ap (λ (s : Stage). Some (record z { stage = s })) r ∙ sym (ap (λ b. Some (cond b (record z { stage = Released }) z)) e))
       by_stage (inr w) e = turns z i w.0 refl n refl e refl (h ∙ ap (λ b. Some (cond b (record z { stage = stage_after_leader table next z }) z)) e ∙ ap (λ (s : Stage). Some (record z { stage = s })) w.1)
 
@@ -428,8 +428,8 @@ module _ (table : Table) (es : List Stored) (xs : List Exchange) (next : Option 
       let p = find-abandoned table i id xs in
       subst (λ (o : Outcome). Move id (Some w) (Abandon i) o (find_exchange id xs) (find_exchange id (exchanges_after_abandon table i xs))) (sym h)
       (elim (cases_Bool (eqb i id)) [
-        | inl t ↦ closes w t refl (ap (λ n. find_exchange n xs) (sym (eqb-true i id t)) ∙ f) refl (p ∙ ap (λ b. cond b None (option_map (led_on_exchange table next i) (find_exchange id xs))) t)
-        | inr n ↦ abandons_another i w next (find_exchange id xs) n _ (p ∙ ap (λ b. cond b None (option_map (led_on_exchange table next i) (find_exchange id xs))) n)
+        | inl t ↦ closes w t refl (ap (λ n. find_exchange n xs) (sym (eqb-true i id t)) ∙ f) refl (p ∙ ap (λ b. cond b None (option_map (after_abandon table next i) (find_exchange id xs))) t)
+        | inr n ↦ abandons_another i w next (find_exchange id xs) n _ (p ∙ ap (λ b. cond b None (option_map (after_abandon table next i) (find_exchange id xs))) n)
       ])
 
   -- who has waited as long as it is to wait
@@ -443,12 +443,12 @@ module _ (table : Table) (es : List Stored) (xs : List Exchange) (next : Option 
             let same = eqb-true i id t in
             let x_is : find_exchange id xs ≡ Some z = ap (λ k. find_exchange k xs) (sym same) ∙ f in
             lapses z (ap (λ k. Overdue k) same) x_is s refl
-            (p ∙ ap (option_map (overdue_exchange i)) x_is ∙ ap (λ b. Some (cond b (exchange_past_its_wait z) z)) (ap (λ b. b && is_waiting z.stage) (found-id i xs z f) ∙ s))
+            (p ∙ ap (option_map (overdue_exchange i)) x_is ∙ ap (λ b. Some (cond b (exchange_released_by_timeout z) z)) (ap (λ b. b && is_waiting z.stage) (found-id i xs z f) ∙ s))
             )
         | inr off ↦ apart off (p ∙ other_overdue i id (find_exchange id xs) off (λ y g. found-id id xs y g))
       ])
 
-  step : (event : Event) (o : Outcome) (w : Option Exchange) → find_exchange (exchange_id_of_event event) xs ≡ w → fault_at_exchange w event ≡ None → o ≡ outcome_of table es xs w next event →
+  step : (event : Event) (o : Outcome) (w : Option Exchange) → find_exchange (exchange_id_of_event event) xs ≡ w → fault_at_exchange w event ≡ None → o ≡ outcome_for_exchange table es xs w next event →
       Move id w event o (find_exchange id xs) (find_exchange id (open_exchanges_after table es xs event o))
   step (Arrive now i asked) o None f a h = arrives now i asked o f
   step (Arrive now i asked) o (Some w) f a h = absurd (cc)
@@ -456,7 +456,7 @@ module _ (table : Table) (es : List Stored) (xs : List Exchange) (next : Option 
   step (Answer now i r) o (Some w) f a h = answers now i r w o f (forwarded_by (moment_too_late_fault now) w.stage a) h
   step (Fail now i kind) o None f a h = absurd (cc)
   step (Fail now i kind) o (Some w) f a h =
-      gone w (Fail now i kind) o f refl (ap outcome_ends_exchange h ∙ failed_ends table es now w kind None (fallback_for (policy_of table.lines w.line) es w.asked now (decision_of (policy_of table.lines w.line) es w.asked now))) _ (find-closed i id xs)
+      gone w (Fail now i kind) o f refl (ap outcome_ends_exchange h ∙ failed_ends table es now w kind None (fallback_for_failed_answer (policy_of table.lines w.line) es w.asked now (decision_of (policy_of table.lines w.line) es w.asked now))) _ (find-closed i id xs)
   step (Wake now i) o None f a h = absurd (cc)
   step (Wake now i) o (Some w) f a h =
       wakes_up now i w o (decision_of (policy_of table.lines w.line) es w.asked now) refl f (released_from (moment_too_late_fault now) w.stage a) h
@@ -466,7 +466,7 @@ module _ (table : Table) (es : List Stored) (xs : List Exchange) (next : Option 
   step (Overdue i) o (Some w) f a h = goes_over i w o f (waiting_from w.stage a) h
 
 pub move_of : (table : Table) (s : State) (i : Item) (id : ℕ) → s.table ≡ table → ItemIsAccepted table s.entries s.exchanges s.next i →
-    Move id (find_exchange (exchange_id_of_event i.event) s.exchanges) i.event i.outcome (find_exchange id s.exchanges) (find_exchange id (state_after s i.event i.outcome).exchanges)
+    Move id (find_exchange (exchange_id_of_event i.event) s.exchanges) i.event i.outcome (find_exchange id s.exchanges) (find_exchange id (state_after_event s i.event i.outcome).exchanges)
 move_of table s i id same h =
     let a = subst (λ (t : Table). ItemIsAccepted t s.entries s.exchanges s.next i) (sym same) h in
     step s.table s.entries s.exchanges s.next id i.event i.outcome (find_exchange (exchange_id_of_event i.event) s.exchanges) refl a.allowed a.outcome_is

@@ -13,15 +13,15 @@ use Rattle.hx_hop.specs.declared.request_view.Asked.{Asked}
 use Rattle.hx_hop.specs.Moments.{date_text_of}
 use Rattle.hx_allow.specs.TableLines.{Table}
 use Rattle.hx_allow.specs.Matching.{policy_of}
-use Rattle.proxy_core.specs.Allowing.{verdict_of_asked, is_purge, request_purges, exchanges_to_wait_for}
+use Rattle.proxy_core.specs.Allowing.{verdict_of_asked, is_purge_verdict, request_purges, exchanges_to_wait_for}
 use Rattle.hx_allow.specs.declared.verdicts.Verdict.{Verdict}
 use Rattle.hx_allow.specs.declared.verdicts.Verdict.TheVariants as verdict
-use Rattle.hx_allow.specs.declared.verdicts.Route.{Route}
+use Rattle.hx_allow.specs.declared.verdicts.RequestRoute.{RequestRoute}
 use Rattle.hx_store.specs.Stored.{Stored}
-use Rattle.hx_store.specs.Serials.{Distinct}
+use Rattle.hx_store.specs.Serials.{SerialsAreDistinct}
 use Rattle.hx_store.specs.Shelf.{serials}
 use Rattle.hx_reuse.specs.Rules.{decision_of}
-use Rattle.hx_reuse.specs.ChosenAndNamed.{IsLeastReuseRule, RuleNamesTheResponse}
+use Rattle.hx_reuse.specs.ChosenAndNamed.{IsLeastReuseRule, RuleOnChosenNamesItsSerial}
 use Rattle.hx_reuse.specs.ErrorRules.{error_rule_on}
 use Rattle.hx_reuse.specs.declared.rule.ReuseRule.{ReuseRule}
 use Rattle.hx_reuse.specs.declared.rule.ErrorRule.{ErrorRule}
@@ -38,25 +38,25 @@ use Rattle.proxy_core.specs.declared.replies.stored_reply.CacheStatusInfo.{Cache
 use Rattle.proxy_core.specs.declared.core_fault.CoreFault.TheVariants.{MomentTooLate, NotForwarded, NotReady, NotWaiting}
 use Rattle.proxy_core.specs.declared.outcome.Reply.{Reply}
 use Rattle.proxy_core.specs.declared.outcome.Outcome.{Outcome}
-use Rattle.proxy_core.specs.declared.outcome.Outcome.TheVariants.{Reply as Replied, Forward, Waits}
+use Rattle.proxy_core.specs.declared.outcome.Outcome.TheVariants.{Reply as ReplyData, Forward, Waits}
 use Rattle.proxy_core.specs.declared.event.Event.{Event}
 use Rattle.proxy_core.specs.declared.event.Event.TheVariants.{Arrive, Answer, Fail, Wake, Abandon, Overdue}
 use Rattle.proxy_core.specs.Moments.{moment_too_late_fault}
 use Rattle.proxy_core.specs.Storing.{storing_rule_to_explain, is_304_without_condition}
 use Rattle.proxy_core.specs.Validating.{condition_about_serial, is_304_to_own_conditions, stored_response_validated}
-use Rattle.proxy_core.specs.Replies.{stored_text, passed_answer_text, refusal_reply_text, is_head}
-use Rattle.hx_status.specs.declared.about.About.{About}
+use Rattle.proxy_core.specs.Replies.{stored_reply_text, passed_answer_text, refusal_reply_text, is_head}
+use Rattle.hx_status.specs.declared.about.StatusAndReason.{StatusAndReason}
 use Rattle.proxy_core.specs.Abouts.{about_by_outcome}
-use Rattle.proxy_core.specs.Outcomes.{hit_status_info, find_exchange, exchange_id_of_event, outcome_of, outcome_of_event, outcome_of_refusal, forwarded_status_info, forward_text, or_fault, fault_if_not_forwarded, fault_if_not_released, fault_at_exchange, step_fault}
+use Rattle.proxy_core.specs.Outcomes.{hit_status_info, find_exchange, exchange_id_of_event, outcome_for_exchange, outcome_of_event, outcome_of_refusal, forwarded_status_info, forward_text, fault_else, fault_if_not_forwarded, fault_if_not_released, fault_at_exchange, step_fault}
 use Rattle.proxy_core.specs.State.{expired_by_outcome, outcome_purges, serial_stored_by_outcome, serial_used_by_outcome, serials_removed_by_outcome, stored_response_as_used, bounds_of}
-use Rattle.proxy_core.specs.Starts.{StoreAtStart, StartStands}
+use Rattle.proxy_core.specs.Starts.{StoreAtStart, StartIsValid}
 use Rattle.proxy_core.specs.Traces.{Item}
 use Rattle.proxy_core.specs.Histories.{held_entries, open_exchanges, next_serial, IsGoodHistory}
-use Rattle.proxy_core.specs.Sending.{StoredResponseIsReusable, StoredResponseMayBeSent, RequestGoesForward, NoLeaderIsOpen, RequestWaitsForTheFirst, RequestReachesCacheOrOrigin, RequestIsTurnedAway, DetailWordAfterError, DetailWordAtAnswer, DetailWordAtArrival, CacheStatusShowsHow, IsAbout, ReplyIsThatStoredResponse}
-use Rattle.proxy_core.specs.GoingOn.{EventMayCome, IsClientReply, ExchangeGoesOnBy}
-use Rattle.proxy_core.specs.Naming.{AnswerNamesErrorRule, AnswerAfterFailureNames, AnswerNamesByEvent, AnswerNamesFirstRule}
-use Rattle.proxy_core.specs.StoredAnswers.{ThoseAreExpired, ThoseAreRemoved, event_purges}
-use Rattle.proxy_core.specs.Headline.{HoldsAtEachItem, ExchangeGoesOnToItsAnswer, RequestReachesExactlyWhereAllowed, StoredResponseIsSentExactlyWhereItMayBe, SentResponseIsTheStoredOne, OtherAnswerNamesTheFirstRule, AnswerIsStoredExactlyWhereItMayBe, StoredResponsesAreRemovedExactlyWhereTheyMustBe, ConnectionClosesAsAsked, OutcomeIsToldAsItIs, Headline, AnswerHasFinalStatus, NoOtherTraceHasTheHeadline}
+use Rattle.proxy_core.specs.Sending.{StoredResponseIsReusable, StoredResponseMayBeSent, RequestGoesForward, NoLeaderIsOpen, RequestWaitsForFirstLeader, RequestReachesCacheOrOrigin, RequestIsRefusedByTheTable, CacheStatusDetailAfterError, CacheStatusDetailAtAnswer, CacheStatusDetailAtArrival, CacheStatusIsExact, EventHasMomentAndRequest, ReplyIsTheStoredResponse}
+use Rattle.proxy_core.specs.GoingOn.{EventSuitsExchange, IsClientReply, ExchangeContinuesByEvent}
+use Rattle.proxy_core.specs.Naming.{AnswerNamesErrorRule, FailureAnswerNamesItsCause, AnswerNamesItsRule, AnswerNamesFirstRule}
+use Rattle.proxy_core.specs.StoredAnswers.{OutcomeExpiresExactlyWhatItMust, OutcomeRemovesExactlyWhatItMust, event_purges}
+use Rattle.proxy_core.specs.Headline.{HoldsAtEachItem, ClientIsAnsweredAtTheNextStep, RequestReachesCacheOrOriginIffAllowed, StoredResponseIsSentExactlyWhereItMayBe, SentResponseIsTheStoredOne, AnswerNotFromStoreNamesFirstRule, AnswerIsStoredExactlyWhereItMayBe, StoredResponsesAreRemovedExactlyWhereTheyMustBe, ConnectionClosesAsAsked, OutcomeIsReportedTruthfully, Headline, AnswerHasFinalStatus, NoOtherTraceHasTheHeadline}
 use Rattle.proxy_core.proofs.FirstRules.{held_distinct}
 use Rattle.proxy_core.proofs.Leads.{leads_for_none, leads_for}
 use Rattle.proxy_core.proofs.Awaits.{one_rule, one_named}
@@ -87,7 +87,7 @@ module _ (policy : Policy) (es : List Stored) (asked : Asked) (now : ℕ) where
       is ∙ sym one ∙ ap (λ (x : Stored). error_rule_on policy x (occurrences_of asked.fields) now) same ∙ other ∙ sym is2
 
   -- a held response may be reused or not
-  reusable_or_not : Distinct (serials es) → (s : ℕ) → StoredResponseIsReusable policy es asked now s ⊎ (StoredResponseIsReusable policy es asked now s → ⊥)
+  reusable_or_not : SerialsAreDistinct (serials es) → (s : ℕ) → StoredResponseIsReusable policy es asked now s ⊎ (StoredResponseIsReusable policy es asked now s → ⊥)
   reusable_or_not distinct s = by_decision (decision_of policy es asked now) refl
     where
       by_decision : (d : Decision) → decision_of policy es asked now ≡ d → StoredResponseIsReusable policy es asked now s ⊎ (StoredResponseIsReusable policy es asked now s → ⊥)
@@ -103,7 +103,7 @@ module _ (policy : Policy) (es : List Stored) (asked : Asked) (now : ℕ) where
               let same : t ≡ s = cc in
               no_true (sym other ∙ ap (λ n. eqb n s) same ∙ eq-eqb s s refl))
 
-  one_word : Distinct (serials es) → (s : ℕ) (a b : Option Detail) → DetailWordAfterError policy es asked now s a → DetailWordAfterError policy es asked now s b → a ≡ b
+  one_word : SerialsAreDistinct (serials es) → (s : ℕ) (a b : Option Detail) → CacheStatusDetailAfterError policy es asked now s a → CacheStatusDetailAfterError policy es asked now s b → a ≡ b
   one_word distinct s a b v w = by_test (reusable_or_not distinct s)
     where
       by_test : StoredResponseIsReusable policy es asked now s ⊎ (StoredResponseIsReusable policy es asked now s → ⊥) → a ≡ b
@@ -112,14 +112,14 @@ module _ (policy : Policy) (es : List Stored) (asked : Asked) (now : ℕ) where
 
 -- ---- outcomes of a request that arrives
 
-forward_same : (table : Table) (es : List Stored) (asked : Asked) (now : ℕ) (line : Route) (a b : ReuseRule) (o p : Outcome) → RequestGoesForward table es asked now line a o → RequestGoesForward table es asked now line b p → o ≡ p
+forward_same : (table : Table) (es : List Stored) (asked : Asked) (now : ℕ) (line : RequestRoute) (a b : ReuseRule) (o p : Outcome) → RequestGoesForward table es asked now line a o → RequestGoesForward table es asked now line b p → o ≡ p
 forward_same table es asked now line a b o p m n =
     let rule : a ≡ b = one_rule (policy_of table.lines line) es asked now a b m.is_least n.is_least in
-    let against : m.against ≡ n.against = one_named (policy_of table.lines line) es asked now b m.against n.against (subst (λ r. RuleNamesTheResponse es asked r m.against) rule m.names) n.names in
+    let against : m.against ≡ n.against = one_named (policy_of table.lines line) es asked now b m.against n.against (subst (λ r. RuleOnChosenNamesItsSerial es asked r m.against) rule m.names) n.names in
     m.outcome_is ∙ ap (λ c. Forward line (forward_text table line asked (condition_about_serial es c))) against ∙ sym n.outcome_is
 
-module _ (table : Table) (es : List Stored) (distinct : Distinct (serials es)) (xs : List Exchange) (now : ℕ) (asked : Asked) where
-  turned_same : (o p : Outcome) → RequestIsTurnedAway table now asked o → RequestIsTurnedAway table now asked p → o ≡ p
+module _ (table : Table) (es : List Stored) (distinct : SerialsAreDistinct (serials es)) (xs : List Exchange) (now : ℕ) (asked : Asked) where
+  turned_same : (o p : Outcome) → RequestIsRefusedByTheTable table now asked o → RequestIsRefusedByTheTable table now asked p → o ≡ p
   turned_same o p (inl (line, v, m)) (inl (other, w, n)) =
       let same : verdict.DeniedBy line ≡ verdict.DeniedBy other = sym v ∙ w in
       let lines : line ≡ other = cc in
@@ -136,14 +136,14 @@ module _ (table : Table) (es : List Stored) (distinct : Distinct (serials es)) (
       let lines : line ≡ other = cc in
       m ∙ ap (λ l. outcome_of_refusal now (Looped l) asked) lines ∙ sym n
 
-  module _ (line : Route) (o p : Outcome) (unused : serial_used_by_outcome o ≡ None) (other_unused : serial_used_by_outcome p ≡ None) where
-    meets : (rule : ReuseRule) → IsLeastReuseRule (policy_of table.lines line) es asked now rule → NoLeaderIsOpen (policy_of table.lines line) es (exchanges_to_wait_for table line asked xs) asked now → RequestWaitsForTheFirst table es xs now asked line p → {P : Type 0} → P
+  module _ (line : RequestRoute) (o p : Outcome) (unused : serial_used_by_outcome o ≡ None) (other_unused : serial_used_by_outcome p ≡ None) where
+    meets : (rule : ReuseRule) → IsLeastReuseRule (policy_of table.lines line) es asked now rule → NoLeaderIsOpen (policy_of table.lines line) es (exchanges_to_wait_for table line asked xs) asked now → RequestWaitsForFirstLeader table es xs now asked line p → {P : Type 0} → P
     meets rule least nobody w =
         never_one w.leader
         (sym (leads_for_none (policy_of table.lines line) es distinct (exchanges_to_wait_for table line asked xs) asked now rule least nobody)
         ∙ leads_for (policy_of table.lines line) es distinct (exchanges_to_wait_for table line asked xs) asked now rule least w.awaited w.leader w.awaits w.first_leads)
 
-  reached_same : (line : Route) (o p : Outcome) → serial_used_by_outcome o ≡ None → serial_used_by_outcome p ≡ None → RequestReachesCacheOrOrigin table es xs now asked line o → RequestReachesCacheOrOrigin table es xs now asked line p → o ≡ p
+  reached_same : (line : RequestRoute) (o p : Outcome) → serial_used_by_outcome o ≡ None → serial_used_by_outcome p ≡ None → RequestReachesCacheOrOrigin table es xs now asked line o → RequestReachesCacheOrOrigin table es xs now asked line p → o ≡ p
   reached_same line o p u v (inl (s, used)) h = never_one s (sym u ∙ used)
   reached_same line o p u v (inr a) (inl (s, used)) = never_one s (sym v ∙ used)
   reached_same line o p u v (inr (inl (a, m, others, nobody))) (inr (inl (b, n, others2, nobody2))) = forward_same table es asked now line a b o p m n
@@ -156,15 +156,15 @@ module _ (table : Table) (es : List Stored) (distinct : Distinct (serials es)) (
       ∙ leads_for (policy_of table.lines line) es distinct (exchanges_to_wait_for table line asked xs) asked now w.awaits.rule w.awaits.is_least z.awaited z.leader z.awaits z.first_leads
       in
       w.outcome_is ∙ ap (λ l. Waits l) (same_Some w.leader z.leader same) ∙ sym z.outcome_is
-  reached_same line o p u v (inr (inr (inl w))) (inr (inr (inr (b, only, least, is)))) = no_true (sym w.takes_others ∙ only)
+  reached_same line o p u v (inr (inr (inl w))) (inr (inr (inr (b, only, least, is)))) = no_true (sym w.is_not_only_if_cached ∙ only)
   reached_same line o p u v (inr (inr (inr (a, only, least, is)))) (inr (inl (b, n, others, nobody))) = no_true (sym others ∙ only)
-  reached_same line o p u v (inr (inr (inr (a, only, least, is)))) (inr (inr (inl z))) = no_true (sym z.takes_others ∙ only)
+  reached_same line o p u v (inr (inr (inr (a, only, least, is)))) (inr (inr (inl z))) = no_true (sym z.is_not_only_if_cached ∙ only)
   reached_same line o p u v (inr (inr (inr (a, only, least, is)))) (inr (inr (inr (b, only2, least2, is2)))) =
       is ∙ ap (λ r. outcome_of_refusal now (OnlyIfCached r) asked) (one_rule (policy_of table.lines line) es asked now a b least least2) ∙ sym is2
 
 -- ---- what is told of a stored response
 
-about_same : (x : Option Exchange) (event : Event) (m n : ℕ) (a b : Asked) → IsAbout x event m a → IsAbout x event n b → (m ≡ n) × (a ≡ b)
+about_same : (x : Option Exchange) (event : Event) (m n : ℕ) (a b : Asked) → EventHasMomentAndRequest x event m a → EventHasMomentAndRequest x event n b → (m ≡ n) × (a ≡ b)
 about_same x (Arrive t id asked) m n a b h k = (sym h.0 ∙ k.0, sym h.1 ∙ k.1)
 about_same (Some x) (Answer t id r) m n a b h k = (sym h.0 ∙ k.0, sym h.1 ∙ k.1)
 about_same None (Answer t id r) m n a b h k = absurd h
@@ -175,12 +175,12 @@ about_same None (Wake t id) m n a b h k = absurd h
 about_same x (Abandon id) m n a b h k = absurd h
 about_same x (Overdue id) m n a b h k = absurd h
 
-same_line : (a b : Route) → verdict.Allowed a ≡ verdict.Allowed b → a ≡ b
+same_line : (a b : RequestRoute) → verdict.Allowed a ≡ verdict.Allowed b → a ≡ b
 same_line a b h = cc
 
-module _ (table : Table) (es : List Stored) (distinct : Distinct (serials es)) where
+module _ (table : Table) (es : List Stored) (distinct : SerialsAreDistinct (serials es)) where
   at_answer : (x : Exchange) (now : ℕ) (r : Response) (s : ℕ) (a b : Option Detail) →
-      DetailWordAtAnswer (policy_of table.lines x.line) es x now r s a → DetailWordAtAnswer (policy_of table.lines x.line) es x now r s b → a ≡ b
+      CacheStatusDetailAtAnswer (policy_of table.lines x.line) es x now r s a → CacheStatusDetailAtAnswer (policy_of table.lines x.line) es x now r s b → a ≡ b
   at_answer x now r s a b v w = by_entry (stored_response_validated es x r now) refl
     where
       by_validation : stored_response_validated es x r now ≡ None → (t : Bool) → is_304_to_own_conditions x r ≡ t → a ≡ b
@@ -191,19 +191,19 @@ module _ (table : Table) (es : List Stored) (distinct : Distinct (serials es)) w
       by_entry (Some e) k = v.0 (ap is_some k) ∙ sym (w.0 (ap is_some k))
       by_entry None k = by_validation k (is_304_to_own_conditions x r) refl
 
-  at_arrival : (policy : Policy) (asked : Asked) (now s : ℕ) (a b : Option Detail) → DetailWordAtArrival policy es asked now s a → DetailWordAtArrival policy es asked now s b → a ≡ b
+  at_arrival : (policy : Policy) (asked : Asked) (now s : ℕ) (a b : Option Detail) → CacheStatusDetailAtArrival policy es asked now s a → CacheStatusDetailAtArrival policy es asked now s b → a ≡ b
   at_arrival policy asked now s a b v w = by_test (reusable_or_not policy es asked now distinct s)
     where
       by_test : StoredResponseIsReusable policy es asked now s ⊎ (StoredResponseIsReusable policy es asked now s → ⊥) → a ≡ b
       by_test (inl may) = v.0 may ∙ sym (w.0 may)
       by_test (inr never) = v.1 never ∙ sym (w.1 never)
 
-  how_same : (x : Option Exchange) (event : Event) (s : ℕ) (h k : CacheStatusInfo) → CacheStatusShowsHow table es x event s h → CacheStatusShowsHow table es x event s k → h ≡ k
+  how_same : (x : Option Exchange) (event : Event) (s : ℕ) (h k : CacheStatusInfo) → CacheStatusIsExact table es x event s h → CacheStatusIsExact table es x event s k → h ≡ k
   how_same x (Arrive now id asked) s h k (n, v, (d, is, word)) (m, w, (e, is2, word2)) =
       let same : n ≡ m = same_line n m (sym v ∙ w) in
       is ∙ ap (λ l. record (hit_status_info (policy_of table.lines l)) { detail = d }) same
       ∙ ap (λ (o : Option Detail). record (hit_status_info (policy_of table.lines m)) { detail = o })
-      (at_arrival (policy_of table.lines m) asked now s d e (subst (λ l. DetailWordAtArrival (policy_of table.lines l) es asked now s d) same word) word2)
+      (at_arrival (policy_of table.lines m) asked now s d e (subst (λ l. CacheStatusDetailAtArrival (policy_of table.lines l) es asked now s d) same word) word2)
       ∙ sym is2
   how_same (Some x) (Answer now id r) s h k (d, is, word) (e, is2, word2) =
       is ∙ ap (forwarded_status_info (policy_of table.lines x.line) x (Some r.status)) (at_answer x now r s d e word word2) ∙ sym is2
@@ -216,16 +216,16 @@ module _ (table : Table) (es : List Stored) (distinct : Distinct (serials es)) w
   how_same x (Abandon id) s h k a b = absurd a
   how_same x (Overdue id) s h k a b = absurd a
 
-  bytes_same : (x : Option Exchange) (event : Event) (o p : Outcome) (s : ℕ) (a : ReplyIsThatStoredResponse table es x event o s) (b : ReplyIsThatStoredResponse table es x event p s) → a.reply.bytes ≡ b.reply.bytes
+  bytes_same : (x : Option Exchange) (event : Event) (o p : Outcome) (s : ℕ) (a : ReplyIsTheStoredResponse table es x event o s) (b : ReplyIsTheStoredResponse table es x event p s) → a.reply.bytes ≡ b.reply.bytes
   bytes_same x event o p s a b =
       let about = about_same x event a.now b.now a.asked b.asked a.about b.about in
-      let info = how_same x event s a.info b.info a.shows_how b.shows_how in
+      let info = how_same x event s a.info b.info a.cache_status_matches b.cache_status_matches in
       let response = same_Some a.response b.response (sym a.is_held ∙ b.is_held) in
       a.bytes_are
-      ∙ ap (λ e. stored_text table.name (stored_response_as_used x event e) a.now a.info a.asked) response
-      ∙ ap (λ n. stored_text table.name (stored_response_as_used x event b.response) n a.info a.asked) about.0
-      ∙ ap (λ i. stored_text table.name (stored_response_as_used x event b.response) b.now i a.asked) info
-      ∙ ap (λ q. stored_text table.name (stored_response_as_used x event b.response) b.now b.info q) about.1
+      ∙ ap (λ e. stored_reply_text table.name (stored_response_as_used x event e) a.now a.info a.asked) response
+      ∙ ap (λ n. stored_reply_text table.name (stored_response_as_used x event b.response) n a.info a.asked) about.0
+      ∙ ap (λ i. stored_reply_text table.name (stored_response_as_used x event b.response) b.now i a.asked) info
+      ∙ ap (λ q. stored_reply_text table.name (stored_response_as_used x event b.response) b.now b.info q) about.1
       ∙ sym b.bytes_are
 
 -- ---- replies
@@ -234,7 +234,7 @@ reply_same : (a b : Reply) → a.bytes ≡ b.bytes → a.close ≡ b.close → a
 reply_same a b bytes close about stored used removed expired purged =
     ap (λ (z : List ℕ). record { bytes = z; close = a.close; about = a.about; stored = a.stored; used = a.used; removed = a.removed; expired = a.expired; purged = a.purged }) bytes
     ∙ ap (λ (z : Bool). record { bytes = b.bytes; close = z; about = a.about; stored = a.stored; used = a.used; removed = a.removed; expired = a.expired; purged = a.purged }) close
-    ∙ ap (λ (z : About). record { bytes = b.bytes; close = b.close; about = z; stored = a.stored; used = a.used; removed = a.removed; expired = a.expired; purged = a.purged }) about
+    ∙ ap (λ (z : StatusAndReason). record { bytes = b.bytes; close = b.close; about = z; stored = a.stored; used = a.used; removed = a.removed; expired = a.expired; purged = a.purged }) about
     ∙ ap (λ (z : Option ℕ). record { bytes = b.bytes; close = b.close; about = b.about; stored = z; used = a.used; removed = a.removed; expired = a.expired; purged = a.purged }) stored
     ∙ ap (λ (z : Option ℕ). record { bytes = b.bytes; close = b.close; about = b.about; stored = b.stored; used = z; removed = a.removed; expired = a.expired; purged = a.purged }) used
     ∙ ap (λ (z : List ℕ). record { bytes = b.bytes; close = b.close; about = b.about; stored = b.stored; used = b.used; removed = z; expired = a.expired; purged = a.purged }) removed
@@ -242,7 +242,7 @@ reply_same a b bytes close about stored used removed expired purged =
     ∙ ap (λ (z : Bool). record { bytes = b.bytes; close = b.close; about = b.about; stored = b.stored; used = b.used; removed = b.removed; expired = b.expired; purged = z }) purged
 
 removed_same : (table : Table) (es : List Stored) (x : Option Exchange) (event : Event) (a b : Reply) → a.stored ≡ b.stored → a.used ≡ b.used →
-    serials_removed_at table es x event (Replied a) ≡ serials_removed_at table es x event (Replied b)
+    serials_removed_at table es x event (ReplyData a) ≡ serials_removed_at table es x event (ReplyData b)
 removed_same table es x (Arrive now id asked) a b stored used = refl
 removed_same table es (Some x) (Answer now id r) a b stored used =
     ap (removed_by_answer table es x now r) stored
@@ -252,7 +252,7 @@ removed_same table es x (Wake now id) a b stored used = refl
 removed_same table es x (Abandon id) a b stored used = refl
 removed_same table es x (Overdue id) a b stored used = refl
 
-expired_same : (table : Table) (es : List Stored) (event : Event) (o p : Outcome) → ThoseAreExpired table es event o → ThoseAreExpired table es event p → expired_by_outcome o ≡ expired_by_outcome p
+expired_same : (table : Table) (es : List Stored) (event : Event) (o p : Outcome) → OutcomeExpiresExactlyWhatItMust table es event o → OutcomeExpiresExactlyWhatItMust table es event p → expired_by_outcome o ≡ expired_by_outcome p
 expired_same table es (Arrive now id asked) o p a b = a ∙ sym b
 expired_same table es (Answer now id r) o p a b = a ∙ sym b
 expired_same table es (Fail now id kind) o p a b = a ∙ sym b
@@ -262,19 +262,19 @@ expired_same table es (Overdue id) o p a b = a ∙ sym b
 
 -- what is asked of one outcome of an event, by the exchange of its id
 record Fits (table : Table) (start : StoreAtStart) (first : ℕ) (past : List Item) (x : Option Exchange) (event : Event) (o : Outcome) : Type 0 where
-  goes_on : ExchangeGoesOnBy table (held_entries table start past) x event o
+  goes_on : ExchangeContinuesByEvent table (held_entries table start past) x event o
   sends : (s : ℕ) → (StoredResponseMayBeSent table (held_entries table start past) (open_exchanges table start past) x event s → serial_used_by_outcome o ≡ Some s) × (serial_used_by_outcome o ≡ Some s → StoredResponseMayBeSent table (held_entries table start past) (open_exchanges table start past) x event s)
-  that : (s : ℕ) → serial_used_by_outcome o ≡ Some s → ReplyIsThatStoredResponse table (held_entries table start past) x event o s
+  that : (s : ℕ) → serial_used_by_outcome o ≡ Some s → ReplyIsTheStoredResponse table (held_entries table start past) x event o s
   names : AnswerNamesFirstRule table start past (next_serial first past) x event o
-  removes : ThoseAreRemoved table (held_entries table start past) x event o
+  removes : OutcomeRemovesExactlyWhatItMust table (held_entries table start past) x event o
   purges : outcome_purges o ≡ event_purges table event
-  expires : ThoseAreExpired table (held_entries table start past) event o
-  reaches : RequestReachesExactlyWhereAllowed table start (record { event = event; outcome = o }) past
+  expires : OutcomeExpiresExactlyWhatItMust table (held_entries table start past) event o
+  reaches : RequestReachesCacheOrOriginIffAllowed table start (record { event = event; outcome = o }) past
   stores : AnswerIsStoredExactlyWhereItMayBe table start first (record { event = event; outcome = o }) past
   closes : ConnectionClosesAsAsked (record { event = event; outcome = o }) past
-  tells : about_by_outcome o ≡ about_by_outcome (outcome_of table (held_entries table start past) (open_exchanges table start past) x (next_serial first past) event)
+  tells : about_by_outcome o ≡ about_by_outcome (outcome_for_exchange table (held_entries table start past) (open_exchanges table start past) x (next_serial first past) event)
 
-module _ (table : Table) (start : StoreAtStart) (first : ℕ) (past : List Item) (distinct : Distinct (serials (held_entries table start past))) where
+module _ (table : Table) (start : StoreAtStart) (first : ℕ) (past : List Item) (distinct : SerialsAreDistinct (serials (held_entries table start past))) where
   abbrev es : List Stored
   es = held_entries table start past
 
@@ -290,20 +290,20 @@ module _ (table : Table) (start : StoreAtStart) (first : ℕ) (past : List Item)
     stored_same (Some s) v h k =
         let stored = a.stores.1 s h in
         let answer = stored.1 in
-        let unused : serial_used_by_outcome p ≡ None = sym (used_same (serial_used_by_outcome o) (serial_used_by_outcome p) refl refl) ∙ answer.nothing_is_sent_instead in
+        let unused : serial_used_by_outcome p ≡ None = sym (used_same (serial_used_by_outcome o) (serial_used_by_outcome p) refl refl) ∙ answer.no_stored_response_is_sent_instead in
         sym stored.0
         ∙ sym (b.stores.0 answer.now answer.id answer.exchange answer.response answer.event_is answer.is_open unused (answer.may_be_stored (final answer.now answer.id answer.response answer.event_is)))
         ∙ k
     stored_same None (Some s) h k =
         let stored = b.stores.1 s k in
         let answer = stored.1 in
-        let unused : serial_used_by_outcome o ≡ None = used_same (serial_used_by_outcome o) (serial_used_by_outcome p) refl refl ∙ answer.nothing_is_sent_instead in
+        let unused : serial_used_by_outcome o ≡ None = used_same (serial_used_by_outcome o) (serial_used_by_outcome p) refl refl ∙ answer.no_stored_response_is_sent_instead in
         sym h
         ∙ a.stores.0 answer.now answer.id answer.exchange answer.response answer.event_is answer.is_open unused (answer.may_be_stored (final answer.now answer.id answer.response answer.event_is))
         ∙ stored.0
     stored_same None None h k = refl
 
-    both_reply : (m n : Reply) → o ≡ Replied m → p ≡ Replied n → m.bytes ≡ n.bytes → o ≡ p
+    both_reply : (m n : Reply) → o ≡ ReplyData m → p ≡ ReplyData n → m.bytes ≡ n.bytes → o ≡ p
     both_reply m n h k bytes =
         let used : m.used ≡ n.used = used_same m.used n.used (ap serial_used_by_outcome h) (ap serial_used_by_outcome k) in
         let stored : m.stored ≡ n.stored = stored_same m.stored n.stored (ap serial_stored_by_outcome h) (ap serial_stored_by_outcome k) in
@@ -316,7 +316,7 @@ module _ (table : Table) (start : StoreAtStart) (first : ℕ) (past : List Item)
         let purged : m.purged ≡ n.purged = sym (ap outcome_purges h) ∙ a.purges ∙ sym b.purges ∙ ap outcome_purges k in
         let expired : m.expired ≡ n.expired = sym (ap expired_by_outcome h) ∙ expired_same table es event o p a.expires b.expires ∙ ap expired_by_outcome k in
         let about : m.about ≡ n.about = same_Some m.about n.about (sym (ap about_by_outcome h) ∙ a.tells ∙ sym b.tells ∙ ap about_by_outcome k) in
-        h ∙ ap (λ (r : Reply). Replied r) (reply_same m n bytes close about stored used removed expired purged) ∙ sym k
+        h ∙ ap (λ (r : Reply). ReplyData r) (reply_same m n bytes close about stored used removed expired purged) ∙ sym k
 
     both_send : (s : ℕ) → serial_used_by_outcome o ≡ Some s → o ≡ p
     both_send s h =
@@ -326,10 +326,10 @@ module _ (table : Table) (start : StoreAtStart) (first : ℕ) (past : List Item)
         both_reply one.reply two.reply one.outcome_is two.outcome_is (bytes_same table es distinct x event o p s one two)
 
     -- a reply that sends nothing held names the same rule
-    named : (m : Reply) → o ≡ Replied m → serial_used_by_outcome o ≡ None → AnswerNamesByEvent table start past (next_serial first past) x event m.bytes m.stored
+    named : (m : Reply) → o ≡ ReplyData m → serial_used_by_outcome o ≡ None → AnswerNamesItsRule table start past (next_serial first past) x event m.bytes m.stored
     named m h unused = subst (AnswerNamesFirstRule table start past (next_serial first past) x event) h a.names (ap is_none (sym (ap serial_used_by_outcome h) ∙ unused))
 
-  on_error_same : (x : Exchange) (now : ℕ) (kind : FailKind) (m n : List ℕ) → AnswerAfterFailureNames table es now x kind m → AnswerAfterFailureNames table es now x kind n → m ≡ n
+  on_error_same : (x : Exchange) (now : ℕ) (kind : FailKind) (m n : List ℕ) → FailureAnswerNamesItsCause table es now x kind m → FailureAnswerNamesItsCause table es now x kind n → m ≡ n
   on_error_same x now kind m n (q, error, least, names, is) (r, error2, least2, names2, is2) =
       let rule : q ≡ r = one_rule (policy_of table.lines x.line) es x.asked now q r least least2 in
       let same : error ≡ error2 = one_error (policy_of table.lines x.line) es x.asked now r error error2 (subst (λ z. AnswerNamesErrorRule (policy_of table.lines x.line) es now x.asked z error) rule names) names2 in
@@ -340,23 +340,23 @@ module _ (table : Table) (start : StoreAtStart) (first : ℕ) (past : List Item)
     arrival_same : (x : Option Exchange) (now id : ℕ) (asked : Asked) → Fits table start first past x (Arrive now id asked) o → Fits table start first past x (Arrive now id asked) p → o ≡ p
     arrival_same x now id asked a b = by_verdict (verdict_of_asked table asked) refl
       where
-        turned : ((line : Route) → verdict_of_asked table asked ≢ verdict.Allowed line) → request_purges table asked ≡ false → o ≡ p
+        turned : ((line : RequestRoute) → verdict_of_asked table asked ≢ verdict.Allowed line) → request_purges table asked ≡ false → o ≡ p
         turned none isnt = turned_same table es distinct (open_exchanges table start past) now asked o p ((a.reaches now id asked refl).1.1 none isnt) ((b.reaches now id asked refl).1.1 none isnt)
 
         by_verdict : (v : Verdict) → verdict_of_asked table asked ≡ v → o ≡ p
         by_verdict (verdict.Allowed line) v =
             reached_same table es distinct (open_exchanges table start past) now asked line o p unused other_unused ((a.reaches now id asked refl).0 line v) ((b.reaches now id asked refl).0 line v)
-        by_verdict (verdict.DeniedBy n) v = turned (λ line h. let no : verdict.DeniedBy n ≡ verdict.Allowed line = sym v ∙ h in absurd (cc)) (ap is_purge v)
-        by_verdict verdict.NoLine v = turned (λ line h. let no : verdict.NoLine ≡ verdict.Allowed line = sym v ∙ h in absurd (cc)) (ap is_purge v)
-        by_verdict (verdict.Purged n) v = (a.reaches now id asked refl).1.0 (ap is_purge v) ∙ sym ((b.reaches now id asked refl).1.0 (ap is_purge v))
-        by_verdict (verdict.Looped n) v = turned (λ line h. let no : verdict.Looped n ≡ verdict.Allowed line = sym v ∙ h in absurd (cc)) (ap is_purge v)
+        by_verdict (verdict.DeniedBy n) v = turned (λ line h. let no : verdict.DeniedBy n ≡ verdict.Allowed line = sym v ∙ h in absurd (cc)) (ap is_purge_verdict v)
+        by_verdict verdict.NoLine v = turned (λ line h. let no : verdict.NoLine ≡ verdict.Allowed line = sym v ∙ h in absurd (cc)) (ap is_purge_verdict v)
+        by_verdict (verdict.Purged n) v = (a.reaches now id asked refl).1.0 (ap is_purge_verdict v) ∙ sym ((b.reaches now id asked refl).1.0 (ap is_purge_verdict v))
+        by_verdict (verdict.Looped n) v = turned (λ line h. let no : verdict.Looped n ≡ verdict.Allowed line = sym v ∙ h in absurd (cc)) (ap is_purge_verdict v)
 
     answer_same : (now id : ℕ) (x : Exchange) (r : Response) (a : Fits table start first past (Some x) (Answer now id r) o) (b : Fits table start first past (Some x) (Answer now id r) p) →
         AnswerHasFinalStatus (record { event = Answer now id r; outcome = o }) past → AnswerHasFinalStatus (record { event = Answer now id r; outcome = p }) past → o ≡ p
     answer_same now id x r a b final final2 = by_304 (is_304_to_own_conditions x r) refl
       where
-        by_unasked : (u : Bool) → is_304_without_condition (policy_of table.lines x.line) x.asked r ≡ u → (m n : Reply) → o ≡ Replied m → p ≡ Replied n → AnswerNamesByEvent table start past (next_serial first past) (Some x) (Answer now id r) m.bytes m.stored →
-            AnswerNamesByEvent table start past (next_serial first past) (Some x) (Answer now id r) n.bytes n.stored → m.bytes ≡ n.bytes
+        by_unasked : (u : Bool) → is_304_without_condition (policy_of table.lines x.line) x.asked r ≡ u → (m n : Reply) → o ≡ ReplyData m → p ≡ ReplyData n → AnswerNamesItsRule table start past (next_serial first past) (Some x) (Answer now id r) m.bytes m.stored →
+            AnswerNamesItsRule table start past (next_serial first past) (Some x) (Answer now id r) n.bytes n.stored → m.bytes ≡ n.bytes
         by_unasked u is m n h k (inl (i, (kept, one))) (inl (j, (kept2, two))) =
             one
             ∙ ap (λ (s : Option ℕ). passed_answer_text (policy_of table.lines x.line) table.name x r now (is_some s) (storing_rule_to_explain table x r now (next_serial first past))) (stored_same (Some x) (Answer now id r) o p a b final m.stored n.stored (ap serial_stored_by_outcome h) (ap serial_stored_by_outcome k))
@@ -393,7 +393,7 @@ module _ (table : Table) (start : StoreAtStart) (first : ℕ) (past : List Item)
         by_ways (inr m) (inl (n, k)) = absurd (named (Some x) (Wake now id) p o b a final2 n k other_unused)
         by_ways (inr (q, m)) (inr (r, n)) = forward_same table es x.asked now x.line q r o p m n
 
-    unused_same : (x : Option Exchange) (event : Event) → EventMayCome x event → (a : Fits table start first past x event o) (b : Fits table start first past x event p) →
+    unused_same : (x : Option Exchange) (event : Event) → EventSuitsExchange x event → (a : Fits table start first past x event o) (b : Fits table start first past x event p) →
         AnswerHasFinalStatus (record { event = event; outcome = o }) past → AnswerHasFinalStatus (record { event = event; outcome = p }) past → o ≡ p
     unused_same x (Arrive now id asked) come a b final final2 = arrival_same x now id asked a b
     unused_same (Some x) (Answer now id r) come a b final final2 = answer_same now id x r a b final final2
@@ -405,7 +405,7 @@ module _ (table : Table) (start : StoreAtStart) (first : ℕ) (past : List Item)
     unused_same x (Abandon id) come a b final final2 = a.goes_on ∙ sym b.goes_on
     unused_same x (Overdue id) come a b final final2 = a.goes_on ∙ sym b.goes_on
 
-  one_outcome : (x : Option Exchange) (event : Event) (o p : Outcome) → EventMayCome x event → (a : Fits table start first past x event o) (b : Fits table start first past x event p) →
+  one_outcome : (x : Option Exchange) (event : Event) (o p : Outcome) → EventSuitsExchange x event → (a : Fits table start first past x event o) (b : Fits table start first past x event p) →
       AnswerHasFinalStatus (record { event = event; outcome = o }) past → AnswerHasFinalStatus (record { event = event; outcome = p }) past → o ≡ p
   one_outcome x event o p come a b final final2 = by_used (serial_used_by_outcome o) refl
     where
@@ -422,14 +422,14 @@ on_time now h = by_test (ltb now END_OF_TIME) refl
     by_test true k = refl
     by_test false k = absurd (no_true (grind (arith, nat_tests, h, k)))
 
-no_fault : (x : Option Exchange) (event : Event) → EventMayCome x event → fault_at_exchange x event ≡ None
+no_fault : (x : Option Exchange) (event : Event) → EventSuitsExchange x event → fault_at_exchange x event ≡ None
 no_fault None (Arrive now id asked) h = on_time now h
 no_fault (Some x) (Arrive now id asked) h = absurd h
-no_fault (Some x) (Answer now id r) h = ap (λ f. or_fault f (fault_if_not_forwarded x.stage)) (on_time now h.0) ∙ ap (λ b. cond b None (Some NotForwarded)) h.1
+no_fault (Some x) (Answer now id r) h = ap (λ f. fault_else f (fault_if_not_forwarded x.stage)) (on_time now h.0) ∙ ap (λ b. cond b None (Some NotForwarded)) h.1
 no_fault None (Answer now id r) h = absurd h
-no_fault (Some x) (Fail now id kind) h = ap (λ f. or_fault f (fault_if_not_forwarded x.stage)) (on_time now h.0) ∙ ap (λ b. cond b None (Some NotForwarded)) h.1
+no_fault (Some x) (Fail now id kind) h = ap (λ f. fault_else f (fault_if_not_forwarded x.stage)) (on_time now h.0) ∙ ap (λ b. cond b None (Some NotForwarded)) h.1
 no_fault None (Fail now id kind) h = absurd h
-no_fault (Some x) (Wake now id) h = ap (λ f. or_fault f (fault_if_not_released x.stage)) (on_time now h.0) ∙ ap (λ b. cond b None (Some NotReady)) h.1
+no_fault (Some x) (Wake now id) h = ap (λ f. fault_else f (fault_if_not_released x.stage)) (on_time now h.0) ∙ ap (λ b. cond b None (Some NotReady)) h.1
 no_fault None (Wake now id) h = absurd h
 no_fault (Some x) (Abandon id) h = refl
 no_fault (Some x) (Overdue id) h = ap (λ b. cond b None (Some NotWaiting)) h
@@ -441,23 +441,23 @@ no_fault None (Overdue id) h = absurd h
 module _ (table : Table) (start : StoreAtStart) (first : ℕ) where
   fits : (item : Item) (past : List Item) → Headline table start first (item ∷ past) → Fits table start first past (find_exchange (exchange_id_of_event item.event) (open_exchanges table start past)) item.event item.outcome
   fits item past h = record {
-    goes_on = h.goes_on_to_its_answer.0;
-    sends = h.sends_where_one_may_be.0;
-    that = h.sends_that_response.0;
+    goes_on = h.client_is_answered.0;
+    sends = h.sends_stored_where_allowed.0;
+    that = h.sends_the_stored_response.0;
     names = h.names_the_first_rule.0;
-    removes = h.removes_what_goes.0.0;
-    purges = h.removes_what_goes.0.1;
-    expires = h.removes_what_goes.0.2;
-    reaches = h.reaches_where_allowed.0;
-    stores = h.stores_where_it_may.0;
+    removes = h.removes_exactly_what_must_go.0.0;
+    purges = h.removes_exactly_what_must_go.0.1;
+    expires = h.removes_exactly_what_must_go.0.2;
+    reaches = h.reaches_cache_or_origin_iff_allowed.0;
+    stores = h.stores_where_allowed.0;
     closes = h.closes_as_asked.0;
-    tells = h.tells_what_it_is.0;
+    tells = h.outcome_is_reported_truthfully.0;
   }
 
   -- the steps alone
   record EachFits (trace : List Item) : Type 0 where
-    begins : StartStands (bounds_of table start.limit) (Some first) start.entries
-    comes : HoldsAtEachItem (λ item past. EventMayCome (find_exchange (exchange_id_of_event item.event) (open_exchanges table start past)) item.event) trace
+    begins : StartIsValid (bounds_of table start.limit) (Some first) start.entries
+    comes : HoldsAtEachItem (λ item past. EventSuitsExchange (find_exchange (exchange_id_of_event item.event) (open_exchanges table start past)) item.event) trace
     fit : HoldsAtEachItem (λ item past. Fits table start first past (find_exchange (exchange_id_of_event item.event) (open_exchanges table start past)) item.event item.outcome) trace
     final : HoldsAtEachItem AnswerHasFinalStatus trace
 
@@ -480,14 +480,14 @@ module _ (table : Table) (start : StoreAtStart) (first : ℕ) where
 
   each_fits : (trace : List Item) (h : Headline table start first trace) → HoldsAtEachItem (λ item past. Fits table start first past (find_exchange (exchange_id_of_event item.event) (open_exchanges table start past)) item.event item.outcome) trace
   each_fits trace h =
-      zip trace h.goes_on_to_its_answer h.sends_where_one_may_be h.sends_that_response h.names_the_first_rule h.removes_what_goes h.reaches_where_allowed h.stores_where_it_may h.closes_as_asked h.tells_what_it_is
+      zip trace h.client_is_answered h.sends_stored_where_allowed h.sends_the_stored_response h.names_the_first_rule h.removes_exactly_what_must_go h.reaches_cache_or_origin_iff_allowed h.stores_where_allowed h.closes_as_asked h.outcome_is_reported_truthfully
     where
-      zip : (trace : List Item) → HoldsAtEachItem (ExchangeGoesOnToItsAnswer table start) trace → HoldsAtEachItem (StoredResponseIsSentExactlyWhereItMayBe table start) trace → HoldsAtEachItem (SentResponseIsTheStoredOne table start) trace → HoldsAtEachItem (OtherAnswerNamesTheFirstRule table start first) trace →
-          HoldsAtEachItem (StoredResponsesAreRemovedExactlyWhereTheyMustBe table start) trace → HoldsAtEachItem (RequestReachesExactlyWhereAllowed table start) trace → HoldsAtEachItem (AnswerIsStoredExactlyWhereItMayBe table start first) trace → HoldsAtEachItem ConnectionClosesAsAsked trace → HoldsAtEachItem (OutcomeIsToldAsItIs table start first) trace →
+      zip : (trace : List Item) → HoldsAtEachItem (ClientIsAnsweredAtTheNextStep table start) trace → HoldsAtEachItem (StoredResponseIsSentExactlyWhereItMayBe table start) trace → HoldsAtEachItem (SentResponseIsTheStoredOne table start) trace → HoldsAtEachItem (AnswerNotFromStoreNamesFirstRule table start first) trace →
+          HoldsAtEachItem (StoredResponsesAreRemovedExactlyWhereTheyMustBe table start) trace → HoldsAtEachItem (RequestReachesCacheOrOriginIffAllowed table start) trace → HoldsAtEachItem (AnswerIsStoredExactlyWhereItMayBe table start first) trace → HoldsAtEachItem ConnectionClosesAsAsked trace → HoldsAtEachItem (OutcomeIsReportedTruthfully table start first) trace →
           HoldsAtEachItem (λ item past. Fits table start first past (find_exchange (exchange_id_of_event item.event) (open_exchanges table start past)) item.event item.outcome) trace
       zip [] a b c d e f g i j = tt
       zip (item ∷ past) a b c d e f g i j =
           (record { goes_on = a.0; sends = b.0; that = c.0; names = d.0; removes = e.0.0; purges = e.0.1; expires = e.0.2; reaches = f.0; stores = g.0; closes = i.0; tells = j.0 }, zip past a.1 b.1 c.1 d.1 e.1 f.1 g.1 i.1 j.1)
 
 pub no_other_trace_has_it : NoOtherTraceHasTheHeadline
-no_other_trace_has_it table start first trace h final = good table start first trace (record { begins = h.begins_as_it_may; comes = h.comes_where_it_may; fit = each_fits table start first trace h; final = final })
+no_other_trace_has_it table start first trace h final = good table start first trace (record { begins = h.store_at_start_is_valid; comes = h.events_fit_exchanges; fit = each_fits table start first trace h; final = final })

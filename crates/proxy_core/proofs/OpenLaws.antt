@@ -4,7 +4,7 @@ use Rattle.std.proofs.lemmas.Bool.{eq-eqb, false≢true}
 use Rattle.hx_hop.specs.declared.request_view.Asked.{Asked}
 use Rattle.hx_allow.specs.TableLines.{Table}
 use Rattle.hx_allow.specs.Matching.{policy_of}
-use Rattle.hx_allow.specs.declared.verdicts.Route.{Route}
+use Rattle.hx_allow.specs.declared.verdicts.RequestRoute.{RequestRoute}
 use Rattle.proxy_core.specs.Allowing.{verdict_of_asked}
 use Rattle.hx_store.specs.Stored.{Stored}
 use Rattle.hx_reuse.specs.Rules.{decision_of}
@@ -17,13 +17,13 @@ use Rattle.proxy_core.specs.declared.event.Event.TheVariants.{Arrive}
 use Rattle.proxy_core.specs.Outcomes.{find_exchange, exchange_id_of_event, fault_at_exchange}
 use Rattle.proxy_core.specs.declared.open.stage.Stage.TheVariants.{Released}
 use Rattle.proxy_core.specs.Leading.{waits_for}
-use Rattle.proxy_core.specs.Scopes.{Scope, is_in_scope}
+use Rattle.proxy_core.specs.Scopes.{Scope, key_is_in_scope}
 use Rattle.proxy_core.specs.State.{State, scope_purged, released_exchange, overtaken_exchange, forwarded_exchange, waiting_exchange, line_of_verdict, rule_of_decision, open_exchanges_after}
 use Rattle.proxy_core.specs.Starts.{StoreAtStart}
 use Rattle.proxy_core.specs.Traces.{Item, initial_state, state_after_trace, IsGood}
 use Rattle.proxy_core.specs.Histories.{held_entries, open_exchanges}
 use Rattle.proxy_core.specs.Promises.{outcome_goes_forward, outcome_ends_exchange, is_arrival_event, NoRequestArrives}
-use Rattle.proxy_core.specs.Carrying.{judges_a_request, NoRequestIsJudged}
+use Rattle.proxy_core.specs.Carrying.{is_arrival_or_wake, NoItemJudgesTheRequest}
 use Rattle.proxy_core.specs.TraceMeaning.{exchange_has_ended, opens_an_exchange, ExchangeIsOpenFromArrivalToEnd, ExchangeOpensByArrivalAlone, OpenExchangeHasItsRequest, OpenExchangeKeepsItsRule, ExchangeIsOvertakenWhereInvalidated}
 use Rattle.proxy_core.proofs.ExchangeLists.{overtaken_by, released_by, changed_by, find-push, find-purged, none_overtaken}
 use Rattle.proxy_core.proofs.Moves.{Move, apart, opens, queues, passes, again, wakes, closes, turns, lapses, asked_of, ended_by, forward_goes_on, move_of, and_none, key_taken_by_step}
@@ -96,8 +96,8 @@ module _ (start : State) (before : List Item) (arrival : Item) where
       open_step _ _ _ _ _ _ (opens_an_exchange arrival.outcome) (exchange_has_ended (exchange_id_of_event arrival.event) items)
       (move_of start.table (state_after_trace start (items ++ arrival ∷ before)) i (exchange_id_of_event arrival.event) (same_table start (items ++ arrival ∷ before)) g.0) n.0 (open_plain items g.1 a n.1)
 
-pub open_from_arrival_to_end : ExchangeIsOpenFromArrivalToEnd
-open_from_arrival_to_end table start first items before arrival g a n =
+pub exchanges_are_open_from_arrival_to_end : ExchangeIsOpenFromArrivalToEnd
+exchanges_are_open_from_arrival_to_end table start first items before arrival g a n =
     let p = good_plain table start first (items ++ arrival ∷ before) g in
     sym (ap (λ xs. is_some (find_exchange (exchange_id_of_event arrival.event) xs)) (exchanges_are_open table start first (items ++ arrival ∷ before) p))
     ∙ open_plain (initial_state table start first) before arrival items p a n
@@ -140,56 +140,56 @@ has_its_request table start first id trace x g h =
     let p = good_plain table start first trace g in
     asked_is table start first trace p id x.asked (ap asked_of (ap (find_exchange id) (exchanges_are_open table start first trace p) ∙ h))
 
-pub overtaken_where_invalidated : ExchangeIsOvertakenWhereInvalidated
-overtaken_where_invalidated table start first items before f x g o n h stage =
+pub exchanges_are_overtaken_where_invalidated : ExchangeIsOvertakenWhereInvalidated
+exchanges_are_overtaken_where_invalidated table start first items before f x g o n h stage =
     let p = good_plain table start first (items ++ f ∷ before) g in
     (out_since table start first f before (exchange_id_of_event f.event) items p o refl n x
     (ap (find_exchange (exchange_id_of_event f.event)) (exchanges_are_open table start first (items ++ f ∷ before) p) ∙ h) stage).1
 
-overtake_rule : (rule : Route → ReuseRule) (key : Scope) (x : Exchange) → x.rule ≡ rule x.line → (overtaken_exchange key x).rule ≡ rule (overtaken_exchange key x).line
-overtake_rule rule key x h = elim (is_in_scope key x.asked.target.key) as (λ b. (cond b (record x { overtaken = true }) x).rule ≡ rule (cond b (record x { overtaken = true }) x).line) [
+overtake_rule : (rule : RequestRoute → ReuseRule) (key : Scope) (x : Exchange) → x.rule ≡ rule x.line → (overtaken_exchange key x).rule ≡ rule (overtaken_exchange key x).line
+overtake_rule rule key x h = elim (key_is_in_scope key x.asked.target.key) as (λ b. (cond b (record x { overtaken = true }) x).rule ≡ rule (cond b (record x { overtaken = true }) x).line) [
   | true ↦ h
   | false ↦ h
 ]
 
 -- the exchange, where there is one, has the rule that is that of its line
-HasRule : (Route → ReuseRule) → Option Exchange → Type 0
+HasRule : (RequestRoute → ReuseRule) → Option Exchange → Type 0
 HasRule rule None = Unit {0}
 HasRule rule (Some x) = x.rule ≡ rule x.line
 
 -- by the word of a line
-abbrev rule_for : Table → List Stored → Asked → ℕ → Route → ReuseRule
+abbrev rule_for : Table → List Stored → Asked → ℕ → RequestRoute → ReuseRule
 rule_for table es asked now line = rule_of_decision (decision_of (policy_of table.lines line) es asked now)
 
-release_rule : (rule : Route → ReuseRule) (i : ℕ) (x : Exchange) → x.rule ≡ rule x.line → (released_exchange i x).rule ≡ rule (released_exchange i x).line
+release_rule : (rule : RequestRoute → ReuseRule) (i : ℕ) (x : Exchange) → x.rule ≡ rule x.line → (released_exchange i x).rule ≡ rule (released_exchange i x).line
 release_rule rule i x h = elim (waits_for i x.stage) as (λ b. (cond b (record x { stage = Released }) x).rule ≡ rule (cond b (record x { stage = Released }) x).line) [
   | true ↦ h
   | false ↦ h
 ]
 
-rule_released : (rule : Route → ReuseRule) (gone : Option ℕ) (x : Option Exchange) → HasRule rule x → HasRule rule (released_by gone x)
+rule_released : (rule : RequestRoute → ReuseRule) (gone : Option ℕ) (x : Option Exchange) → HasRule rule x → HasRule rule (released_by gone x)
 unfolding HasRule
 rule_released rule None x h = h
 rule_released rule (Some i) None h = tt
 rule_released rule (Some i) (Some x) h = release_rule rule i x h
 
-rule_marked : (rule : Route → ReuseRule) (key : Option Scope) (x : Option Exchange) → HasRule rule x → HasRule rule (overtaken_by key x)
+rule_marked : (rule : RequestRoute → ReuseRule) (key : Option Scope) (x : Option Exchange) → HasRule rule x → HasRule rule (overtaken_by key x)
 unfolding HasRule
 rule_marked rule None x h = h
 rule_marked rule (Some key) None h = tt
 rule_marked rule (Some key) (Some x) h = overtake_rule rule key x h
 
-judged_now : (id : ℕ) (event : Event) → (eqb (exchange_id_of_event event) id && judges_a_request event) ≡ true → (eqb (exchange_id_of_event event) id && judges_a_request event) ≡ false → ⊥
+judged_now : (id : ℕ) (event : Event) → (eqb (exchange_id_of_event event) id && is_arrival_or_wake event) ≡ true → (eqb (exchange_id_of_event event) id && is_arrival_or_wake event) ≡ false → ⊥
 judged_now id event h a = false≢true (sym a ∙ h)
 
-rule_step : (rule : Route → ReuseRule) (id : ℕ) (w : Option Exchange) (event : Event) (o : Outcome) (x y : Option Exchange) → Move id w event o x y →
-    (eqb (exchange_id_of_event event) id && judges_a_request event) ≡ false → HasRule rule x → HasRule rule y
+rule_step : (rule : RequestRoute → ReuseRule) (id : ℕ) (w : Option Exchange) (event : Event) (o : Outcome) (x y : Option Exchange) → Move id w event o x y →
+    (eqb (exchange_id_of_event event) id && is_arrival_or_wake event) ≡ false → HasRule rule x → HasRule rule y
 unfolding HasRule
 rule_step rule id w event o x y (apart n h) a i =
     subst (HasRule rule) (sym h) (rule_marked rule (key_taken_by_step (asked_of w) event o) (released_by (ended_by event o) x) (rule_released rule (ended_by event o) x i))
-rule_step rule id w event o x y (opens table es now asked line ev x_is f h) a i = absurd (judged_now id event (ap (λ v. eqb (exchange_id_of_event v) id && judges_a_request v) ev ∙ ap (λ b. b && true) (eq-eqb id id refl)) a)
-rule_step rule id w event o x y (queues table es now asked line leader ev x_is f l h) a i = absurd (judged_now id event (ap (λ v. eqb (exchange_id_of_event v) id && judges_a_request v) ev ∙ ap (λ b. b && true) (eq-eqb id id refl)) a)
-rule_step rule id w event o x y (wakes table es z now ev x_is s f h) a i = absurd (judged_now id event (ap (λ v. eqb (exchange_id_of_event v) id && judges_a_request v) ev ∙ ap (λ b. b && true) (eq-eqb id id refl)) a)
+rule_step rule id w event o x y (opens table es now asked line ev x_is f h) a i = absurd (judged_now id event (ap (λ v. eqb (exchange_id_of_event v) id && is_arrival_or_wake v) ev ∙ ap (λ b. b && true) (eq-eqb id id refl)) a)
+rule_step rule id w event o x y (queues table es now asked line leader ev x_is f l h) a i = absurd (judged_now id event (ap (λ v. eqb (exchange_id_of_event v) id && is_arrival_or_wake v) ev ∙ ap (λ b. b && true) (eq-eqb id id refl)) a)
+rule_step rule id w event o x y (wakes table es z now ev x_is s f h) a i = absurd (judged_now id event (ap (λ v. eqb (exchange_id_of_event v) id && is_arrival_or_wake v) ev ∙ ap (λ b. b && true) (eq-eqb id id refl)) a)
 rule_step rule id w event o x y (passes t ev x_is f h) a i = subst (HasRule rule) (sym h) tt
 rule_step rule id w event o x y (again z now t ev x_is c f h j s) a i =
     let was : HasRule rule (Some z) = subst (HasRule rule) x_is i in
@@ -213,7 +213,7 @@ rule_first table es xs now id asked (Forward line bytes) f =
     in
     subst (HasRule rule) (sym here) refl
 rule_first table es xs now id asked (Waits leader) f =
-    let line : Route = line_of_verdict (verdict_of_asked table asked) in
+    let line : RequestRoute = line_of_verdict (verdict_of_asked table asked) in
     subst (HasRule (rule_for table es asked now)) (sym (find-push id xs (waiting_exchange table es now id asked line leader) f ∙ ap (λ b. cond b (Some (waiting_exchange table es now id asked line leader)) (find_exchange id xs)) (eq-eqb id id refl))) refl
 rule_first table es xs now id asked (Reply r) f =
     let key = scope_purged asked (Reply r) in
@@ -233,7 +233,7 @@ module _ (table : Table) (start : StoreAtStart) (first now id : ℕ) (asked : As
   abbrev begun : State
   begun = initial_state table start first
 
-  rule_plain : (items : List Item) → IsGood begun (items ++ arrival ∷ before) → NoRequestIsJudged id items →
+  rule_plain : (items : List Item) → IsGood begun (items ++ arrival ∷ before) → NoItemJudgesTheRequest id items →
       HasRule (rule_for table (state_after_trace begun before).entries asked now) (find_exchange id (state_after_trace begun (items ++ arrival ∷ before)).exchanges)
   rule_plain [] g n =
       let s = state_after_trace begun before in
@@ -243,7 +243,7 @@ module _ (table : Table) (start : StoreAtStart) (first now id : ℕ) (asked : As
       rule_step (rule_for table (state_after_trace begun before).entries asked now) id _ _ _ _ _
       (move_of table (state_after_trace begun (items ++ arrival ∷ before)) i id (same_table begun (items ++ arrival ∷ before)) g.0) n.0 (rule_plain items g.1 n.1)
 
-  rule_held : (items : List Item) (x : Exchange) → IsGood begun (items ++ arrival ∷ before) → NoRequestIsJudged id items →
+  rule_held : (items : List Item) (x : Exchange) → IsGood begun (items ++ arrival ∷ before) → NoItemJudgesTheRequest id items →
       find_exchange id (open_exchanges table start (items ++ arrival ∷ before)) ≡ Some x → x.rule ≡ rule_of_decision (decision_of (policy_of table.lines x.line) (held_entries table start before) asked now)
   unfolding HasRule
   rule_held items x p n h =

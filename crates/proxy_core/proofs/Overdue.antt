@@ -13,11 +13,11 @@ use Rattle.proxy_core.specs.declared.core_fault.CoreFault.{CoreFault}
 use Rattle.proxy_core.specs.declared.core_fault.CoreFault.TheVariants.{NotWaiting}
 use Rattle.proxy_core.specs.Leading.{is_waiting}
 use Rattle.proxy_core.specs.Outcomes.{find_exchange, exchange_id_of_event, outcome_of_event, step_fault, fault_at_exchange}
-use Rattle.proxy_core.specs.State.{State, exchange_past_its_wait, overdue_exchange, open_exchanges_after, bounds_of, entries_after}
+use Rattle.proxy_core.specs.State.{State, exchange_released_by_timeout, overdue_exchange, open_exchanges_after, bounds_of, entries_after_event}
 use Rattle.proxy_core.specs.Starts.{StoreAtStart}
 use Rattle.proxy_core.specs.Traces.{Item, initial_state, state_after_trace, IsGood}
 use Rattle.proxy_core.specs.Histories.{held_entries, open_exchanges, next_serial, IsGoodHistory}
-use Rattle.proxy_core.specs.Waiting.{ExchangeIsWaiting, ExchangeMayBeWoken, OnlyThatOneWaitsNoMore, TimeIsOverExactlyOfWhoWaits, OverdueRequestMayBeWoken}
+use Rattle.proxy_core.specs.Waiting.{ExchangeIsWaiting, ExchangeMayBeWoken, TimeoutReleasesOnlyThatWaiter, TimeoutHappensExactlyToWaiters, OverdueRequestMayBeWoken}
 use Rattle.proxy_core.proofs.ExchangeLists.{find-map, found-id, overdue-id}
 use Rattle.proxy_core.proofs.Moves.{waiting_from, other_overdue}
 use Rattle.proxy_core.proofs.HeldLaw.{good_plain, entries_are_held, exchanges_are_open}
@@ -29,7 +29,7 @@ waits_by xs id h = by_open (find_exchange id xs) refl h
     by_open None e h = absurd (cc)
     by_open (Some x) e h = record { x = x; is_open = e; stage = waiting_from x.stage h }
 
-pub over_exactly_of_who_waits : TimeIsOverExactlyOfWhoWaits
+pub over_exactly_of_who_waits : TimeoutHappensExactlyToWaiters
 over_exactly_of_who_waits table start first id trace g = (
   λ h. waits_by (open_exchanges table start trace) id h,
   λ r. ap (λ (w : Option Exchange). fault_at_exchange w (Overdue id)) r.is_open ∙ ap (λ b. cond b None (Some NotWaiting)) r.stage,
@@ -51,13 +51,13 @@ overdue_may_be_woken table start first id item past g e =
     record {
       outcome_is = none;
       may_be_woken = record {
-        x = exchange_past_its_wait r.x;
+        x = exchange_released_by_timeout r.x;
         is_open = found id ∙ (ap (option_map (overdue_exchange id)) r.is_open
-            ∙ ap (λ b. Some (cond b (exchange_past_its_wait r.x) r.x)) (ap (λ b. b && is_waiting r.x.stage) (found-id id xs r.x r.is_open) ∙ r.stage));
+            ∙ ap (λ b. Some (cond b (exchange_released_by_timeout r.x) r.x)) (ap (λ b. b && is_waiting r.x.stage) (found-id id xs r.x r.is_open) ∙ r.stage));
         stage = refl;
       };
       others_stay = λ other n. found other ∙ other_overdue id other (find_exchange other xs) n (λ y q. found-id other xs y q);
-      held_stays = sym (entries_are_held table start first (item ∷ past) p)
-          ∙ (ap (λ (o : Outcome). entries_after (bounds_of s.table s.limit) s.entries (find_exchange (exchange_id_of_event item.event) s.exchanges) item.event o) none
+      held_responses_are_unchanged = sym (entries_are_held table start first (item ∷ past) p)
+          ∙ (ap (λ (o : Outcome). entries_after_event (bounds_of s.table s.limit) s.entries (find_exchange (exchange_id_of_event item.event) s.exchanges) item.event o) none
           ∙ entries_are_held table start first past p.1);
     }

@@ -8,14 +8,14 @@ use Rattle.hx_hop.specs.declared.request_view.Asked.{Asked}
 use Rattle.hx_allow.specs.Matching.{policy_of}
 use Rattle.proxy_core.specs.Allowing.{verdict_of_asked}
 use Rattle.hx_allow.specs.declared.verdicts.Verdict.TheVariants.{Allowed}
-use Rattle.hx_allow.specs.declared.verdicts.Route.{Route}
-use Rattle.hx_store.specs.Recency.{is_that_serial}
-use Rattle.hx_reuse.specs.ChosenAndNamed.{RuleNamesTheResponse}
+use Rattle.hx_allow.specs.declared.verdicts.RequestRoute.{RequestRoute}
+use Rattle.hx_store.specs.Recency.{option_is_serial}
+use Rattle.hx_reuse.specs.ChosenAndNamed.{RuleOnChosenNamesItsSerial}
 use Rattle.hx_reuse.specs.Rules.{decision_of}
 use Rattle.hx_reuse.specs.declared.rule.ReuseRule.{ReuseRule}
 use Rattle.hx_reuse.specs.declared.decision.Decision.TheVariants as decision
 use Rattle.hx_reuse.proofs.MeaningLemmas.{names_the_least}
-use Rattle.hx_status.specs.declared.about.About.{About}
+use Rattle.hx_status.specs.declared.about.StatusAndReason.{StatusAndReason}
 use Rattle.hx_status.specs.declared.about.Told.{Told}
 use Rattle.hx_status.specs.declared.about.Told.TheVariants.{Handled, Purged, Refused}
 use Rattle.proxy_core.specs.declared.steps.condition.Condition.{Condition}
@@ -31,10 +31,10 @@ use Rattle.proxy_core.specs.Starts.{empty_store}
 use Rattle.proxy_core.specs.Traces.{Item}
 use Rattle.proxy_core.specs.Histories.{held_entries, next_serial, open_exchanges}
 use Rattle.proxy_core.specs.Promises.{latest_request_of}
-use Rattle.proxy_core.specs.GoingOn.{IsConditionOfEvent}
+use Rattle.proxy_core.specs.GoingOn.{ConditionIsSentAtEvent}
 use Rattle.proxy_core.specs.Headline.{HoldsAtEachItem, AnswerHasFinalStatus}
-use Rattle.proxy_core.specs.Cases.{reply_bytes}
-use Rattle.proxy_core.specs.WrongTraces.{HeadlineRefuses, edge_table, trace_of_good_events, item_of, GoingForwardIsWrong, trace_with_wrong_item}
+use Rattle.proxy_core.specs.Cases.{bytes_of_reply_outcome}
+use Rattle.proxy_core.specs.WrongTraces.{HeadlineRefuses, three_line_table, trace_of_good_events, item_with_outcome, GoingForwardIsWrong, trace_with_wrong_item}
 use Rattle.proxy_core.proofs.Awaits.{one_rule, one_named}
 use Rattle.proxy_core.proofs.OneOutcome.{no_other_trace_has_it}
 
@@ -49,7 +49,7 @@ is_final (Overdue id) = true
 
 abbrev pub finals : List Item → Bool
 finals [] = true
-finals (item_of ∷ past) = is_final item_of.event && finals past
+finals (item_with_outcome ∷ past) = is_final item_with_outcome.event && finals past
 
 both : (p q : Bool) → p && q ≡ true → (p ≡ true) × (q ≡ true)
 both true q h = (refl, h)
@@ -60,43 +60,43 @@ at_least n h = grind (arith, nat_tests, h)
 
 all_final : (trace : List Item) → finals trace ≡ true → HoldsAtEachItem AnswerHasFinalStatus trace
 all_final [] h = tt
-all_final (item_of ∷ past) h =
-    let parts = both (is_final item_of.event) (finals past) h in (
+all_final (item_with_outcome ∷ past) h =
+    let parts = both (is_final item_with_outcome.event) (finals past) h in (
       λ now id r e. at_least r.status (sym (ap is_final e) ∙ parts.0),
       all_final past parts.1,
     )
 
 -- a test that the last outcome passes, and the right one doesn't
 pub refuse : (before : List Event) (event : Event) (outcome : Outcome) (test : Outcome → Bool) → finals (trace_with_wrong_item before event outcome) ≡ true → test outcome ≡ true →
-    test (outcome_of_event edge_table (held_entries edge_table (empty_store 2) (trace_of_good_events before)) (open_exchanges edge_table (empty_store 2) (trace_of_good_events before)) (next_serial 1 (trace_of_good_events before)) event) ≡ false → HeadlineRefuses (trace_with_wrong_item before event outcome)
+    test (outcome_of_event three_line_table (held_entries three_line_table (empty_store 2) (trace_of_good_events before)) (open_exchanges three_line_table (empty_store 2) (trace_of_good_events before)) (next_serial 1 (trace_of_good_events before)) event) ≡ false → HeadlineRefuses (trace_with_wrong_item before event outcome)
 refuse before event outcome test final passes fails h =
-    let is = (no_other_trace_has_it edge_table (empty_store 2) 1 (trace_with_wrong_item before event outcome) h (all_final (trace_with_wrong_item before event outcome) final)).0.outcome_is in
+    let is = (no_other_trace_has_it three_line_table (empty_store 2) 1 (trace_with_wrong_item before event outcome) h (all_final (trace_with_wrong_item before event outcome) final)).0.outcome_is in
     false≢true (sym fails ∙ sym (ap test is) ∙ passes)
 
 -- the event can't come
 pub never_comes : (before : List Event) (event : Event) (outcome : Outcome) (fault : CoreFault) → finals (trace_with_wrong_item before event outcome) ≡ true →
-    step_fault (open_exchanges edge_table (empty_store 2) (trace_of_good_events before)) event ≡ Some fault → HeadlineRefuses (trace_with_wrong_item before event outcome)
+    step_fault (open_exchanges three_line_table (empty_store 2) (trace_of_good_events before)) event ≡ Some fault → HeadlineRefuses (trace_with_wrong_item before event outcome)
 never_comes before event outcome fault final applies h =
-    let allowed = (no_other_trace_has_it edge_table (empty_store 2) 1 (trace_with_wrong_item before event outcome) h (all_final (trace_with_wrong_item before event outcome) final)).0.allowed in
+    let allowed = (no_other_trace_has_it three_line_table (empty_store 2) 1 (trace_with_wrong_item before event outcome) h (all_final (trace_with_wrong_item before event outcome) final)).0.allowed in
     let never : Some fault ≡ None = sym applies ∙ allowed in
     absurd (cc)
 
 -- ---- tests of outcomes
 
 abbrev pub uses : ℕ → Outcome → Bool
-uses s o = is_that_serial (serial_used_by_outcome o) s
+uses s o = option_is_serial (serial_used_by_outcome o) s
 
 abbrev pub stores : Outcome → Bool
 stores o = is_some (serial_stored_by_outcome o)
 
 abbrev pub stores_as : ℕ → Outcome → Bool
-stores_as s o = is_that_serial (serial_stored_by_outcome o) s
+stores_as s o = option_is_serial (serial_stored_by_outcome o) s
 
 abbrev pub removes_none : Outcome → Bool
 removes_none o = length (serials_removed_by_outcome o) == 0
 
 abbrev pub has_bytes : List ℕ → Outcome → Bool
-has_bytes bytes o = bytes_eq (reply_bytes o) bytes
+has_bytes bytes o = bytes_eq (bytes_of_reply_outcome o) bytes
 
 abbrev pub goes_by : ℕ → Outcome → Bool
 goes_by n (Forward line bytes) = line.number == n
@@ -126,7 +126,7 @@ closes (Waits leader) = false
 closes Ended = false
 closes WaitsNoMore = false
 
-abbrev tells : (About → Bool) → Outcome → Bool
+abbrev tells : (StatusAndReason → Bool) → Outcome → Bool
 tells test (Reply r) = test r.about
 tells test (Forward line bytes) = false
 tells test (Waits leader) = false
@@ -134,7 +134,7 @@ tells test Ended = false
 tells test WaitsNoMore = false
 
 abbrev pub tells_status : ℕ → Outcome → Bool
-tells_status status o = tells (λ (a : About). a.status == status) o
+tells_status status o = tells (λ (a : StatusAndReason). a.status == status) o
 
 abbrev is_refused : Told → Bool
 is_refused (Refused cause) = true
@@ -142,42 +142,42 @@ is_refused (Handled status) = false
 is_refused (Purged count) = false
 
 abbrev pub tells_refused : Outcome → Bool
-tells_refused o = tells (λ (a : About). is_refused a.told) o
+tells_refused o = tells (λ (a : StatusAndReason). is_refused a.told) o
 
 abbrev pub tells_an_origin : Outcome → Bool
-tells_an_origin o = tells (λ (a : About). is_some a.origin_line) o
+tells_an_origin o = tells (λ (a : StatusAndReason). is_some a.origin_line) o
 
 abbrev pub tells_no_origin : Outcome → Bool
-tells_no_origin o = tells (λ (a : About). is_none a.origin_line) o
+tells_no_origin o = tells (λ (a : StatusAndReason). is_none a.origin_line) o
 
 -- ---- what goes forward at an arrival
 
-module _ (past : List Item) (now id : ℕ) (line : Route) (asked : Asked) (bytes : List ℕ) (rule : ReuseRule) (against : Option ℕ)
-    (decided : decision_of (policy_of edge_table.lines line) (held_entries edge_table (empty_store 2) past) asked now ≡ decision.Forward rule against) where
-  condition_is : (condition : Option Condition) → IsConditionOfEvent (policy_of edge_table.lines line) (held_entries edge_table (empty_store 2) past) asked (Arrive now id asked) condition →
-      condition ≡ condition_about_serial (held_entries edge_table (empty_store 2) past) against
+module _ (past : List Item) (now id : ℕ) (line : RequestRoute) (asked : Asked) (bytes : List ℕ) (rule : ReuseRule) (against : Option ℕ)
+    (decided : decision_of (policy_of three_line_table.lines line) (held_entries three_line_table (empty_store 2) past) asked now ≡ decision.Forward rule against) where
+  condition_is : (condition : Option Condition) → ConditionIsSentAtEvent (policy_of three_line_table.lines line) (held_entries three_line_table (empty_store 2) past) asked (Arrive now id asked) condition →
+      condition ≡ condition_about_serial (held_entries three_line_table (empty_store 2) past) against
   condition_is condition (r, named, least, names, is) =
-      let known = names_the_least (policy_of edge_table.lines line) (held_entries edge_table (empty_store 2) past) asked now rule against decided in
-      let same : r ≡ rule = one_rule (policy_of edge_table.lines line) (held_entries edge_table (empty_store 2) past) asked now r rule least known.0 in
+      let known = names_the_least (policy_of three_line_table.lines line) (held_entries three_line_table (empty_store 2) past) asked now rule against decided in
+      let same : r ≡ rule = one_rule (policy_of three_line_table.lines line) (held_entries three_line_table (empty_store 2) past) asked now r rule least known.0 in
       is
-      ∙ ap (condition_about_serial (held_entries edge_table (empty_store 2) past))
-      (one_named (policy_of edge_table.lines line) (held_entries edge_table (empty_store 2) past) asked now rule named against (subst (λ q. RuleNamesTheResponse (held_entries edge_table (empty_store 2) past) asked q named) same names) known.1)
+      ∙ ap (condition_about_serial (held_entries three_line_table (empty_store 2) past))
+      (one_named (policy_of three_line_table.lines line) (held_entries three_line_table (empty_store 2) past) asked now rule named against (subst (λ q. RuleOnChosenNamesItsSerial (held_entries three_line_table (empty_store 2) past) asked q named) same names) known.1)
 
   -- a test that these bytes pass, and those that have to go forward don't
-  pub refuse_bytes : (test : List ℕ → Bool) → test bytes ≡ true → test (forward_text edge_table line asked (condition_about_serial (held_entries edge_table (empty_store 2) past) against)) ≡ false → GoingForwardIsWrong past (Arrive now id asked) (Forward line bytes)
+  pub refuse_bytes : (test : List ℕ → Bool) → test bytes ≡ true → test (forward_text three_line_table line asked (condition_about_serial (held_entries three_line_table (empty_store 2) past) against)) ≡ false → GoingForwardIsWrong past (Arrive now id asked) (Forward line bytes)
   refuse_bytes test passes fails h = by_parts (h line bytes refl)
     where
-      by_parts : (q : Asked) × (condition : Option Condition) × (latest_request_of id (item_of (Arrive now id asked) (Forward line bytes) ∷ past) ≡ Some q) × (verdict_of_asked edge_table q ≡ Allowed line)
-          × IsConditionOfEvent (policy_of edge_table.lines line) (held_entries edge_table (empty_store 2) past) q (Arrive now id asked) condition × (bytes ≡ forward_text edge_table line q condition) → ⊥
+      by_parts : (q : Asked) × (condition : Option Condition) × (latest_request_of id (item_with_outcome (Arrive now id asked) (Forward line bytes) ∷ past) ≡ Some q) × (verdict_of_asked three_line_table q ≡ Allowed line)
+          × ConditionIsSentAtEvent (policy_of three_line_table.lines line) (held_entries three_line_table (empty_store 2) past) q (Arrive now id asked) condition × (bytes ≡ forward_text three_line_table line q condition) → ⊥
       by_parts (q, condition, is, allowed, carries, text) =
           let own : asked ≡ q = same_Some asked q (sym (ap (λ b. cond b (Some asked) (latest_request_of id past)) (eq-eqb id id refl)) ∙ is) in
-          let carried = condition_is condition (subst (λ z. IsConditionOfEvent (policy_of edge_table.lines line) (held_entries edge_table (empty_store 2) past) z (Arrive now id asked) condition) (sym own) carries) in
+          let carried = condition_is condition (subst (λ z. ConditionIsSentAtEvent (policy_of three_line_table.lines line) (held_entries three_line_table (empty_store 2) past) z (Arrive now id asked) condition) (sym own) carries) in
           false≢true
-          (sym fails ∙ ap (λ c. test (forward_text edge_table line asked c)) (sym carried) ∙ ap (λ z. test (forward_text edge_table line z condition)) own ∙ sym (ap test text) ∙ passes)
+          (sym fails ∙ ap (λ c. test (forward_text three_line_table line asked c)) (sym carried) ∙ ap (λ z. test (forward_text three_line_table line z condition)) own ∙ sym (ap test text) ∙ passes)
 
 -- the line isn't the one that allows it
-pub refuse_line : (now id : ℕ) (line : Route) (asked : Asked) (bytes : List ℕ) → (verdict_of_asked edge_table asked ≡ Allowed line → ⊥) → GoingForwardIsWrong [] (Arrive now id asked) (Forward line bytes)
+pub refuse_line : (now id : ℕ) (line : RequestRoute) (asked : Asked) (bytes : List ℕ) → (verdict_of_asked three_line_table asked ≡ Allowed line → ⊥) → GoingForwardIsWrong [] (Arrive now id asked) (Forward line bytes)
 refuse_line now id line asked bytes never h =
     let parts = h line bytes refl in
     let own : asked ≡ parts.0 = same_Some asked parts.0 (sym (ap (λ b. cond b (Some asked) None) (eq-eqb id id refl)) ∙ parts.2) in
-    never (ap (λ z. verdict_of_asked edge_table z) own ∙ parts.3)
+    never (ap (λ z. verdict_of_asked three_line_table z) own ∙ parts.3)

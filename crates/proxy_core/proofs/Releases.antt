@@ -17,11 +17,11 @@ use Rattle.proxy_core.specs.declared.open.exchange.Exchange.{Exchange}
 use Rattle.hx_reuse.specs.declared.rule.ReuseRule.{ReuseRule}
 use Rattle.proxy_core.specs.declared.steps.condition.Condition.{Condition}
 use Rattle.proxy_core.specs.declared.open.released.Released.{Released}
-use Rattle.proxy_core.specs.Scopes.{Scope, is_in_scope}
+use Rattle.proxy_core.specs.Scopes.{Scope, key_is_in_scope}
 use Rattle.proxy_core.specs.State.{released_exchange, overtaken_exchange, exchange_gone_forward, exchange_forwarded_again, exchange_sent_forward}
-use Rattle.proxy_core.specs.Leading.{is_released, ready_ids, waits_for}
-use Rattle.proxy_core.specs.Arrivals.{HaveDistinctArrivalsAndIds, WaitingArrivalsPass, map_exchanges}
-use Rattle.proxy_core.specs.Releases.{first_released_arrival, is_between_arrivals, may_be_released, CoversOldRange, ReleasedArrivalsPass}
+use Rattle.proxy_core.specs.Leading.{is_released, wakeable_ids, waits_for}
+use Rattle.proxy_core.specs.Arrivals.{HaveDistinctArrivalsAndIds, WaitingArrivalsPassTest, map_exchanges}
+use Rattle.proxy_core.specs.Releases.{first_released_arrival, is_between_arrivals, may_be_released, ReleasedRangeIsNotNarrowed, ReleasedArrivalsPassTest}
 use Rattle.proxy_core.proofs.Waiters.{TurnsAway, released_away, pass-more, pass-opened, pass-removed, pass-on_all}
 
 abbrev Numbered : Type 0
@@ -31,31 +31,31 @@ abbrev at : ℕ → ℕ → Bool
 at n k = is_at (nat_cmp n) k
 
 -- where none passes none is released
-pub none_first : (es : Numbered) → ReleasedArrivalsPass (λ n. false) es → first_released_arrival es ≡ None
+pub none_first : (es : Numbered) → ReleasedArrivalsPassTest (λ n. false) es → first_released_arrival es ≡ None
 none_first [] h = refl
 none_first (e ∷ es) h = elim (cases_Bool (is_released e.1.stage)) [
   | inl t ↦ absurd (false≢true (h.0 t))
   | inr f ↦ ap (λ b. cond b (Some e.0) (first_released_arrival es)) f ∙ none_first es h.1
 ]
 
-first-none : (test : ℕ → Bool) (es : Numbered) → first_released_arrival es ≡ None → ReleasedArrivalsPass test es
+first-none : (test : ℕ → Bool) (es : Numbered) → first_released_arrival es ≡ None → ReleasedArrivalsPassTest test es
 first-none test [] h = tt
 first-none test (e ∷ es) h = elim (cases_Bool (is_released e.1.stage)) [
   | inl t ↦ (let k : Some e.0 ≡ None = sym (ap (λ b. cond b (Some e.0) (first_released_arrival es)) t) ∙ h in absurd (cc))
   | inr f ↦ (λ w. absurd (false≢true (sym f ∙ w)), first-none test es (sym (ap (λ b. cond b (Some e.0) (first_released_arrival es)) f) ∙ h))
 ]
 
-pub turned : (first last : ℕ) (es : Numbered) → last < first → ReleasedArrivalsPass (is_between_arrivals (Some first) last) es → first_released_arrival es ≡ None
+pub turned : (first last : ℕ) (es : Numbered) → last < first → ReleasedArrivalsPassTest (is_between_arrivals (Some first) last) es → first_released_arrival es ≡ None
 turned first last es l h = none_first es (pass-more (λ x. is_released x.stage) (is_between_arrivals (Some first) last) (λ n. false) es (λ m t. no m t) h)
   where
     no : (m : ℕ) → (nat_le first m && nat_le m last) ≡ true → false ≡ true
     no m t = grind (arith, nat_tests, l, t)
 
-pub turned-none : (first last : ℕ) (es : Numbered) → last < first → ReleasedArrivalsPass (is_between_arrivals (Some first) last) es → ReleasedArrivalsPass (is_between_arrivals None last) es
+pub turned-none : (first last : ℕ) (es : Numbered) → last < first → ReleasedArrivalsPassTest (is_between_arrivals (Some first) last) es → ReleasedArrivalsPassTest (is_between_arrivals None last) es
 turned-none first last es l h = first-none (is_between_arrivals None last) es (turned first last es l h)
 
 -- it may be looked for among those that pass
-filtered : (g test : ℕ → Bool) (es : Numbered) → ((n : ℕ) → test n ≡ true → g n ≡ true) → ReleasedArrivalsPass test es →
+filtered : (g test : ℕ → Bool) (es : Numbered) → ((n : ℕ) → test n ≡ true → g n ≡ true) → ReleasedArrivalsPassTest test es →
     first_released_arrival (filter (λ (e : ℕ × Exchange). g e.0) es) ≡ first_released_arrival es
 filtered g test [] k h = refl
 filtered g test (e ∷ es) k h =
@@ -75,7 +75,7 @@ filtered g test (e ∷ es) k h =
     either e rest f true = ap (λ b. cond b (Some e.0) (first_released_arrival rest)) f
     either e rest f false = refl
 
-pub between_first : (first last : ℕ) (es : Numbered) → ReleasedArrivalsPass (is_between_arrivals (Some first) last) es →
+pub between_first : (first last : ℕ) (es : Numbered) → ReleasedArrivalsPassTest (is_between_arrivals (Some first) last) es →
     first_released_arrival (filter (λ (e : ℕ × Exchange). range_contains nat_cmp (Included first) (Included last) e.0) es) ≡ first_released_arrival es
 between_first first last es h = filtered (range_contains nat_cmp (Included first) (Included last)) (is_between_arrivals (Some first) last) es (λ n t. in_range n t) h
   where
@@ -83,19 +83,19 @@ between_first first last es h = filtered (range_contains nat_cmp (Included first
     in_range n t = grind (arith, nat_tests, t)
 
 -- none is released before the first
-above : (n : ℕ) (es : Numbered) → AllByRecursion (λ k. nat_cmp n k ≡ Less) (keys_of es) → ReleasedArrivalsPass (λ k. nat_le n k) es
+above : (n : ℕ) (es : Numbered) → AllByRecursion (λ k. nat_cmp n k ≡ Less) (keys_of es) → ReleasedArrivalsPassTest (λ k. nat_le n k) es
 above n [] h = tt
 above n (e ∷ es) h = (λ w. less n e.0 h.0, above n es h.1)
   where
     less : (a b : ℕ) → nat_cmp a b ≡ Less → nat_le a b ≡ true
     less a b l = grind (arith, nat_tests, l)
 
-from_first : (n : ℕ) (es : Numbered) → IsStrictlySortedBy nat_cmp (keys_of es) → first_released_arrival es ≡ Some n → ReleasedArrivalsPass (λ k. nat_le n k) es
+from_first : (n : ℕ) (es : Numbered) → IsStrictlySortedBy nat_cmp (keys_of es) → first_released_arrival es ≡ Some n → ReleasedArrivalsPassTest (λ k. nat_le n k) es
 from_first n [] s h = tt
 from_first n (e ∷ es) s h = elim (cases_Bool (is_released e.1.stage)) [
   | inl t ↦ (
       let k : e.0 ≡ n = same_Some e.0 n (sym (ap (λ b. cond b (Some e.0) (first_released_arrival es)) t) ∙ h) in
-      subst (λ i. ReleasedArrivalsPass (λ j. nat_le i j) (e ∷ es)) k (λ w. itself e.0, above e.0 es (sorted_head nat_cmp e.0 (keys_of es) s))
+      subst (λ i. ReleasedArrivalsPassTest (λ j. nat_le i j) (e ∷ es)) k (λ w. itself e.0, above e.0 es (sorted_head nat_cmp e.0 (keys_of es) s))
       )
   | inr f ↦ (
       (λ w. absurd (false≢true (sym f ∙ w)), from_first n es (sorted_tail nat_cmp e.0 (keys_of es) s) (sym (ap (λ b. cond b (Some e.0) (first_released_arrival es)) f) ∙ h))
@@ -105,7 +105,7 @@ from_first n (e ∷ es) s h = elim (cases_Bool (is_released e.1.stage)) [
     itself : (a : ℕ) → nat_le a a ≡ true
     itself a = grind (arith, nat_tests)
 
-both : (n first last : ℕ) (es : Numbered) → ReleasedArrivalsPass (λ k. nat_le n k) es → ReleasedArrivalsPass (is_between_arrivals (Some first) last) es → ReleasedArrivalsPass (is_between_arrivals (Some n) last) es
+both : (n first last : ℕ) (es : Numbered) → ReleasedArrivalsPassTest (λ k. nat_le n k) es → ReleasedArrivalsPassTest (is_between_arrivals (Some first) last) es → ReleasedArrivalsPassTest (is_between_arrivals (Some n) last) es
 both n first last [] h k = tt
 both n first last (e ∷ es) h k = (λ w. join e.0 (h.0 w) (k.0 w), both n first last es h.1 k.1)
   where
@@ -113,25 +113,25 @@ both n first last (e ∷ es) h k = (λ w. join e.0 (h.0 w) (k.0 w), both n first
     join m a b = grind (arith, nat_tests, a, b)
 
 pub from_it : (o : Option ℕ) (first last : ℕ) (es : Numbered) → IsStrictlySortedBy nat_cmp (keys_of es) → o ≡ first_released_arrival es →
-    ReleasedArrivalsPass (is_between_arrivals (Some first) last) es → ReleasedArrivalsPass (is_between_arrivals o last) es
+    ReleasedArrivalsPassTest (is_between_arrivals (Some first) last) es → ReleasedArrivalsPassTest (is_between_arrivals o last) es
 from_it None first last es s h k = first-none (is_between_arrivals None last) es (sym h)
 from_it (Some n) first last es s h k = both n first last es (from_first n es s (sym h)) k
 
 -- ---- which that is
 
-pub first_is : (n : ℕ) (es : Numbered) → HaveDistinctArrivalsAndIds es → first_released_arrival es ≡ Some n → option_map (λ (x : Exchange). x.id) (lookup (at n) es) ≡ slice_get (ready_ids (values_of es)) 0
+pub first_is : (n : ℕ) (es : Numbered) → HaveDistinctArrivalsAndIds es → first_released_arrival es ≡ Some n → option_map (λ (x : Exchange). x.id) (lookup (at n) es) ≡ slice_get (wakeable_ids (values_of es)) 0
 first_is n [] a h = absurd (cc)
 first_is n (e ∷ es) a h = elim (cases_Bool (is_released e.1.stage)) [
   | inl t ↦ (
       let k : e.0 ≡ n = same_Some e.0 n (sym (ap (λ b. cond b (Some e.0) (first_released_arrival es)) t) ∙ h) in
       ap (λ b. option_map (λ (x : Exchange). x.id) (cond b (Some e.1) (lookup (at n) es))) (it n e.0 (sym k))
-      ∙ sym (ap (λ b. slice_get (cond b (e.1.id ∷ ready_ids (values_of es)) (ready_ids (values_of es))) 0) t)
+      ∙ sym (ap (λ b. slice_get (cond b (e.1.id ∷ wakeable_ids (values_of es)) (wakeable_ids (values_of es))) 0) t)
       )
   | inr f ↦ (
       let k : first_released_arrival es ≡ Some n = sym (ap (λ b. cond b (Some e.0) (first_released_arrival es)) f) ∙ h in
       ap (λ b. option_map (λ (x : Exchange). x.id) (cond b (Some e.1) (lookup (at n) es))) (not_it n e.0 es a.0 (there n es k))
       ∙ first_is n es a.2 k
-      ∙ sym (ap (λ b. slice_get (cond b (e.1.id ∷ ready_ids (values_of es)) (ready_ids (values_of es))) 0) f)
+      ∙ sym (ap (λ b. slice_get (cond b (e.1.id ∷ wakeable_ids (values_of es)) (wakeable_ids (values_of es))) 0) f)
       )
 ]
   where
@@ -166,12 +166,12 @@ first_is n (e ∷ es) a h = elim (cases_Bool (is_released e.1.stage)) [
         same : (n k : ℕ) → at n k ≡ true → n ≡ k
         same n k t = grind (arith, nat_tests, t)
 
-pub none_is : (es : Numbered) → first_released_arrival es ≡ None → slice_get (ready_ids (values_of es)) 0 ≡ None
+pub none_is : (es : Numbered) → first_released_arrival es ≡ None → slice_get (wakeable_ids (values_of es)) 0 ≡ None
 none_is [] h = refl
 none_is (e ∷ es) h = elim (cases_Bool (is_released e.1.stage)) [
   | inl t ↦ (let k : Some e.0 ≡ None = sym (ap (λ b. cond b (Some e.0) (first_released_arrival es)) t) ∙ h in absurd (cc))
   | inr f ↦ (
-      ap (λ b. slice_get (cond b (e.1.id ∷ ready_ids (values_of es)) (ready_ids (values_of es))) 0) f
+      ap (λ b. slice_get (cond b (e.1.id ∷ wakeable_ids (values_of es)) (wakeable_ids (values_of es))) 0) f
       ∙ none_is es (sym (ap (λ b. cond b (Some e.0) (first_released_arrival es)) f) ∙ h)
       )
 ]
@@ -191,26 +191,26 @@ released-gone id now x h = elim (cases_Bool (eqb x.id id)) [
 ]
 
 pub released-overtaken : (key : Scope) (x : Exchange) → is_released (overtaken_exchange key x).stage ≡ true → is_released x.stage ≡ true
-released-overtaken key x h = elim (cases_Bool (is_in_scope key x.asked.target.key)) [
+released-overtaken key x h = elim (cases_Bool (key_is_in_scope key x.asked.target.key)) [
   | inl t ↦ sym (ap (λ b. is_released (cond b (record x { overtaken = true }) x).stage) t) ∙ h
   | inr f ↦ sym (ap (λ b. is_released (cond b (record x { overtaken = true }) x).stage) f) ∙ h
 ]
 
 pub pass-changed : (test : ℕ → Bool) (f : Exchange → Exchange) → ((x : Exchange) → is_released (f x).stage ≡ true → is_released x.stage ≡ true) →
-    (es : Numbered) → ReleasedArrivalsPass test es → ReleasedArrivalsPass test (map_exchanges f es)
+    (es : Numbered) → ReleasedArrivalsPassTest test es → ReleasedArrivalsPassTest test (map_exchanges f es)
 pass-changed test f k es h = pass-on_all (λ x. is_released x.stage) test f k es h
 
-pub pass-closed : (n : ℕ) (test : ℕ → Bool) (es : Numbered) → HaveDistinctArrivalsAndIds es → ReleasedArrivalsPass test es → ReleasedArrivalsPass test (remove_entry (at n) es)
+pub pass-closed : (n : ℕ) (test : ℕ → Bool) (es : Numbered) → HaveDistinctArrivalsAndIds es → ReleasedArrivalsPassTest test es → ReleasedArrivalsPassTest test (remove_entry (at n) es)
 pass-closed n test es a h = pass-removed (λ x. is_released x.stage) n test test es a (λ m o t. t) h
 
-pub pass-entered : (n : ℕ) (x : Exchange) (old new : Released) (es : Numbered) → CoversOldRange old new → (is_released x.stage ≡ true → may_be_released new n ≡ true) →
-    ReleasedArrivalsPass (may_be_released old) es → ReleasedArrivalsPass (may_be_released new) (es ++ (n, x) ∷ [])
+pub pass-entered : (n : ℕ) (x : Exchange) (old new : Released) (es : Numbered) → ReleasedRangeIsNotNarrowed old new → (is_released x.stage ≡ true → may_be_released new n ≡ true) →
+    ReleasedArrivalsPassTest (may_be_released old) es → ReleasedArrivalsPassTest (may_be_released new) (es ++ (n, x) ∷ [])
 pass-entered n x old new es w k h =
     pass-opened (λ y. is_released y.stage) n x (may_be_released new) es k (pass-more (λ y. is_released y.stage) (may_be_released old) (may_be_released new) es w h)
 
 -- whom a change of those alone that wait for an id releases waited for that
-pub pass-turned : (q : ℕ) (f : Exchange → Exchange) → TurnsAway q f → (ns : ℕ → Bool) (old new : Released) (es : Numbered) → CoversOldRange old new → ((n : ℕ) → ns n ≡ true → may_be_released new n ≡ true) →
-    WaitingArrivalsPass q ns es → ReleasedArrivalsPass (may_be_released old) es → ReleasedArrivalsPass (may_be_released new) (map_exchanges f es)
+pub pass-turned : (q : ℕ) (f : Exchange → Exchange) → TurnsAway q f → (ns : ℕ → Bool) (old new : Released) (es : Numbered) → ReleasedRangeIsNotNarrowed old new → ((n : ℕ) → ns n ≡ true → may_be_released new n ≡ true) →
+    WaitingArrivalsPassTest q ns es → ReleasedArrivalsPassTest (may_be_released old) es → ReleasedArrivalsPassTest (may_be_released new) (map_exchanges f es)
 pass-turned q f t ns old new [] w k g h = tt
 pass-turned q f t ns old new (e ∷ es) w k g h =
     (λ r. elim (freed e.1 r) [ inl s ↦ w e.0 (h.0 s) | inr a ↦ k e.0 (g.0 a) ], pass-turned q f t ns old new es w k g.1 h.1)
@@ -221,6 +221,6 @@ pass-turned q f t ns old new (e ∷ es) w k g h =
       | inr o ↦ inl (ap (λ (y : Exchange). is_released y.stage) (sym (t.others x o)) ∙ r)
     ]
 
-pub pass-freed : (q : ℕ) (ns : ℕ → Bool) (old new : Released) (es : Numbered) → CoversOldRange old new → ((n : ℕ) → ns n ≡ true → may_be_released new n ≡ true) →
-    WaitingArrivalsPass q ns es → ReleasedArrivalsPass (may_be_released old) es → ReleasedArrivalsPass (may_be_released new) (map_exchanges (released_exchange q) es)
+pub pass-freed : (q : ℕ) (ns : ℕ → Bool) (old new : Released) (es : Numbered) → ReleasedRangeIsNotNarrowed old new → ((n : ℕ) → ns n ≡ true → may_be_released new n ≡ true) →
+    WaitingArrivalsPassTest q ns es → ReleasedArrivalsPassTest (may_be_released old) es → ReleasedArrivalsPassTest (may_be_released new) (map_exchanges (released_exchange q) es)
 pass-freed q ns old new es w k g h = pass-turned q (released_exchange q) (released_away q) ns old new es w k g h

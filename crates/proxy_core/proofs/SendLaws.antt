@@ -9,17 +9,17 @@ use Rattle.hx_framing.specs.declared.messages.Response.{Response}
 use Rattle.hx_hop.specs.declared.request_view.Asked.{Asked}
 use Rattle.hx_allow.specs.TableLines.{Table}
 use Rattle.hx_allow.specs.Matching.{policy_of}
-use Rattle.proxy_core.specs.Allowing.{verdict_of_asked, is_purge, request_purges, exchanges_to_wait_for}
+use Rattle.proxy_core.specs.Allowing.{verdict_of_asked, is_purge_verdict, request_purges, exchanges_to_wait_for}
 use Rattle.hx_allow.specs.declared.verdicts.Verdict.{Verdict}
 use Rattle.hx_allow.specs.declared.verdicts.Verdict.TheVariants as verdict
-use Rattle.hx_allow.specs.declared.verdicts.Route.{Route}
+use Rattle.hx_allow.specs.declared.verdicts.RequestRoute.{RequestRoute}
 use Rattle.hx_store.specs.Stored.{Stored}
-use Rattle.hx_store.specs.Serials.{Distinct}
+use Rattle.hx_store.specs.Serials.{SerialsAreDistinct}
 use Rattle.hx_store.specs.Shelf.{serials, find_entry}
 use Rattle.hx_reuse.specs.Chosen.{chosen_of}
-use Rattle.hx_reuse.specs.Rules.{decision_of, names_chosen}
+use Rattle.hx_reuse.specs.Rules.{decision_of, is_rule_on_chosen}
 use Rattle.hx_reuse.specs.ErrorRules.{error_rule_on}
-use Rattle.hx_reuse.specs.ChosenAndNamed.{IsLeastReuseRule, RuleNamesTheResponse}
+use Rattle.hx_reuse.specs.ChosenAndNamed.{IsLeastReuseRule, RuleOnChosenNamesItsSerial}
 use Rattle.hx_reuse.specs.RuleNames.{reuse_rule_number}
 use Rattle.hx_reuse.specs.declared.rule.ReuseRule.{ReuseRule}
 use Rattle.hx_reuse.specs.declared.rule.ReuseRule.TheVariants as rules
@@ -44,14 +44,14 @@ use Rattle.proxy_core.specs.declared.event.Event.{Event}
 use Rattle.proxy_core.specs.declared.event.Event.TheVariants.{Arrive, Answer, Fail, Wake, Abandon, Overdue}
 use Rattle.proxy_core.specs.Validating.{condition_about_serial, is_304_to_own_conditions, stored_response_validated, freshened_by_304}
 use Rattle.proxy_core.specs.Storing.{is_304_without_condition}
-use Rattle.proxy_core.specs.Awaiting.{awaited_of, leader_of_request}
-use Rattle.proxy_core.specs.Revalidating.{sent_beside}
-use Rattle.proxy_core.specs.Outcomes.{find_exchange, exchange_id_of_event, outcome_of_arrival, outcome_of_allowed_request, outcome_of_waiting_or_forwarding, revalidating_status_info, outcome_unless_sent_beside, outcome_without_stored_response, outcome_of_wake, is_only_if_cached, error_rule_at, fallback_with_error_rule, fallback_for, outcome_of_failure, is_error_status, outcome_of_passing_on_or_stale, outcome_of_304, outcome_of_answer, outcome_of, outcome_of_event, forward_text}
+use Rattle.proxy_core.specs.Awaiting.{awaited_by_request, leader_of_request}
+use Rattle.proxy_core.specs.Revalidating.{sent_while_revalidating}
+use Rattle.proxy_core.specs.Outcomes.{find_exchange, exchange_id_of_event, outcome_of_arrival, outcome_of_allowed_request, outcome_of_waiting_or_forwarding, revalidating_status_info, outcome_unless_stale_is_sent, outcome_without_stored_response, outcome_of_wake, is_only_if_cached, error_rule_for_serial, fallback_with_error_rule, fallback_for_failed_answer, outcome_of_failure, is_error_status, outcome_of_passing_on_or_stale, outcome_of_304, outcome_of_answer, outcome_for_exchange, outcome_of_event, forward_text}
 use Rattle.proxy_core.specs.State.{serial_used_by_outcome}
 use Rattle.proxy_core.specs.Starts.{StoreAtStart}
 use Rattle.proxy_core.specs.Traces.{Item}
 use Rattle.proxy_core.specs.Histories.{IsGoodHistory, held_entries, open_exchanges, next_serial}
-use Rattle.proxy_core.specs.Sending.{StoredResponseIsReusable, MayBeSentInsteadOfError, IsStoredFallback, StoredResponseMayBeSentAt, MayBeSentBesideLeader, StoredResponseMayBeSentBeside, StoredResponseMayBeSent, RequestReachesCacheOrOrigin, RequestIsTurnedAway, NoLeaderIsOpen, StoredResponseIsSentWhereItMayBe, StoredResponseIsSentNowhereElse, RequestIsForwardedWhereAllowed, RequestIsForwardedNowhereElse, AllowedRequestReachesCacheOrOrigin, OtherRequestIsRefused, RequestPurges, PurgeTakesItsScopeAway}
+use Rattle.proxy_core.specs.Sending.{StoredResponseIsReusable, StoredMayBeSentInsteadOfError, MayBeSentAsFallback, StoredResponseMayBeSentAt, MayBeSentWhileLeaderRevalidates, StoredMayBeSentWhileRevalidating, StoredResponseMayBeSent, RequestReachesCacheOrOrigin, RequestIsRefusedByTheTable, NoLeaderIsOpen, StoredResponseIsSentWhereItMayBe, StoredResponseIsSentNowhereElse, RequestIsForwardedWhereAllowed, RequestIsForwardedNowhereElse, AllowedRequestReachesCacheOrOrigin, RequestNotAllowedIsRefused, OutcomeIsOfRequestedPurge, PurgeRemovesOrExpiresItsScope}
 use Rattle.proxy_core.proofs.SentBeside.{led_over, sent_over, unless_sent, sent_is_no_forward}
 use Rattle.proxy_core.proofs.Beside.{beside_is, beside_for}
 use Rattle.proxy_core.proofs.Leaving.{serial_stays}
@@ -65,13 +65,13 @@ same_hit : (m n : ℕ) → decision.Hit m ≡ decision.Hit n → m ≡ n
 same_hit m n h = cc
 
 -- a rule on the chosen response comes behind each of the others
-comes_before : (other rule : ReuseRule) → names_chosen other ≡ false → names_chosen rule ≡ true → reuse_rule_number other < reuse_rule_number rule
+comes_before : (other rule : ReuseRule) → is_rule_on_chosen other ≡ false → is_rule_on_chosen rule ≡ true → reuse_rule_number other < reuse_rule_number rule
 comes_before other rule low late = omega (arith, at_most_six other low, seven_or_more rule late)
   where
     no_true : true ≡ false → ⊥
     no_true h = cc
 
-    at_most_six : (r : ReuseRule) → names_chosen r ≡ false → reuse_rule_number r ≤ 6
+    at_most_six : (r : ReuseRule) → is_rule_on_chosen r ≡ false → reuse_rule_number r ≤ 6
     at_most_six rules.Operator h = omega arith
     at_most_six rules.Method h = omega arith
     at_most_six rules.Content h = omega arith
@@ -91,7 +91,7 @@ comes_before other rule low late = omega (arith, at_most_six other low, seven_or
     at_most_six rules.StaleMaxAge h = absurd (no_true h)
     at_most_six rules.StaleMinFresh h = absurd (no_true h)
 
-    seven_or_more : (r : ReuseRule) → names_chosen r ≡ true → 7 ≤ reuse_rule_number r
+    seven_or_more : (r : ReuseRule) → is_rule_on_chosen r ≡ true → 7 ≤ reuse_rule_number r
     seven_or_more rules.Operator h = absurd (no_true (sym h))
     seven_or_more rules.Method h = absurd (no_true (sym h))
     seven_or_more rules.Content h = absurd (no_true (sym h))
@@ -112,29 +112,29 @@ comes_before other rule low late = omega (arith, at_most_six other low, seven_or
     seven_or_more rules.StaleMinFresh h = omega arith
 
 -- where a rule on the chosen response is the least, the operator lets it be sent
-pub allowed_by : (policy : Policy) (es : List Stored) (asked : Asked) (now : ℕ) (rule : ReuseRule) → IsLeastReuseRule policy es asked now rule → names_chosen rule ≡ true → policy.caches ≡ true
+pub allowed_by : (policy : Policy) (es : List Stored) (asked : Asked) (now : ℕ) (rule : ReuseRule) → IsLeastReuseRule policy es asked now rule → is_rule_on_chosen rule ≡ true → policy.caches ≡ true
 allowed_by policy es asked now r least late = by_word policy.caches (least.none_before rules.Operator (comes_before rules.Operator r refl late))
   where
     by_word : (caches : Bool) → not caches ≡ false → caches ≡ true
     by_word true h = refl
     by_word false h = absurd (false≢true (sym h))
 
-module _ (policy : Policy) (es : List Stored) (distinct : Distinct (serials es)) (asked : Asked) (now : ℕ) where
+module _ (policy : Policy) (es : List Stored) (distinct : SerialsAreDistinct (serials es)) (asked : Asked) (now : ℕ) where
   -- ---- after a failure
 
   -- what a rule names is the chosen response
   pub record IsNamed (rule : ReuseRule) (s : ℕ) : Type 0 where
     pub response : Stored
-    pub late : names_chosen rule ≡ true
+    pub late : is_rule_on_chosen rule ≡ true
     pub chosen : chosen_of es asked ≡ Some response
     pub serial : response.serial ≡ s
     pub found : find_entry s es ≡ Some response
-    pub rule_at : error_rule_at policy es s asked now ≡ error_rule_on policy response (occurrences_of asked.fields) now
+    pub rule_at : error_rule_for_serial policy es s asked now ≡ error_rule_on policy response (occurrences_of asked.fields) now
 
   pub named_is : (rule : ReuseRule) (s : ℕ) → decision_of policy es asked now ≡ decision.Forward rule (Some s) → IsNamed rule s
   named_is rule s h = by_number (names_the_least policy es asked now rule (Some s) h).1
     where
-      by_number : RuleNamesTheResponse es asked rule (Some s) → IsNamed rule s
+      by_number : RuleOnChosenNamesItsSerial es asked rule (Some s) → IsNamed rule s
       by_number (inl low) = absurd (never_one s (sym low.1))
       by_number (inr high) =
           let response = high.1.0 in
@@ -152,14 +152,14 @@ module _ (policy : Policy) (es : List Stored) (distinct : Distinct (serials es))
           }
 
   -- what is sent may be
-  fallback_may : (d : Decision) (s : ℕ) (detail : Detail) → decision_of policy es asked now ≡ d → fallback_for policy es asked now d ≡ Sends s detail → IsStoredFallback policy es asked now s
+  fallback_may : (d : Decision) (s : ℕ) (detail : Detail) → decision_of policy es asked now ≡ d → fallback_for_failed_answer policy es asked now d ≡ Sends s detail → MayBeSentAsFallback policy es asked now s
   fallback_may (decision.Hit t) s detail d_is h =
       let same : t ≡ s = cc in
       inl (subst (λ n. StoredResponseIsReusable policy es asked now n) same (reused_is_allowed policy es asked now t d_is))
   fallback_may (decision.Forward rule None) s detail d_is h = absurd (cc)
-  fallback_may (decision.Forward rule (Some t)) s detail d_is h = by_rule (error_rule_at policy es t asked now) refl h
+  fallback_may (decision.Forward rule (Some t)) s detail d_is h = by_rule (error_rule_for_serial policy es t asked now) refl h
     where
-      by_rule : (o : Option ErrorRule) → error_rule_at policy es t asked now ≡ o → fallback_with_error_rule rule t o ≡ Sends s detail → IsStoredFallback policy es asked now s
+      by_rule : (o : Option ErrorRule) → error_rule_for_serial policy es t asked now ≡ o → fallback_with_error_rule rule t o ≡ Sends s detail → MayBeSentAsFallback policy es asked now s
       by_rule None k h =
           let n = named_is rule t d_is in
           let least = (names_the_least policy es asked now rule (Some t) d_is).0 in
@@ -170,7 +170,7 @@ module _ (policy : Policy) (es : List Stored) (distinct : Distinct (serials es))
             record {
               operator_allows = allowed_by policy es asked now rule least n.late;
               is_chosen = chosen_is_preferred es asked n.response n.chosen;
-              is_for_the_cache = λ other low. least.none_before other (comes_before other rule low late);
+              no_request_rule_applies = λ other low. least.none_before other (comes_before other rule low late);
               may_be_sent = sent_may_be policy n.response (occurrences_of asked.fields) now (sym n.rule_at ∙ k);
             },
             n.serial ∙ same,
@@ -180,57 +180,57 @@ module _ (policy : Policy) (es : List Stored) (distinct : Distinct (serials es))
   -- the other way round
   record IsSent (s : ℕ) : Type 0 where
     detail : Detail
-    fallback : fallback_for policy es asked now (decision_of policy es asked now) ≡ Sends s detail
+    fallback : fallback_for_failed_answer policy es asked now (decision_of policy es asked now) ≡ Sends s detail
 
   pub reusable_hit : (s : ℕ) → StoredResponseIsReusable policy es asked now s → decision_of policy es asked now ≡ decision.Hit s
   reusable_hit s may = allowed_is_reused policy es asked now may.0 distinct may.1 ∙ ap (λ n. decision.Hit n) may.2
 
-  instead_sent : (s : ℕ) (response : Stored) → MayBeSentInsteadOfError policy es asked now response → response.serial ≡ s → (d : Decision) → decision_of policy es asked now ≡ d → IsSent s
+  instead_sent : (s : ℕ) (response : Stored) → StoredMayBeSentInsteadOfError policy es asked now response → response.serial ≡ s → (d : Decision) → decision_of policy es asked now ≡ d → IsSent s
   instead_sent s response may serial (decision.Hit t) d_is =
       let hit = is_held policy es asked now t d_is in
       let same : hit.0 ≡ response =
       same_Some hit.0 response (sym (preferred_is_the_chosen es asked hit.0 distinct hit.1) ∙ preferred_is_the_chosen es asked response distinct may.is_chosen)
       in
       let t_is : t ≡ s = sym hit.2 ∙ ap (λ (e : Stored). e.serial) same ∙ serial in
-      record { detail = ReuseAfterError; fallback = ap (fallback_for policy es asked now) d_is ∙ ap (λ n. Sends n ReuseAfterError) t_is }
+      record { detail = ReuseAfterError; fallback = ap (fallback_for_failed_answer policy es asked now) d_is ∙ ap (λ n. Sends n ReuseAfterError) t_is }
   instead_sent s response may serial (decision.Forward rule None) d_is =
       let r = names_the_least policy es asked now rule None d_is in
       absurd (by_number r.0 r.1)
     where
-      by_number : IsLeastReuseRule policy es asked now rule → RuleNamesTheResponse es asked rule None → ⊥
-      by_number least (inl low) = false≢true (sym (may.is_for_the_cache rule low.0) ∙ least.rule_applies)
+      by_number : IsLeastReuseRule policy es asked now rule → RuleOnChosenNamesItsSerial es asked rule None → ⊥
+      by_number least (inl low) = false≢true (sym (may.no_request_rule_applies rule low.0) ∙ least.rule_applies)
       by_number least (inr high) = never_one high.1.0.serial high.1.2
   instead_sent s response may serial (decision.Forward rule (Some t)) d_is =
       let n = named_is rule t d_is in
       let same : n.response ≡ response = same_Some n.response response (sym n.chosen ∙ preferred_is_the_chosen es asked response distinct may.is_chosen) in
       let t_is : t ≡ s = sym n.serial ∙ ap (λ (e : Stored). e.serial) same ∙ serial in
-      let none : error_rule_at policy es t asked now ≡ None =
+      let none : error_rule_for_serial policy es t asked now ≡ None =
       n.rule_at ∙ ap (λ (e : Stored). error_rule_on policy e (occurrences_of asked.fields) now) same ∙ may_be_sent_on_error policy response (occurrences_of asked.fields) now may.may_be_sent
       in
-      record { detail = StaleIfError; fallback = ap (fallback_for policy es asked now) d_is ∙ ap (fallback_with_error_rule rule t) none ∙ ap (λ n. Sends n StaleIfError) t_is }
+      record { detail = StaleIfError; fallback = ap (fallback_for_failed_answer policy es asked now) d_is ∙ ap (fallback_with_error_rule rule t) none ∙ ap (λ n. Sends n StaleIfError) t_is }
 
-  fallback_sent : (s : ℕ) → IsStoredFallback policy es asked now s → IsSent s
-  fallback_sent s (inl may) = record { detail = ReuseAfterError; fallback = ap (fallback_for policy es asked now) (reusable_hit s may) }
+  fallback_sent : (s : ℕ) → MayBeSentAsFallback policy es asked now s → IsSent s
+  fallback_sent s (inl may) = record { detail = ReuseAfterError; fallback = ap (fallback_for_failed_answer policy es asked now) (reusable_hit s may) }
   fallback_sent s (inr may) = instead_sent s may.0 may.1 may.2 (decision_of policy es asked now) refl
 
 -- ---- what each step uses
 
-module _ (table : Table) (es : List Stored) (distinct : Distinct (serials es)) (xs : List Exchange) where
-  failed_uses : (now : ℕ) (x : Exchange) (kind : FailKind) (came : Option ℕ) (s : ℕ) → IsStoredFallback (policy_of table.lines x.line) es x.asked now s →
-      serial_used_by_outcome (outcome_of_failure table es now x kind came (fallback_for (policy_of table.lines x.line) es x.asked now (decision_of (policy_of table.lines x.line) es x.asked now))) ≡ Some s
+module _ (table : Table) (es : List Stored) (distinct : SerialsAreDistinct (serials es)) (xs : List Exchange) where
+  failed_uses : (now : ℕ) (x : Exchange) (kind : FailKind) (came : Option ℕ) (s : ℕ) → MayBeSentAsFallback (policy_of table.lines x.line) es x.asked now s →
+      serial_used_by_outcome (outcome_of_failure table es now x kind came (fallback_for_failed_answer (policy_of table.lines x.line) es x.asked now (decision_of (policy_of table.lines x.line) es x.asked now))) ≡ Some s
   failed_uses now x kind came s may =
       let sent = fallback_sent (policy_of table.lines x.line) es distinct x.asked now s may in ap (λ (q : Fallback). serial_used_by_outcome (outcome_of_failure table es now x kind came q)) sent.fallback
 
-  used_failed : (now : ℕ) (x : Exchange) (kind : FailKind) (came : Option ℕ) (s : ℕ) (fallback : Fallback) → fallback_for (policy_of table.lines x.line) es x.asked now (decision_of (policy_of table.lines x.line) es x.asked now) ≡ fallback →
-      serial_used_by_outcome (outcome_of_failure table es now x kind came fallback) ≡ Some s → IsStoredFallback (policy_of table.lines x.line) es x.asked now s
+  used_failed : (now : ℕ) (x : Exchange) (kind : FailKind) (came : Option ℕ) (s : ℕ) (fallback : Fallback) → fallback_for_failed_answer (policy_of table.lines x.line) es x.asked now (decision_of (policy_of table.lines x.line) es x.asked now) ≡ fallback →
+      serial_used_by_outcome (outcome_of_failure table es now x kind came fallback) ≡ Some s → MayBeSentAsFallback (policy_of table.lines x.line) es x.asked now s
   used_failed now x kind came s (Sends t detail) k h =
-      subst (λ n. IsStoredFallback (policy_of table.lines x.line) es x.asked now n) (same_Some t s h) (fallback_may (policy_of table.lines x.line) es distinct x.asked now (decision_of (policy_of table.lines x.line) es x.asked now) t detail refl k)
+      subst (λ n. MayBeSentAsFallback (policy_of table.lines x.line) es x.asked now n) (same_Some t s h) (fallback_may (policy_of table.lines x.line) es distinct x.asked now (decision_of (policy_of table.lines x.line) es x.asked now) t detail refl k)
   used_failed now x kind came s (Refuses rule error) k h = absurd (never_one s h)
 
   -- an arrival
   used_arrived : (now : ℕ) (asked : Asked) (s : ℕ) (v : Verdict) → verdict_of_asked table asked ≡ v → serial_used_by_outcome (outcome_of_arrival table es xs now asked v) ≡ Some s →
-      ((line : Route) × (verdict_of_asked table asked ≡ verdict.Allowed line) × StoredResponseIsReusable (policy_of table.lines line) es asked now s)
-      ⊎ ((line : Route) × (verdict_of_asked table asked ≡ verdict.Allowed line) × MayBeSentBesideLeader (policy_of table.lines line) es (exchanges_to_wait_for table line asked xs) asked now s)
+      ((line : RequestRoute) × (verdict_of_asked table asked ≡ verdict.Allowed line) × StoredResponseIsReusable (policy_of table.lines line) es asked now s)
+      ⊎ ((line : RequestRoute) × (verdict_of_asked table asked ≡ verdict.Allowed line) × MayBeSentWhileLeaderRevalidates (policy_of table.lines line) es (exchanges_to_wait_for table line asked xs) asked now s)
   used_arrived now asked s (verdict.Allowed line) v h = by_decision (decision_of (policy_of table.lines line) es asked now) refl h
     where
       on : (condition : Option Condition) (leader : Option ℕ) → serial_used_by_outcome (outcome_of_waiting_or_forwarding table line asked condition leader) ≡ Some s → ⊥
@@ -238,7 +238,7 @@ module _ (table : Table) (es : List Stored) (distinct : Distinct (serials es)) (
       on condition (Some leader) h = never_one s h
 
       IsBeside : Type 0
-      IsBeside = MayBeSentBesideLeader (policy_of table.lines line) es (exchanges_to_wait_for table line asked xs) asked now s
+      IsBeside = MayBeSentWhileLeaderRevalidates (policy_of table.lines line) es (exchanges_to_wait_for table line asked xs) asked now s
 
       unless : (rule : ReuseRule) (against : Option ℕ) (condition : Option Condition) (b : Bool) → decision_of (policy_of table.lines line) es asked now ≡ decision.Forward rule against → is_only_if_cached asked ≡ b →
           serial_used_by_outcome (outcome_without_stored_response table es xs line now asked rule condition b) ≡ Some s → IsBeside
@@ -251,8 +251,8 @@ module _ (table : Table) (es : List Stored) (distinct : Distinct (serials es)) (
           (λ sent. absurd (on condition (led_over table es xs line asked rule) sent)) h
 
       by_decision : (d : Decision) → decision_of (policy_of table.lines line) es asked now ≡ d → serial_used_by_outcome (outcome_of_allowed_request table es xs line now asked d) ≡ Some s →
-          ((n : Route) × (verdict_of_asked table asked ≡ verdict.Allowed n) × StoredResponseIsReusable (policy_of table.lines n) es asked now s)
-          ⊎ ((n : Route) × (verdict_of_asked table asked ≡ verdict.Allowed n) × MayBeSentBesideLeader (policy_of table.lines n) es (exchanges_to_wait_for table n asked xs) asked now s)
+          ((n : RequestRoute) × (verdict_of_asked table asked ≡ verdict.Allowed n) × StoredResponseIsReusable (policy_of table.lines n) es asked now s)
+          ⊎ ((n : RequestRoute) × (verdict_of_asked table asked ≡ verdict.Allowed n) × MayBeSentWhileLeaderRevalidates (policy_of table.lines n) es (exchanges_to_wait_for table n asked xs) asked now s)
       by_decision (decision.Hit t) k h = inl (line, v, subst (λ n. StoredResponseIsReusable (policy_of table.lines line) es asked now n) (same_Some t s h) (reused_is_allowed (policy_of table.lines line) es asked now t k))
       by_decision (decision.Forward rule against) k h = inr (line, v, unless rule against (condition_about_serial es against) (is_only_if_cached asked) k refl h)
   used_arrived now asked s (verdict.DeniedBy line) v h = absurd (never_one s h)
@@ -270,10 +270,10 @@ module _ (table : Table) (es : List Stored) (distinct : Distinct (serials es)) (
     used_revalidated None (decision.Hit t) v k h = inr (v, subst (λ n. StoredResponseIsReusable (policy_of table.lines x.line) es x.asked now n) (same_Some t s h) (reused_is_allowed (policy_of table.lines x.line) es x.asked now t k))
     used_revalidated None (decision.Forward rule against) v k h = absurd (never_one s h)
 
-    used_passed : (b : Bool) (fallback : Fallback) → fallback_for (policy_of table.lines x.line) es x.asked now (decision_of (policy_of table.lines x.line) es x.asked now) ≡ fallback → IsUsed (outcome_of_passing_on_or_stale table es now x r next b fallback) →
-        (b ≡ true) × IsStoredFallback (policy_of table.lines x.line) es x.asked now s
+    used_passed : (b : Bool) (fallback : Fallback) → fallback_for_failed_answer (policy_of table.lines x.line) es x.asked now (decision_of (policy_of table.lines x.line) es x.asked now) ≡ fallback → IsUsed (outcome_of_passing_on_or_stale table es now x r next b fallback) →
+        (b ≡ true) × MayBeSentAsFallback (policy_of table.lines x.line) es x.asked now s
     used_passed true (Sends t detail) k h =
-        (refl, subst (λ n. IsStoredFallback (policy_of table.lines x.line) es x.asked now n) (same_Some t s h) (fallback_may (policy_of table.lines x.line) es distinct x.asked now (decision_of (policy_of table.lines x.line) es x.asked now) t detail refl k))
+        (refl, subst (λ n. MayBeSentAsFallback (policy_of table.lines x.line) es x.asked now n) (same_Some t s h) (fallback_may (policy_of table.lines x.line) es distinct x.asked now (decision_of (policy_of table.lines x.line) es x.asked now) t detail refl k))
     used_passed true (Refuses rule error) k h = absurd (never_one s h)
     used_passed false fallback k h = absurd (never_one s h)
 
@@ -283,18 +283,18 @@ module _ (table : Table) (es : List Stored) (distinct : Distinct (serials es)) (
         d : Decision
         d = decision_of (policy_of table.lines x.line) es x.asked now
 
-        by_unasked : (b : Bool) → is_304_without_condition (policy_of table.lines x.line) x.asked r ≡ b → IsUsed (cond b (outcome_of_failure table es now x BadAnswer (Some r.status) (fallback_for (policy_of table.lines x.line) es x.asked now (decision_of (policy_of table.lines x.line) es x.asked now)))
-            (outcome_of_passing_on_or_stale table es now x r next (is_error_status r.status) (fallback_for (policy_of table.lines x.line) es x.asked now (decision_of (policy_of table.lines x.line) es x.asked now)))) →
-            ((is_304_without_condition (policy_of table.lines x.line) x.asked r || is_error_status r.status) ≡ true) × IsStoredFallback (policy_of table.lines x.line) es x.asked now s
+        by_unasked : (b : Bool) → is_304_without_condition (policy_of table.lines x.line) x.asked r ≡ b → IsUsed (cond b (outcome_of_failure table es now x BadAnswer (Some r.status) (fallback_for_failed_answer (policy_of table.lines x.line) es x.asked now (decision_of (policy_of table.lines x.line) es x.asked now)))
+            (outcome_of_passing_on_or_stale table es now x r next (is_error_status r.status) (fallback_for_failed_answer (policy_of table.lines x.line) es x.asked now (decision_of (policy_of table.lines x.line) es x.asked now)))) →
+            ((is_304_without_condition (policy_of table.lines x.line) x.asked r || is_error_status r.status) ≡ true) × MayBeSentAsFallback (policy_of table.lines x.line) es x.asked now s
         by_unasked true k h =
-            (ap (λ b. b || is_error_status r.status) k, used_failed now x BadAnswer (Some r.status) s (fallback_for (policy_of table.lines x.line) es x.asked now (decision_of (policy_of table.lines x.line) es x.asked now)) refl h)
+            (ap (λ b. b || is_error_status r.status) k, used_failed now x BadAnswer (Some r.status) s (fallback_for_failed_answer (policy_of table.lines x.line) es x.asked now (decision_of (policy_of table.lines x.line) es x.asked now)) refl h)
         by_unasked false k h =
-            let p = used_passed (is_error_status r.status) (fallback_for (policy_of table.lines x.line) es x.asked now (decision_of (policy_of table.lines x.line) es x.asked now)) refl h in
+            let p = used_passed (is_error_status r.status) (fallback_for_failed_answer (policy_of table.lines x.line) es x.asked now (decision_of (policy_of table.lines x.line) es x.asked now)) refl h in
             (or_right (is_304_without_condition (policy_of table.lines x.line) x.asked r) (is_error_status r.status) p.0, p.1)
 
         by_304 : (b : Bool) → is_304_to_own_conditions x r ≡ b → IsUsed (cond b (outcome_of_304 table es now x r (stored_response_validated es x r now) (decision_of (policy_of table.lines x.line) es x.asked now))
-            (cond (is_304_without_condition (policy_of table.lines x.line) x.asked r) (outcome_of_failure table es now x BadAnswer (Some r.status) (fallback_for (policy_of table.lines x.line) es x.asked now (decision_of (policy_of table.lines x.line) es x.asked now)))
-            (outcome_of_passing_on_or_stale table es now x r next (is_error_status r.status) (fallback_for (policy_of table.lines x.line) es x.asked now (decision_of (policy_of table.lines x.line) es x.asked now))))) →
+            (cond (is_304_without_condition (policy_of table.lines x.line) x.asked r) (outcome_of_failure table es now x BadAnswer (Some r.status) (fallback_for_failed_answer (policy_of table.lines x.line) es x.asked now (decision_of (policy_of table.lines x.line) es x.asked now)))
+            (outcome_of_passing_on_or_stale table es now x r next (is_error_status r.status) (fallback_for_failed_answer (policy_of table.lines x.line) es x.asked now (decision_of (policy_of table.lines x.line) es x.asked now))))) →
             StoredResponseMayBeSentAt table es (Some x) (Answer now id r) s
         by_304 true k h = by_kind (used_revalidated (stored_response_validated es x r now) (decision_of (policy_of table.lines x.line) es x.asked now) refl refl h)
           where
@@ -305,9 +305,9 @@ module _ (table : Table) (es : List Stored) (distinct : Distinct (serials es)) (
         by_304 false k h = let p = by_unasked (is_304_without_condition (policy_of table.lines x.line) x.asked r) refl h in inr (inr (k, p.0, p.1))
 
     -- the other way round
-    fallback_uses : (b e : Bool) → (b || e) ≡ true → IsStoredFallback (policy_of table.lines x.line) es x.asked now s →
-        IsUsed (cond b (outcome_of_failure table es now x BadAnswer (Some r.status) (fallback_for (policy_of table.lines x.line) es x.asked now (decision_of (policy_of table.lines x.line) es x.asked now)))
-        (outcome_of_passing_on_or_stale table es now x r next e (fallback_for (policy_of table.lines x.line) es x.asked now (decision_of (policy_of table.lines x.line) es x.asked now))))
+    fallback_uses : (b e : Bool) → (b || e) ≡ true → MayBeSentAsFallback (policy_of table.lines x.line) es x.asked now s →
+        IsUsed (cond b (outcome_of_failure table es now x BadAnswer (Some r.status) (fallback_for_failed_answer (policy_of table.lines x.line) es x.asked now (decision_of (policy_of table.lines x.line) es x.asked now)))
+        (outcome_of_passing_on_or_stale table es now x r next e (fallback_for_failed_answer (policy_of table.lines x.line) es x.asked now (decision_of (policy_of table.lines x.line) es x.asked now))))
     fallback_uses true e h may = failed_uses now x BadAnswer (Some r.status) s may
     fallback_uses false true h may =
         let sent = fallback_sent (policy_of table.lines x.line) es distinct x.asked now s may in
@@ -318,20 +318,20 @@ module _ (table : Table) (es : List Stored) (distinct : Distinct (serials es)) (
     answered_uses (inl may) =
         let d = decision_of (policy_of table.lines x.line) es x.asked now in
         let e = may.1.0 in
-        ap (λ b. serial_used_by_outcome (cond b (outcome_of_304 table es now x r (stored_response_validated es x r now) d) (cond (is_304_without_condition (policy_of table.lines x.line) x.asked r) (outcome_of_failure table es now x BadAnswer (Some r.status) (fallback_for (policy_of table.lines x.line) es x.asked now d))
-        (outcome_of_passing_on_or_stale table es now x r next (is_error_status r.status) (fallback_for (policy_of table.lines x.line) es x.asked now d))))) may.0
+        ap (λ b. serial_used_by_outcome (cond b (outcome_of_304 table es now x r (stored_response_validated es x r now) d) (cond (is_304_without_condition (policy_of table.lines x.line) x.asked r) (outcome_of_failure table es now x BadAnswer (Some r.status) (fallback_for_failed_answer (policy_of table.lines x.line) es x.asked now d))
+        (outcome_of_passing_on_or_stale table es now x r next (is_error_status r.status) (fallback_for_failed_answer (policy_of table.lines x.line) es x.asked now d))))) may.0
         ∙ ap (λ (o : Option Stored). serial_used_by_outcome (outcome_of_304 table es now x r o d)) may.1.1
         ∙ ap (λ n. Some n) (serial_stays x r now e ∙ may.1.2)
     answered_uses (inr (inl may)) =
         let d = decision_of (policy_of table.lines x.line) es x.asked now in
-        ap (λ b. serial_used_by_outcome (cond b (outcome_of_304 table es now x r (stored_response_validated es x r now) d) (cond (is_304_without_condition (policy_of table.lines x.line) x.asked r) (outcome_of_failure table es now x BadAnswer (Some r.status) (fallback_for (policy_of table.lines x.line) es x.asked now d))
-        (outcome_of_passing_on_or_stale table es now x r next (is_error_status r.status) (fallback_for (policy_of table.lines x.line) es x.asked now d))))) may.0
+        ap (λ b. serial_used_by_outcome (cond b (outcome_of_304 table es now x r (stored_response_validated es x r now) d) (cond (is_304_without_condition (policy_of table.lines x.line) x.asked r) (outcome_of_failure table es now x BadAnswer (Some r.status) (fallback_for_failed_answer (policy_of table.lines x.line) es x.asked now d))
+        (outcome_of_passing_on_or_stale table es now x r next (is_error_status r.status) (fallback_for_failed_answer (policy_of table.lines x.line) es x.asked now d))))) may.0
         ∙ ap (λ (o : Option Stored). serial_used_by_outcome (outcome_of_304 table es now x r o d)) may.1
         ∙ ap (λ (k : Decision). serial_used_by_outcome (outcome_of_304 table es now x r None k)) (reusable_hit (policy_of table.lines x.line) es distinct x.asked now s may.2)
     answered_uses (inr (inr may)) =
         let d = decision_of (policy_of table.lines x.line) es x.asked now in
-        ap (λ b. serial_used_by_outcome (cond b (outcome_of_304 table es now x r (stored_response_validated es x r now) d) (cond (is_304_without_condition (policy_of table.lines x.line) x.asked r) (outcome_of_failure table es now x BadAnswer (Some r.status) (fallback_for (policy_of table.lines x.line) es x.asked now d))
-        (outcome_of_passing_on_or_stale table es now x r next (is_error_status r.status) (fallback_for (policy_of table.lines x.line) es x.asked now d))))) may.0
+        ap (λ b. serial_used_by_outcome (cond b (outcome_of_304 table es now x r (stored_response_validated es x r now) d) (cond (is_304_without_condition (policy_of table.lines x.line) x.asked r) (outcome_of_failure table es now x BadAnswer (Some r.status) (fallback_for_failed_answer (policy_of table.lines x.line) es x.asked now d))
+        (outcome_of_passing_on_or_stale table es now x r next (is_error_status r.status) (fallback_for_failed_answer (policy_of table.lines x.line) es x.asked now d))))) may.0
         ∙ fallback_uses (is_304_without_condition (policy_of table.lines x.line) x.asked r) (is_error_status r.status) may.1 may.2
 
   -- a request that waited
@@ -340,18 +340,18 @@ module _ (table : Table) (es : List Stored) (distinct : Distinct (serials es)) (
   used_woken now x s (decision.Hit t) k h = subst (λ n. StoredResponseIsReusable (policy_of table.lines x.line) es x.asked now n) (same_Some t s h) (reused_is_allowed (policy_of table.lines x.line) es x.asked now t k)
   used_woken now x s (decision.Forward rule against) k h = absurd (never_one s h)
 
-  beside_used : (line : Route) (now : ℕ) (asked : Asked) (s : ℕ) → MayBeSentBesideLeader (policy_of table.lines line) es (exchanges_to_wait_for table line asked xs) asked now s →
+  beside_used : (line : RequestRoute) (now : ℕ) (asked : Asked) (s : ℕ) → MayBeSentWhileLeaderRevalidates (policy_of table.lines line) es (exchanges_to_wait_for table line asked xs) asked now s →
       serial_used_by_outcome (outcome_of_allowed_request table es xs line now asked (decision_of (policy_of table.lines line) es asked now)) ≡ Some s
   beside_used line now asked s may =
       let rule = may.awaits.rule in
       let least = may.awaits.is_least in
       let d = forwards (policy_of table.lines line) es asked now rule least in
       ap (λ (k : Decision). serial_used_by_outcome (outcome_of_allowed_request table es xs line now asked k)) d.1
-      ∙ ap (λ b. serial_used_by_outcome (outcome_without_stored_response table es xs line now asked rule (condition_about_serial es d.0) b)) may.takes_an_answer
-      ∙ ap (λ (o : Option ℕ). serial_used_by_outcome (outcome_unless_sent_beside table es line now asked o (outcome_of_waiting_or_forwarding table line asked (condition_about_serial es d.0) (led_over table es xs line asked rule))))
+      ∙ ap (λ b. serial_used_by_outcome (outcome_without_stored_response table es xs line now asked rule (condition_about_serial es d.0) b)) may.takes_origin_answer
+      ∙ ap (λ (o : Option ℕ). serial_used_by_outcome (outcome_unless_stale_is_sent table es line now asked o (outcome_of_waiting_or_forwarding table line asked (condition_about_serial es d.0) (led_over table es xs line asked rule))))
       (beside_for (policy_of table.lines line) es distinct (exchanges_to_wait_for table line asked xs) asked now rule least s may)
 
-  may_be_used : (x : Option Exchange) (next : Option ℕ) (event : Event) (s : ℕ) → StoredResponseMayBeSentAt table es x event s → serial_used_by_outcome (outcome_of table es xs x next event) ≡ Some s
+  may_be_used : (x : Option Exchange) (next : Option ℕ) (event : Event) (s : ℕ) → StoredResponseMayBeSentAt table es x event s → serial_used_by_outcome (outcome_for_exchange table es xs x next event) ≡ Some s
   may_be_used x next (Arrive now id asked) s may =
       ap (λ (v : Verdict). serial_used_by_outcome (outcome_of_arrival table es xs now asked v)) may.1
       ∙ ap (λ (d : Decision). serial_used_by_outcome (outcome_of_allowed_request table es xs may.0 now asked d)) (reusable_hit (policy_of table.lines may.0) es distinct asked now s may.2)
@@ -364,7 +364,7 @@ module _ (table : Table) (es : List Stored) (distinct : Distinct (serials es)) (
   may_be_used x next (Abandon id) s may = absurd may
   may_be_used x next (Overdue id) s may = absurd may
 
-  may_be_used_beside : (x : Option Exchange) (next : Option ℕ) (event : Event) (s : ℕ) → StoredResponseMayBeSentBeside table es xs event s → serial_used_by_outcome (outcome_of table es xs x next event) ≡ Some s
+  may_be_used_beside : (x : Option Exchange) (next : Option ℕ) (event : Event) (s : ℕ) → StoredMayBeSentWhileRevalidating table es xs event s → serial_used_by_outcome (outcome_for_exchange table es xs x next event) ≡ Some s
   may_be_used_beside x next (Arrive now id asked) s may =
       ap (λ (v : Verdict). serial_used_by_outcome (outcome_of_arrival table es xs now asked v)) may.1 ∙ beside_used may.0 now asked s may.2
   may_be_used_beside x next (Answer now id r) s may = absurd may
@@ -373,15 +373,15 @@ module _ (table : Table) (es : List Stored) (distinct : Distinct (serials es)) (
   may_be_used_beside x next (Abandon id) s may = absurd may
   may_be_used_beside x next (Overdue id) s may = absurd may
 
-  may_be_used_either : (x : Option Exchange) (next : Option ℕ) (event : Event) (s : ℕ) → StoredResponseMayBeSent table es xs x event s → serial_used_by_outcome (outcome_of table es xs x next event) ≡ Some s
+  may_be_used_either : (x : Option Exchange) (next : Option ℕ) (event : Event) (s : ℕ) → StoredResponseMayBeSent table es xs x event s → serial_used_by_outcome (outcome_for_exchange table es xs x next event) ≡ Some s
   may_be_used_either x next event s (inl may) = may_be_used x next event s may
   may_be_used_either x next event s (inr may) = may_be_used_beside x next event s may
 
-  used_may_be : (x : Option Exchange) (next : Option ℕ) (event : Event) (s : ℕ) → serial_used_by_outcome (outcome_of table es xs x next event) ≡ Some s → StoredResponseMayBeSent table es xs x event s
+  used_may_be : (x : Option Exchange) (next : Option ℕ) (event : Event) (s : ℕ) → serial_used_by_outcome (outcome_for_exchange table es xs x next event) ≡ Some s → StoredResponseMayBeSent table es xs x event s
   used_may_be x next (Arrive now id asked) s h = used_arrived now asked s (verdict_of_asked table asked) refl h
   used_may_be (Some x) next (Answer now id r) s h = inl (used_answered x now id r next s h)
   used_may_be None next (Answer now id r) s h = absurd (never_one s h)
-  used_may_be (Some x) next (Fail now id kind) s h = inl (used_failed now x kind None s (fallback_for (policy_of table.lines x.line) es x.asked now (decision_of (policy_of table.lines x.line) es x.asked now)) refl h)
+  used_may_be (Some x) next (Fail now id kind) s h = inl (used_failed now x kind None s (fallback_for_failed_answer (policy_of table.lines x.line) es x.asked now (decision_of (policy_of table.lines x.line) es x.asked now)) refl h)
   used_may_be None next (Fail now id kind) s h = absurd (never_one s h)
   used_may_be (Some x) next (Wake now id) s h = inl (used_woken now x s (decision_of (policy_of table.lines x.line) es x.asked now) refl h)
   used_may_be None next (Wake now id) s h = absurd (never_one s h)
@@ -417,16 +417,16 @@ forwards_where_allowed table start first now id line asked rule item past g e v 
           ∙ ap (λ (v : Verdict). outcome_of_arrival table es xs now asked v) v
           ∙ ap (λ (d : Decision). outcome_of_allowed_request table es xs line now asked d) d.1
           ∙ ap (λ b. outcome_without_stored_response table es xs line now asked rule (condition_about_serial es d.0) b) other
-          ∙ ap (λ (leader : Option ℕ). outcome_unless_sent_beside table es line now asked (sent_beside (policy_of table.lines line) es asked now (awaited_of (policy_of table.lines line) es asked rule) leader) (outcome_of_waiting_or_forwarding table line asked (condition_about_serial es d.0) leader)) (leads_for_none (policy_of table.lines line) es (held_distinct table start first past g.1) (exchanges_to_wait_for table line asked xs) asked now rule least none),
+          ∙ ap (λ (leader : Option ℕ). outcome_unless_stale_is_sent table es line now asked (sent_while_revalidating (policy_of table.lines line) es asked now (awaited_by_request (policy_of table.lines line) es asked rule) leader) (outcome_of_waiting_or_forwarding table line asked (condition_about_serial es d.0) leader)) (leads_for_none (policy_of table.lines line) es (held_distinct table start first past g.1) (exchanges_to_wait_for table line asked xs) asked now rule least none),
     )
 
 -- what is known of a request that goes forward at its arrival
-abbrev GoesOn : Table → List Stored → List Exchange → ℕ → Route → Asked → Type 0
+abbrev GoesOn : Table → List Stored → List Exchange → ℕ → RequestRoute → Asked → Type 0
 GoesOn table es xs now line asked =
     (verdict_of_asked table asked ≡ verdict.Allowed line)
     × ((rule : ReuseRule) × IsLeastReuseRule (policy_of table.lines line) es asked now rule × NoLeaderIsOpen (policy_of table.lines line) es (exchanges_to_wait_for table line asked xs) asked now) × (is_only_if_cached asked ≡ false)
 
-forward_parts : (table : Table) (es : List Stored) (distinct : Distinct (serials es)) (xs : List Exchange) (now : ℕ) (line : Route) (asked : Asked) (bytes : List ℕ) (v : Verdict) → verdict_of_asked table asked ≡ v →
+forward_parts : (table : Table) (es : List Stored) (distinct : SerialsAreDistinct (serials es)) (xs : List Exchange) (now : ℕ) (line : RequestRoute) (asked : Asked) (bytes : List ℕ) (v : Verdict) → verdict_of_asked table asked ≡ v →
     outcome_of_arrival table es xs now asked v ≡ Forward line bytes → GoesOn table es xs now line asked
 forward_parts table es distinct xs now line asked bytes (verdict.Allowed n) v h = by_decision (decision_of (policy_of table.lines n) es asked now) refl h
   where
@@ -468,8 +468,8 @@ forwards_nothing_else table start first now id line asked bytes item past g e h 
 
 -- ---- reaching cache or origin
 
-module _ (table : Table) (es : List Stored) (distinct : Distinct (serials es)) (xs : List Exchange) (now : ℕ) (asked : Asked) where
-  reach_on : (line : Route) (rule : ReuseRule) (against leader : Option ℕ) → is_only_if_cached asked ≡ false → leader_of_request (policy_of table.lines line) es (exchanges_to_wait_for table line asked xs) asked rule ≡ leader →
+module _ (table : Table) (es : List Stored) (distinct : SerialsAreDistinct (serials es)) (xs : List Exchange) (now : ℕ) (asked : Asked) where
+  reach_on : (line : RequestRoute) (rule : ReuseRule) (against leader : Option ℕ) → is_only_if_cached asked ≡ false → leader_of_request (policy_of table.lines line) es (exchanges_to_wait_for table line asked xs) asked rule ≡ leader →
       decision_of (policy_of table.lines line) es asked now ≡ decision.Forward rule against → RequestReachesCacheOrOrigin table es xs now asked line (outcome_of_waiting_or_forwarding table line asked (condition_about_serial es against) leader)
   reach_on line rule against None k l d =
       let named = names_the_least (policy_of table.lines line) es asked now rule against d in
@@ -479,57 +479,57 @@ module _ (table : Table) (es : List Stored) (distinct : Distinct (serials es)) (
       let led = is_led (policy_of table.lines line) es distinct (exchanges_to_wait_for table line asked xs) asked now rule named.0 leader l in
       inr (inr (inl (record {
         leader = leader;
-        takes_others = k;
+        is_not_only_if_cached = k;
         awaited = led.0;
         awaits = led.1;
         first_leads = led_by (policy_of table.lines line) led.0 asked (exchanges_to_wait_for table line asked xs) leader led.2;
         outcome_is = refl;
       })))
 
-  reach_unless : (line : Route) (rule : ReuseRule) (against : Option ℕ) (b : Bool) → is_only_if_cached asked ≡ b → decision_of (policy_of table.lines line) es asked now ≡ decision.Forward rule against →
+  reach_unless : (line : RequestRoute) (rule : ReuseRule) (against : Option ℕ) (b : Bool) → is_only_if_cached asked ≡ b → decision_of (policy_of table.lines line) es asked now ≡ decision.Forward rule against →
       RequestReachesCacheOrOrigin table es xs now asked line (outcome_without_stored_response table es xs line now asked rule (condition_about_serial es against) b)
   reach_unless line rule against true k d = inr (inr (inr (rule, k, (names_the_least (policy_of table.lines line) es asked now rule against d).0, refl)))
   reach_unless line rule against false k d =
       unless_sent (RequestReachesCacheOrOrigin table es xs now asked line) table es line now asked (sent_over table es xs line now asked rule) (outcome_of_waiting_or_forwarding table line asked (condition_about_serial es against) (led_over table es xs line asked rule))
       (λ t is. inl (t, refl)) (reach_on line rule against (led_over table es xs line asked rule) k refl d)
 
-  reach : (line : Route) (d : Decision) → decision_of (policy_of table.lines line) es asked now ≡ d → RequestReachesCacheOrOrigin table es xs now asked line (outcome_of_allowed_request table es xs line now asked d)
+  reach : (line : RequestRoute) (d : Decision) → decision_of (policy_of table.lines line) es asked now ≡ d → RequestReachesCacheOrOrigin table es xs now asked line (outcome_of_allowed_request table es xs line now asked d)
   reach line (decision.Hit s) d = inl (s, refl)
   reach line (decision.Forward rule against) d = reach_unless line rule against (is_only_if_cached asked) refl d
 
-  refuse : (v : Verdict) → verdict_of_asked table asked ≡ v → ((line : Route) → verdict_of_asked table asked ≢ verdict.Allowed line) → request_purges table asked ≡ false →
-      RequestIsTurnedAway table now asked (outcome_of_arrival table es xs now asked v)
+  refuse : (v : Verdict) → verdict_of_asked table asked ≡ v → ((line : RequestRoute) → verdict_of_asked table asked ≢ verdict.Allowed line) → request_purges table asked ≡ false →
+      RequestIsRefusedByTheTable table now asked (outcome_of_arrival table es xs now asked v)
   refuse (verdict.Allowed line) v n p = absurd (n line v)
   refuse (verdict.DeniedBy line) v n p = inl (line, v, refl)
   refuse verdict.NoLine v n p = inr (inl (v, refl))
   refuse (verdict.Looped line) v n p = inr (inr (line, v, refl))
-  refuse (verdict.Purged line) v n p = absurd (false≢true (sym p ∙ ap is_purge v))
+  refuse (verdict.Purged line) v n p = absurd (false≢true (sym p ∙ ap is_purge_verdict v))
 
-  purge : (v : Verdict) → is_purge v ≡ true → RequestPurges es now asked (outcome_of_arrival table es xs now asked v)
+  purge : (v : Verdict) → is_purge_verdict v ≡ true → OutcomeIsOfRequestedPurge es now asked (outcome_of_arrival table es xs now asked v)
   purge (verdict.Allowed line) p = absurd (false≢true p)
   purge (verdict.DeniedBy line) p = absurd (false≢true p)
   purge verdict.NoLine p = absurd (false≢true p)
   purge (verdict.Looped line) p = absurd (false≢true p)
   purge (verdict.Purged line) p = refl
 
-pub reaches_where_allowed : AllowedRequestReachesCacheOrOrigin
-reaches_where_allowed table start first now id line asked item past g e v =
+pub reaches_cache_or_origin_iff_allowed : AllowedRequestReachesCacheOrOrigin
+reaches_cache_or_origin_iff_allowed table start first now id line asked item past g e v =
     let es = held_entries table start past in
     let xs = open_exchanges table start past in
     subst (RequestReachesCacheOrOrigin table es xs now asked line)
     (sym (arrival_is table start first now id asked item past g e ∙ ap (λ (v : Verdict). outcome_of_arrival table es xs now asked v) v))
     (reach table es (held_distinct table start first past g.1) xs now asked line (decision_of (policy_of table.lines line) es asked now) refl)
 
-pub refuses_where_not_allowed : OtherRequestIsRefused
+pub refuses_where_not_allowed : RequestNotAllowedIsRefused
 refuses_where_not_allowed table start first now id asked item past g e n p =
     let es = held_entries table start past in
     let xs = open_exchanges table start past in
-    subst (RequestIsTurnedAway table now asked) (sym (arrival_is table start first now id asked item past g e))
+    subst (RequestIsRefusedByTheTable table now asked) (sym (arrival_is table start first now id asked item past g e))
     (refuse table es (held_distinct table start first past g.1) xs now asked (verdict_of_asked table asked) refl n p)
 
-pub purges_its_scope : PurgeTakesItsScopeAway
+pub purges_its_scope : PurgeRemovesOrExpiresItsScope
 purges_its_scope table start first now id asked item past g e p =
     let es = held_entries table start past in
     let xs = open_exchanges table start past in
-    subst (RequestPurges es now asked) (sym (arrival_is table start first now id asked item past g e))
+    subst (OutcomeIsOfRequestedPurge es now asked) (sym (arrival_is table start first now id asked item past g e))
     (purge table es (held_distinct table start first past g.1) xs now asked (verdict_of_asked table asked) p)

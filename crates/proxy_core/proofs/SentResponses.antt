@@ -12,7 +12,7 @@ use Rattle.proxy_core.specs.Allowing.{verdict_of_asked}
 use Rattle.hx_allow.specs.declared.verdicts.Verdict.{Verdict}
 use Rattle.hx_allow.specs.declared.verdicts.Verdict.TheVariants as verdict
 use Rattle.hx_store.specs.Stored.{Stored}
-use Rattle.hx_store.specs.Serials.{Distinct}
+use Rattle.hx_store.specs.Serials.{SerialsAreDistinct}
 use Rattle.hx_store.specs.Shelf.{serials, find_entry}
 use Rattle.hx_reuse.specs.Rules.{decision_of}
 use Rattle.hx_reuse.specs.declared.rule.ReuseRule.{ReuseRule}
@@ -34,14 +34,14 @@ use Rattle.proxy_core.specs.declared.steps.fallback.Fallback.TheVariants.{Sends,
 use Rattle.proxy_core.specs.declared.outcome.Outcome.{Outcome}
 use Rattle.proxy_core.specs.declared.event.Event.{Event}
 use Rattle.proxy_core.specs.declared.event.Event.TheVariants.{Arrive, Answer, Fail, Wake, Abandon, Overdue}
-use Rattle.proxy_core.specs.Replies.{stored_text}
+use Rattle.proxy_core.specs.Replies.{stored_reply_text}
 use Rattle.proxy_core.specs.Validating.{stored_response_asked_about, condition_about_serial, stored_response_if_answered, is_304_to_own_conditions, stored_response_validated, freshened_by_304}
 use Rattle.proxy_core.specs.Storing.{is_304_without_condition}
-use Rattle.proxy_core.specs.Awaiting.{awaited_of}
-use Rattle.proxy_core.specs.Outcomes.{find_exchange, exchange_id_of_event, outcome_of_sending_stored, sent_stored_text, hit_status_info, revalidating_status_info, forwarded_status_info, collapsed_status_info, outcome_of_arrival, outcome_of_allowed_request, outcome_of_waiting_or_forwarding, outcome_without_stored_response, outcome_of_wake, is_only_if_cached, error_rule_at, fallback_with_error_rule, fallback_for, outcome_of_failure, is_error_status, outcome_of_passing_on_or_stale, outcome_of_304, outcome_of_answer, outcome_of}
+use Rattle.proxy_core.specs.Awaiting.{awaited_by_request}
+use Rattle.proxy_core.specs.Outcomes.{find_exchange, exchange_id_of_event, outcome_of_sending_stored, sent_stored_text, hit_status_info, revalidating_status_info, forwarded_status_info, collapsed_status_info, outcome_of_arrival, outcome_of_allowed_request, outcome_of_waiting_or_forwarding, outcome_without_stored_response, outcome_of_wake, is_only_if_cached, error_rule_for_serial, fallback_with_error_rule, fallback_for_failed_answer, outcome_of_failure, is_error_status, outcome_of_passing_on_or_stale, outcome_of_304, outcome_of_answer, outcome_for_exchange}
 use Rattle.proxy_core.specs.State.{serial_used_by_outcome, stored_response_as_used}
 use Rattle.proxy_core.specs.Histories.{held_entries, open_exchanges, next_serial}
-use Rattle.proxy_core.specs.Sending.{StoredResponseIsReusable, DetailWordAfterError, DetailWordAtAnswer, IsAbout, CacheStatusShowsHow, ReplyIsThatStoredResponse, SendsWhatIsHeld}
+use Rattle.proxy_core.specs.Sending.{StoredResponseIsReusable, CacheStatusDetailAfterError, CacheStatusDetailAtAnswer, EventHasMomentAndRequest, CacheStatusIsExact, ReplyIsTheStoredResponse, SentReplyIsTheHeldResponse}
 use Rattle.proxy_core.proofs.SentBeside.{led_over, sent_over, unless_sent, sent_beside_is}
 use Rattle.proxy_core.proofs.Leaving.{unanswered as never_answered, same_at, serial_stays, validated_is}
 use Rattle.proxy_core.proofs.SendLaws.{named_is, reusable_hit}
@@ -57,19 +57,19 @@ some_is_not e h = cc
 abbrev IsFound : List Stored → ℕ → Type 0
 IsFound es s = (e : Stored) × (find_entry s es ≡ Some e)
 
-module _ (table : Table) (es : List Stored) (distinct : Distinct (serials es)) where
+module _ (table : Table) (es : List Stored) (distinct : SerialsAreDistinct (serials es)) where
   found_hit : (policy : Policy) (asked : Asked) (now s : ℕ) → decision_of policy es asked now ≡ decision.Hit s → IsFound es s
   found_hit policy asked now s h =
       let hit = is_held policy es asked now s h in
       let chosen = preferred_is_the_chosen es asked hit.0 distinct hit.1 in
       (hit.0, ap (λ z. find_entry z es) (sym hit.2) ∙ found_by_serial es distinct hit.0 (chosen_is_held es asked hit.0 chosen))
 
-  found_fallback : (policy : Policy) (asked : Asked) (now s : ℕ) (detail : Detail) (d : Decision) → decision_of policy es asked now ≡ d → fallback_for policy es asked now d ≡ Sends s detail → IsFound es s
+  found_fallback : (policy : Policy) (asked : Asked) (now s : ℕ) (detail : Detail) (d : Decision) → decision_of policy es asked now ≡ d → fallback_for_failed_answer policy es asked now d ≡ Sends s detail → IsFound es s
   found_fallback policy asked now s detail (decision.Hit t) d_is h =
       let same : t ≡ s = cc in
       subst (IsFound es) same (found_hit policy asked now t d_is)
   found_fallback policy asked now s detail (decision.Forward rule None) d_is h = absurd (cc)
-  found_fallback policy asked now s detail (decision.Forward rule (Some t)) d_is h = by_rule (error_rule_at policy es t asked now) h
+  found_fallback policy asked now s detail (decision.Forward rule (Some t)) d_is h = by_rule (error_rule_for_serial policy es t asked now) h
     where
       by_rule : (o : Option ErrorRule) → fallback_with_error_rule rule t o ≡ Sends s detail → IsFound es s
       by_rule None h =
@@ -79,21 +79,21 @@ module _ (table : Table) (es : List Stored) (distinct : Distinct (serials es)) w
       by_rule (Some e) h = absurd (cc)
 
   -- and the word that is told of it
-  word_after : (policy : Policy) (asked : Asked) (now s : ℕ) (detail : Detail) (d : Decision) → decision_of policy es asked now ≡ d → fallback_for policy es asked now d ≡ Sends s detail →
-      DetailWordAfterError policy es asked now s (Some detail)
+  word_after : (policy : Policy) (asked : Asked) (now s : ℕ) (detail : Detail) (d : Decision) → decision_of policy es asked now ≡ d → fallback_for_failed_answer policy es asked now d ≡ Sends s detail →
+      CacheStatusDetailAfterError policy es asked now s (Some detail)
   word_after policy asked now s detail (decision.Hit t) d_is h =
       let same : t ≡ s = cc in
       let word : ReuseAfterError ≡ detail = cc in
       (λ may. ap (λ w. Some w) (sym word), λ no. absurd (no (subst (λ n. StoredResponseIsReusable policy es asked now n) same (reused_is_allowed policy es asked now t d_is))))
   word_after policy asked now s detail (decision.Forward rule None) d_is h = absurd (cc)
-  word_after policy asked now s detail (decision.Forward rule (Some t)) d_is h = by_rule (error_rule_at policy es t asked now) h
+  word_after policy asked now s detail (decision.Forward rule (Some t)) d_is h = by_rule (error_rule_for_serial policy es t asked now) h
     where
       no_hit : StoredResponseIsReusable policy es asked now s → ⊥
       no_hit may =
           let hit : decision.Forward rule (Some t) ≡ decision.Hit s = sym d_is ∙ reusable_hit policy es distinct asked now s may in
           absurd (cc)
 
-      by_rule : (o : Option ErrorRule) → fallback_with_error_rule rule t o ≡ Sends s detail → DetailWordAfterError policy es asked now s (Some detail)
+      by_rule : (o : Option ErrorRule) → fallback_with_error_rule rule t o ≡ Sends s detail → CacheStatusDetailAfterError policy es asked now s (Some detail)
       by_rule None h =
           let word : StaleIfError ≡ detail = cc in
           (λ may. absurd (no_hit may), λ no. ap (λ w. Some w) (sym word))
@@ -101,7 +101,7 @@ module _ (table : Table) (es : List Stored) (distinct : Distinct (serials es)) w
 
   -- sent as it is held
   as_held : (x : Option Exchange) (event : Event) (s now : ℕ) (info : CacheStatusInfo) (asked : Asked) (f : IsFound es s) → stored_response_as_used x event f.0 ≡ f.0 →
-      IsAbout x event now asked → CacheStatusShowsHow table es x event s info → ReplyIsThatStoredResponse table es x event (outcome_of_sending_stored table es s now info asked) s
+      EventHasMomentAndRequest x event now asked → CacheStatusIsExact table es x event s info → ReplyIsTheStoredResponse table es x event (outcome_of_sending_stored table es s now info asked) s
   as_held x event s now info asked f same about how = record {
     response = f.0;
     is_held = f.1;
@@ -109,26 +109,26 @@ module _ (table : Table) (es : List Stored) (distinct : Distinct (serials es)) w
     asked = asked;
     about = about;
     info = info;
-    shows_how = how;
+    cache_status_matches = how;
     reply = record { bytes = sent_stored_text table.name (find_entry s es) now info asked; close = asked.close; about = _; stored = None; used = Some s; removed = _; expired = _; purged = false };
     outcome_is = refl;
-    bytes_are = ap (λ (o : Option Stored). sent_stored_text table.name o now info asked) f.1 ∙ ap (λ (e : Stored). stored_text table.name e now info asked) (sym same);
+    bytes_are = ap (λ (o : Option Stored). sent_stored_text table.name o now info asked) f.1 ∙ ap (λ (e : Stored). stored_reply_text table.name e now info asked) (sym same);
   }
 
   -- at another serial that is the same
-  at_serial : (x : Option Exchange) (event : Event) (o : Outcome) (t s : ℕ) → t ≡ s → ReplyIsThatStoredResponse table es x event o t → ReplyIsThatStoredResponse table es x event o s
-  at_serial x event o t s same h = subst (ReplyIsThatStoredResponse table es x event o) same h
+  at_serial : (x : Option Exchange) (event : Event) (o : Outcome) (t s : ℕ) → t ≡ s → ReplyIsTheStoredResponse table es x event o t → ReplyIsTheStoredResponse table es x event o s
+  at_serial x event o t s same h = subst (ReplyIsTheStoredResponse table es x event o) same h
 
   as_arrived : (x : Option Exchange) (now id : ℕ) (asked : Asked) (e : Stored) → stored_response_as_used x (Arrive now id asked) e ≡ e
   as_arrived None now id asked e = refl
   as_arrived (Some x) now id asked e = refl
 
   arrival_sends : (xs : List Exchange) (x : Option Exchange) (now id : ℕ) (asked : Asked) (s : ℕ) (v : Verdict) → verdict_of_asked table asked ≡ v → serial_used_by_outcome (outcome_of_arrival table es xs now asked v) ≡ Some s →
-      ReplyIsThatStoredResponse table es x (Arrive now id asked) (outcome_of_arrival table es xs now asked v) s
+      ReplyIsTheStoredResponse table es x (Arrive now id asked) (outcome_of_arrival table es xs now asked v) s
   arrival_sends xs x now id asked s (verdict.Allowed line) v h = by_decision (decision_of (policy_of table.lines line) es asked now) refl h
     where
       on : (condition : Option Condition) (leader : Option ℕ) → serial_used_by_outcome (outcome_of_waiting_or_forwarding table line asked condition leader) ≡ Some s →
-          ReplyIsThatStoredResponse table es x (Arrive now id asked) (outcome_of_waiting_or_forwarding table line asked condition leader) s
+          ReplyIsTheStoredResponse table es x (Arrive now id asked) (outcome_of_waiting_or_forwarding table line asked condition leader) s
       on condition None h = absurd (never_one s h)
       on condition (Some leader) h = absurd (never_one s h)
 
@@ -140,23 +140,23 @@ module _ (table : Table) (es : List Stored) (distinct : Distinct (serials es)) w
 
       beside : (rule : ReuseRule) (against : Option ℕ) (t : ℕ) → decision_of (policy_of table.lines line) es asked now ≡ decision.Forward rule against → sent_over table es xs line now asked rule ≡ Some t →
           serial_used_by_outcome (outcome_of_sending_stored table es t now (revalidating_status_info (policy_of table.lines line)) asked) ≡ Some s →
-          ReplyIsThatStoredResponse table es x (Arrive now id asked) (outcome_of_sending_stored table es t now (revalidating_status_info (policy_of table.lines line)) asked) s
+          ReplyIsTheStoredResponse table es x (Arrive now id asked) (outcome_of_sending_stored table es t now (revalidating_status_info (policy_of table.lines line)) asked) s
       beside rule against t k is h =
-          let sent = sent_beside_is (policy_of table.lines line) es asked now t (awaited_of (policy_of table.lines line) es asked rule) (led_over table es xs line asked rule) is in
+          let sent = sent_beside_is (policy_of table.lines line) es asked now t (awaited_by_request (policy_of table.lines line) es asked rule) (led_over table es xs line asked rule) is in
           at_serial x (Arrive now id asked) (outcome_of_sending_stored table es t now (revalidating_status_info (policy_of table.lines line)) asked) t s (same_Some t s h)
           (as_held x (Arrive now id asked) t now (revalidating_status_info (policy_of table.lines line)) asked (sent.response, sent.found) (as_arrived x now id asked sent.response) (refl, refl)
           (line, v, (Some StaleWhileRevalidate, refl, (λ may. absurd (no_hit rule against t k may), λ no. refl))))
 
       unless : (rule : ReuseRule) (against : Option ℕ) (condition : Option Condition) (b : Bool) → decision_of (policy_of table.lines line) es asked now ≡ decision.Forward rule against →
           serial_used_by_outcome (outcome_without_stored_response table es xs line now asked rule condition b) ≡ Some s →
-          ReplyIsThatStoredResponse table es x (Arrive now id asked) (outcome_without_stored_response table es xs line now asked rule condition b) s
+          ReplyIsTheStoredResponse table es x (Arrive now id asked) (outcome_without_stored_response table es xs line now asked rule condition b) s
       unless rule against condition true k h = absurd (never_one s h)
       unless rule against condition false k h =
-          unless_sent (λ (o : Outcome). serial_used_by_outcome o ≡ Some s → ReplyIsThatStoredResponse table es x (Arrive now id asked) o s) table es line now asked (sent_over table es xs line now asked rule)
+          unless_sent (λ (o : Outcome). serial_used_by_outcome o ≡ Some s → ReplyIsTheStoredResponse table es x (Arrive now id asked) o s) table es line now asked (sent_over table es xs line now asked rule)
           (outcome_of_waiting_or_forwarding table line asked condition (led_over table es xs line asked rule)) (λ t is. beside rule against t k is) (on condition (led_over table es xs line asked rule)) h
 
       by_decision : (d : Decision) → decision_of (policy_of table.lines line) es asked now ≡ d → serial_used_by_outcome (outcome_of_allowed_request table es xs line now asked d) ≡ Some s →
-          ReplyIsThatStoredResponse table es x (Arrive now id asked) (outcome_of_allowed_request table es xs line now asked d) s
+          ReplyIsTheStoredResponse table es x (Arrive now id asked) (outcome_of_allowed_request table es xs line now asked d) s
       by_decision (decision.Hit t) k h =
           let f = found_hit (policy_of table.lines line) asked now t k in
           at_serial x (Arrive now id asked) (outcome_of_sending_stored table es t now (hit_status_info (policy_of table.lines line)) asked) t s (same_Some t s h)
@@ -170,9 +170,9 @@ module _ (table : Table) (es : List Stored) (distinct : Distinct (serials es)) w
 
   -- after an error
   fallback_sends : (x : Exchange) (event : Event) (now : ℕ) (kind : FailKind) (came : Option ℕ) (s : ℕ) (fallback : Fallback) →
-      fallback_for (policy_of table.lines x.line) es x.asked now (decision_of (policy_of table.lines x.line) es x.asked now) ≡ fallback → ((e : Stored) → stored_response_as_used (Some x) event e ≡ e) → IsAbout (Some x) event now x.asked →
-      ((t : ℕ) (detail : Option Detail) → DetailWordAfterError (policy_of table.lines x.line) es x.asked now t detail → CacheStatusShowsHow table es (Some x) event t (forwarded_status_info (policy_of table.lines x.line) x came detail)) →
-      serial_used_by_outcome (outcome_of_failure table es now x kind came fallback) ≡ Some s → ReplyIsThatStoredResponse table es (Some x) event (outcome_of_failure table es now x kind came fallback) s
+      fallback_for_failed_answer (policy_of table.lines x.line) es x.asked now (decision_of (policy_of table.lines x.line) es x.asked now) ≡ fallback → ((e : Stored) → stored_response_as_used (Some x) event e ≡ e) → EventHasMomentAndRequest (Some x) event now x.asked →
+      ((t : ℕ) (detail : Option Detail) → CacheStatusDetailAfterError (policy_of table.lines x.line) es x.asked now t detail → CacheStatusIsExact table es (Some x) event t (forwarded_status_info (policy_of table.lines x.line) x came detail)) →
+      serial_used_by_outcome (outcome_of_failure table es now x kind came fallback) ≡ Some s → ReplyIsTheStoredResponse table es (Some x) event (outcome_of_failure table es now x kind came fallback) s
   fallback_sends x event now kind came s (Sends t detail) k same about how h =
       let f = found_fallback (policy_of table.lines x.line) x.asked now t detail (decision_of (policy_of table.lines x.line) es x.asked now) refl k in
       at_serial (Some x) event (outcome_of_sending_stored table es t now (forwarded_status_info (policy_of table.lines x.line) x came (Some detail)) x.asked) t s (same_Some t s h)
@@ -182,7 +182,7 @@ module _ (table : Table) (es : List Stored) (distinct : Distinct (serials es)) w
 
   module _ (x : Exchange) (now id : ℕ) (r : Response) (next : Option ℕ) (s : ℕ) where
     abbrev Is : Outcome → Type 0
-    Is o = serial_used_by_outcome o ≡ Some s → ReplyIsThatStoredResponse table es (Some x) (Answer now id r) o s
+    Is o = serial_used_by_outcome o ≡ Some s → ReplyIsTheStoredResponse table es (Some x) (Answer now id r) o s
 
     -- no 304 to the proxy's conditions answers
     not_validated : is_304_to_own_conditions x r ≡ false → stored_response_validated es x r now ≡ None
@@ -192,11 +192,11 @@ module _ (table : Table) (es : List Stored) (distinct : Distinct (serials es)) w
         by_entry None = refl
         by_entry (Some e) = ap (λ b. cond b (Some e) None) (never_answered x r now e n)
 
-    word_of_error : is_304_to_own_conditions x r ≡ false → (t : ℕ) (detail : Option Detail) → DetailWordAfterError (policy_of table.lines x.line) es x.asked now t detail →
-        DetailWordAtAnswer (policy_of table.lines x.line) es x now r t detail
+    word_of_error : is_304_to_own_conditions x r ≡ false → (t : ℕ) (detail : Option Detail) → CacheStatusDetailAfterError (policy_of table.lines x.line) es x.asked now t detail →
+        CacheStatusDetailAtAnswer (policy_of table.lines x.line) es x now r t detail
     word_of_error n t detail word = (λ some. absurd (false≢true (ap is_some (sym (not_validated n)) ∙ some)), λ is none. absurd (false≢true (sym n ∙ is)), λ not. word)
 
-    passes : (b : Bool) (fallback : Fallback) → fallback_for (policy_of table.lines x.line) es x.asked now (decision_of (policy_of table.lines x.line) es x.asked now) ≡ fallback → is_304_to_own_conditions x r ≡ false → Is (outcome_of_passing_on_or_stale table es now x r next b fallback)
+    passes : (b : Bool) (fallback : Fallback) → fallback_for_failed_answer (policy_of table.lines x.line) es x.asked now (decision_of (policy_of table.lines x.line) es x.asked now) ≡ fallback → is_304_to_own_conditions x r ≡ false → Is (outcome_of_passing_on_or_stale table es now x r next b fallback)
     passes true (Sends t detail) k n =
         let f = found_fallback (policy_of table.lines x.line) x.asked now t detail (decision_of (policy_of table.lines x.line) es x.asked now) refl k in
         λ h. at_serial (Some x) (Answer now id r) (outcome_of_sending_stored table es t now (forwarded_status_info (policy_of table.lines x.line) x (Some r.status) (Some detail)) x.asked) t s (same_Some t s h)
@@ -217,9 +217,9 @@ module _ (table : Table) (es : List Stored) (distinct : Distinct (serials es)) w
           asked = x.asked;
           about = (refl, refl);
           info = forwarded_status_info (policy_of table.lines x.line) x (Some r.status) None;
-          shows_how = (None, refl, (λ some. refl, λ is none. absurd (some_is_not e (sym v ∙ none)), λ n. absurd (false≢true (sym n ∙ y))));
+          cache_status_matches = (None, refl, (λ some. refl, λ is none. absurd (some_is_not e (sym v ∙ none)), λ n. absurd (false≢true (sym n ∙ y))));
           reply = record {
-            bytes = stored_text table.name (freshened_by_304 x r now e) now (forwarded_status_info (policy_of table.lines x.line) x (Some r.status) None) x.asked;
+            bytes = stored_reply_text table.name (freshened_by_304 x r now e) now (forwarded_status_info (policy_of table.lines x.line) x (Some r.status) None) x.asked;
             close = x.asked.close;
             about = _;
             stored = None;
@@ -229,7 +229,7 @@ module _ (table : Table) (es : List Stored) (distinct : Distinct (serials es)) w
             purged = false;
           };
           outcome_is = refl;
-          bytes_are = ap (λ b. stored_text table.name (cond b (freshened_by_304 x r now e) e) now (forwarded_status_info (policy_of table.lines x.line) x (Some r.status) None) x.asked) (sym valid.answered);
+          bytes_are = ap (λ b. stored_reply_text table.name (cond b (freshened_by_304 x r now e) e) now (forwarded_status_info (policy_of table.lines x.line) x (Some r.status) None) x.asked) (sym valid.answered);
         }
     validates None (decision.Hit t) y v k =
         let f = found_hit (policy_of table.lines x.line) x.asked now t k in
@@ -242,44 +242,44 @@ module _ (table : Table) (es : List Stored) (distinct : Distinct (serials es)) w
     answer_sends = by_304 (is_304_to_own_conditions x r) refl
       where
         by_unasked : (b : Bool) → is_304_to_own_conditions x r ≡ false →
-            Is (cond b (outcome_of_failure table es now x BadAnswer (Some r.status) (fallback_for (policy_of table.lines x.line) es x.asked now (decision_of (policy_of table.lines x.line) es x.asked now)))
-            (outcome_of_passing_on_or_stale table es now x r next (is_error_status r.status) (fallback_for (policy_of table.lines x.line) es x.asked now (decision_of (policy_of table.lines x.line) es x.asked now))))
+            Is (cond b (outcome_of_failure table es now x BadAnswer (Some r.status) (fallback_for_failed_answer (policy_of table.lines x.line) es x.asked now (decision_of (policy_of table.lines x.line) es x.asked now)))
+            (outcome_of_passing_on_or_stale table es now x r next (is_error_status r.status) (fallback_for_failed_answer (policy_of table.lines x.line) es x.asked now (decision_of (policy_of table.lines x.line) es x.asked now))))
         by_unasked true n =
-            fallback_sends x (Answer now id r) now BadAnswer (Some r.status) s (fallback_for (policy_of table.lines x.line) es x.asked now (decision_of (policy_of table.lines x.line) es x.asked now)) refl
+            fallback_sends x (Answer now id r) now BadAnswer (Some r.status) s (fallback_for_failed_answer (policy_of table.lines x.line) es x.asked now (decision_of (policy_of table.lines x.line) es x.asked now)) refl
             (λ e. ap (λ b. cond b (freshened_by_304 x r now e) e) (never_answered x r now e n)) (refl, refl) (λ t detail word. (detail, refl, word_of_error n t detail word))
-        by_unasked false n = passes (is_error_status r.status) (fallback_for (policy_of table.lines x.line) es x.asked now (decision_of (policy_of table.lines x.line) es x.asked now)) refl n
+        by_unasked false n = passes (is_error_status r.status) (fallback_for_failed_answer (policy_of table.lines x.line) es x.asked now (decision_of (policy_of table.lines x.line) es x.asked now)) refl n
 
         by_304 : (b : Bool) → is_304_to_own_conditions x r ≡ b → Is (cond b (outcome_of_304 table es now x r (stored_response_validated es x r now) (decision_of (policy_of table.lines x.line) es x.asked now))
-            (cond (is_304_without_condition (policy_of table.lines x.line) x.asked r) (outcome_of_failure table es now x BadAnswer (Some r.status) (fallback_for (policy_of table.lines x.line) es x.asked now (decision_of (policy_of table.lines x.line) es x.asked now)))
-            (outcome_of_passing_on_or_stale table es now x r next (is_error_status r.status) (fallback_for (policy_of table.lines x.line) es x.asked now (decision_of (policy_of table.lines x.line) es x.asked now)))))
+            (cond (is_304_without_condition (policy_of table.lines x.line) x.asked r) (outcome_of_failure table es now x BadAnswer (Some r.status) (fallback_for_failed_answer (policy_of table.lines x.line) es x.asked now (decision_of (policy_of table.lines x.line) es x.asked now)))
+            (outcome_of_passing_on_or_stale table es now x r next (is_error_status r.status) (fallback_for_failed_answer (policy_of table.lines x.line) es x.asked now (decision_of (policy_of table.lines x.line) es x.asked now)))))
         by_304 true k = validates (stored_response_validated es x r now) (decision_of (policy_of table.lines x.line) es x.asked now) k refl refl
         by_304 false k = by_unasked (is_304_without_condition (policy_of table.lines x.line) x.asked r) k
 
   woken_sends : (x : Exchange) (now id s : ℕ) (d : Decision) → decision_of (policy_of table.lines x.line) es x.asked now ≡ d → serial_used_by_outcome (outcome_of_wake table es now x d) ≡ Some s →
-      ReplyIsThatStoredResponse table es (Some x) (Wake now id) (outcome_of_wake table es now x d) s
+      ReplyIsTheStoredResponse table es (Some x) (Wake now id) (outcome_of_wake table es now x d) s
   woken_sends x now id s (decision.Hit t) k h =
       let f = found_hit (policy_of table.lines x.line) x.asked now t k in
       at_serial (Some x) (Wake now id) (outcome_of_sending_stored table es t now (collapsed_status_info (policy_of table.lines x.line) x) x.asked) t s (same_Some t s h)
       (as_held (Some x) (Wake now id) t now (collapsed_status_info (policy_of table.lines x.line) x) x.asked f refl (refl, refl) refl)
   woken_sends x now id s (decision.Forward rule against) k h = absurd (never_one s h)
 
-  sends_by_event : (xs : List Exchange) (x : Option Exchange) (next : Option ℕ) (event : Event) (s : ℕ) → serial_used_by_outcome (outcome_of table es xs x next event) ≡ Some s →
-      ReplyIsThatStoredResponse table es x event (outcome_of table es xs x next event) s
+  sends_by_event : (xs : List Exchange) (x : Option Exchange) (next : Option ℕ) (event : Event) (s : ℕ) → serial_used_by_outcome (outcome_for_exchange table es xs x next event) ≡ Some s →
+      ReplyIsTheStoredResponse table es x event (outcome_for_exchange table es xs x next event) s
   sends_by_event xs x next (Arrive now id asked) s h = arrival_sends xs x now id asked s (verdict_of_asked table asked) refl h
   sends_by_event xs (Some x) next (Answer now id r) s h = answer_sends x now id r next s h
   sends_by_event xs None next (Answer now id r) s h = absurd (never_one s h)
   sends_by_event xs (Some x) next (Fail now id kind) s h =
-      fallback_sends x (Fail now id kind) now kind None s (fallback_for (policy_of table.lines x.line) es x.asked now (decision_of (policy_of table.lines x.line) es x.asked now)) refl (λ e. refl) (refl, refl) (λ t detail word. (detail, refl, word)) h
+      fallback_sends x (Fail now id kind) now kind None s (fallback_for_failed_answer (policy_of table.lines x.line) es x.asked now (decision_of (policy_of table.lines x.line) es x.asked now)) refl (λ e. refl) (refl, refl) (λ t detail word. (detail, refl, word)) h
   sends_by_event xs None next (Fail now id kind) s h = absurd (never_one s h)
   sends_by_event xs (Some x) next (Wake now id) s h = woken_sends x now id s (decision_of (policy_of table.lines x.line) es x.asked now) refl h
   sends_by_event xs None next (Wake now id) s h = absurd (never_one s h)
   sends_by_event xs x next (Abandon id) s h = absurd (never_one s h)
   sends_by_event xs x next (Overdue id) s h = absurd (never_one s h)
 
-pub sends_what_is_held : SendsWhatIsHeld
+pub sends_what_is_held : SentReplyIsTheHeldResponse
 sends_what_is_held table start first s item past g h =
     let es = held_entries table start past in
     let xs = open_exchanges table start past in
     let x = find_exchange (exchange_id_of_event item.event) xs in
-    subst (λ (o : Outcome). serial_used_by_outcome o ≡ Some s → ReplyIsThatStoredResponse table es x item.event o s) (sym g.0.outcome_is)
+    subst (λ (o : Outcome). serial_used_by_outcome o ≡ Some s → ReplyIsTheStoredResponse table es x item.event o s) (sym g.0.outcome_is)
     (sends_by_event table es (held_distinct table start first past g.1) xs x (next_serial first past) item.event s) h

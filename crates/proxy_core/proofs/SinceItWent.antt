@@ -11,21 +11,21 @@ use Rattle.proxy_core.specs.declared.event.Event.TheVariants.{Answer}
 use Rattle.proxy_core.specs.declared.core_fault.CoreFault.{CoreFault}
 use Rattle.proxy_core.specs.Moments.{moment_too_late_fault}
 use Rattle.proxy_core.specs.Leading.{is_waiting}
-use Rattle.proxy_core.specs.LeadingOn.{wait_has_an_end}
+use Rattle.proxy_core.specs.LeadingOn.{wait_is_limited}
 use Rattle.std.proofs.lemmas.Bool.{false≢true}
-use Rattle.proxy_core.specs.Outcomes.{find_exchange, exchange_id_of_event, fault_at_exchange, fault_if_not_forwarded, or_fault}
+use Rattle.proxy_core.specs.Outcomes.{find_exchange, exchange_id_of_event, fault_at_exchange, fault_if_not_forwarded, fault_else}
 use Rattle.proxy_core.specs.Traces.{Item}
 use Rattle.proxy_core.specs.Histories.{open_exchanges, IsGoodHistory}
-use Rattle.proxy_core.specs.Promises.{outcome_goes_forward, count_of_outcomes, some_item_overtakes, NoItemOvertakes}
-use Rattle.proxy_core.specs.Carrying.{ExchangeWasJudged, IsEventThatJudges, WentForwardOnce, WentForwardASecondTime, HasWaitedSinceItsArrival, second_forward_item}
-use Rattle.proxy_core.specs.StoredAnswers.{KeyStaysValidSinceItWent}
+use Rattle.proxy_core.specs.Promises.{outcome_goes_forward, count_of_outcomes, some_item_overtakes_key, NoItemOvertakesKey}
+use Rattle.proxy_core.specs.Carrying.{ExchangeWasJudged, EventJudgesExchange, ExchangeWentForwardOnce, ExchangeWentForwardASecondTime, HasWaitedSinceItsArrival, second_forward_item}
+use Rattle.proxy_core.specs.StoredAnswers.{KeyIsNotOvertakenSinceForward}
 use Rattle.proxy_core.proofs.Marks.{none_of_some}
-use Rattle.proxy_core.proofs.OpenLaws.{overtaken_where_invalidated}
+use Rattle.proxy_core.proofs.OpenLaws.{exchanges_are_overtaken_where_invalidated}
 use Rattle.proxy_core.specs.Starts.{StoreAtStart}
 
 -- ---- its request is at the origin
 
-is_out : (a : Option CoreFault) (stage : Stage) → or_fault a (fault_if_not_forwarded stage) ≡ None → stage ≡ Forwarded
+is_out : (a : Option CoreFault) (stage : Stage) → fault_else a (fault_if_not_forwarded stage) ≡ None → stage ≡ Forwarded
 is_out a Forwarded h = refl
 is_out None (Waiting leader) h = absurd (cc)
 is_out None Released h = absurd (cc)
@@ -46,7 +46,7 @@ record WentLast (past : List Item) (x : Exchange) : Type 0 where
   goes_forward : outcome_goes_forward went.outcome ≡ true
   is_the_last : count_of_outcomes outcome_goes_forward x.id since ≡ 0
 
-id_of_judged : (event : Event) (now : ℕ) (x : Exchange) → IsEventThatJudges event now x → exchange_id_of_event event ≡ x.id
+id_of_judged : (event : Event) (now : ℕ) (x : Exchange) → EventJudgesExchange event now x → exchange_id_of_event event ≡ x.id
 id_of_judged event now x (inl arrives) = ap exchange_id_of_event arrives
 id_of_judged event now x (inr wakes) = ap exchange_id_of_event wakes
 
@@ -57,7 +57,7 @@ together (x ∷ xs) ys y zs = ap (λ (is : List Item). x ∷ is) (together xs ys
 went_last : (table : Table) (start : StoreAtStart) (x : Exchange) (past : List Item) → x.stage ≡ Forwarded → ExchangeWasJudged table start x past → WentLast past x
 went_last table start x past out judged = by_way judged.went
   where
-    by_way : WentForwardOnce table start x judged.since judged.before judged.now judged.item.outcome ⊎ (WentForwardASecondTime table x judged.since ⊎ HasWaitedSinceItsArrival table start x judged.since judged.before judged.item.outcome) → WentLast past x
+    by_way : ExchangeWentForwardOnce table start x judged.since judged.before judged.now judged.item.outcome ⊎ (ExchangeWentForwardASecondTime table x judged.since ⊎ HasWaitedSinceItsArrival table start x judged.since judged.before judged.item.outcome) → WentLast past x
     by_way (inl once) = record {
       since = judged.since;
       before = judged.before;
@@ -65,7 +65,7 @@ went_last table start x past out judged = by_way judged.went
       past_is = judged.past_is;
       is_of_exchange = id_of_judged judged.item.event judged.now x judged.judged;
       goes_forward = ap outcome_goes_forward once.outcome_is;
-      is_the_last = once.since_then;
+      is_the_last = once.no_forward_since;
     }
     by_way (inr (inl twice)) = record {
       since = twice.later;
@@ -74,36 +74,36 @@ went_last table start x past out judged = by_way judged.went
       past_is = judged.past_is ∙ ap (λ (is : List Item). is ++ judged.item ∷ judged.before) twice.since_is ∙ together twice.later twice.between (second_forward_item table x twice.now twice.response) (judged.item ∷ judged.before);
       is_of_exchange = refl;
       goes_forward = refl;
-      is_the_last = twice.since_then;
+      is_the_last = twice.no_forward_since;
     }
     by_way (inr (inr waits)) = absurd (never_waits waits.stage)
       where
-        never_waits : (x.stage ≡ Waiting waits.leader) ⊎ ((x.stage ≡ Released) ⊎ ((is_waiting x.stage ≡ true) × (wait_has_an_end table x ≡ true))) → ⊥
+        never_waits : (x.stage ≡ Waiting waits.leader) ⊎ ((x.stage ≡ Released) ⊎ ((is_waiting x.stage ≡ true) × (wait_is_limited table x ≡ true))) → ⊥
         never_waits (inl h) = let no : Waiting waits.leader ≡ Forwarded = sym h ∙ out in cc
         never_waits (inr (inl h)) = let no : Released ≡ Forwarded = sym h ∙ out in cc
         never_waits (inr (inr h)) = false≢true (sym (ap is_waiting out) ∙ h.0)
 
 -- ---- its mark, in words and back
 
-some_of_none : (key : Key) (items past : List Item) → NoItemOvertakes key items past → some_item_overtakes key items past ≡ false
+some_of_none : (key : Key) (items past : List Item) → NoItemOvertakesKey key items past → some_item_overtakes_key key items past ≡ false
 some_of_none key [] past h = refl
-some_of_none key (i ∷ items) past h = ap (λ b. b || some_item_overtakes key items past) h.0 ∙ some_of_none key items past h.1
+some_of_none key (i ∷ items) past h = ap (λ b. b || some_item_overtakes_key key items past) h.0 ∙ some_of_none key items past h.1
 
 module _ (table : Table) (start : StoreAtStart) (first : ℕ) (past : List Item) (good : IsGoodHistory table start first past) (x : Exchange) (found : find_exchange x.id (open_exchanges table start past) ≡ Some x) (out : x.stage ≡ Forwarded) where
   mark_is : (since before : List Item) (went : Item) → past ≡ since ++ went ∷ before → exchange_id_of_event went.event ≡ x.id → outcome_goes_forward went.outcome ≡ true → count_of_outcomes outcome_goes_forward x.id since ≡ 0 →
-      x.overtaken ≡ some_item_overtakes x.asked.target.key since (went ∷ before)
+      x.overtaken ≡ some_item_overtakes_key x.asked.target.key since (went ∷ before)
   mark_is since before went is id goes last =
-      overtaken_where_invalidated table start first since before went x (subst (IsGoodHistory table start first) is good) goes
+      exchanges_are_overtaken_where_invalidated table start first since before went x (subst (IsGoodHistory table start first) is good) goes
       (ap (λ n. count_of_outcomes outcome_goes_forward n since) id ∙ last)
       (ap (λ n. find_exchange n (open_exchanges table start (since ++ went ∷ before))) id ∙ sym (ap (λ (is : List Item). find_exchange x.id (open_exchanges table start is)) is) ∙ found)
       out
 
-  pub unmarked : KeyStaysValidSinceItWent past x → x.overtaken ≡ false
+  pub unmarked : KeyIsNotOvertakenSinceForward past x → x.overtaken ≡ false
   unmarked stays =
       mark_is stays.since stays.before stays.went stays.past_is stays.is_of_exchange stays.goes_forward stays.is_the_last
       ∙ some_of_none x.asked.target.key stays.since (stays.went ∷ stays.before) stays.nothing_overtakes
 
-  pub stays_valid : ExchangeWasJudged table start x past → x.overtaken ≡ false → KeyStaysValidSinceItWent past x
+  pub stays_valid : ExchangeWasJudged table start x past → x.overtaken ≡ false → KeyIsNotOvertakenSinceForward past x
   stays_valid judged plain =
       let last = went_last table start x past out judged in
       record {

@@ -10,13 +10,13 @@ use Rattle.hx_allow.specs.Matching.{policy_of}
 use Rattle.proxy_core.specs.Allowing.{verdict_of_asked}
 use Rattle.hx_allow.specs.declared.verdicts.Verdict.{Verdict}
 use Rattle.hx_allow.specs.declared.verdicts.Verdict.TheVariants as verdict
-use Rattle.hx_allow.specs.declared.verdicts.Route.{Route}
+use Rattle.hx_allow.specs.declared.verdicts.RequestRoute.{RequestRoute}
 use Rattle.hx_store.specs.Stored.{Stored}
 use Rattle.hx_store.specs.Serials.{serial_is_in}
-use Rattle.hx_store.specs.Shelf.{holds_serial, find_entry, entry_matches, serials_of}
+use Rattle.hx_store.specs.Shelf.{holds_serial, find_entry, entry_matches_request, serials_of_key}
 use Rattle.hx_store.proofs.Recency.{is_in-filter}
 use Rattle.hx_reuse.specs.Rules.{decision_of}
-use Rattle.hx_reuse.specs.ChosenAndNamed.{RuleNamesTheResponse}
+use Rattle.hx_reuse.specs.ChosenAndNamed.{RuleOnChosenNamesItsSerial}
 use Rattle.hx_reuse.specs.declared.rule.ReuseRule.{ReuseRule}
 use Rattle.hx_reuse.specs.declared.rule.ErrorRule.{ErrorRule}
 use Rattle.hx_reuse.specs.declared.decision.Decision.{Decision}
@@ -38,9 +38,9 @@ use Rattle.proxy_core.specs.declared.outcome.Outcome.{Outcome}
 use Rattle.proxy_core.specs.declared.event.Event.{Event}
 use Rattle.proxy_core.specs.declared.event.Event.TheVariants.{Arrive, Answer, Fail, Wake, Abandon, Overdue}
 use Rattle.proxy_core.specs.Validating.{condition_about_serial, is_304_to_own_conditions, stored_response_validated, freshened_by_304}
-use Rattle.proxy_core.specs.Storing.{storing_rule_to_explain, is_304_without_condition, is_storable, replaced_by, stored_response_made}
-use Rattle.proxy_core.specs.Awaiting.{awaited_of}
-use Rattle.proxy_core.specs.Outcomes.{find_exchange, exchange_id_of_event, outcome_of_sending_stored, revalidating_status_info, outcome_of_allowed_request, outcome_of_arrival, outcome_of_waiting_or_forwarding, outcome_without_stored_response, outcome_of_wake, is_only_if_cached, error_rule_at, fallback_with_error_rule, fallback_for, outcome_of_failure, is_error_status, outcome_of_passing_on, outcome_of_passing_on_or_stale, outcome_of_304, outcome_of_answer, outcome_of}
+use Rattle.proxy_core.specs.Storing.{storing_rule_to_explain, is_304_without_condition, is_storable, serials_replaced_by_storing, stored_response_made}
+use Rattle.proxy_core.specs.Awaiting.{awaited_by_request}
+use Rattle.proxy_core.specs.Outcomes.{find_exchange, exchange_id_of_event, outcome_of_sending_stored, revalidating_status_info, outcome_of_allowed_request, outcome_of_arrival, outcome_of_waiting_or_forwarding, outcome_without_stored_response, outcome_of_wake, is_only_if_cached, error_rule_for_serial, fallback_with_error_rule, fallback_for_failed_answer, outcome_of_failure, is_error_status, outcome_of_passing_on, outcome_of_passing_on_or_stale, outcome_of_304, outcome_of_answer, outcome_for_exchange}
 use Rattle.proxy_core.specs.State.{State, NoSerialIsHeldFrom, serial_stored_by_outcome, serial_used_by_outcome, serials_removed_by_outcome, stored_response_by_answer}
 use Rattle.proxy_core.specs.Traces.{Item, ItemIsAccepted}
 use Rattle.proxy_core.proofs.Leaving.{validated_is, serial_stays}
@@ -81,7 +81,7 @@ hit_found policy es asked now s h =
 named_found : (policy : Policy) (es : List Stored) (asked : Asked) (now s : ℕ) (rule : ReuseRule) → decision_of policy es asked now ≡ decision.Forward rule (Some s) → IsFound es s
 named_found policy es asked now s rule h = go ((names_the_least policy es asked now rule (Some s) h).1)
   where
-    go : RuleNamesTheResponse es asked rule (Some s) → IsFound es s
+    go : RuleOnChosenNamesItsSerial es asked rule (Some s) → IsFound es s
     go (inl low) = absurd (cc_of low.1)
       where
         cc_of : Some s ≡ None → ⊥
@@ -103,22 +103,22 @@ module _ (table : Table) (es : List Stored) (x : Option Exchange) (event : Event
   unfolding KindOf
   kind_sent s now info asked f = uses s f.0 refl refl f.1
 
-  kind_sent_on : (line : Route) (asked : Asked) (condition : Option Condition) (leader : Option ℕ) → KindOf es x event next (outcome_of_waiting_or_forwarding table line asked condition leader)
+  kind_sent_on : (line : RequestRoute) (asked : Asked) (condition : Option Condition) (leader : Option ℕ) → KindOf es x event next (outcome_of_waiting_or_forwarding table line asked condition leader)
   unfolding KindOf
   kind_sent_on line asked condition None = idle refl refl
   kind_sent_on line asked condition (Some leader) = idle refl refl
 
-  kind_unanswered : (xs : List Exchange) (line : Route) (now : ℕ) (asked : Asked) (rule : ReuseRule) (condition : Option Condition) (b : Bool) → KindOf es x event next (outcome_without_stored_response table es xs line now asked rule condition b)
+  kind_unanswered : (xs : List Exchange) (line : RequestRoute) (now : ℕ) (asked : Asked) (rule : ReuseRule) (condition : Option Condition) (b : Bool) → KindOf es x event next (outcome_without_stored_response table es xs line now asked rule condition b)
   unfolding KindOf
   kind_unanswered xs line now asked rule condition true = idle refl refl
   kind_unanswered xs line now asked rule condition false =
       unless_sent (KindOf es x event next) table es line now asked (sent_over table es xs line now asked rule) (outcome_of_waiting_or_forwarding table line asked condition (led_over table es xs line asked rule))
       (λ s h.
-      let is = sent_beside_is (policy_of table.lines line) es asked now s (awaited_of (policy_of table.lines line) es asked rule) (led_over table es xs line asked rule) h in
+      let is = sent_beside_is (policy_of table.lines line) es asked now s (awaited_by_request (policy_of table.lines line) es asked rule) (led_over table es xs line asked rule) h in
       kind_sent s now (revalidating_status_info (policy_of table.lines line)) asked (is.response, is.found))
       (kind_sent_on line asked condition (led_over table es xs line asked rule))
 
-  kind_allowed : (xs : List Exchange) (line : Route) (now : ℕ) (asked : Asked) (d : Decision) → ((s : ℕ) → d ≡ decision.Hit s → IsFound es s) → KindOf es x event next (outcome_of_allowed_request table es xs line now asked d)
+  kind_allowed : (xs : List Exchange) (line : RequestRoute) (now : ℕ) (asked : Asked) (d : Decision) → ((s : ℕ) → d ≡ decision.Hit s → IsFound es s) → KindOf es x event next (outcome_of_allowed_request table es xs line now asked d)
   unfolding KindOf
   kind_allowed xs line now asked (decision.Hit s) f = let r = f s refl in uses s r.0 refl refl r.1
   kind_allowed xs line now asked (decision.Forward rule against) f = kind_unanswered xs line now asked rule (condition_about_serial es against) (is_only_if_cached asked)
@@ -137,10 +137,10 @@ module _ (table : Table) (es : List Stored) (x : Option Exchange) (event : Event
   kind_woken now z (decision.Forward rule against) f = idle refl refl
 
   -- what is sent after a failure is held
-  fallback_found : (policy : Policy) (asked : Asked) (now s : ℕ) (detail : Detail) (d : Decision) → decision_of policy es asked now ≡ d → fallback_for policy es asked now d ≡ Sends s detail → IsFound es s
+  fallback_found : (policy : Policy) (asked : Asked) (now s : ℕ) (detail : Detail) (d : Decision) → decision_of policy es asked now ≡ d → fallback_for_failed_answer policy es asked now d ≡ Sends s detail → IsFound es s
   fallback_found policy asked now s detail (decision.Hit t) k h = subst (IsFound es) (same_sent t s ReuseAfterError detail h) (hit_found policy es asked now t k)
   fallback_found policy asked now s detail (decision.Forward rule None) k h = absurd (cc)
-  fallback_found policy asked now s detail (decision.Forward rule (Some t)) k h = by_rule (error_rule_at policy es t asked now) h
+  fallback_found policy asked now s detail (decision.Forward rule (Some t)) k h = by_rule (error_rule_for_serial policy es t asked now) h
     where
       by_rule : (o : Option ErrorRule) → fallback_with_error_rule rule t o ≡ Sends s detail → IsFound es s
       by_rule None h = subst (IsFound es) (same_sent t s StaleIfError detail h) (named_found policy es asked now t rule k)
@@ -161,9 +161,9 @@ module _ (table : Table) (es : List Stored) (now id : ℕ) (x : Exchange) (r : R
   kind_passed : (rule : Option StoreRule) (b : Bool) (n : Option ℕ) → next ≡ n → NoSerialIsHeldFrom n es → KindOf es (Some x) (Answer now id r) next (outcome_of_passing_on table es now x r rule (cond b n None))
   unfolding KindOf
   kind_passed rule true (Some s) k g =
-      let none : serial_is_in s (replaced_by es x.asked) ≡ false =
-      is_in-filter s (λ serial. entry_matches x.asked.fields (find_entry serial es)) (serials_of x.asked.target.key es)
-      ∙ ap (λ b. b && entry_matches x.asked.fields (find_entry s es)) (none_of_key x.asked.target.key s es (g s (omega arith)))
+      let none : serial_is_in s (serials_replaced_by_storing es x.asked) ≡ false =
+      is_in-filter s (λ serial. entry_matches_request x.asked.fields (find_entry serial es)) (serials_of_key x.asked.target.key es)
+      ∙ ap (λ b. b && entry_matches_request x.asked.fields (find_entry s es)) (none_of_key x.asked.target.key s es (g s (omega arith)))
       in
       stores s (stored_response_made s x r now) refl refl k refl refl none
   kind_passed rule true None k g = idle refl refl
@@ -190,28 +190,28 @@ module _ (table : Table) (es : List Stored) (now id : ℕ) (x : Exchange) (r : R
       d : Decision
       d = decision_of (policy_of table.lines x.line) es x.asked now
 
-      found : (s : ℕ) (detail : Detail) → fallback_for (policy_of table.lines x.line) es x.asked now (decision_of (policy_of table.lines x.line) es x.asked now) ≡ Sends s detail → IsFound es s
+      found : (s : ℕ) (detail : Detail) → fallback_for_failed_answer (policy_of table.lines x.line) es x.asked now (decision_of (policy_of table.lines x.line) es x.asked now) ≡ Sends s detail → IsFound es s
       found s detail h = fallback_found table es (Some x) (Answer now id r) next (policy_of table.lines x.line) x.asked now s detail (decision_of (policy_of table.lines x.line) es x.asked now) refl h
 
-      by_unasked : (b : Bool) → KindOf es (Some x) (Answer now id r) next (cond b (outcome_of_failure table es now x BadAnswer (Some r.status) (fallback_for (policy_of table.lines x.line) es x.asked now (decision_of (policy_of table.lines x.line) es x.asked now)))
-          (outcome_of_passing_on_or_stale table es now x r next (is_error_status r.status) (fallback_for (policy_of table.lines x.line) es x.asked now (decision_of (policy_of table.lines x.line) es x.asked now))))
-      by_unasked true = kind_failed table es (Some x) (Answer now id r) next now x BadAnswer (Some r.status) (fallback_for (policy_of table.lines x.line) es x.asked now (decision_of (policy_of table.lines x.line) es x.asked now)) found
-      by_unasked false = kind_unless (is_error_status r.status) (fallback_for (policy_of table.lines x.line) es x.asked now (decision_of (policy_of table.lines x.line) es x.asked now)) g found
+      by_unasked : (b : Bool) → KindOf es (Some x) (Answer now id r) next (cond b (outcome_of_failure table es now x BadAnswer (Some r.status) (fallback_for_failed_answer (policy_of table.lines x.line) es x.asked now (decision_of (policy_of table.lines x.line) es x.asked now)))
+          (outcome_of_passing_on_or_stale table es now x r next (is_error_status r.status) (fallback_for_failed_answer (policy_of table.lines x.line) es x.asked now (decision_of (policy_of table.lines x.line) es x.asked now))))
+      by_unasked true = kind_failed table es (Some x) (Answer now id r) next now x BadAnswer (Some r.status) (fallback_for_failed_answer (policy_of table.lines x.line) es x.asked now (decision_of (policy_of table.lines x.line) es x.asked now)) found
+      by_unasked false = kind_unless (is_error_status r.status) (fallback_for_failed_answer (policy_of table.lines x.line) es x.asked now (decision_of (policy_of table.lines x.line) es x.asked now)) g found
 
       by_304 : (b : Bool) → KindOf es (Some x) (Answer now id r) next (cond b (outcome_of_304 table es now x r (stored_response_validated es x r now) (decision_of (policy_of table.lines x.line) es x.asked now))
-          (cond (is_304_without_condition (policy_of table.lines x.line) x.asked r) (outcome_of_failure table es now x BadAnswer (Some r.status) (fallback_for (policy_of table.lines x.line) es x.asked now (decision_of (policy_of table.lines x.line) es x.asked now)))
-          (outcome_of_passing_on_or_stale table es now x r next (is_error_status r.status) (fallback_for (policy_of table.lines x.line) es x.asked now (decision_of (policy_of table.lines x.line) es x.asked now)))))
+          (cond (is_304_without_condition (policy_of table.lines x.line) x.asked r) (outcome_of_failure table es now x BadAnswer (Some r.status) (fallback_for_failed_answer (policy_of table.lines x.line) es x.asked now (decision_of (policy_of table.lines x.line) es x.asked now)))
+          (outcome_of_passing_on_or_stale table es now x r next (is_error_status r.status) (fallback_for_failed_answer (policy_of table.lines x.line) es x.asked now (decision_of (policy_of table.lines x.line) es x.asked now)))))
       by_304 true = kind_revalidated (stored_response_validated es x r now) (decision_of (policy_of table.lines x.line) es x.asked now) refl refl
       by_304 false = by_unasked (is_304_without_condition (policy_of table.lines x.line) x.asked r)
 
 kind_of : (table : Table) (es : List Stored) (xs : List Exchange) (x : Option Exchange) (event : Event) (next : Option ℕ) → NoSerialIsHeldFrom next es →
-    KindOf es x event next (outcome_of table es xs x next event)
+    KindOf es x event next (outcome_for_exchange table es xs x next event)
 unfolding KindOf
 kind_of table es xs x (Arrive now id asked) next h = kind_arrived table es x (Arrive now id asked) next xs now asked (verdict_of_asked table asked)
 kind_of table es xs (Some x) (Answer now id r) next h = kind_answered table es now id x r next h
 kind_of table es xs None (Answer now id r) next h = idle refl refl
 kind_of table es xs (Some x) (Fail now id kind) next h =
-    kind_failed table es (Some x) (Fail now id kind) next now x kind None (fallback_for (policy_of table.lines x.line) es x.asked now (decision_of (policy_of table.lines x.line) es x.asked now))
+    kind_failed table es (Some x) (Fail now id kind) next now x kind None (fallback_for_failed_answer (policy_of table.lines x.line) es x.asked now (decision_of (policy_of table.lines x.line) es x.asked now))
     (λ s detail k. fallback_found table es (Some x) (Fail now id kind) next (policy_of table.lines x.line) x.asked now s detail (decision_of (policy_of table.lines x.line) es x.asked now) refl k)
 kind_of table es xs None (Fail now id kind) next h = idle refl refl
 kind_of table es xs (Some x) (Wake now id) next h = kind_woken table es (Some x) (Wake now id) next now x (decision_of (policy_of table.lines x.line) es x.asked now) (λ s k. hit_found (policy_of table.lines x.line) es x.asked now s k)

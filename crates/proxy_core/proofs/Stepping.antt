@@ -25,15 +25,15 @@ use Rattle.proxy_core.specs.declared.replies.pending.PendingReply.{PendingReply}
 use Rattle.proxy_core.specs.declared.core_fault.CoreFault.{CoreFault}
 use Rattle.proxy_core.specs.Moments.{moment_too_late_fault}
 use Rattle.proxy_core.specs.Storing.{key_invalidated}
-use Rattle.proxy_core.specs.Outcomes.{find_exchange, or_fault, fault_if_not_forwarded, fault_if_not_released, fault_at_exchange, outcome_of, outcome_of_arrival, fallback_for, outcome_of_failure, outcome_of_answer, outcome_of_wake, forward_text}
+use Rattle.proxy_core.specs.Outcomes.{find_exchange, fault_else, fault_if_not_forwarded, fault_if_not_released, fault_at_exchange, outcome_for_exchange, outcome_of_arrival, fallback_for_failed_answer, outcome_of_failure, outcome_of_answer, outcome_of_wake, forward_text}
 use Rattle.hx_reuse.specs.declared.rule.ReuseRule.{ReuseRule}
 use Rattle.hx_reuse.specs.declared.decision.Decision.{Decision}
 use Rattle.hx_reuse.specs.declared.decision.Decision.TheVariants as decision
 use Rattle.proxy_core.specs.Validating.{condition_about_serial}
-use Rattle.proxy_core.specs.Scopes.{Scope, target_alone}
-use Rattle.proxy_core.specs.State.{State, StepIsAccepted, state_after, entries_without_serials, entries_after, bounds_of, exchanges_after_end, scope_invalidated_by_response, next_serial_after, exchange_forwarded_again, exchange_sent_forward, exchanges_after_wake, rule_of_decision, serial_named_by_decision}
+use Rattle.proxy_core.specs.Scopes.{Scope, scope_of_target_alone}
+use Rattle.proxy_core.specs.State.{State, StepIsAccepted, state_after_event, entries_without_serials, entries_after_event, bounds_of, exchanges_after_end, scope_invalidated_by_response, next_serial_after, exchange_forwarded_again, exchange_sent_forward, exchanges_after_wake, rule_of_decision, serial_named_by_decision}
 use Rattle.proxy_core.specs.Pending.{serial_stored_by_change, outcome_of_pending_reply, state_after_reply, ChangeStoresNothing, ReplyLeavesHeldAsStepDoes}
-use Rattle.proxy_core.specs.Waking.{IsPreparedForWake}
+use Rattle.proxy_core.specs.Waking.{AfterWakeMatchesDecision}
 use Rattle.proxy_core.specs.declared.steps.waking.AfterWake.TheVariants.{Ends}
 use Rattle.proxy_core.proofs.Leaving.{fail_leaves, wake_leaves}
 
@@ -66,7 +66,7 @@ st table limit es xs next = record { table = table; limit = limit; entries = es;
 module _ (s : State) (now id : ℕ) (early : moment_too_late_fault now ≡ None) where
   -- a request that arrived
   pub arrive_done : (asked : Asked) (v : Verdict) (o : Outcome) (t : State) → find_exchange id s.exchanges ≡ None → v ≡ verdict_of_asked s.table asked
-      → o ≡ outcome_of_arrival s.table s.entries s.exchanges now asked v → t ≡ state_after s (Arrive now id asked) o → StepIsAccepted s (Arrive now id asked) o t
+      → o ≡ outcome_of_arrival s.table s.entries s.exchanges now asked v → t ≡ state_after_event s (Arrive now id asked) o → StepIsAccepted s (Arrive now id asked) o t
   arrive_done asked v o t free judged is leaves = record {
     allowed = ap (λ (x : Option Exchange). fault_at_exchange x (Arrive now id asked)) free ∙ early;
     outcome_is = is ∙ ap (λ (v : Verdict). outcome_of_arrival s.table s.entries s.exchanges now asked v) judged;
@@ -82,14 +82,14 @@ module _ (s : State) (now id : ℕ) (early : moment_too_late_fault now ≡ None)
       let event : Event = Answer now id r in
       let left : ReplyLeavesHeldAsStepDoes (bounds_of s.table s.limit) s.entries x event pending = subst (λ (k : ℕ). ReplyLeavesHeldAsStepDoes (bounds_of s.table s.limit) s.entries x (Answer now k r) pending) (find_id id s.exchanges x here) leaves in
       record {
-        allowed = ap (λ (x : Option Exchange). fault_at_exchange x event) here ∙ (ap (λ (a : Option CoreFault). or_fault a (fault_if_not_forwarded x.stage)) early ∙ stage);
-        outcome_is = is ∙ (reply ∙ ap (λ (x : Option Exchange). outcome_of s.table s.entries s.exchanges x s.next event) (sym here));
+        allowed = ap (λ (x : Option Exchange). fault_at_exchange x event) here ∙ (ap (λ (a : Option CoreFault). fault_else a (fault_if_not_forwarded x.stage)) early ∙ stage);
+        outcome_is = is ∙ (reply ∙ ap (λ (x : Option Exchange). outcome_for_exchange s.table s.entries s.exchanges x s.next event) (sym here));
         leaves = t_is
-            ∙ (ap (λ (es : List Stored). st s.table s.limit es (exchanges_after_end (option_map target_alone gone) id s.exchanges) next)
-            (left ∙ ap (λ (y : Option Exchange). entries_after (bounds_of s.table s.limit) s.entries y event (outcome_of_pending_reply pending)) (sym here))
-            ∙ (ap (λ (key : Option Scope). st s.table s.limit (entries_after (bounds_of s.table s.limit) s.entries (find_exchange id s.exchanges) event (outcome_of_pending_reply pending)) (exchanges_after_end key id s.exchanges) next)
-            (ap (option_map target_alone) gone_is ∙ ap (λ (y : Option Exchange). scope_invalidated_by_response y r) (sym here))
-            ∙ ap (λ (q : Outcome). state_after s event q) (sym is)));
+            ∙ (ap (λ (es : List Stored). st s.table s.limit es (exchanges_after_end (option_map scope_of_target_alone gone) id s.exchanges) next)
+            (left ∙ ap (λ (y : Option Exchange). entries_after_event (bounds_of s.table s.limit) s.entries y event (outcome_of_pending_reply pending)) (sym here))
+            ∙ (ap (λ (key : Option Scope). st s.table s.limit (entries_after_event (bounds_of s.table s.limit) s.entries (find_exchange id s.exchanges) event (outcome_of_pending_reply pending)) (exchanges_after_end key id s.exchanges) next)
+            (ap (option_map scope_of_target_alone) gone_is ∙ ap (λ (y : Option Exchange). scope_invalidated_by_response y r) (sym here))
+            ∙ ap (λ (q : Outcome). state_after_event s event q) (sym is)));
       }
 
   -- one whose request goes forward once more
@@ -99,24 +99,24 @@ module _ (s : State) (now id : ℕ) (early : moment_too_late_fault now ≡ None)
   answer_again x r bytes o t here stage forward is t_is =
       let event : Event = Answer now id r in
       record {
-        allowed = ap (λ (x : Option Exchange). fault_at_exchange x event) here ∙ (ap (λ (a : Option CoreFault). or_fault a (fault_if_not_forwarded x.stage)) early ∙ stage);
-        outcome_is = is ∙ (forward ∙ ap (λ (x : Option Exchange). outcome_of s.table s.entries s.exchanges x s.next event) (sym here));
-        leaves = t_is ∙ ap (λ (q : Outcome). state_after s event q) (sym is);
+        allowed = ap (λ (x : Option Exchange). fault_at_exchange x event) here ∙ (ap (λ (a : Option CoreFault). fault_else a (fault_if_not_forwarded x.stage)) early ∙ stage);
+        outcome_is = is ∙ (forward ∙ ap (λ (x : Option Exchange). outcome_for_exchange s.table s.entries s.exchanges x s.next event) (sym here));
+        leaves = t_is ∙ ap (λ (q : Outcome). state_after_event s event q) (sym is);
       }
 
   -- and one that failed
   pub fail_done : (x : Exchange) (kind : FailKind) (pending : PendingReply) (o : Outcome) (t : State) → find_exchange id s.exchanges ≡ Some x → fault_if_not_forwarded x.stage ≡ None
-      → outcome_of_pending_reply pending ≡ outcome_of_failure s.table s.entries now x kind None (fallback_for (policy_of s.table.lines x.line) s.entries x.asked now (decision_of (policy_of s.table.lines x.line) s.entries x.asked now)) → ChangeStoresNothing pending.change
+      → outcome_of_pending_reply pending ≡ outcome_of_failure s.table s.entries now x kind None (fallback_for_failed_answer (policy_of s.table.lines x.line) s.entries x.asked now (decision_of (policy_of s.table.lines x.line) s.entries x.asked now)) → ChangeStoresNothing pending.change
       → o ≡ outcome_of_pending_reply pending → t ≡ state_after_reply s id pending None → StepIsAccepted s (Fail now id kind) o t
   fail_done x kind pending o t here stage reply plain is t_is =
       let event : Event = Fail now id kind in
       record {
-        allowed = ap (λ (x : Option Exchange). fault_at_exchange x event) here ∙ (ap (λ (a : Option CoreFault). or_fault a (fault_if_not_forwarded x.stage)) early ∙ stage);
-        outcome_is = is ∙ (reply ∙ ap (λ (x : Option Exchange). outcome_of s.table s.entries s.exchanges x s.next event) (sym here));
+        allowed = ap (λ (x : Option Exchange). fault_at_exchange x event) here ∙ (ap (λ (a : Option CoreFault). fault_else a (fault_if_not_forwarded x.stage)) early ∙ stage);
+        outcome_is = is ∙ (reply ∙ ap (λ (x : Option Exchange). outcome_for_exchange s.table s.entries s.exchanges x s.next event) (sym here));
         leaves = t_is
             ∙ (ap (λ (es : List Stored). st s.table s.limit es (exchanges_after_end None id s.exchanges) (next_serial_after s.next (serial_stored_by_change pending.change)))
-            (fail_leaves (bounds_of s.table s.limit) s.entries x now id kind pending plain ∙ ap (λ (y : Option Exchange). entries_after (bounds_of s.table s.limit) s.entries y event (outcome_of_pending_reply pending)) (sym here))
-            ∙ ap (λ (q : Outcome). state_after s event q) (sym is));
+            (fail_leaves (bounds_of s.table s.limit) s.entries x now id kind pending plain ∙ ap (λ (y : Option Exchange). entries_after_event (bounds_of s.table s.limit) s.entries y event (outcome_of_pending_reply pending)) (sym here))
+            ∙ ap (λ (q : Outcome). state_after_event s event q) (sym is));
       }
 
   -- a request that waited is answered from the store
@@ -126,21 +126,21 @@ module _ (s : State) (now id : ℕ) (early : moment_too_late_fault now ≡ None)
   wake_done x pending o t here stage reply plain is t_is =
       let event : Event = Wake now id in
       record {
-        allowed = ap (λ (x : Option Exchange). fault_at_exchange x event) here ∙ (ap (λ (a : Option CoreFault). or_fault a (fault_if_not_released x.stage)) early ∙ stage);
-        outcome_is = is ∙ (reply ∙ ap (λ (x : Option Exchange). outcome_of s.table s.entries s.exchanges x s.next event) (sym here));
+        allowed = ap (λ (x : Option Exchange). fault_at_exchange x event) here ∙ (ap (λ (a : Option CoreFault). fault_else a (fault_if_not_released x.stage)) early ∙ stage);
+        outcome_is = is ∙ (reply ∙ ap (λ (x : Option Exchange). outcome_for_exchange s.table s.entries s.exchanges x s.next event) (sym here));
         leaves = t_is
             ∙ (ap (λ (es : List Stored). st s.table s.limit es (exchanges_after_end None id s.exchanges) (next_serial_after s.next (serial_stored_by_change pending.change)))
-            (wake_leaves (bounds_of s.table s.limit) s.entries x now id pending plain ∙ ap (λ (y : Option Exchange). entries_after (bounds_of s.table s.limit) s.entries y event (outcome_of_pending_reply pending)) (sym here))
-            ∙ ap (λ (q : Outcome). state_after s event q) (sym is));
+            (wake_leaves (bounds_of s.table s.limit) s.entries x now id pending plain ∙ ap (λ (y : Option Exchange). entries_after_event (bounds_of s.table s.limit) s.entries y event (outcome_of_pending_reply pending)) (sym here))
+            ∙ ap (λ (q : Outcome). state_after_event s event q) (sym is));
       }
 
   -- by what was made ready for it
   pub wake_ends : (x : Exchange) (pending : PendingReply) (o : Outcome) (t : State) → find_exchange id s.exchanges ≡ Some x → fault_if_not_released x.stage ≡ None
-      → IsPreparedForWake s.table s.entries now x (decision_of (policy_of s.table.lines x.line) s.entries x.asked now) (Ends pending)
+      → AfterWakeMatchesDecision s.table s.entries now x (decision_of (policy_of s.table.lines x.line) s.entries x.asked now) (Ends pending)
       → o ≡ outcome_of_pending_reply pending → t ≡ state_after_reply s id pending None → StepIsAccepted s (Wake now id) o t
   wake_ends x pending o t here stage woken_is is t_is = by_decision (decision_of (policy_of s.table.lines x.line) s.entries x.asked now) refl woken_is
     where
-      by_decision : (d : Decision) → decision_of (policy_of s.table.lines x.line) s.entries x.asked now ≡ d → IsPreparedForWake s.table s.entries now x d (Ends pending) → StepIsAccepted s (Wake now id) o t
+      by_decision : (d : Decision) → decision_of (policy_of s.table.lines x.line) s.entries x.asked now ≡ d → AfterWakeMatchesDecision s.table s.entries now x d (Ends pending) → StepIsAccepted s (Wake now id) o t
       by_decision (decision.Hit serial) d w = wake_done x pending o t here stage (w.0 ∙ ap (λ (d : Decision). outcome_of_wake s.table s.entries now x d) (sym d)) w.1 is t_is
       by_decision (decision.Forward rule against) d w = absurd w
 
@@ -152,10 +152,10 @@ module _ (s : State) (now id : ℕ) (early : moment_too_late_fault now ≡ None)
   wake_out x rule against o t here stage d is t_is =
       let event : Event = Wake now id in
       record {
-        allowed = ap (λ (x : Option Exchange). fault_at_exchange x event) here ∙ (ap (λ (a : Option CoreFault). or_fault a (fault_if_not_released x.stage)) early ∙ stage);
-        outcome_is = is ∙ (ap (λ (d : Decision). outcome_of_wake s.table s.entries now x d) (sym d) ∙ ap (λ (x : Option Exchange). outcome_of s.table s.entries s.exchanges x s.next event) (sym here));
+        allowed = ap (λ (x : Option Exchange). fault_at_exchange x event) here ∙ (ap (λ (a : Option CoreFault). fault_else a (fault_if_not_released x.stage)) early ∙ stage);
+        outcome_is = is ∙ (ap (λ (d : Decision). outcome_of_wake s.table s.entries now x d) (sym d) ∙ ap (λ (x : Option Exchange). outcome_for_exchange s.table s.entries s.exchanges x s.next event) (sym here));
         leaves = t_is
             ∙ (ap (λ (d : Decision). st s.table s.limit s.entries (map (exchange_sent_forward id now (rule_of_decision d) (serial_named_by_decision d) (condition_about_serial s.entries (serial_named_by_decision d))) s.exchanges) s.next) (sym d)
             ∙ (ap (λ (w : Option Exchange). st s.table s.limit s.entries (exchanges_after_wake s.table s.entries id now w s.exchanges) s.next) (sym here)
-            ∙ ap (λ (q : Outcome). state_after s event q) (sym is)));
+            ∙ ap (λ (q : Outcome). state_after_event s event q) (sym is)));
       }

@@ -8,13 +8,13 @@ use Rattle.hx_framing.specs.declared.messages.Response.{Response}
 use Rattle.hx_hop.specs.Answering.{answered_of}
 use Rattle.hx_allow.specs.TableLines.{Table}
 use Rattle.hx_allow.specs.Matching.{policy_of}
-use Rattle.proxy_core.specs.Allowing.{verdict_of_asked, is_purge, request_purges}
+use Rattle.proxy_core.specs.Allowing.{verdict_of_asked, is_purge_verdict, request_purges}
 use Rattle.hx_allow.specs.declared.verdicts.Verdict.{Verdict}
 use Rattle.hx_allow.specs.declared.verdicts.Verdict.TheVariants as verdict
-use Rattle.hx_allow.specs.declared.verdicts.Route.{Route}
-use Rattle.hx_vary.specs.Vary.{is_star}
+use Rattle.hx_allow.specs.declared.verdicts.RequestRoute.{RequestRoute}
+use Rattle.hx_vary.specs.Vary.{vary_is_star}
 use Rattle.hx_store.specs.Stored.{Stored}
-use Rattle.hx_store.specs.Shelf.{serials_of}
+use Rattle.hx_store.specs.Shelf.{serials_of_key}
 use Rattle.hx_reuse.specs.Rules.{decision_of}
 use Rattle.hx_reuse.specs.declared.rule.ReuseRule.{ReuseRule}
 use Rattle.hx_reuse.specs.declared.decision.Decision.{Decision}
@@ -36,12 +36,12 @@ use Rattle.proxy_core.specs.declared.event.Event.{Event}
 use Rattle.proxy_core.specs.declared.event.Event.TheVariants.{Arrive, Answer, Fail, Wake, Abandon, Overdue}
 use Rattle.proxy_core.specs.declared.steps.fallback.Fallback.{Fallback}
 use Rattle.proxy_core.specs.declared.steps.fallback.Fallback.TheVariants.{Sends, Refuses}
-use Rattle.proxy_core.specs.Outcomes.{outcome_of_allowed_request, outcome_of_answer, outcome_of_arrival, outcome_of_failure, fallback_for, find_exchange, forward_text, forwarded_status_info, exchange_id_of_event, is_error_status, is_only_if_cached, outcome_of, outcome_of_passing_on, outcome_of_passing_on_or_stale, outcome_of_304, outcome_of_sending_stored, outcome_of_waiting_or_forwarding, outcome_of_sending_freshened, serial_of_stored_answer, outcome_without_stored_response, outcome_of_wake, step_fault, fault_at_exchange}
+use Rattle.proxy_core.specs.Outcomes.{outcome_of_allowed_request, outcome_of_answer, outcome_of_arrival, outcome_of_failure, fallback_for_failed_answer, find_exchange, forward_text, forwarded_status_info, exchange_id_of_event, is_error_status, is_only_if_cached, outcome_for_exchange, outcome_of_passing_on, outcome_of_passing_on_or_stale, outcome_of_304, outcome_of_sending_stored, outcome_of_waiting_or_forwarding, outcome_of_sending_freshened, serial_of_stored_answer, outcome_without_stored_response, outcome_of_wake, step_fault, fault_at_exchange}
 use Rattle.proxy_core.specs.Scopes.{serials_to_remove}
 use Rattle.proxy_core.specs.State.{serial_stored_by_outcome, serial_used_by_outcome, serials_removed_by_outcome}
 use Rattle.proxy_core.specs.Starts.{StoreAtStart}
-use Rattle.proxy_core.specs.Storing.{weight_of_answer, replaced_by, storing_rule_to_explain, storing_facts_of_answer, is_storable, is_304_without_condition}
-use Rattle.proxy_core.specs.Validating.{is_above, stored_response_asked_about, condition_about_serial, stored_response_if_answered, freshened_may_be_kept, is_304_to_own_conditions, freshened_by_304, stored_response_validated}
+use Rattle.proxy_core.specs.Storing.{weight_of_answer, serials_replaced_by_storing, storing_rule_to_explain, storing_facts_of_answer, is_storable, is_304_without_condition}
+use Rattle.proxy_core.specs.Validating.{weight_exceeds_optional_bound, stored_response_asked_about, condition_about_serial, stored_response_if_answered, freshened_may_be_kept, is_304_to_own_conditions, freshened_by_304, stored_response_validated}
 use Rattle.proxy_core.specs.Traces.{Item}
 use Rattle.proxy_core.specs.Histories.{held_entries, IsGoodHistory, next_serial, open_exchanges}
 use Rattle.proxy_core.proofs.SentBeside.{led_over, sent_over, unless_sent}
@@ -51,7 +51,7 @@ use Rattle.proxy_core.proofs.Leaving.{serial_stays, unanswered as never_answered
 use Rattle.proxy_core.proofs.Unsent.{storing_of}
 use Rattle.proxy_core.proofs.Carries.{carries_its_arrival}
 use Rattle.proxy_core.proofs.UnsafeAnswers.{status_is_shown}
-use Rattle.proxy_core.specs.StoredAnswers.{AnswerMayBeStored, IsAnswerThatMayBeStored, KeyStaysValidSinceItWent, RemovedAfter304, RemovedByStatus, RemovedByAnswer, ThoseAreRemoved, NothingElseIsStored, AnswerIsStoredWhereItMayBe, ItemRemovesExactlyThese}
+use Rattle.proxy_core.specs.StoredAnswers.{AnswerMayBeStored, IsAnswerThatMayBeStored, KeyIsNotOvertakenSinceForward, SerialsAreRemovedAfter304, SerialsAreRemovedByAnswerStatus, SerialsAreRemovedByAnswer, OutcomeRemovesExactlyWhatItMust, NothingElseIsStored, AnswerIsStoredWhereItMayBe, ItemRemovesExactlyWhatItMust}
 use Rattle.proxy_core.proofs.Freshened.{is_kept, may_be_kept}
 use Rattle.proxy_core.proofs.SinceItWent.{at_the_origin, unmarked, stays_valid}
 use Rattle.hx_fields.proofs.JoinedTests.{left_false, right_false, neither, second_false, last_absent}
@@ -67,47 +67,47 @@ module _ (table : Table) (x : Exchange) (r : Response) (now : ℕ) (next : Optio
 
   -- ---- the rules and the words
 
-  may_by_rules : (past : List Item) → (KeyStaysValidSinceItWent past x → x.overtaken ≡ false) → AnswerMayBeStored table next past x r now → ResponseMayBeStored x.asked (answered_of r now) (storing_facts_of_answer table x r now next)
+  may_by_rules : (past : List Item) → (KeyIsNotOvertakenSinceForward past x → x.overtaken ≡ false) → AnswerMayBeStored table next past x r now → ResponseMayBeStored x.asked (answered_of r now) (storing_facts_of_answer table x r now next)
   may_by_rules past unmarked may = record {
     operator_allows = may.operator_allows;
     is_storable = may.is_storable;
     is_for_the_store = may.is_for_the_store;
-    is_within_the_words = may.is_within_the_words;
-    is_of_use = record {
-      names_its_fields = star_absent (answered_of r now).fields may.names_fields;
-      keeps_its_fields = lists_none r.fields may.keeps_its_fields;
-      lasts_or_is_validated = lasts_or_validates (answered_of r now).fields (policy_of table.lines x.line) r.status may.can_be_reused;
-      not_overtaken = unmarked may.key_stays_valid;
+    policy_allows_it = may.policy_allows_it;
+    could_be_reused = record {
+      vary_is_not_star = star_absent (answered_of r now).fields may.names_fields;
+      connection_lists_no_cache_field = lists_none r.fields may.connection_lists_no_cache_field;
+      has_lifetime_or_validator = lasts_or_validates (answered_of r now).fields (policy_of table.lines x.line) r.status may.can_be_reused;
+      not_overtaken = unmarked may.key_is_not_overtaken;
     };
     has_room = record {
-      not_too_large = neither (nat_lt table.max_stored (length r.content)) (not (is_star (answered_of r now).fields) && is_above table.max_store (weight_of_answer x r now))
+      not_too_large = neither (nat_lt table.max_stored (length r.content)) (not (vary_is_star (answered_of r now).fields) && weight_exceeds_optional_bound table.max_store (weight_of_answer x r now))
           (fits_in table.max_stored (length r.content) may.fits)
-          (last_absent (not (is_star (answered_of r now).fields)) (is_above table.max_store (weight_of_answer x r now)) (not_above table.max_store (weight_of_answer x r now) may.fits_the_store));
+          (last_absent (not (vary_is_star (answered_of r now).fields)) (weight_exceeds_optional_bound table.max_store (weight_of_answer x r now)) (not_above table.max_store (weight_of_answer x r now) may.fits_the_store));
       has_serial = none_is_not next may.serial_is_left;
     };
   }
 
-  may_by_words : (past : List Item) → (x.overtaken ≡ false → KeyStaysValidSinceItWent past x) → ResponseMayBeStored x.asked (answered_of r now) (storing_facts_of_answer table x r now next) → AnswerMayBeStored table next past x r now
+  may_by_words : (past : List Item) → (x.overtaken ≡ false → KeyIsNotOvertakenSinceForward past x) → ResponseMayBeStored x.asked (answered_of r now) (storing_facts_of_answer table x r now next) → AnswerMayBeStored table next past x r now
   may_by_words past stays_valid may = record {
     operator_allows = may.operator_allows;
     is_storable = may.is_storable;
     is_for_the_store = may.is_for_the_store;
-    is_within_the_words = may.is_within_the_words;
-    names_fields = fields_named (answered_of r now).fields may.is_of_use.names_its_fields;
-    keeps_its_fields = keeps_all r.fields may.is_of_use.keeps_its_fields;
-    can_be_reused = can_be_reused (answered_of r now).fields (policy_of table.lines x.line) r.status may.is_of_use.lasts_or_is_validated;
-    key_stays_valid = stays_valid may.is_of_use.not_overtaken;
-    fits = may_be_released table.max_stored (length r.content) (left_false (nat_lt table.max_stored (length r.content)) (not (is_star (answered_of r now).fields) && is_above table.max_store (weight_of_answer x r now)) may.has_room.not_too_large);
-    fits_the_store = within_bound table.max_store (weight_of_answer x r now) (second_false (not (is_star (answered_of r now).fields)) (is_above table.max_store (weight_of_answer x r now))
-        (ap not may.is_of_use.names_its_fields)
-        (right_false (nat_lt table.max_stored (length r.content)) (not (is_star (answered_of r now).fields) && is_above table.max_store (weight_of_answer x r now)) may.has_room.not_too_large));
+    policy_allows_it = may.policy_allows_it;
+    names_fields = fields_named (answered_of r now).fields may.could_be_reused.vary_is_not_star;
+    connection_lists_no_cache_field = keeps_all r.fields may.could_be_reused.connection_lists_no_cache_field;
+    can_be_reused = can_be_reused (answered_of r now).fields (policy_of table.lines x.line) r.status may.could_be_reused.has_lifetime_or_validator;
+    key_is_not_overtaken = stays_valid may.could_be_reused.not_overtaken;
+    fits = may_be_released table.max_stored (length r.content) (left_false (nat_lt table.max_stored (length r.content)) (not (vary_is_star (answered_of r now).fields) && weight_exceeds_optional_bound table.max_store (weight_of_answer x r now)) may.has_room.not_too_large);
+    fits_the_store = within_bound table.max_store (weight_of_answer x r now) (second_false (not (vary_is_star (answered_of r now).fields)) (weight_exceeds_optional_bound table.max_store (weight_of_answer x r now))
+        (ap not may.could_be_reused.vary_is_not_star)
+        (right_false (nat_lt table.max_stored (length r.content)) (not (vary_is_star (answered_of r now).fields) && weight_exceeds_optional_bound table.max_store (weight_of_answer x r now)) may.has_room.not_too_large));
     serial_is_left = some_left next may.has_room.has_serial;
   }
 
-  storable : (past : List Item) → (KeyStaysValidSinceItWent past x → x.overtaken ≡ false) → AnswerMayBeStored table next past x r now → is_storable table x r now next ≡ true
+  storable : (past : List Item) → (KeyIsNotOvertakenSinceForward past x → x.overtaken ≡ false) → AnswerMayBeStored table next past x r now → is_storable table x r now next ≡ true
   storable past unmarked may = ap is_none (is_stored x.asked (answered_of r now) (storing_facts_of_answer table x r now next) (may_by_rules past unmarked may))
 
-  may_be : (past : List Item) → (x.overtaken ≡ false → KeyStaysValidSinceItWent past x) → is_storable table x r now next ≡ true → StatusIsFinal (answered_of r now) → AnswerMayBeStored table next past x r now
+  may_be : (past : List Item) → (x.overtaken ≡ false → KeyIsNotOvertakenSinceForward past x) → is_storable table x r now next ≡ true → StatusIsFinal (answered_of r now) → AnswerMayBeStored table next past x r now
   may_be past stays_valid applies final =
       may_by_words past stays_valid (stored_may_be x.asked (answered_of r now) (storing_facts_of_answer table x r now next) final (none_of (storage_rule_of x.asked (answered_of r now) (storing_facts_of_answer table x r now next)) applies))
 
@@ -115,9 +115,9 @@ module _ (table : Table) (x : Exchange) (r : Response) (now : ℕ) (next : Optio
   fits_the_store : is_storable table x r now next ≡ true → IfSome table.max_store (λ most. weight_of_answer x r now ≤ most)
   fits_the_store applies =
       let none = none_of (storage_rule_of x.asked (answered_of r now) (storing_facts_of_answer table x r now next)) applies in
-      let fits = right_false (nat_lt table.max_stored (length r.content)) (not (is_star (answered_of r now).fields) && is_above table.max_store (weight_of_answer x r now))
+      let fits = right_false (nat_lt table.max_stored (length r.content)) (not (vary_is_star (answered_of r now).fields) && weight_exceeds_optional_bound table.max_store (weight_of_answer x r now))
       (no_rule_applies x.asked (answered_of r now) (storing_facts_of_answer table x r now next) TooLarge none) in
-      within_bound table.max_store (weight_of_answer x r now) (second_false (not (is_star (answered_of r now).fields)) (is_above table.max_store (weight_of_answer x r now))
+      within_bound table.max_store (weight_of_answer x r now) (second_false (not (vary_is_star (answered_of r now).fields)) (weight_exceeds_optional_bound table.max_store (weight_of_answer x r now))
       (ap not (no_rule_applies x.asked (answered_of r now) (storing_facts_of_answer table x r now next) VaryStar none)) fits)
 
   -- a 304 is never stored
@@ -136,11 +136,11 @@ module _ (table : Table) (x : Exchange) (r : Response) (now : ℕ) (next : Optio
     passed_on true (Refuses rule error) applies unused = rw applies refl
     passed_on false fallback applies unused = rw applies refl
 
-    stored_answer : (past : List Item) → (KeyStaysValidSinceItWent past x → x.overtaken ≡ false) → AnswerMayBeStored table next past x r now → serial_used_by_outcome (outcome_of_answer table es now x r next d) ≡ None → serial_stored_by_outcome (outcome_of_answer table es now x r next d) ≡ next
+    stored_answer : (past : List Item) → (KeyIsNotOvertakenSinceForward past x → x.overtaken ≡ false) → AnswerMayBeStored table next past x r now → serial_used_by_outcome (outcome_of_answer table es now x r next d) ≡ None → serial_stored_by_outcome (outcome_of_answer table es now x r next d) ≡ next
     stored_answer past unmarked may unused =
         let other = no_304 past may in
-        let is : outcome_of_answer table es now x r next d ≡ outcome_of_passing_on_or_stale table es now x r next (is_error_status r.status) (fallback_for (policy_of table.lines x.line) es x.asked now d) = rw other refl in
-        ap serial_stored_by_outcome is ∙ passed_on (is_error_status r.status) (fallback_for (policy_of table.lines x.line) es x.asked now d) (storable past unmarked may) (sym (ap serial_used_by_outcome is) ∙ unused)
+        let is : outcome_of_answer table es now x r next d ≡ outcome_of_passing_on_or_stale table es now x r next (is_error_status r.status) (fallback_for_failed_answer (policy_of table.lines x.line) es x.asked now d) = rw other refl in
+        ap serial_stored_by_outcome is ∙ passed_on (is_error_status r.status) (fallback_for_failed_answer (policy_of table.lines x.line) es x.asked now d) (storable past unmarked may) (sym (ap serial_used_by_outcome is) ∙ unused)
 
     -- ---- and nowhere else
 
@@ -171,15 +171,15 @@ module _ (table : Table) (x : Exchange) (r : Response) (now : ℕ) (next : Optio
       stored_only : serial_stored_by_outcome (outcome_of_answer table es now x r next d) ≡ Some s → (is_storable table x r now next ≡ true) × (serial_used_by_outcome (outcome_of_answer table es now x r next d) ≡ None) × (next ≡ Some s)
       stored_only h = by_304 (is_304_to_own_conditions x r) h
         where
-          by_unasked : (b : Bool) → serial_stored_by_outcome (cond b (outcome_of_failure table es now x BadAnswer (Some r.status) (fallback_for (policy_of table.lines x.line) es x.asked now d)) (outcome_of_passing_on_or_stale table es now x r next (is_error_status r.status) (fallback_for (policy_of table.lines x.line) es x.asked now d))) ≡ Some s
-              → (is_storable table x r now next ≡ true) × (serial_used_by_outcome (cond b (outcome_of_failure table es now x BadAnswer (Some r.status) (fallback_for (policy_of table.lines x.line) es x.asked now d)) (outcome_of_passing_on_or_stale table es now x r next (is_error_status r.status) (fallback_for (policy_of table.lines x.line) es x.asked now d))) ≡ None) × (next ≡ Some s)
-          by_unasked true k = absurd (failed_never (fallback_for (policy_of table.lines x.line) es x.asked now d) k)
-          by_unasked false k = passed_only (is_error_status r.status) (fallback_for (policy_of table.lines x.line) es x.asked now d) k
+          by_unasked : (b : Bool) → serial_stored_by_outcome (cond b (outcome_of_failure table es now x BadAnswer (Some r.status) (fallback_for_failed_answer (policy_of table.lines x.line) es x.asked now d)) (outcome_of_passing_on_or_stale table es now x r next (is_error_status r.status) (fallback_for_failed_answer (policy_of table.lines x.line) es x.asked now d))) ≡ Some s
+              → (is_storable table x r now next ≡ true) × (serial_used_by_outcome (cond b (outcome_of_failure table es now x BadAnswer (Some r.status) (fallback_for_failed_answer (policy_of table.lines x.line) es x.asked now d)) (outcome_of_passing_on_or_stale table es now x r next (is_error_status r.status) (fallback_for_failed_answer (policy_of table.lines x.line) es x.asked now d))) ≡ None) × (next ≡ Some s)
+          by_unasked true k = absurd (failed_never (fallback_for_failed_answer (policy_of table.lines x.line) es x.asked now d) k)
+          by_unasked false k = passed_only (is_error_status r.status) (fallback_for_failed_answer (policy_of table.lines x.line) es x.asked now d) k
 
           by_304 : (b : Bool)
-              → serial_stored_by_outcome (cond b (outcome_of_304 table es now x r (stored_response_validated es x r now) d) (cond (is_304_without_condition (policy_of table.lines x.line) x.asked r) (outcome_of_failure table es now x BadAnswer (Some r.status) (fallback_for (policy_of table.lines x.line) es x.asked now d)) (outcome_of_passing_on_or_stale table es now x r next (is_error_status r.status) (fallback_for (policy_of table.lines x.line) es x.asked now d)))) ≡ Some s
+              → serial_stored_by_outcome (cond b (outcome_of_304 table es now x r (stored_response_validated es x r now) d) (cond (is_304_without_condition (policy_of table.lines x.line) x.asked r) (outcome_of_failure table es now x BadAnswer (Some r.status) (fallback_for_failed_answer (policy_of table.lines x.line) es x.asked now d)) (outcome_of_passing_on_or_stale table es now x r next (is_error_status r.status) (fallback_for_failed_answer (policy_of table.lines x.line) es x.asked now d)))) ≡ Some s
               → (is_storable table x r now next ≡ true)
-              × (serial_used_by_outcome (cond b (outcome_of_304 table es now x r (stored_response_validated es x r now) d) (cond (is_304_without_condition (policy_of table.lines x.line) x.asked r) (outcome_of_failure table es now x BadAnswer (Some r.status) (fallback_for (policy_of table.lines x.line) es x.asked now d)) (outcome_of_passing_on_or_stale table es now x r next (is_error_status r.status) (fallback_for (policy_of table.lines x.line) es x.asked now d)))) ≡ None) × (next ≡ Some s)
+              × (serial_used_by_outcome (cond b (outcome_of_304 table es now x r (stored_response_validated es x r now) d) (cond (is_304_without_condition (policy_of table.lines x.line) x.asked r) (outcome_of_failure table es now x BadAnswer (Some r.status) (fallback_for_failed_answer (policy_of table.lines x.line) es x.asked now d)) (outcome_of_passing_on_or_stale table es now x r next (is_error_status r.status) (fallback_for_failed_answer (policy_of table.lines x.line) es x.asked now d)))) ≡ None) × (next ≡ Some s)
           by_304 true k = absurd (validated_never (stored_response_validated es x r now) d k)
           by_304 false k = by_unasked (is_304_without_condition (policy_of table.lines x.line) x.asked r) k
 
@@ -192,15 +192,15 @@ no_fault_at table start past item now id x r allowed event is_open =
     let here : step_fault (open_exchanges table start past) (Answer now id r) ≡ None = sym (ap (step_fault (open_exchanges table start past)) event) ∙ allowed in
     sym (ap (λ (o : Option Exchange). fault_at_exchange o (Answer now id r)) is_open) ∙ here
 
-pub stores_where_it_may : AnswerIsStoredWhereItMayBe
-stores_where_it_may table start first now id x r item past good event is_open unused may =
+pub stores_where_allowed : AnswerIsStoredWhereItMayBe
+stores_where_allowed table start first now id x r item past good event is_open unused may =
     let es = held_entries table start past in
     let xs = open_exchanges table start past in
     let next = next_serial first past in
     let d = decision_of (policy_of table.lines x.line) es x.asked now in
-    let here : item.outcome ≡ outcome_of table es xs (find_exchange id xs) next (Answer now id r) =
-    good.0.outcome_is ∙ ap (λ (e : Event). outcome_of table es xs (find_exchange (exchange_id_of_event e) xs) next e) event in
-    let is : item.outcome ≡ outcome_of_answer table es now x r next d = here ∙ ap (λ (o : Option Exchange). outcome_of table es xs o next (Answer now id r)) is_open in
+    let here : item.outcome ≡ outcome_for_exchange table es xs (find_exchange id xs) next (Answer now id r) =
+    good.0.outcome_is ∙ ap (λ (e : Event). outcome_for_exchange table es xs (find_exchange (exchange_id_of_event e) xs) next e) event in
+    let is : item.outcome ≡ outcome_of_answer table es now x r next d = here ∙ ap (λ (o : Option Exchange). outcome_for_exchange table es xs o next (Answer now id r)) is_open in
     let out = at_the_origin x now id r (no_fault_at table start past item now id x r good.0.allowed event is_open) in
     let same : x.id ≡ id = (carries_its_arrival table start first id past x good.1 is_open).1 in
     ap serial_stored_by_outcome is
@@ -222,7 +222,7 @@ stored_at table start first s item past good stored =
     let d = decision_of (policy_of table.lines t.z.line) es t.z.asked t.now in
     let found : find_exchange t.i xs ≡ Some t.z = sym (ap (λ (e : Event). find_exchange (exchange_id_of_event e) xs) t.event_is) ∙ t.w_is in
     let is : item.outcome ≡ outcome_of_answer table es t.now t.z t.r next d =
-    good.0.outcome_is ∙ ap (λ (o : Option Exchange). outcome_of table es xs o next item.event) t.w_is ∙ ap (λ (e : Event). outcome_of table es xs (Some t.z) next e) t.event_is in
+    good.0.outcome_is ∙ ap (λ (o : Option Exchange). outcome_for_exchange table es xs o next item.event) t.w_is ∙ ap (λ (e : Event). outcome_for_exchange table es xs (Some t.z) next e) t.event_is in
     let parts = stored_only table t.z t.r t.now next es d s (sym (ap serial_stored_by_outcome is) ∙ stored) in
     let out = at_the_origin t.z t.now t.i t.r (no_fault_at table start past item t.now t.i t.z t.r good.0.allowed t.event_is found) in
     let carried = carries_its_arrival table start first t.i past t.z good.1 found in
@@ -235,7 +235,7 @@ stored_at table start first s item past good stored =
         exchange = t.z;
         event_is = t.event_is;
         is_open = found;
-        nothing_is_sent_instead = ap serial_used_by_outcome is ∙ parts.1;
+        no_stored_response_is_sent_instead = ap serial_used_by_outcome is ∙ parts.1;
         may_be_stored = may_be table t.z t.r t.now next past (stays_valid table start first past good.1 t.z (ap (λ n. find_exchange n xs) carried.1 ∙ found) out carried.0) parts.0;
       };
       fits = fits_the_store table t.z t.r t.now next parts.0;
@@ -270,12 +270,12 @@ serial_not_kept_after_304 table x now r (Some e) = cond (freshened_may_be_kept t
 -- all that is held for an invalidated key,
 abbrev pub serials_held_for_key : List Stored → Option Key → List ℕ → List ℕ
 serials_held_for_key held None others = others
-serials_held_for_key held (Some key) others = serials_of key held
+serials_held_for_key held (Some key) others = serials_of_key key held
 
 -- and what a stored answer takes the place of.
 abbrev pub removed_by_answer : Table → List Stored → Exchange → ℕ → Response → Option ℕ → List ℕ
 removed_by_answer table held x now r stored =
-    cond (is_some stored) (replaced_by held x.asked)
+    cond (is_some stored) (serials_replaced_by_storing held x.asked)
     (serials_held_for_key held (key_invalidated_by_answer x.asked r) (serial_not_kept_after_304 table x now r (stored_response_validated held x r now)))
 
 abbrev pub serials_removed_at : Table → List Stored → Option Exchange → Event → Outcome → List ℕ
@@ -291,7 +291,7 @@ serials_removed_at table held x (Overdue id) outcome = []
 
 module _ (table : Table) (held : List Stored) where
   module _ (x : Exchange) (now : ℕ) (r : Response) (gone : List ℕ) where
-    after_304 : (o : Option Stored) → RemovedAfter304 table x now r o gone → gone ≡ serial_not_kept_after_304 table x now r o
+    after_304 : (o : Option Stored) → SerialsAreRemovedAfter304 table x now r o gone → gone ≡ serial_not_kept_after_304 table x now r o
     after_304 None h = h
     after_304 (Some e) h = by_test (freshened_may_be_kept table x r (freshened_by_304 x r now e)) refl
       where
@@ -299,31 +299,31 @@ module _ (table : Table) (held : List Stored) where
         by_test true kept = h.0 (may_be_kept table x r (freshened_by_304 x r now e) kept)
         by_test false goes = h.1 (λ may. let no : false ≡ true = sym goes ∙ is_kept table x r (freshened_by_304 x r now e) may in cc)
 
-    after_304_in_words : (o : Option Stored) → gone ≡ serial_not_kept_after_304 table x now r o → RemovedAfter304 table x now r o gone
+    after_304_in_words : (o : Option Stored) → gone ≡ serial_not_kept_after_304 table x now r o → SerialsAreRemovedAfter304 table x now r o gone
     after_304_in_words None h = h
     after_304_in_words (Some e) h = by_test (freshened_may_be_kept table x r (freshened_by_304 x r now e)) refl h
       where
-        by_test : (b : Bool) → freshened_may_be_kept table x r (freshened_by_304 x r now e) ≡ b → gone ≡ cond b [] (e.serial ∷ []) → RemovedAfter304 table x now r (Some e) gone
+        by_test : (b : Bool) → freshened_may_be_kept table x r (freshened_by_304 x r now e) ≡ b → gone ≡ cond b [] (e.serial ∷ []) → SerialsAreRemovedAfter304 table x now r (Some e) gone
         by_test true kept is = (λ may. is, λ never. absurd (never (may_be_kept table x r (freshened_by_304 x r now e) kept)))
         by_test false goes is = (λ may. let no : false ≡ true = sym goes ∙ is_kept table x r (freshened_by_304 x r now e) may in absurd (cc), λ never. is)
 
-    by_key : (key : Option Key) → RemovedByStatus table held x now r key gone → gone ≡ serials_held_for_key held key (serial_not_kept_after_304 table x now r (stored_response_validated held x r now))
+    by_key : (key : Option Key) → SerialsAreRemovedByAnswerStatus table held x now r key gone → gone ≡ serials_held_for_key held key (serial_not_kept_after_304 table x now r (stored_response_validated held x r now))
     by_key None h = after_304 (stored_response_validated held x r now) h
     by_key (Some key) h = h
 
-    by_key_in_words : (key : Option Key) → gone ≡ serials_held_for_key held key (serial_not_kept_after_304 table x now r (stored_response_validated held x r now)) → RemovedByStatus table held x now r key gone
+    by_key_in_words : (key : Option Key) → gone ≡ serials_held_for_key held key (serial_not_kept_after_304 table x now r (stored_response_validated held x r now)) → SerialsAreRemovedByAnswerStatus table held x now r key gone
     by_key_in_words None h = after_304_in_words (stored_response_validated held x r now) h
     by_key_in_words (Some key) h = h
 
-    by_stored : (stored : Option ℕ) → RemovedByAnswer table held x now r stored gone → gone ≡ removed_by_answer table held x now r stored
+    by_stored : (stored : Option ℕ) → SerialsAreRemovedByAnswer table held x now r stored gone → gone ≡ removed_by_answer table held x now r stored
     by_stored None h = by_key (key_invalidated_by_answer x.asked r) h
     by_stored (Some s) h = h
 
-    by_stored_in_words : (stored : Option ℕ) → gone ≡ removed_by_answer table held x now r stored → RemovedByAnswer table held x now r stored gone
+    by_stored_in_words : (stored : Option ℕ) → gone ≡ removed_by_answer table held x now r stored → SerialsAreRemovedByAnswer table held x now r stored gone
     by_stored_in_words None h = by_key_in_words (key_invalidated_by_answer x.asked r) h
     by_stored_in_words (Some s) h = h
 
-  pub removed_by_words : (x : Option Exchange) (event : Event) (o : Outcome) → ThoseAreRemoved table held x event o → serials_removed_by_outcome o ≡ serials_removed_at table held x event o
+  pub removed_by_words : (x : Option Exchange) (event : Event) (o : Outcome) → OutcomeRemovesExactlyWhatItMust table held x event o → serials_removed_by_outcome o ≡ serials_removed_at table held x event o
   removed_by_words (Some x) (Answer now id r) o h = by_stored x now r (serials_removed_by_outcome o) (serial_stored_by_outcome o) h
   removed_by_words None (Answer now id r) o h = h
   removed_by_words x (Arrive now id asked) o h = h
@@ -332,7 +332,7 @@ module _ (table : Table) (held : List Stored) where
   removed_by_words x (Abandon id) o h = h
   removed_by_words x (Overdue id) o h = h
 
-  removed_in_words : (x : Option Exchange) (event : Event) (o : Outcome) → serials_removed_by_outcome o ≡ serials_removed_at table held x event o → ThoseAreRemoved table held x event o
+  removed_in_words : (x : Option Exchange) (event : Event) (o : Outcome) → serials_removed_by_outcome o ≡ serials_removed_at table held x event o → OutcomeRemovesExactlyWhatItMust table held x event o
   removed_in_words (Some x) (Answer now id r) o h = by_stored_in_words x now r (serials_removed_by_outcome o) (serial_stored_by_outcome o) h
   removed_in_words None (Answer now id r) o h = h
   removed_in_words x (Arrive now id asked) o h = h
@@ -351,13 +351,13 @@ none_by x r o h =
 module _ (table : Table) (es : List Stored) (now : ℕ) (x : Exchange) (r : Response) (next : Option ℕ) where
   -- what goes where this key does
   abbrev removed_with : Option Key → Outcome → List ℕ
-  removed_with key o = cond (is_some (serial_stored_by_outcome o)) (replaced_by es x.asked)
+  removed_with key o = cond (is_some (serial_stored_by_outcome o)) (serials_replaced_by_storing es x.asked)
       (serials_held_for_key es key (serial_not_kept_after_304 table x now r (stored_response_validated es x r now)))
 
   abbrev Goes : Outcome → Type 0
   Goes o = serials_removed_by_outcome o ≡ removed_with (key_taken_by_answer x.asked r o) o
 
-  all_goes : (b : Bool) → cond b (serials_of x.asked.target.key es) [] ≡ serials_held_for_key es (cond b (Some x.asked.target.key) None) []
+  all_goes : (b : Bool) → cond b (serials_of_key x.asked.target.key es) [] ≡ serials_held_for_key es (cond b (Some x.asked.target.key) None) []
   all_goes true = refl
   all_goes false = refl
 
@@ -376,7 +376,7 @@ module _ (table : Table) (es : List Stored) (now : ℕ) (x : Exchange) (r : Resp
   failed_goes n u (Refuses rule error) =
       let unsafe = not (is_among safe_methods x.asked.method) in
       let plain = nat_le 200 r.status && nat_le r.status 399 in
-      ap (λ b. cond (unsafe && b) (serials_of x.asked.target.key es) []) (sym (and_true plain))
+      ap (λ b. cond (unsafe && b) (serials_of_key x.asked.target.key es) []) (sym (and_true plain))
       ∙ all_goes (unsafe && (plain && true))
       ∙ sym (ap (serials_held_for_key es (cond (unsafe && (plain && true)) (Some x.asked.target.key) None)) (no_304_goes n))
 
@@ -385,8 +385,8 @@ module _ (table : Table) (es : List Stored) (now : ℕ) (x : Exchange) (r : Resp
   passed_goes rule None n =
       let unsafe = not (is_among safe_methods x.asked.method) in
       let plain = nat_le 200 r.status && nat_le r.status 399 in
-      ap (λ b. cond (unsafe && plain && not b) (serials_of x.asked.target.key es) []) n
-      ∙ ap (λ b. cond b (serials_of x.asked.target.key es) []) (and_together unsafe plain true)
+      ap (λ b. cond (unsafe && plain && not b) (serials_of_key x.asked.target.key es) []) n
+      ∙ ap (λ b. cond b (serials_of_key x.asked.target.key es) []) (and_together unsafe plain true)
       ∙ all_goes (unsafe && (plain && true))
       ∙ sym (ap (serials_held_for_key es (cond (unsafe && (plain && true)) (Some x.asked.target.key) None)) (no_304_goes n))
 
@@ -406,13 +406,13 @@ module _ (table : Table) (es : List Stored) (now : ℕ) (x : Exchange) (r : Resp
   answer_goes d = by_304 (is_304_to_own_conditions x r) refl
     where
       by_unasked : is_304_to_own_conditions x r ≡ false → (b : Bool) → is_304_without_condition (policy_of table.lines x.line) x.asked r ≡ b →
-          Goes (cond b (outcome_of_failure table es now x BadAnswer (Some r.status) (fallback_for (policy_of table.lines x.line) es x.asked now d)) (outcome_of_passing_on_or_stale table es now x r next (is_error_status r.status) (fallback_for (policy_of table.lines x.line) es x.asked now d)))
-      by_unasked n true u = failed_goes n u (fallback_for (policy_of table.lines x.line) es x.asked now d)
-      by_unasked n false u = unless_goes n (is_error_status r.status) refl (fallback_for (policy_of table.lines x.line) es x.asked now d)
+          Goes (cond b (outcome_of_failure table es now x BadAnswer (Some r.status) (fallback_for_failed_answer (policy_of table.lines x.line) es x.asked now d)) (outcome_of_passing_on_or_stale table es now x r next (is_error_status r.status) (fallback_for_failed_answer (policy_of table.lines x.line) es x.asked now d)))
+      by_unasked n true u = failed_goes n u (fallback_for_failed_answer (policy_of table.lines x.line) es x.asked now d)
+      by_unasked n false u = unless_goes n (is_error_status r.status) refl (fallback_for_failed_answer (policy_of table.lines x.line) es x.asked now d)
 
       by_304 : (b : Bool) → is_304_to_own_conditions x r ≡ b →
           Goes (cond b (outcome_of_304 table es now x r (stored_response_validated es x r now) d)
-          (cond (is_304_without_condition (policy_of table.lines x.line) x.asked r) (outcome_of_failure table es now x BadAnswer (Some r.status) (fallback_for (policy_of table.lines x.line) es x.asked now d)) (outcome_of_passing_on_or_stale table es now x r next (is_error_status r.status) (fallback_for (policy_of table.lines x.line) es x.asked now d))))
+          (cond (is_304_without_condition (policy_of table.lines x.line) x.asked r) (outcome_of_failure table es now x BadAnswer (Some r.status) (fallback_for_failed_answer (policy_of table.lines x.line) es x.asked now d)) (outcome_of_passing_on_or_stale table es now x r next (is_error_status r.status) (fallback_for_failed_answer (policy_of table.lines x.line) es x.asked now d))))
       by_304 true k = revalidated_goes (stored_response_validated es x r now) d refl
       by_304 false k = by_unasked k (is_304_without_condition (policy_of table.lines x.line) x.asked r) refl
 
@@ -423,24 +423,24 @@ StatusIsShown table es next x = (now : ℕ) (r : Response) →
 
 module _ (table : Table) (es : List Stored) (xs : List Exchange) (next : Option ℕ) where
   goes_by_event : (x : Option Exchange) (event : Event) → ((z : Exchange) → x ≡ Some z → StatusIsShown table es next z) →
-      serials_removed_by_outcome (outcome_of table es xs x next event) ≡ serials_removed_at table es x event (outcome_of table es xs x next event)
+      serials_removed_by_outcome (outcome_for_exchange table es xs x next event) ≡ serials_removed_at table es x event (outcome_for_exchange table es xs x next event)
   goes_by_event x (Arrive now id asked) shown = by_verdict (verdict_of_asked table asked)
     where
-      on : (line : Route) (condition : Option Condition) (leader : Option ℕ) → serials_removed_by_outcome (outcome_of_waiting_or_forwarding table line asked condition leader) ≡ []
+      on : (line : RequestRoute) (condition : Option Condition) (leader : Option ℕ) → serials_removed_by_outcome (outcome_of_waiting_or_forwarding table line asked condition leader) ≡ []
       on line condition None = refl
       on line condition (Some leader) = refl
 
-      unless : (line : Route) (rule : ReuseRule) (condition : Option Condition) (b : Bool) → serials_removed_by_outcome (outcome_without_stored_response table es xs line now asked rule condition b) ≡ []
+      unless : (line : RequestRoute) (rule : ReuseRule) (condition : Option Condition) (b : Bool) → serials_removed_by_outcome (outcome_without_stored_response table es xs line now asked rule condition b) ≡ []
       unless line rule condition true = refl
       unless line rule condition false =
           unless_sent (λ (o : Outcome). serials_removed_by_outcome o ≡ []) table es line now asked (sent_over table es xs line now asked rule) (outcome_of_waiting_or_forwarding table line asked condition (led_over table es xs line asked rule))
           (λ t is. refl) (on line condition (led_over table es xs line asked rule))
 
-      by_decision : (line : Route) (d : Decision) → serials_removed_by_outcome (outcome_of_allowed_request table es xs line now asked d) ≡ []
+      by_decision : (line : RequestRoute) (d : Decision) → serials_removed_by_outcome (outcome_of_allowed_request table es xs line now asked d) ≡ []
       by_decision line (decision.Hit s) = refl
       by_decision line (decision.Forward rule against) = unless line rule (condition_about_serial es against) (is_only_if_cached asked)
 
-      by_verdict : (v : Verdict) → serials_removed_by_outcome (outcome_of_arrival table es xs now asked v) ≡ cond (is_purge v) (serials_to_remove asked es) []
+      by_verdict : (v : Verdict) → serials_removed_by_outcome (outcome_of_arrival table es xs now asked v) ≡ cond (is_purge_verdict v) (serials_to_remove asked es) []
       by_verdict (verdict.Allowed line) = by_decision line (decision_of (policy_of table.lines line) es asked now)
       by_verdict (verdict.DeniedBy line) = refl
       by_verdict verdict.NoLine = refl
@@ -450,7 +450,7 @@ module _ (table : Table) (es : List Stored) (xs : List Exchange) (next : Option 
       let o = outcome_of_answer table es now x r next (decision_of (policy_of table.lines x.line) es x.asked now) in
       answer_goes table es now x r next (decision_of (policy_of table.lines x.line) es x.asked now) ∙ ap (λ (key : Option Key). removed_with table es now x r next key o) (sym (shown x refl now r))
   goes_by_event None (Answer now id r) shown = refl
-  goes_by_event (Some x) (Fail now id kind) shown = by_fallback (fallback_for (policy_of table.lines x.line) es x.asked now (decision_of (policy_of table.lines x.line) es x.asked now))
+  goes_by_event (Some x) (Fail now id kind) shown = by_fallback (fallback_for_failed_answer (policy_of table.lines x.line) es x.asked now (decision_of (policy_of table.lines x.line) es x.asked now))
     where
       by_fallback : (fallback : Fallback) → serials_removed_by_outcome (outcome_of_failure table es now x kind None fallback) ≡ []
       by_fallback (Sends serial detail) = refl
@@ -465,7 +465,7 @@ module _ (table : Table) (es : List Stored) (xs : List Exchange) (next : Option 
   goes_by_event x (Abandon id) shown = refl
   goes_by_event x (Overdue id) shown = refl
 
-pub removes_just_that : ItemRemovesExactlyThese
+pub removes_just_that : ItemRemovesExactlyWhatItMust
 removes_just_that table start first item past good =
     let es = held_entries table start past in
     let xs = open_exchanges table start past in

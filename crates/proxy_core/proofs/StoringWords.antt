@@ -11,16 +11,16 @@ use Rattle.hx_directives.specs.Occurrences.{occurrences_of}
 use Rattle.hx_directives.specs.Answers.{directive_occurs, seconds_of_directive}
 use Rattle.hx_directives.specs.declared.names.Directive.TheVariants.{MaxAge, SMaxage}
 use Rattle.hx_age.specs.declared.lifetimes.Lifetime.{Lifetime}
-use Rattle.hx_age.specs.Lifetime.{explicit_lifetime, lifetime_of, stated_seconds, until_expires}
-use Rattle.hx_vary.specs.declared.limits.TheConstants.{MOST_NAMES}
-use Rattle.hx_vary.specs.Vary.{are_many, is_star, is_star_member, vary_names}
-use Rattle.hx_hop.specs.Stripping.{cache_names, connection_names, lists_cache_field}
-use Rattle.hx_policy.specs.Policies.{given_lifetime}
+use Rattle.hx_age.specs.Lifetime.{explicit_lifetime, lifetime_of, seconds_or_zero, seconds_from_date_to_expires}
+use Rattle.hx_vary.specs.declared.limits.TheConstants.{MOST_VARY_NAMES}
+use Rattle.hx_vary.specs.Vary.{exceeds_most_vary_names, vary_is_star, is_star_member, vary_names}
+use Rattle.hx_hop.specs.Stripping.{caching_field_names, connection_names, lists_cache_field}
+use Rattle.hx_policy.specs.Policies.{lifetime_given_by_policy}
 use Rattle.hx_policy.specs.declared.words.Policy.{Policy}
-use Rattle.hx_reuse.specs.Lifetimes.{lifetime_at_most, lifetime_with_given, lifetime_under}
-use Rattle.hx_validate.specs.Validators.{has_validator, modified_value, tag_value}
-use Rattle.proxy_core.specs.Validating.{is_above}
-use Rattle.proxy_core.specs.StoredAnswers.{ResponseCanBeReused, ConnectionTookNoCacheField, VaryNamesFields}
+use Rattle.hx_reuse.specs.Lifetimes.{lifetime_capped_at, lifetime_or_given_by_operator, lifetime_under_policy}
+use Rattle.hx_validate.specs.Validators.{has_validator, date_validator, etag_validator}
+use Rattle.proxy_core.specs.Validating.{weight_exceeds_optional_bound}
+use Rattle.proxy_core.specs.StoredAnswers.{ResponseCanBeReused, ConnectionRemovedNoCachingField, VaryNamesFields}
 
 neither : (a b : Bool) → a || b ≡ false → (a ≡ false) × (b ≡ false)
 neither true b h = absurd cc
@@ -49,18 +49,18 @@ names_each (n ∷ names) h =
     let first = neither (bytes_eq n (codes "*")) (not (is_token n)) parts.0 in
     All-cons (λ name. (bytes_eq name (codes "*") ≡ false) × (is_token name ≡ true)) n names (first.0, not_false (is_token n) first.1) (names_each names parts.1)
 
-few_names : (names : List (List ℕ)) → length names ≤ MOST_NAMES → are_many names ≡ false
+few_names : (names : List (List ℕ)) → length names ≤ MOST_VARY_NAMES → exceeds_most_vary_names names ≡ false
 few_names names h = grind (arith, nat_tests)
 
-not_many : (names : List (List ℕ)) → are_many names ≡ false → length names ≤ MOST_NAMES
+not_many : (names : List (List ℕ)) → exceeds_most_vary_names names ≡ false → length names ≤ MOST_VARY_NAMES
 not_many names h = grind (arith, nat_tests)
 
-pub star_absent : (fields : List Field) → VaryNamesFields fields → is_star fields ≡ false
+pub star_absent : (fields : List Field) → VaryNamesFields fields → vary_is_star fields ≡ false
 star_absent fields all = ap (λ b. b || list_any is_star_member (vary_names fields)) (few_names (vary_names fields) all.0) ∙ no_star (vary_names fields) all.1
 
-pub fields_named : (fields : List Field) → is_star fields ≡ false → VaryNamesFields fields
+pub fields_named : (fields : List Field) → vary_is_star fields ≡ false → VaryNamesFields fields
 fields_named fields h =
-    let parts = neither (are_many (vary_names fields)) (list_any is_star_member (vary_names fields)) h in
+    let parts = neither (exceeds_most_vary_names (vary_names fields)) (list_any is_star_member (vary_names fields)) h in
     (not_many (vary_names fields) parts.0, names_each (vary_names fields) parts.1)
 
 -- ---- Connection
@@ -77,11 +77,11 @@ module _ (received : List Field) where
       let parts = neither (connection_names received n) (list_any (connection_names received) names) h in
       All-cons (λ name. connection_names received name ≡ false) n names parts.0 (each_kept names parts.1)
 
-  pub lists_none : ConnectionTookNoCacheField received → lists_cache_field received ≡ false
-  lists_none all = none_listed cache_names all
+  pub lists_none : ConnectionRemovedNoCachingField received → lists_cache_field received ≡ false
+  lists_none all = none_listed caching_field_names all
 
-  pub keeps_all : lists_cache_field received ≡ false → ConnectionTookNoCacheField received
-  keeps_all h = each_kept cache_names h
+  pub keeps_all : lists_cache_field received ≡ false → ConnectionRemovedNoCachingField received
+  keeps_all h = each_kept caching_field_names h
 
 -- ---- lifetimes and validators
 
@@ -103,12 +103,12 @@ said_by false false true a b c h = inr (inr refl)
 said_by false false false a b c h = absurd cc
 
 -- a lifetime stands where the response states one or is given one
-explicit_under : (l : Lifetime) (e : Bool) → l.explicit ≡ e → (m g : Option ℕ) → (cond e (lifetime_at_most m l) (lifetime_with_given g l)).explicit ≡ true → (l.explicit ≡ true) ⊎ (is_some g ≡ true)
+explicit_under : (l : Lifetime) (e : Bool) → l.explicit ≡ e → (m g : Option ℕ) → (cond e (lifetime_capped_at m l) (lifetime_or_given_by_operator g l)).explicit ≡ true → (l.explicit ≡ true) ⊎ (is_some g ≡ true)
 explicit_under l true k m g h = inl k
 explicit_under l false k m None h = inl h
 explicit_under l false k m (Some n) h = inr refl
 
-under_explicit : (l : Lifetime) (e : Bool) → l.explicit ≡ e → (m g : Option ℕ) → (l.explicit ≡ true) ⊎ (is_some g ≡ true) → (cond e (lifetime_at_most m l) (lifetime_with_given g l)).explicit ≡ true
+under_explicit : (l : Lifetime) (e : Bool) → l.explicit ≡ e → (m g : Option ℕ) → (l.explicit ≡ true) ⊎ (is_some g ≡ true) → (cond e (lifetime_capped_at m l) (lifetime_or_given_by_operator g l)).explicit ≡ true
 under_explicit l true k None g h = k
 under_explicit l true k (Some most) g h = k
 under_explicit l false k m None (inl h) = h
@@ -119,46 +119,46 @@ module _ (fields : List Field) where
   lasting : (directive_occurs (occurrences_of fields) SMaxage ≡ true) ⊎ ((directive_occurs (occurrences_of fields) MaxAge ≡ true) ⊎ (has_line fields (codes "Expires") ≡ true)) → (lifetime_of fields).explicit ≡ true
   lasting h =
       explicit_by (directive_occurs (occurrences_of fields) SMaxage) (directive_occurs (occurrences_of fields) MaxAge) (has_line fields (codes "Expires"))
-      (stated_seconds (seconds_of_directive (occurrences_of fields) SMaxage)) (stated_seconds (seconds_of_directive (occurrences_of fields) MaxAge)) (until_expires fields) h
+      (seconds_or_zero (seconds_of_directive (occurrences_of fields) SMaxage)) (seconds_or_zero (seconds_of_directive (occurrences_of fields) MaxAge)) (seconds_from_date_to_expires fields) h
 
   lasts : (lifetime_of fields).explicit ≡ true → (directive_occurs (occurrences_of fields) SMaxage ≡ true) ⊎ ((directive_occurs (occurrences_of fields) MaxAge ≡ true) ⊎ (has_line fields (codes "Expires") ≡ true))
   lasts h =
       said_by (directive_occurs (occurrences_of fields) SMaxage) (directive_occurs (occurrences_of fields) MaxAge) (has_line fields (codes "Expires"))
-      (stated_seconds (seconds_of_directive (occurrences_of fields) SMaxage)) (stated_seconds (seconds_of_directive (occurrences_of fields) MaxAge)) (until_expires fields) h
+      (seconds_or_zero (seconds_of_directive (occurrences_of fields) SMaxage)) (seconds_or_zero (seconds_of_directive (occurrences_of fields) MaxAge)) (seconds_from_date_to_expires fields) h
 
   module _ (policy : Policy) (status : ℕ) where
-    pub can_be_reused : ((lifetime_under policy status fields).explicit ≡ true) ⊎ (has_validator fields ≡ true) → ResponseCanBeReused policy status fields
-    can_be_reused (inl h) = of_either (explicit_under (lifetime_of fields) (lifetime_of fields).explicit refl policy.lifetime_most (given_lifetime policy status) h)
+    pub can_be_reused : ((lifetime_under_policy policy status fields).explicit ≡ true) ⊎ (has_validator fields ≡ true) → ResponseCanBeReused policy status fields
+    can_be_reused (inl h) = of_either (explicit_under (lifetime_of fields) (lifetime_of fields).explicit refl policy.lifetime_most (lifetime_given_by_policy policy status) h)
       where
         of_lifetime : (directive_occurs (occurrences_of fields) SMaxage ≡ true) ⊎ ((directive_occurs (occurrences_of fields) MaxAge ≡ true) ⊎ (has_line fields (codes "Expires") ≡ true)) → ResponseCanBeReused policy status fields
         of_lifetime (inl s) = inl s
         of_lifetime (inr (inl m)) = inr (inl m)
         of_lifetime (inr (inr e)) = inr (inr (inl e))
 
-        of_either : ((lifetime_of fields).explicit ≡ true) ⊎ (is_some (given_lifetime policy status) ≡ true) → ResponseCanBeReused policy status fields
+        of_either : ((lifetime_of fields).explicit ≡ true) ⊎ (is_some (lifetime_given_by_policy policy status) ≡ true) → ResponseCanBeReused policy status fields
         of_either (inl stated) = of_lifetime (lasts stated)
-        of_either (inr lifetime_with_given) = inr (inr (inr (inr (inr lifetime_with_given))))
-    can_be_reused (inr h) = of_validator (one_of (is_some (tag_value fields)) (is_some (modified_value fields)) h)
+        of_either (inr lifetime_or_given_by_operator) = inr (inr (inr (inr (inr lifetime_or_given_by_operator))))
+    can_be_reused (inr h) = of_validator (one_of (is_some (etag_validator fields)) (is_some (date_validator fields)) h)
       where
-        of_validator : (is_some (tag_value fields) ≡ true) ⊎ (is_some (modified_value fields) ≡ true) → ResponseCanBeReused policy status fields
+        of_validator : (is_some (etag_validator fields) ≡ true) ⊎ (is_some (date_validator fields) ≡ true) → ResponseCanBeReused policy status fields
         of_validator (inl t) = inr (inr (inr (inl t)))
         of_validator (inr m) = inr (inr (inr (inr (inl m))))
 
-    stated_lasts : (lifetime_of fields).explicit ≡ true → (lifetime_under policy status fields).explicit ≡ true
-    stated_lasts h = under_explicit (lifetime_of fields) (lifetime_of fields).explicit refl policy.lifetime_most (given_lifetime policy status) (inl h)
+    stated_lasts : (lifetime_of fields).explicit ≡ true → (lifetime_under_policy policy status fields).explicit ≡ true
+    stated_lasts h = under_explicit (lifetime_of fields) (lifetime_of fields).explicit refl policy.lifetime_most (lifetime_given_by_policy policy status) (inl h)
 
-    pub lasts_or_validates : ResponseCanBeReused policy status fields → ((lifetime_under policy status fields).explicit ≡ true) ⊎ (has_validator fields ≡ true)
+    pub lasts_or_validates : ResponseCanBeReused policy status fields → ((lifetime_under_policy policy status fields).explicit ≡ true) ⊎ (has_validator fields ≡ true)
     lasts_or_validates (inl s) = inl (stated_lasts (lasting (inl s)))
     lasts_or_validates (inr (inl m)) = inl (stated_lasts (lasting (inr (inl m))))
     lasts_or_validates (inr (inr (inl e))) = inl (stated_lasts (lasting (inr (inr e))))
     lasts_or_validates (inr (inr (inr (inl t)))) = inr (rw t refl)
-    lasts_or_validates (inr (inr (inr (inr (inl m))))) = inr (last (is_some (tag_value fields)) m)
+    lasts_or_validates (inr (inr (inr (inr (inl m))))) = inr (last (is_some (etag_validator fields)) m)
       where
-        last : (a : Bool) → is_some (modified_value fields) ≡ true → a || is_some (modified_value fields) ≡ true
+        last : (a : Bool) → is_some (date_validator fields) ≡ true → a || is_some (date_validator fields) ≡ true
         last true h = refl
         last false h = h
     lasts_or_validates (inr (inr (inr (inr (inr g))))) =
-        inl (under_explicit (lifetime_of fields) (lifetime_of fields).explicit refl policy.lifetime_most (given_lifetime policy status) (inr g))
+        inl (under_explicit (lifetime_of fields) (lifetime_of fields).explicit refl policy.lifetime_most (lifetime_given_by_policy policy status) (inr g))
 
 -- ---- limits
 
@@ -169,11 +169,11 @@ pub may_be_released : (most n : ℕ) → nat_lt most n ≡ false → n ≤ most
 may_be_released most n h = grind (arith, nat_tests, h)
 
 -- what fits a bound isn't above it, and what isn't above it fits
-pub not_above : (bound : Option ℕ) (weight : ℕ) → IfSome bound (λ most. weight ≤ most) → is_above bound weight ≡ false
+pub not_above : (bound : Option ℕ) (weight : ℕ) → IfSome bound (λ most. weight ≤ most) → weight_exceeds_optional_bound bound weight ≡ false
 not_above None weight h = refl
 not_above (Some most) weight h = fits_in most weight h
 
-pub within_bound : (bound : Option ℕ) (weight : ℕ) → is_above bound weight ≡ false → IfSome bound (λ most. weight ≤ most)
+pub within_bound : (bound : Option ℕ) (weight : ℕ) → weight_exceeds_optional_bound bound weight ≡ false → IfSome bound (λ most. weight ≤ most)
 within_bound None weight h = tt
 within_bound (Some most) weight h = may_be_released most weight h
 

@@ -9,21 +9,21 @@ use Rattle.hx_policy.specs.declared.words.Policy.{Policy}
 use Rattle.hx_store.specs.Stored.{Stored}
 use Rattle.hx_status.specs.Refusals.{refusal_text}
 use Rattle.hx_storable.specs.declared.rule.StoreRule.{StoreRule}
-use Rattle.hx_validate.specs.NotModified.{fields_of_304, fields_of_304_to_answer, gets_304}
+use Rattle.hx_validate.specs.NotModified.{fields_of_304, fields_of_304_to_answer, stored_gets_304}
 use Rattle.hx_validate.specs.Room.{head_leaves_room}
 use Rattle.hx_validate.specs.declared.ranges.RangeAnswer.{RangeAnswer}
 use Rattle.hx_validate.specs.declared.ranges.RangeAnswer.TheVariants.{Whole, Part, Unsatisfiable}
 use Rattle.proxy_core.specs.declared.open.exchange.Exchange.{Exchange}
 use Rattle.proxy_core.specs.declared.replies.stored_reply.CacheStatusInfo.{CacheStatusInfo}
-use Rattle.proxy_core.specs.Abouts.{about_answer_in_range, about_in_place_of_answer, about_sent, about_whole_answer, SaysWhatItIs, PassedAnswerSaysWhatItIs, PurgeSaysWhatItIs, RefusalSaysWhatItIs, StoredReplySaysWhatItIs}
-use Rattle.proxy_core.specs.Replies.{answer_in_range_text, client_has_answer, content_unless_head, fields_of_answer_416, fields_of_answer_part, stored_response_as_sent, is_head, length_of_passed_answer, length_unless_forbidden, line, not_modified_answer_text, not_modified_text, range_of_answer, text_in_form, text_in_place_of_answer, whole_answer_text, without_tags}
+use Rattle.proxy_core.specs.Abouts.{about_answer_in_range, about_in_place_of_answer, about_stored_response_sent, about_answer_passed_whole, BytesShowReportedStatusAndLine, PassedAnswerShowsStatusAndCacheStatus, PurgeReplyShowsStatusAndCount, RefusalShowsStatusAndCause, StoredReplyShowsStatusAndCacheStatus}
+use Rattle.proxy_core.specs.Replies.{answer_in_range_text, client_wants_304_for_answer, content_unless_head, fields_of_answer_416, fields_of_partial_answer, stored_response_as_sent, is_head, length_of_passed_answer, length_unless_forbidden, line, not_modified_answer_text, not_modified_text, range_of_answer, text_of_stored_in_form, text_in_place_of_answer, whole_answer_text, fields_without_hidden_tags}
 use Rattle.proxy_core.specs.Validating.{without_cookies}
 
-pub stored_says : StoredReplySaysWhatItIs
-stored_says name e now info asked = by_304 (gets_304 asked e)
+pub stored_says : StoredReplyShowsStatusAndCacheStatus
+stored_says name e now info asked = by_304 (stored_gets_304 asked e)
   where
-    by_304 : (b : Bool) → SaysWhatItIs name (cond b (not_modified_text name e now info asked) (text_in_form name (stored_response_as_sent info.policy asked e) e now info asked))
-        (cond b (about_sent 304 e now info) (about_sent (stored_response_as_sent info.policy asked e).status e now info))
+    by_304 : (b : Bool) → BytesShowReportedStatusAndLine name (cond b (not_modified_text name e now info asked) (text_of_stored_in_form name (stored_response_as_sent info.policy asked e) e now info asked))
+        (cond b (about_stored_response_sent 304 e now info) (about_stored_response_sent (stored_response_as_sent info.policy asked e).status e now info))
     by_304 true = record {
       fields = fields_of_304 e.fields ++ line (codes "Age") (decimal (age_of e.times now)) ∷ [];
       length = None;
@@ -32,7 +32,7 @@ stored_says name e now info asked = by_304 (gets_304 asked e)
       bytes_are = refl;
     }
     by_304 false = record {
-      fields = without_tags info.policy.hides_tags (without_cookies info.policy.removes_cookies (stored_response_as_sent info.policy asked e).fields) ++ line (codes "Age") (decimal (age_of e.times now)) ∷ [];
+      fields = fields_without_hidden_tags info.policy.hides_tags (without_cookies info.policy.removes_cookies (stored_response_as_sent info.policy asked e).fields) ++ line (codes "Age") (decimal (age_of e.times now)) ∷ [];
       length = length_unless_forbidden (stored_response_as_sent info.policy asked e).status (Some (length (stored_response_as_sent info.policy asked e).content));
       close = asked.close;
       content = content_unless_head (is_head asked) (stored_response_as_sent info.policy asked e).content;
@@ -40,24 +40,24 @@ stored_says name e now info asked = by_304 (gets_304 asked e)
     }
 
 module _ (policy : Policy) (name : List ℕ) (x : Exchange) (r : Response) (now : ℕ) (stored : Bool) (rule : Option StoreRule) where
-  whole : SaysWhatItIs name (whole_answer_text policy name x r now stored rule) (about_whole_answer policy x r now stored rule)
+  whole : BytesShowReportedStatusAndLine name (whole_answer_text policy name x r now stored rule) (about_answer_passed_whole policy x r now stored rule)
   whole = record {
-    fields = without_tags policy.hides_tags (answered_of r now).fields;
+    fields = fields_without_hidden_tags policy.hides_tags (answered_of r now).fields;
     length = length_of_passed_answer (is_head x.asked) r;
     close = x.asked.close;
     content = content_unless_head (is_head x.asked) r.content;
     bytes_are = refl;
   }
 
-  by_range : (answer : RangeAnswer) → SaysWhatItIs name (answer_in_range_text policy name x r now stored rule answer) (about_answer_in_range policy x r now stored rule answer)
+  by_range : (answer : RangeAnswer) → BytesShowReportedStatusAndLine name (answer_in_range_text policy name x r now stored rule answer) (about_answer_in_range policy x r now stored rule answer)
   by_range Whole = whole
-  by_range (Part first last) = by_room (head_leaves_room (fields_of_answer_part r now first last))
+  by_range (Part first last) = by_room (head_leaves_room (fields_of_partial_answer r now first last))
     where
-      by_room : (b : Bool) → SaysWhatItIs name
-          (cond b (text_in_place_of_answer policy name x r now stored rule 206 (fields_of_answer_part r now first last) (slice_range r.content first (last + 1))) (whole_answer_text policy name x r now stored rule))
-          (cond b (about_in_place_of_answer policy x r now stored rule 206) (about_whole_answer policy x r now stored rule))
+      by_room : (b : Bool) → BytesShowReportedStatusAndLine name
+          (cond b (text_in_place_of_answer policy name x r now stored rule 206 (fields_of_partial_answer r now first last) (slice_range r.content first (last + 1))) (whole_answer_text policy name x r now stored rule))
+          (cond b (about_in_place_of_answer policy x r now stored rule 206) (about_answer_passed_whole policy x r now stored rule))
       by_room true = record {
-        fields = without_tags policy.hides_tags (fields_of_answer_part r now first last);
+        fields = fields_without_hidden_tags policy.hides_tags (fields_of_partial_answer r now first last);
         length = Some (length (slice_range r.content first (last + 1)));
         close = x.asked.close;
         content = content_unless_head (is_head x.asked) (slice_range r.content first (last + 1));
@@ -66,11 +66,11 @@ module _ (policy : Policy) (name : List ℕ) (x : Exchange) (r : Response) (now 
       by_room false = whole
   by_range Unsatisfiable = by_room (head_leaves_room (fields_of_answer_416 r now))
     where
-      by_room : (b : Bool) → SaysWhatItIs name
+      by_room : (b : Bool) → BytesShowReportedStatusAndLine name
           (cond b (text_in_place_of_answer policy name x r now stored rule 416 (fields_of_answer_416 r now) []) (whole_answer_text policy name x r now stored rule))
-          (cond b (about_in_place_of_answer policy x r now stored rule 416) (about_whole_answer policy x r now stored rule))
+          (cond b (about_in_place_of_answer policy x r now stored rule 416) (about_answer_passed_whole policy x r now stored rule))
       by_room true = record {
-        fields = without_tags policy.hides_tags (fields_of_answer_416 r now);
+        fields = fields_without_hidden_tags policy.hides_tags (fields_of_answer_416 r now);
         length = Some 0;
         close = x.asked.close;
         content = content_unless_head (is_head x.asked) [];
@@ -78,10 +78,10 @@ module _ (policy : Policy) (name : List ℕ) (x : Exchange) (r : Response) (now 
       }
       by_room false = whole
 
-  by_304 : (b : Bool) → SaysWhatItIs name (cond b (not_modified_answer_text policy name x r now stored rule) (answer_in_range_text policy name x r now stored rule (range_of_answer policy x r now)))
+  by_304 : (b : Bool) → BytesShowReportedStatusAndLine name (cond b (not_modified_answer_text policy name x r now stored rule) (answer_in_range_text policy name x r now stored rule (range_of_answer policy x r now)))
       (cond b (about_in_place_of_answer policy x r now stored rule 304) (about_answer_in_range policy x r now stored rule (range_of_answer policy x r now)))
   by_304 true = record {
-    fields = without_tags policy.hides_tags (fields_of_304_to_answer (answered_of r now).fields);
+    fields = fields_without_hidden_tags policy.hides_tags (fields_of_304_to_answer (answered_of r now).fields);
     length = None;
     close = x.asked.close;
     content = [];
@@ -89,10 +89,10 @@ module _ (policy : Policy) (name : List ℕ) (x : Exchange) (r : Response) (now 
   }
   by_304 false = by_range (range_of_answer policy x r now)
 
-pub passed_says : PassedAnswerSaysWhatItIs
-passed_says policy name x r now stored rule = by_304 policy name x r now stored rule (client_has_answer policy x r now)
+pub passed_says : PassedAnswerShowsStatusAndCacheStatus
+passed_says policy name x r now stored rule = by_304 policy name x r now stored rule (client_wants_304_for_answer policy x r now)
 
-pub refusal_says : RefusalSaysWhatItIs
+pub refusal_says : RefusalShowsStatusAndCause
 refusal_says name date cause close head = record {
   fields = line (codes "Date") date ∷ line (codes "Content-Type") (codes "text/plain") ∷ [];
   length = Some (length (refusal_text cause));
@@ -101,7 +101,7 @@ refusal_says name date cause close head = record {
   bytes_are = refl;
 }
 
-pub purge_says : PurgeSaysWhatItIs
+pub purge_says : PurgeReplyShowsStatusAndCount
 purge_says name date count close = record {
   fields = line (codes "Date") date ∷ [];
   length = None;

@@ -3,10 +3,10 @@ use Rattle.std.proofs.Common.{◌≡◌, ◌≢◌, inl, inr, ℕ, ◌<◌, fals
 use Rattle.std.specs.Prelude.{slice_get, unwrap_or}
 use Rattle.std.proofs.lemmas.Option.{same_Some, slice_get_read}
 use Rattle.hx_allow.specs.TableLines.{Table}
-use Rattle.proxy_core.specs.Allowing.{verdict_of_asked, is_purge}
+use Rattle.proxy_core.specs.Allowing.{verdict_of_asked, is_purge_verdict}
 use Rattle.hx_allow.specs.declared.verdicts.Verdict.{Verdict}
 use Rattle.hx_allow.specs.declared.verdicts.Verdict.TheVariants.{Allowed, DeniedBy, NoLine, Looped, Purged}
-use Rattle.hx_allow.specs.declared.verdicts.Route.{Route}
+use Rattle.hx_allow.specs.declared.verdicts.RequestRoute.{RequestRoute}
 use Rattle.hx_hop.specs.declared.request_view.Asked.{Asked}
 use Rattle.hx_store.specs.Stored.{Stored}
 use Rattle.proxy_core.specs.declared.outcome.Outcome.{Outcome}
@@ -16,8 +16,8 @@ use Rattle.proxy_core.specs.declared.event.Event.TheVariants.{Arrive, Answer, Fa
 use Rattle.proxy_core.specs.declared.core_fault.CoreFault.{CoreFault}
 use Rattle.proxy_core.specs.declared.core_fault.CoreFault.TheVariants.{OutOfMemory}
 use Rattle.proxy_core.specs.Outcomes.{outcome_of_arrival, step_fault}
-use Rattle.proxy_core.specs.State.{State, StepIsAccepted, StepIsRefusedWith, state_after}
-use Rattle.proxy_core.specs.Traces.{Item, trace_in_front_of, trace_of, state_after_trace, ItemIsAccepted, IsGood, RunStopsAt, ArrivalIsDenied, OutcomeLeavesNoTrace, DeniedRequestsLeaveNoTrace}
+use Rattle.proxy_core.specs.State.{State, StepIsAccepted, StepIsRefusedWith, state_after_event}
+use Rattle.proxy_core.specs.Traces.{Item, trace_in_front_of, trace_of_events, state_after_trace, ItemIsAccepted, IsGood, RunStopsWithFault, ArrivalIsDenied, OutcomeLeavesNoTrace, DeniedRequestsLeaveNoTrace}
 
 pub trace_on-push : (past : List Item) (outcomes : List Outcome) (events : List Event) (e : Event) (o : Outcome) → slice_get events (length outcomes) ≡ Some e
     → trace_in_front_of past (outcomes ++ o ∷ []) events ≡ record { event = e; outcome = o } ∷ trace_in_front_of past outcomes events
@@ -29,10 +29,10 @@ trace_on-push past (p ∷ outcomes) [] e o h = absurd (cc)
 trace_on-push past (p ∷ outcomes) (f ∷ events) e o h = trace_on-push (record { event = f; outcome = p } ∷ past) outcomes events e o h
 
 -- one step more
-pub left-push : (start : State) (events : List Event) (outcomes : List Outcome) (e : Event) (o : Outcome) (s t : State) → slice_get events (length outcomes) ≡ Some e → s ≡ state_after_trace start (trace_of events outcomes) → StepIsAccepted s e o t
-    → t ≡ state_after_trace start (trace_of events (outcomes ++ o ∷ []))
+pub left-push : (start : State) (events : List Event) (outcomes : List Outcome) (e : Event) (o : Outcome) (s t : State) → slice_get events (length outcomes) ≡ Some e → s ≡ state_after_trace start (trace_of_events events outcomes) → StepIsAccepted s e o t
+    → t ≡ state_after_trace start (trace_of_events events (outcomes ++ o ∷ []))
 left-push start events outcomes e o s t h l k =
-    k.leaves ∙ (ap (λ (u : State). state_after u e o) l ∙ sym (ap (state_after_trace start) (trace_on-push [] outcomes events e o h)))
+    k.leaves ∙ (ap (λ (u : State). state_after_event u e o) l ∙ sym (ap (state_after_trace start) (trace_on-push [] outcomes events e o h)))
 
 -- the table stays
 pub same_table : (start : State) (trace : List Item) → (state_after_trace start trace).table ≡ start.table
@@ -43,10 +43,10 @@ pub same_limit : (start : State) (trace : List Item) → (state_after_trace star
 same_limit start [] = refl
 same_limit start (item ∷ past) = same_limit start past
 
-pub good-push : (start : State) (events : List Event) (outcomes : List Outcome) (e : Event) (o : Outcome) (s t : State) → slice_get events (length outcomes) ≡ Some e → s ≡ state_after_trace start (trace_of events outcomes) → StepIsAccepted s e o t
-    → IsGood start (trace_of events outcomes) → IsGood start (trace_of events (outcomes ++ o ∷ []))
+pub good-push : (start : State) (events : List Event) (outcomes : List Outcome) (e : Event) (o : Outcome) (s t : State) → slice_get events (length outcomes) ≡ Some e → s ≡ state_after_trace start (trace_of_events events outcomes) → StepIsAccepted s e o t
+    → IsGood start (trace_of_events events outcomes) → IsGood start (trace_of_events events (outcomes ++ o ∷ []))
 good-push start events outcomes e o s t h l k g =
-    let past = trace_of events outcomes in
+    let past = trace_of_events events outcomes in
     let here = subst (λ (u : State). StepIsAccepted u e o t) l k in
     let accepts : ItemIsAccepted start.table (state_after_trace start past).entries (state_after_trace start past).exchanges (state_after_trace start past).next (record { event = e; outcome = o }) =
     subst (λ (table : Table). ItemIsAccepted table (state_after_trace start past).entries (state_after_trace start past).exchanges (state_after_trace start past).next (record { event = e; outcome = o })) (same_table start past)
@@ -56,23 +56,23 @@ good-push start events outcomes e o s t h l k g =
 pub at_index : (events : List Event) (outcomes : List Outcome) (i : ℕ) (e : Event) → length outcomes ≡ i → i < length events → e ≡ get_or events i e → slice_get events (length outcomes) ≡ Some e
 at_index events outcomes i e l h k = ap (slice_get events) l ∙ slice_get_read events (length events) i e refl h k
 
-pub stops_at : (start : State) (events : List Event) (outcomes more : List Outcome) (e : Event) (s : State) (fault : CoreFault) → more ≡ outcomes → slice_get events (length outcomes) ≡ Some e → s ≡ state_after_trace start (trace_of events outcomes) → StepIsRefusedWith s e fault
-    → RunStopsAt (state_after_trace start (trace_of events more)) (slice_get events (length more)) fault
+pub stops_at : (start : State) (events : List Event) (outcomes more : List Outcome) (e : Event) (s : State) (fault : CoreFault) → more ≡ outcomes → slice_get events (length outcomes) ≡ Some e → s ≡ state_after_trace start (trace_of_events events outcomes) → StepIsRefusedWith s e fault
+    → RunStopsWithFault (state_after_trace start (trace_of_events events more)) (slice_get events (length more)) fault
 stops_at start events outcomes more e s fault m h l r =
-    let refused : StepIsRefusedWith (state_after_trace start (trace_of events outcomes)) e fault = subst (λ (u : State). StepIsRefusedWith u e fault) l r in
-    let stops = subst (λ (o : Option Event). RunStopsAt (state_after_trace start (trace_of events outcomes)) o fault) (sym h) refused in
-    subst (λ (os : List Outcome). RunStopsAt (state_after_trace start (trace_of events os)) (slice_get events (length os)) fault) (sym m) stops
+    let refused : StepIsRefusedWith (state_after_trace start (trace_of_events events outcomes)) e fault = subst (λ (u : State). StepIsRefusedWith u e fault) l r in
+    let stops = subst (λ (o : Option Event). RunStopsWithFault (state_after_trace start (trace_of_events events outcomes)) o fault) (sym h) refused in
+    subst (λ (os : List Outcome). RunStopsWithFault (state_after_trace start (trace_of_events events os)) (slice_get events (length os)) fault) (sym m) stops
 
 pub refuses_or : (s : State) (e : Event) (fault : CoreFault) (r : Option CoreFault) → r ≡ step_fault s.exchanges e → fault ≡ unwrap_or r OutOfMemory → StepIsRefusedWith s e fault
 refuses_or s e fault None k f = inr (sym k, f)
 refuses_or s e fault (Some w) k f = inl (sym k ∙ ap (λ (x : CoreFault). Some x) (sym f))
 
-pub same_good : (start : State) (events : List Event) (outcomes more : List Outcome) → more ≡ outcomes → IsGood start (trace_of events outcomes) → IsGood start (trace_of events more)
-same_good start events outcomes more m g = subst (λ (os : List Outcome). IsGood start (trace_of events os)) (sym m) g
+pub same_good : (start : State) (events : List Event) (outcomes more : List Outcome) → more ≡ outcomes → IsGood start (trace_of_events events outcomes) → IsGood start (trace_of_events events more)
+same_good start events outcomes more m g = subst (λ (os : List Outcome). IsGood start (trace_of_events events os)) (sym m) g
 
 -- ---- a denied request leaves no trace
 
-denied_by : (table : Table) (es : List Stored) (xs : List Exchange) (now : ℕ) (asked : Asked) (v : Verdict) → ((line : Route) → v ≢ Allowed line) → is_purge v ≡ false → OutcomeLeavesNoTrace (outcome_of_arrival table es xs now asked v)
+denied_by : (table : Table) (es : List Stored) (xs : List Exchange) (now : ℕ) (asked : Asked) (v : Verdict) → ((line : RequestRoute) → v ≢ Allowed line) → is_purge_verdict v ≡ false → OutcomeLeavesNoTrace (outcome_of_arrival table es xs now asked v)
 denied_by table es xs now asked (Allowed line) n p = absurd (n line refl)
 denied_by table es xs now asked (DeniedBy line) n p = (refl, refl, refl, refl)
 denied_by table es xs now asked NoLine n p = (refl, refl, refl, refl)
@@ -87,7 +87,7 @@ denied_item table s (Wake now id) outcome a d = absurd d
 denied_item table s (Abandon id) outcome a d = absurd d
 denied_item table s (Overdue id) outcome a d = absurd d
 
-pub denied_leave_no_trace : (start : State) (trace : List Item) → IsGood start trace → DeniedRequestsLeaveNoTrace start.table trace
-denied_leave_no_trace start [] g = tt
-denied_leave_no_trace start (i ∷ past) g =
-    (λ d. denied_item start.table (state_after_trace start past) i.event i.outcome g.0 d, denied_leave_no_trace start past g.1)
+pub denied_requests_leave_no_trace : (start : State) (trace : List Item) → IsGood start trace → DeniedRequestsLeaveNoTrace start.table trace
+denied_requests_leave_no_trace start [] g = tt
+denied_requests_leave_no_trace start (i ∷ past) g =
+    (λ d. denied_item start.table (state_after_trace start past) i.event i.outcome g.0 d, denied_requests_leave_no_trace start past g.1)

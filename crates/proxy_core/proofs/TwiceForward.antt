@@ -11,7 +11,7 @@ use Rattle.proxy_core.specs.Outcomes.{find_exchange, exchange_id_of_event}
 use Rattle.proxy_core.specs.declared.open.stage.Stage.{Stage}
 use Rattle.proxy_core.specs.declared.open.stage.Stage.TheVariants.{Forwarded, Waiting, Released}
 use Rattle.proxy_core.specs.Leading.{is_forwarded, is_released, waits_for, is_waiting}
-use Rattle.proxy_core.specs.Scopes.{Scope, is_in_scope}
+use Rattle.proxy_core.specs.Scopes.{Scope, key_is_in_scope}
 use Rattle.proxy_core.specs.State.{State, released_exchange, overtaken_exchange, forwarded_exchange}
 use Rattle.proxy_core.specs.Traces.{Item, state_after_trace, IsGood}
 use Rattle.proxy_core.specs.Promises.{outcome_goes_forward, outcome_is_reply, is_arrival_event, count_of_outcomes, NoRequestArrives, TwiceForwardOneReply}
@@ -49,7 +49,7 @@ record Budget (id : ℕ) (event : Event) (o : Outcome) (x y : Option Exchange) :
   replies : one (eqb (exchange_id_of_event event) id && outcome_is_reply o) + replies_left y ≤ replies_left x
 
 overtake_left : (key : Scope) (x : Exchange) → by_stage (overtaken_exchange key x).stage (cond (is_some (overtaken_exchange key x).condition) 1 0) ≡ by_stage x.stage (cond (is_some x.condition) 1 0)
-overtake_left key x = elim (is_in_scope key x.asked.target.key) as (λ b. by_stage (cond b (record x { overtaken = true }) x).stage (cond (is_some (cond b (record x { overtaken = true }) x).condition) 1 0) ≡ by_stage x.stage (cond (is_some x.condition) 1 0)) [
+overtake_left key x = elim (key_is_in_scope key x.asked.target.key) as (λ b. by_stage (cond b (record x { overtaken = true }) x).stage (cond (is_some (cond b (record x { overtaken = true }) x).condition) 1 0) ≡ by_stage x.stage (cond (is_some x.condition) 1 0)) [
   | true ↦ refl
   | false ↦ refl
 ]

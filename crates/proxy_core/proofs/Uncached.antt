@@ -8,10 +8,10 @@ use Rattle.hx_allow.specs.TableLines.{Table}
 use Rattle.hx_allow.specs.Matching.{policy_of}
 use Rattle.hx_allow.specs.declared.verdicts.Verdict.{Verdict}
 use Rattle.hx_allow.specs.declared.verdicts.Verdict.TheVariants as verdict
-use Rattle.hx_allow.specs.declared.verdicts.Route.{Route}
+use Rattle.hx_allow.specs.declared.verdicts.RequestRoute.{RequestRoute}
 use Rattle.hx_store.specs.Stored.{Stored}
-use Rattle.hx_reuse.specs.Rules.{decision_of, names_chosen}
-use Rattle.hx_reuse.specs.ChosenAndNamed.{RuleNamesTheResponse}
+use Rattle.hx_reuse.specs.Rules.{decision_of, is_rule_on_chosen}
+use Rattle.hx_reuse.specs.ChosenAndNamed.{RuleOnChosenNamesItsSerial}
 use Rattle.hx_reuse.specs.declared.rule.ReuseRule.TheVariants.{Operator}
 use Rattle.hx_reuse.specs.declared.decision.Decision.{Decision}
 use Rattle.hx_reuse.specs.declared.decision.Decision.TheVariants as decision
@@ -23,23 +23,23 @@ use Rattle.proxy_core.specs.declared.event.Event.{Event}
 use Rattle.proxy_core.specs.declared.event.Event.TheVariants.{Arrive, Answer, Fail, Wake, Abandon, Overdue}
 use Rattle.proxy_core.specs.Validating.{condition_about_serial, is_304_to_own_conditions}
 use Rattle.proxy_core.specs.declared.open.awaited.Awaited.{Awaited}
-use Rattle.proxy_core.specs.Leading.{leader_if_awaited}
+use Rattle.proxy_core.specs.Leading.{leader_id_if_awaited}
 use Rattle.proxy_core.proofs.Awaits.{operator_awaits_nothing}
-use Rattle.proxy_core.specs.Outcomes.{find_exchange, exchange_id_of_event, outcome_of_arrival, outcome_of_allowed_request, outcome_of_waiting_or_forwarding, outcome_unless_sent_beside, outcome_without_stored_response, is_only_if_cached}
+use Rattle.proxy_core.specs.Outcomes.{find_exchange, exchange_id_of_event, outcome_of_arrival, outcome_of_allowed_request, outcome_of_waiting_or_forwarding, outcome_unless_stale_is_sent, outcome_without_stored_response, is_only_if_cached}
 use Rattle.proxy_core.specs.State.{serial_stored_by_outcome, serial_used_by_outcome}
 use Rattle.proxy_core.specs.Starts.{StoreAtStart}
 use Rattle.proxy_core.specs.Traces.{Item}
 use Rattle.proxy_core.specs.Histories.{held_entries, open_exchanges, next_serial}
-use Rattle.proxy_core.specs.Carrying.{WentForwardOnce, WentForwardASecondTime, HasWaitedSinceItsArrival, ExchangeWasJudged}
-use Rattle.proxy_core.specs.Sending.{StoredResponseIsReusable, IsStoredFallback, StoredResponseMayBeSentAt, StoredResponseMayBeSentBeside}
-use Rattle.proxy_core.specs.Revalidating.{sent_beside}
+use Rattle.proxy_core.specs.Carrying.{ExchangeWentForwardOnce, ExchangeWentForwardASecondTime, HasWaitedSinceItsArrival, ExchangeWasJudged}
+use Rattle.proxy_core.specs.Sending.{StoredResponseIsReusable, MayBeSentAsFallback, StoredResponseMayBeSentAt, StoredMayBeSentWhileRevalidating}
+use Rattle.proxy_core.specs.Revalidating.{sent_while_revalidating}
 use Rattle.proxy_core.specs.Uncached.{EventGoesOverLine, RequestIsAnsweredByTheOperator, NothingIsStoredOverUncachedLine, NothingStoredIsSentOverUncachedLine, RequestGoesForwardOverUncachedLine}
 use Rattle.proxy_core.proofs.Carries.{carries_its_arrival}
 use Rattle.proxy_core.proofs.SendLaws.{sends_nothing_else, arrival_is, allowed_by}
 use Rattle.proxy_core.proofs.Moves.{and_none}
 use Rattle.proxy_core.proofs.Unsent.{storing_of}
 
-same_line : (m n : Route) → verdict.Allowed m ≡ verdict.Allowed n → m ≡ n
+same_line : (m n : RequestRoute) → verdict.Allowed m ≡ verdict.Allowed n → m ≡ n
 same_line m n h = cc
 
 -- where nothing is there it is none
@@ -47,14 +47,14 @@ none_there : (o : Option ℕ) → ((s : ℕ) → o ≡ Some s → ⊥) → o ≡
 none_there None h = refl
 none_there (Some s) h = absurd (h s refl)
 
-module _ (table : Table) (line : Route) (off : (policy_of table.lines line).caches ≡ false) where
-  no_word : (n : Route) → n ≡ line → (policy_of table.lines n).caches ≡ true → ⊥
+module _ (table : Table) (line : RequestRoute) (off : (policy_of table.lines line).caches ≡ false) where
+  no_word : (n : RequestRoute) → n ≡ line → (policy_of table.lines n).caches ≡ true → ⊥
   no_word n same h = false≢true (sym off ∙ ap (λ m. (policy_of table.lines m).caches) (sym same) ∙ h)
 
-  not_reusable : (held : List Stored) (asked : Asked) (now s : ℕ) (n : Route) → n ≡ line → StoredResponseIsReusable (policy_of table.lines n) held asked now s → ⊥
+  not_reusable : (held : List Stored) (asked : Asked) (now s : ℕ) (n : RequestRoute) → n ≡ line → StoredResponseIsReusable (policy_of table.lines n) held asked now s → ⊥
   not_reusable held asked now s n same r = no_word n same r.1.operator_allows
 
-  no_fallback : (held : List Stored) (asked : Asked) (now s : ℕ) (n : Route) → n ≡ line → IsStoredFallback (policy_of table.lines n) held asked now s → ⊥
+  no_fallback : (held : List Stored) (asked : Asked) (now s : ℕ) (n : RequestRoute) → n ≡ line → MayBeSentAsFallback (policy_of table.lines n) held asked now s → ⊥
   no_fallback held asked now s n same (inl r) = not_reusable held asked now s n same r
   no_fallback held asked now s n same (inr may) = no_word n same may.1.operator_allows
 
@@ -62,14 +62,14 @@ module _ (table : Table) (line : Route) (off : (policy_of table.lines line).cach
   no_condition : (start : StoreAtStart) (x : Exchange) (past : List Item) → x.line ≡ line → ExchangeWasJudged table start x past → x.condition ≡ None
   no_condition start x past same a = by_going a.went
     where
-      late : names_chosen x.rule ≡ true → ⊥
+      late : is_rule_on_chosen x.rule ≡ true → ⊥
       late h = no_word x.line same (allowed_by (policy_of table.lines x.line) (held_entries table start a.before) x.asked a.now x.rule a.rule_is_least h)
 
-      by_name : (against : Option ℕ) → RuleNamesTheResponse (held_entries table start a.before) x.asked x.rule against → against ≡ None
+      by_name : (against : Option ℕ) → RuleOnChosenNamesItsSerial (held_entries table start a.before) x.asked x.rule against → against ≡ None
       by_name against (inl low) = low.1
       by_name against (inr high) = absurd (late high.0)
 
-      by_going : WentForwardOnce table start x a.since a.before a.now a.item.outcome ⊎ (WentForwardASecondTime table x a.since ⊎ HasWaitedSinceItsArrival table start x a.since a.before a.item.outcome) → x.condition ≡ None
+      by_going : ExchangeWentForwardOnce table start x a.since a.before a.now a.item.outcome ⊎ (ExchangeWentForwardASecondTime table x a.since ⊎ HasWaitedSinceItsArrival table start x a.since a.before a.item.outcome) → x.condition ≡ None
       by_going (inl once) = once.condition ∙ ap (condition_about_serial (held_entries table start a.before)) (by_name once.against once.names)
       by_going (inr (inl more)) = more.condition
       by_going (inr (inr waits)) = waits.condition ∙ ap (condition_about_serial (held_entries table start a.before)) (by_name waits.against waits.names)
@@ -94,7 +94,7 @@ module _ (table : Table) (line : Route) (off : (policy_of table.lines line).cach
   nothing_sent start s past None (Abandon id) carries over may = may
   nothing_sent start s past None (Overdue id) carries over may = may
 
-  nothing_beside : (start : StoreAtStart) (s : ℕ) (past : List Item) (x : Option Exchange) (event : Event) → EventGoesOverLine table x event line → StoredResponseMayBeSentBeside table (held_entries table start past) (open_exchanges table start past) event s → ⊥
+  nothing_beside : (start : StoreAtStart) (s : ℕ) (past : List Item) (x : Option Exchange) (event : Event) → EventGoesOverLine table x event line → StoredMayBeSentWhileRevalidating table (held_entries table start past) (open_exchanges table start past) event s → ⊥
   nothing_beside start s past x (Arrive now id asked) over may =
       let awaits = may.2.awaits in
       no_word may.0 (same_line may.0 line (sym may.1 ∙ over)) (allowed_by (policy_of table.lines may.0) (held_entries table start past) asked now awaits.rule awaits.is_least awaits.leaves.1)
@@ -140,8 +140,8 @@ goes_forward_over_it table start first now id line asked item past g e v off =
     by_word false k is = inl (
       k,
       is
-          ∙ ap (λ (o : Option Awaited). outcome_unless_sent_beside table (held_entries table start past) line now asked
-          (sent_beside (policy_of table.lines line) (held_entries table start past) asked now o (leader_if_awaited (policy_of table.lines line) asked (exchanges_to_wait_for table line asked (open_exchanges table start past)) o))
-          (outcome_of_waiting_or_forwarding table line asked None (leader_if_awaited (policy_of table.lines line) asked (exchanges_to_wait_for table line asked (open_exchanges table start past)) o)))
+          ∙ ap (λ (o : Option Awaited). outcome_unless_stale_is_sent table (held_entries table start past) line now asked
+          (sent_while_revalidating (policy_of table.lines line) (held_entries table start past) asked now o (leader_id_if_awaited (policy_of table.lines line) asked (exchanges_to_wait_for table line asked (open_exchanges table start past)) o))
+          (outcome_of_waiting_or_forwarding table line asked None (leader_id_if_awaited (policy_of table.lines line) asked (exchanges_to_wait_for table line asked (open_exchanges table start past)) o)))
           (operator_awaits_nothing (policy_of table.lines line) (held_entries table start past) asked),
     )

@@ -8,9 +8,9 @@ use Rattle.hx_framing.specs.declared.messages.Response.{Response}
 use Rattle.hx_allow.specs.TableLines.{Table}
 use Rattle.hx_allow.specs.Matching.{policy_of}
 use Rattle.hx_store.specs.Stored.{Stored}
-use Rattle.hx_reuse.specs.Rules.{decision_of, names_chosen}
+use Rattle.hx_reuse.specs.Rules.{decision_of, is_rule_on_chosen}
 use Rattle.hx_reuse.specs.RuleNames.{reuse_rule_number}
-use Rattle.hx_reuse.specs.ChosenAndNamed.{RuleNamesTheResponse}
+use Rattle.hx_reuse.specs.ChosenAndNamed.{RuleOnChosenNamesItsSerial}
 use Rattle.hx_reuse.specs.declared.rule.ReuseRule.{ReuseRule}
 use Rattle.hx_reuse.specs.declared.rule.ReuseRule.TheVariants as rules
 use Rattle.proxy_core.specs.declared.steps.condition.Condition.{Condition}
@@ -21,13 +21,13 @@ use Rattle.proxy_core.specs.Outcomes.{outcome_of_answer}
 use Rattle.proxy_core.specs.Storing.{status_invalidates, key_invalidated}
 use Rattle.proxy_core.specs.Validating.{condition_about_serial, is_304_to_own_conditions}
 use Rattle.proxy_core.specs.Promises.{key_invalidated_by_answer}
-use Rattle.proxy_core.specs.Carrying.{ExchangeWasJudged, WentForwardOnce, WentForwardASecondTime, HasWaitedSinceItsArrival}
+use Rattle.proxy_core.specs.Carrying.{ExchangeWasJudged, ExchangeWentForwardOnce, ExchangeWentForwardASecondTime, HasWaitedSinceItsArrival}
 use Rattle.proxy_core.proofs.Moves.{and_none, key_taken_by_answer, same_key_invalidated}
 use Rattle.proxy_core.proofs.UnsafeRequests.{by_no_method}
 use Rattle.proxy_core.specs.Starts.{StoreAtStart}
 
 -- the rule of the method comes before those on the chosen response
-behind_the_method : (r : ReuseRule) → names_chosen r ≡ true → reuse_rule_number rules.Method < reuse_rule_number r
+behind_the_method : (r : ReuseRule) → is_rule_on_chosen r ≡ true → reuse_rule_number rules.Method < reuse_rule_number r
 behind_the_method rules.Operator h = absurd (false≢true h)
 behind_the_method rules.Method h = absurd (false≢true h)
 behind_the_method rules.Content h = absurd (false≢true h)
@@ -52,14 +52,14 @@ module _ (table : Table) (start : StoreAtStart) (x : Exchange) (past : List Item
   no_condition : is_among safe_methods x.asked.method ≡ false → x.condition ≡ None
   no_condition u = by_going a.went
     where
-      late : names_chosen x.rule ≡ true → ⊥
+      late : is_rule_on_chosen x.rule ≡ true → ⊥
       late h = false≢true (sym (a.rule_is_least.none_before rules.Method (behind_the_method x.rule h)) ∙ by_no_method x.asked.method u)
 
-      by_name : (against : Option ℕ) → RuleNamesTheResponse (held_entries table start a.before) x.asked x.rule against → against ≡ None
+      by_name : (against : Option ℕ) → RuleOnChosenNamesItsSerial (held_entries table start a.before) x.asked x.rule against → against ≡ None
       by_name against (inl low) = low.1
       by_name against (inr high) = absurd (late high.0)
 
-      by_going : WentForwardOnce table start x a.since a.before a.now a.item.outcome ⊎ (WentForwardASecondTime table x a.since ⊎ HasWaitedSinceItsArrival table start x a.since a.before a.item.outcome) → x.condition ≡ None
+      by_going : ExchangeWentForwardOnce table start x a.since a.before a.now a.item.outcome ⊎ (ExchangeWentForwardASecondTime table x a.since ⊎ HasWaitedSinceItsArrival table start x a.since a.before a.item.outcome) → x.condition ≡ None
       by_going (inl once) = once.condition ∙ ap (condition_about_serial (held_entries table start a.before)) (by_name once.against once.names)
       by_going (inr (inl more)) = more.condition
       by_going (inr (inr waits)) = waits.condition ∙ ap (condition_about_serial (held_entries table start a.before)) (by_name waits.against waits.names)

@@ -13,7 +13,7 @@ use Rattle.hx_reuse.specs.declared.rule.ReuseRule.TheVariants as rules
 use Rattle.hx_reuse.specs.declared.decision.Decision.TheVariants as decision
 use Rattle.hx_reuse.proofs.RuleLemmas.{by_operator, by_request}
 use Rattle.proxy_core.specs.declared.steps.fallback.Fallback.TheVariants.{Refuses}
-use Rattle.proxy_core.specs.Outcomes.{fallback_for}
+use Rattle.proxy_core.specs.Outcomes.{fallback_for_failed_answer}
 
 pub by_no_method : (m : List ℕ) → is_among safe_methods m ≡ false → not (bytes_eq m (codes "GET") || bytes_eq m (codes "HEAD")) ≡ true
 by_no_method m h = turned (bytes_eq m (codes "GET")) (bytes_eq m (codes "HEAD")) (list_any (bytes_eq m) (codes "OPTIONS" ∷ codes "TRACE" ∷ codes "QUERY" ∷ [])) h
@@ -34,7 +34,7 @@ unsafe_forwards policy es asked now u = elim (cases_Bool policy.caches) [
 ]
 
 -- so where its origin fails none is sent
-pub unsafe_refuses : (policy : Policy) (es : List Stored) (asked : Asked) (now : ℕ) → is_among safe_methods asked.method ≡ false → (rule : ReuseRule) × (fallback_for policy es asked now (decision_of policy es asked now) ≡ Refuses rule None)
+pub unsafe_refuses : (policy : Policy) (es : List Stored) (asked : Asked) (now : ℕ) → is_among safe_methods asked.method ≡ false → (rule : ReuseRule) × (fallback_for_failed_answer policy es asked now (decision_of policy es asked now) ≡ Refuses rule None)
 unsafe_refuses policy es asked now u =
     let forwards = unsafe_forwards policy es asked now u in
-    (forwards.0, ap (fallback_for policy es asked now) forwards.1)
+    (forwards.0, ap (fallback_for_failed_answer policy es asked now) forwards.1)

@@ -17,9 +17,9 @@ use Rattle.hx_allow.specs.declared.verdicts.Verdict.{Verdict}
 use Rattle.hx_allow.specs.declared.verdicts.Verdict.TheVariants as verdict
 use Rattle.hx_store.specs.Stored.{Stored}
 use Rattle.hx_store.specs.Serials.{serial_is_in}
-use Rattle.hx_store.specs.Shelf.{holds_serial, find_entry, serials_of, serials_where}
+use Rattle.hx_store.specs.Shelf.{holds_serial, find_entry, serials_of_key, serials_of_entries_that_pass}
 use Rattle.hx_store.proofs.PassingEntries.{of_the_key}
-use Rattle.hx_store.specs.Recency.{is_that_serial, stores_or_uses}
+use Rattle.hx_store.specs.Recency.{option_is_serial, stores_or_uses}
 use Rattle.hx_store.proofs.Recency.{is_in-after}
 use Rattle.hx_store.proofs.EntryLists.{find-serial, find_holds}
 use Rattle.hx_storable.specs.declared.rule.StoreRule.TheVariants.{Operator, Method, Overtaken}
@@ -41,16 +41,16 @@ use Rattle.proxy_core.specs.declared.event.Event.TheVariants.{Arrive, Answer, Fa
 use Rattle.proxy_core.specs.Validating.{condition_about_serial, is_304_to_own_conditions, stored_response_is_answered, stored_response_validated, freshened_by_304}
 use Rattle.proxy_core.specs.Storing.{storing_rule_to_explain, storing_facts_of_answer, is_storable, is_304_without_condition, answer_invalidates, key_invalidated}
 use Rattle.proxy_core.specs.Leading.{is_forwarded}
-use Rattle.proxy_core.specs.Outcomes.{find_exchange, exchange_id_of_event, outcome_of_arrival, outcome_of_allowed_request, outcome_of_waiting_or_forwarding, outcome_without_stored_response, outcome_of_wake, fault_at_exchange, is_only_if_cached, fallback_for, outcome_of_failure, is_error_status, outcome_of_passing_on, outcome_of_passing_on_or_stale, serials_removed_by_answer, serial_of_stored_answer, outcome_of_304, outcome_of_answer, outcome_of}
-use Rattle.hx_allow.specs.PurgeModes.{mode_to_purge}
+use Rattle.proxy_core.specs.Outcomes.{find_exchange, exchange_id_of_event, outcome_of_arrival, outcome_of_allowed_request, outcome_of_waiting_or_forwarding, outcome_without_stored_response, outcome_of_wake, fault_at_exchange, is_only_if_cached, fallback_for_failed_answer, outcome_of_failure, is_error_status, outcome_of_passing_on, outcome_of_passing_on_or_stale, serials_removed_by_answer, serial_of_stored_answer, outcome_of_304, outcome_of_answer, outcome_for_exchange}
+use Rattle.hx_allow.specs.PurgeModes.{purge_mode_or_remove}
 use Rattle.hx_allow.specs.declared.purge_modes.PurgeMode.{PurgeMode}
 use Rattle.hx_allow.specs.declared.purge_modes.PurgeMode.TheVariants.{Remove, Stale}
-use Rattle.proxy_core.specs.Scopes.{Scope, scope_takes, target_alone, scope_of_purge, serials_purged, serials_within, serials_to_remove, removed_in_mode, scope_if_removing}
+use Rattle.proxy_core.specs.Scopes.{Scope, scope_includes_response, scope_of_target_alone, scope_of_purge, serials_purged_by_request, serials_within_scope, serials_to_remove, serials_removed_in_mode, scope_if_removing}
 use Rattle.proxy_core.specs.State.{State, serials_expired_by_outcome, outcome_purges, scope_purged, serial_stored_by_outcome, serial_used_by_outcome, serials_removed_by_outcome, next_serial_after, serial_after_this, stored_response_by_answer, stored_response_as_used, bounds_of, NoSerialIsHeldFrom}
-use Rattle.proxy_core.specs.Starts.{StoreAtStart, StartStands}
+use Rattle.proxy_core.specs.Starts.{StoreAtStart, StartIsValid}
 use Rattle.proxy_core.specs.Traces.{Item, initial_state, state_after_trace, IsGood}
-use Rattle.proxy_core.specs.Histories.{response_if_any_after_expiring, held_serials, held_entry, lines_held, lines_if_any, store_change_of, exchanges_and_responses_after}
-use Rattle.proxy_core.specs.Promises.{scope_invalidated_of, reply_uses_no_stored_response, is_overtaken_key, overtakes_key, NoItemOvertakes, is_invalidated_response, invalidates_response, NoItemInvalidates, NothingInvalidatedIsSent, NothingInvalidatedSinceTheStartIsSent}
+use Rattle.proxy_core.specs.Histories.{response_if_any_after_expiring, held_serials, held_entry, fields_of_held_response, fields_of_response_if_any, store_change_of, exchanges_and_responses_after}
+use Rattle.proxy_core.specs.Promises.{scope_invalidated_of, reply_uses_no_stored_response, is_overtaken_key, item_overtakes_key, NoItemOvertakesKey, is_invalidated_response, invalidates_response, NoItemInvalidatesResponse, NothingInvalidatedIsSent, NothingInvalidatedSinceTheStartIsSent}
 use Rattle.proxy_core.proofs.SentBeside.{led_over, sent_over, unless_sent}
 use Rattle.proxy_core.proofs.Storable.{none_of}
 use Rattle.proxy_core.proofs.Leaving.{key_stays}
@@ -158,24 +158,24 @@ module _ (table : Table) (es : List Stored) (now i : ℕ) (x : Exchange) (r : Re
   stored_answer : (d : Decision) → serial_stored_by_outcome (outcome_of_answer table es now x r next d) ≡ Some s → Storing table (Some x) (Answer now i r) next s
   stored_answer d h = by_304 (is_304_to_own_conditions x r) h
     where
-      by_unasked : (b : Bool) → serial_stored_by_outcome (cond b (outcome_of_failure table es now x BadAnswer (Some r.status) (fallback_for (policy_of table.lines x.line) es x.asked now d))
-          (outcome_of_passing_on_or_stale table es now x r next (is_error_status r.status) (fallback_for (policy_of table.lines x.line) es x.asked now d))) ≡ Some s → Storing table (Some x) (Answer now i r) next s
-      by_unasked true h = absurd (stored_failure table es now x BadAnswer (Some r.status) (fallback_for (policy_of table.lines x.line) es x.asked now d) s h)
-      by_unasked false h = stored_unless (is_error_status r.status) (fallback_for (policy_of table.lines x.line) es x.asked now d) h
+      by_unasked : (b : Bool) → serial_stored_by_outcome (cond b (outcome_of_failure table es now x BadAnswer (Some r.status) (fallback_for_failed_answer (policy_of table.lines x.line) es x.asked now d))
+          (outcome_of_passing_on_or_stale table es now x r next (is_error_status r.status) (fallback_for_failed_answer (policy_of table.lines x.line) es x.asked now d))) ≡ Some s → Storing table (Some x) (Answer now i r) next s
+      by_unasked true h = absurd (stored_failure table es now x BadAnswer (Some r.status) (fallback_for_failed_answer (policy_of table.lines x.line) es x.asked now d) s h)
+      by_unasked false h = stored_unless (is_error_status r.status) (fallback_for_failed_answer (policy_of table.lines x.line) es x.asked now d) h
 
       by_304 : (b : Bool) → serial_stored_by_outcome (cond b (outcome_of_304 table es now x r (stored_response_validated es x r now) d)
-          (cond (is_304_without_condition (policy_of table.lines x.line) x.asked r) (outcome_of_failure table es now x BadAnswer (Some r.status) (fallback_for (policy_of table.lines x.line) es x.asked now d))
-          (outcome_of_passing_on_or_stale table es now x r next (is_error_status r.status) (fallback_for (policy_of table.lines x.line) es x.asked now d)))) ≡ Some s → Storing table (Some x) (Answer now i r) next s
+          (cond (is_304_without_condition (policy_of table.lines x.line) x.asked r) (outcome_of_failure table es now x BadAnswer (Some r.status) (fallback_for_failed_answer (policy_of table.lines x.line) es x.asked now d))
+          (outcome_of_passing_on_or_stale table es now x r next (is_error_status r.status) (fallback_for_failed_answer (policy_of table.lines x.line) es x.asked now d)))) ≡ Some s → Storing table (Some x) (Answer now i r) next s
       by_304 true h = absurd (stored_304 table es now x r (stored_response_validated es x r now) d s h)
       by_304 false h = by_unasked (is_304_without_condition (policy_of table.lines x.line) x.asked r) h
 
 pub storing_of : (table : Table) (es : List Stored) (xs : List Exchange) (w : Option Exchange) (next : Option ℕ) (event : Event) (s : ℕ) →
-    serial_stored_by_outcome (outcome_of table es xs w next event) ≡ Some s → Storing table w event next s
+    serial_stored_by_outcome (outcome_for_exchange table es xs w next event) ≡ Some s → Storing table w event next s
 storing_of table es xs w next (Arrive now i asked) s h = absurd (stored_arrival table es xs now asked (verdict_of_asked table asked) s h)
 storing_of table es xs None next (Answer now i r) s h = absurd (none_stored s h)
 storing_of table es xs (Some z) next (Answer now i r) s h = stored_answer table es now i z r next s (decision_of (policy_of table.lines z.line) es z.asked now) h
 storing_of table es xs None next (Fail now i kind) s h = absurd (none_stored s h)
-storing_of table es xs (Some z) next (Fail now i kind) s h = absurd (stored_failure table es now z kind None (fallback_for (policy_of table.lines z.line) es z.asked now (decision_of (policy_of table.lines z.line) es z.asked now)) s h)
+storing_of table es xs (Some z) next (Fail now i kind) s h = absurd (stored_failure table es now z kind None (fallback_for_failed_answer (policy_of table.lines z.line) es z.asked now (decision_of (policy_of table.lines z.line) es z.asked now)) s h)
 storing_of table es xs None next (Wake now i) s h = absurd (none_stored s h)
 storing_of table es xs (Some z) next (Wake now i) s h = absurd (stored_wake (decision_of (policy_of table.lines z.line) es z.asked now) h)
   where
@@ -209,7 +209,7 @@ key_parts x r k h = by_test (answer_invalidates x r) h
 -- where the rest is as it should be, the answer is passed on
 passed_at : (table : Table) (es : List Stored) (now : ℕ) (x : Exchange) (r : Response) (next : Option ℕ) (d : Decision) (v n e : Bool) → v ≡ false → n ≡ false → e ≡ false →
     cond v (outcome_of_304 table es now x r (stored_response_validated es x r now) d)
-    (cond n (outcome_of_failure table es now x BadAnswer (Some r.status) (fallback_for (policy_of table.lines x.line) es x.asked now d)) (outcome_of_passing_on_or_stale table es now x r next e (fallback_for (policy_of table.lines x.line) es x.asked now d)))
+    (cond n (outcome_of_failure table es now x BadAnswer (Some r.status) (fallback_for_failed_answer (policy_of table.lines x.line) es x.asked now d)) (outcome_of_passing_on_or_stale table es now x r next e (fallback_for_failed_answer (policy_of table.lines x.line) es x.asked now d)))
     ≡ outcome_of_passing_on table es now x r (storing_rule_to_explain table x r now next) (serial_of_stored_answer table x r now next)
 passed_at table es now x r next d true n e hv hn he = absurd (false≢true (sym hv))
 passed_at table es now x r next d false true e hv hn he = absurd (false≢true (sym hn))
@@ -223,7 +223,7 @@ failed_at validated failed passed false true hv hn = refl
 failed_at validated failed passed false false hv hn = absurd (false≢true hn)
 
 answer_removes : (table : Table) (es : List Stored) (now : ℕ) (x : Exchange) (r : Response) (next : Option ℕ) (k : Key) →
-    key_invalidated x r ≡ Some k → serials_removed_by_outcome (outcome_of_answer table es now x r next (decision_of (policy_of table.lines x.line) es x.asked now)) ≡ serials_of k es
+    key_invalidated x r ≡ Some k → serials_removed_by_outcome (outcome_of_answer table es now x r next (decision_of (policy_of table.lines x.line) es x.asked now)) ≡ serials_of_key k es
 answer_removes table es now x r next k h =
     let d = decision_of (policy_of table.lines x.line) es x.asked now in
     let c = nat_le 200 r.status && nat_le r.status 399 in
@@ -233,12 +233,12 @@ answer_removes table es now x r next k h =
       | inl u ↦ (
           let refuses = unsafe_refuses (policy_of table.lines x.line) es x.asked now (turned (is_among safe_methods x.asked.method) t.unsafe) in
           ap serials_removed_by_outcome (failed_at (outcome_of_304 table es now x r (stored_response_validated es x r now) d)
-          (outcome_of_failure table es now x BadAnswer (Some r.status) (fallback_for (policy_of table.lines x.line) es x.asked now d))
-          (outcome_of_passing_on_or_stale table es now x r next (is_error_status r.status) (fallback_for (policy_of table.lines x.line) es x.asked now d)) (is_304_to_own_conditions x r) (is_304_without_condition (policy_of table.lines x.line) x.asked r) t.no_validation u)
+          (outcome_of_failure table es now x BadAnswer (Some r.status) (fallback_for_failed_answer (policy_of table.lines x.line) es x.asked now d))
+          (outcome_of_passing_on_or_stale table es now x r next (is_error_status r.status) (fallback_for_failed_answer (policy_of table.lines x.line) es x.asked now d)) (is_304_to_own_conditions x r) (is_304_without_condition (policy_of table.lines x.line) x.asked r) t.no_validation u)
           ∙ ap (λ (o : Fallback). serials_removed_by_outcome (outcome_of_failure table es now x BadAnswer (Some r.status) o)) refuses.1
-          ∙ ap (λ b. cond (b && c) (serials_of x.asked.target.key es) []) t.unsafe
-          ∙ ap (λ b. cond b (serials_of x.asked.target.key es) []) t.no_error
-          ∙ ap (λ key. serials_of key es) p.1
+          ∙ ap (λ b. cond (b && c) (serials_of_key x.asked.target.key es) []) t.unsafe
+          ∙ ap (λ b. cond b (serials_of_key x.asked.target.key es) []) t.no_error
+          ∙ ap (λ key. serials_of_key key es) p.1
           )
       | inr f ↦ (
           let fine : is_error_status r.status ≡ false = false_from_ne_true _ (λ e. false≢true (sym (error_is_none r.status e) ∙ t.no_error)) in
@@ -247,8 +247,8 @@ answer_removes table es now x r next k h =
           false≢true (sym (ap not plain.safe) ∙ t.unsafe)) in
           ap serials_removed_by_outcome (passed_at table es now x r next d (is_304_to_own_conditions x r) (is_304_without_condition (policy_of table.lines x.line) x.asked r) (is_error_status r.status) t.no_validation f fine)
           ∙ ap (λ b. serials_removed_by_answer es x r (cond b next None)) unstored
-          ∙ ap (λ b. cond b (serials_of x.asked.target.key es) []) p.0
-          ∙ ap (λ key. serials_of key es) p.1
+          ∙ ap (λ b. cond b (serials_of_key x.asked.target.key es) []) p.0
+          ∙ ap (λ key. serials_of_key key es) p.1
           )
     ]
   where
@@ -276,17 +276,17 @@ removing_parts : (mode : PurgeMode) (o : Option Scope) (k : Scope) → scope_if_
 removing_parts Remove o k h = (refl, h)
 removing_parts Stale o k h = absurd (cc)
 
-scope_of_some : (o : Option Key) (k : Scope) → option_map target_alone o ≡ Some k → (key : Key) × (o ≡ Some key) × (target_alone key ≡ k)
+scope_of_some : (o : Option Key) (k : Scope) → option_map scope_of_target_alone o ≡ Some k → (key : Key) × (o ≡ Some key) × (scope_of_target_alone key ≡ k)
 scope_of_some None k h = absurd (cc)
-scope_of_some (Some key) k h = (key, refl, same_Some (target_alone key) k h)
+scope_of_some (Some key) k h = (key, refl, same_Some (scope_of_target_alone key) k h)
 
 removes_scope : (table : Table) (es : List Stored) (xs : List Exchange) (w : Option Exchange) (next : Option ℕ) (event : Event) (o : Outcome) (k : Scope) →
-    o ≡ outcome_of table es xs w next event → scope_invalidated_of event (key_taken_by_step (asked_of w) event o) ≡ Some k → serials_removed_by_outcome o ≡ serials_within k es
+    o ≡ outcome_for_exchange table es xs w next event → scope_invalidated_of event (key_taken_by_step (asked_of w) event o) ≡ Some k → serials_removed_by_outcome o ≡ serials_within_scope k es
 removes_scope table es xs w next (Arrive now i asked) o k e h =
-    let removing = removing_parts (mode_to_purge asked.fields) (scope_purged asked o) k h in
+    let removing = removing_parts (purge_mode_or_remove asked.fields) (scope_purged asked o) k h in
     let there = purged_parts asked o k removing.1 in
     ap serials_removed_by_outcome e ∙ purge_removes table es xs now asked (verdict_of_asked table asked) (sym (ap outcome_purges e) ∙ there.0)
-    ∙ ap (λ mode. removed_in_mode mode (serials_purged asked es)) removing.0 ∙ ap (λ (scope : Scope). serials_within scope es) there.1
+    ∙ ap (λ mode. serials_removed_in_mode mode (serials_purged_by_request asked es)) removing.0 ∙ ap (λ (scope : Scope). serials_within_scope scope es) there.1
 removes_scope table es xs None next (Answer now i r) o k e h = absurd (cc)
 removes_scope table es xs None next (Fail now i kind) o k e h = absurd (cc)
 removes_scope table es xs None next (Wake now i) o k e h = absurd (cc)
@@ -297,7 +297,7 @@ removes_scope table es xs (Some z) next (Answer now i r) o k e h =
     ap serials_removed_by_outcome e
     ∙ answer_removes table es now z r next named.0 (same_key_invalidated table es now z r next ∙ ap (key_taken_by_answer z.asked r) (sym e) ∙ named.1)
     ∙ sym (of_the_key named.0 es)
-    ∙ ap (λ (scope : Scope). serials_within scope es) named.2
+    ∙ ap (λ (scope : Scope). serials_within_scope scope es) named.2
 removes_scope table es xs (Some z) next (Fail now i kind) o k e h = absurd (cc)
 removes_scope table es xs (Some z) next (Wake now i) o k e h = absurd (cc)
 removes_scope table es xs (Some z) next (Abandon i) o k e h = absurd (cc)
@@ -322,32 +322,32 @@ below_first s n es h m = elim (cases_Bool (leb n s)) [
 
 -- what an item does to a serial stored before it
 record Older (s : ℕ) (next st us : Option ℕ) (es : List Stored) : Type 0 where
-  not_stored : is_that_serial st s ≡ false
+  not_stored : option_is_serial st s ≡ false
   below : Below s (next_serial_after next st)
-  used_held : is_that_serial us s ≡ true → holds_serial s es ≡ true
+  used_held : option_is_serial us s ≡ true → holds_serial s es ≡ true
 
 older : (s : ℕ) (es : List Stored) (x : Option Exchange) (event : Event) (next st us : Option ℕ) (rm : List ℕ) → Kind es x event next st us rm → Below s next →
     Older s next st us es
 unfolding Below
 older s es x event next st us rm (idle a b) l = record {
-  not_stored = ap (λ o. is_that_serial o s) a;
+  not_stored = ap (λ o. option_is_serial o s) a;
   below = subst (λ o. Below s (next_serial_after next o)) (sym a) l;
-  used_held = λ t. absurd (false≢true (sym (ap (λ o. is_that_serial o s) b) ∙ t));
+  used_held = λ t. absurd (false≢true (sym (ap (λ o. option_is_serial o s) b) ∙ t));
 }
 older s es x event next st us rm (uses t e a b f) l = record {
-  not_stored = ap (λ o. is_that_serial o s) a;
+  not_stored = ap (λ o. option_is_serial o s) a;
   below = subst (λ o. Below s (next_serial_after next o)) (sym a) l;
   used_held = λ u.
-      let same : t ≡ s = eqb-true t s (sym (ap (λ o. is_that_serial o s) b) ∙ u) in
+      let same : t ≡ s = eqb-true t s (sym (ap (λ o. option_is_serial o s) b) ∙ u) in
       ap (λ z. holds_serial z es) (sym (find-serial t es e f ∙ same)) ∙ find_holds t es e f;
 }
 older s es x event next st us rm (stores t e a b q f k off) l =
     let n : s < t = subst (Below s) q l in
     let apart : eqb t s ≡ false = grind (arith, nat_tests) in
     record {
-      not_stored = ap (λ o. is_that_serial o s) a ∙ apart;
+      not_stored = ap (λ o. option_is_serial o s) a ∙ apart;
       below = subst (λ o. Below s (next_serial_after next o)) (sym a) (below_next s t (omega arith));
-      used_held = λ u. absurd (false≢true (sym (ap (λ o. is_that_serial o s) b) ∙ u));
+      used_held = λ u. absurd (false≢true (sym (ap (λ o. option_is_serial o s) b) ∙ u));
     }
 
 key_of : Option Stored → Option Key
@@ -372,12 +372,12 @@ used_key (Some x) (Wake now id) e = refl
 used_key (Some x) (Abandon id) e = refl
 used_key (Some x) (Overdue id) e = refl
 
-key_kept : (x : Option Exchange) (event : Event) (st us : Option ℕ) (look : ℕ → Option Stored) (s : ℕ) → is_that_serial st s ≡ false →
+key_kept : (x : Option Exchange) (event : Event) (st us : Option ℕ) (look : ℕ → Option Stored) (s : ℕ) → option_is_serial st s ≡ false →
     key_of (look_after x event st us look s) ≡ key_of (look s)
 unfolding key_of
 key_kept x event st us look s n =
-    ap (λ b. key_of (cond b (stored_response_by_answer x event s) (cond (is_that_serial us s) (option_map (stored_response_as_used x event) (look s)) (look s)))) n
-    ∙ elim (is_that_serial us s) as (λ b. key_of (cond b (option_map (stored_response_as_used x event) (look s)) (look s)) ≡ key_of (look s)) [
+    ap (λ b. key_of (cond b (stored_response_by_answer x event s) (cond (option_is_serial us s) (option_map (stored_response_as_used x event) (look s)) (look s)))) n
+    ∙ elim (option_is_serial us s) as (λ b. key_of (cond b (option_map (stored_response_as_used x event) (look s)) (look s)) ≡ key_of (look s)) [
       | true ↦ form (look s)
       | false ↦ refl
     ]
@@ -409,11 +409,11 @@ module _ (table : Table) (start : StoreAtStart) (first : ℕ) where
       sym (is_in-after s item before) ∙ held_before_cut table start i past s m
       in
       let stays : not (serial_is_in s (serials_removed_by_outcome i.outcome)) ≡ true = and_right (stores_or_uses item s || serial_is_in s before) (not (serial_is_in s (serials_removed_by_outcome i.outcome))) inside in
-      let came : ((is_that_serial (serial_stored_by_outcome i.outcome) s || is_that_serial (serial_used_by_outcome i.outcome) s) || serial_is_in s before) ≡ true = and_left _ _ inside in
+      let came : ((option_is_serial (serial_stored_by_outcome i.outcome) s || option_is_serial (serial_used_by_outcome i.outcome) s) || serial_is_in s before) ≡ true = and_left _ _ inside in
       let was : serial_is_in s before ≡ true =
-      elim (cases_Bool (is_that_serial (serial_used_by_outcome i.outcome) s)) [
+      elim (cases_Bool (option_is_serial (serial_used_by_outcome i.outcome) s)) [
         | inl u ↦ sym (ap (serial_is_in s) p.serials_are) ∙ d.used_held u
-        | inr n ↦ sym (ap (λ b. (b || is_that_serial (serial_used_by_outcome i.outcome) s) || serial_is_in s before) d.not_stored ∙ ap (λ b. b || serial_is_in s before) n) ∙ came
+        | inr n ↦ sym (ap (λ b. (b || option_is_serial (serial_used_by_outcome i.outcome) s) || serial_is_in s before) d.not_stored ∙ ap (λ b. b || serial_is_in s before) n) ∙ came
       ]
       in
       let f = held_found s es (ap (serial_is_in s) p.serials_are ∙ was) in
@@ -421,23 +421,23 @@ module _ (table : Table) (start : StoreAtStart) (first : ℕ) where
       let its_key : f.0.key ≡ k = same_Some f.0.key k (ap key_of (sym held_is) ∙ q) in
       record {
         held_before = was;
-        clean = ap (λ o. is_invalidated_response (scope_invalidated_of i.event o) k (lines_held table start past s)) (same_key_of_step table start first i past g)
+        clean = ap (λ o. is_invalidated_response (scope_invalidated_of i.event o) k (fields_of_held_response table start past s)) (same_key_of_step table start first i past g)
             ∙ false_from_ne_true _ (λ t.
             let named = gone_key (scope_invalidated_of i.event (key_taken_by_step (asked_of w) i.event i.outcome)) t in
-            let r : serials_removed_by_outcome i.outcome ≡ serials_within named.0 es = removes_scope table es st.exchanges w st.next i.event i.outcome named.0 g.0.outcome_is named.1 in
-            let there = some_passing (λ (e : Stored). scope_takes named.0 e.key e.fields) s es f.0 f.1
-            (ap (λ key. scope_takes named.0 key f.0.fields) its_key ∙ (ap (λ (o : Option Stored). scope_takes named.0 k (lines_if_any o)) (sym held_is) ∙ named.2)) in
+            let r : serials_removed_by_outcome i.outcome ≡ serials_within_scope named.0 es = removes_scope table es st.exchanges w st.next i.event i.outcome named.0 g.0.outcome_is named.1 in
+            let there = some_passing (λ (e : Stored). scope_includes_response named.0 e.key e.fields) s es f.0 f.1
+            (ap (λ key. scope_includes_response named.0 key f.0.fields) its_key ∙ (ap (λ (o : Option Stored). scope_includes_response named.0 k (fields_of_response_if_any o)) (sym held_is) ∙ named.2)) in
             false≢true (sym (ap not (ap (serial_is_in s) r ∙ there)) ∙ stays));
       }
     where
-      gone_key : (o : Option Scope) → is_invalidated_response o k (lines_held table start past s) ≡ true → (gone : Scope) × (o ≡ Some gone) × (scope_takes gone k (lines_held table start past s) ≡ true)
+      gone_key : (o : Option Scope) → is_invalidated_response o k (fields_of_held_response table start past s) ≡ true → (gone : Scope) × (o ≡ Some gone) × (scope_includes_response gone k (fields_of_held_response table start past s) ≡ true)
       gone_key None t = absurd (false≢true t)
       gone_key (Some gone) t = (gone, refl, t)
 
   record Since (s : ℕ) (k : Key) (storing : Item) (past items : List Item) : Type 0 where
     below : Below s (state_after_trace (initial_state table start first) (items ++ storing ∷ past)).next
     key : key_of (held_entry table start (items ++ storing ∷ past) s) ≡ Some k
-    clean : serial_is_in s (held_serials table start (items ++ storing ∷ past)) ≡ true → NoItemInvalidates table start s k items (storing ∷ past)
+    clean : serial_is_in s (held_serials table start (items ++ storing ∷ past)) ≡ true → NoItemInvalidatesResponse table start s k items (storing ∷ past)
 
   since : (s : ℕ) (k : Key) (storing : Item) (past : List Item) (items : List Item) → IsGood (initial_state table start first) (items ++ storing ∷ past) →
       Since s k storing past [] → Since s k storing past items
@@ -462,7 +462,7 @@ module _ (table : Table) (start : StoreAtStart) (first : ℕ) where
   record SinceStart (s : ℕ) (k : Key) (items : List Item) : Type 0 where
     below : Below s (state_after_trace (initial_state table start first) items).next
     key : key_of (held_entry table start items s) ≡ Some k
-    clean : serial_is_in s (held_serials table start items) ≡ true → NoItemInvalidates table start s k items []
+    clean : serial_is_in s (held_serials table start items) ≡ true → NoItemInvalidatesResponse table start s k items []
 
   since_start : (s : ℕ) (k : Key) (items : List Item) → IsGood (initial_state table start first) items → SinceStart s k [] → SinceStart s k items
   since_start s k [] g b = b
@@ -482,7 +482,7 @@ module _ (table : Table) (start : StoreAtStart) (first : ℕ) where
       }
 
   -- what is held at first has a serial below the first that is given
-  held_since_start : (s : ℕ) (e : Stored) → StartStands (bounds_of table start.limit) (Some first) start.entries → find_entry s start.entries ≡ Some e → SinceStart s e.key []
+  held_since_start : (s : ℕ) (e : Stored) → StartIsValid (bounds_of table start.limit) (Some first) start.entries → find_entry s start.entries ≡ Some e → SinceStart s e.key []
   unfolding key_of
   held_since_start s e h f = record {
     below = below_first s first start.entries h.below_next (ap (λ z. holds_serial z start.entries) (sym (find-serial s start.entries e f)) ∙ find_holds s start.entries e f);
@@ -496,8 +496,8 @@ module _ (table : Table) (start : StoreAtStart) (first : ℕ) where
     w_is : find_exchange (exchange_id_of_event storing.event) (state_after_trace (initial_state table start first) past).exchanges ≡ Some z
     stage : z.stage ≡ Forwarded
     in_time : z.overtaken ≡ false
-    since_then : Since s z.asked.target.key storing past []
-    clean : (k : Key) → overtakes_key k storing past ≡ false
+    no_forward_since : Since s z.asked.target.key storing past []
+    clean : (k : Key) → item_overtakes_key k storing past ≡ false
 
   stored_is : (s : ℕ) (storing : Item) (past : List Item) → IsGood (initial_state table start first) (storing ∷ past) → serial_stored_by_outcome storing.outcome ≡ Some s → Known s storing past
   unfolding key_of
@@ -518,11 +518,11 @@ module _ (table : Table) (start : StoreAtStart) (first : ℕ) where
         w_is = d.w_is;
         stage = out_stage z.stage (forwarded_by (moment_too_late_fault d.now) z.stage (sym (ap (λ (w : Option Exchange). fault_at_exchange w (Answer d.now d.i d.r)) d.w_is) ∙ (ap (λ (v : Event). fault_at_exchange w v) (sym d.event_is) ∙ g.0.allowed)));
         in_time = d.plain.in_time;
-        since_then = record {
+        no_forward_since = record {
           below = subst (Below s) (sym (ap (λ o. next_serial_after st.next o) e)) (below_next s s (omega arith));
           key = key_of_expired storing.event (serials_expired_by_outcome storing.outcome) _
-              ∙ ap key_of (ap (λ o. cond (is_that_serial o s) (stored_response_by_answer v storing.event s) (cond (is_that_serial (serial_used_by_outcome storing.outcome) s) (option_map (stored_response_as_used v storing.event) (look s)) (look s))) e
-              ∙ ap (λ b. cond b (stored_response_by_answer v storing.event s) (cond (is_that_serial (serial_used_by_outcome storing.outcome) s) (option_map (stored_response_as_used v storing.event) (look s)) (look s))) (eq-eqb s s refl)
+              ∙ ap key_of (ap (λ o. cond (option_is_serial o s) (stored_response_by_answer v storing.event s) (cond (option_is_serial (serial_used_by_outcome storing.outcome) s) (option_map (stored_response_as_used v storing.event) (look s)) (look s))) e
+              ∙ ap (λ b. cond b (stored_response_by_answer v storing.event s) (cond (option_is_serial (serial_used_by_outcome storing.outcome) s) (option_map (stored_response_as_used v storing.event) (look s)) (look s))) (eq-eqb s s refl)
               ∙ ap (λ x. stored_response_by_answer x storing.event s) x_seen
               ∙ ap (λ v. stored_response_by_answer (Some z) v s) d.event_is);
           clean = λ m. tt;
@@ -530,7 +530,7 @@ module _ (table : Table) (start : StoreAtStart) (first : ℕ) where
         clean = λ k. ap (λ o. is_overtaken_key o k) (same_key_of_step table start first storing past g
             ∙ ap (λ x. key_taken_by_step (asked_of x) storing.event storing.outcome) d.w_is
             ∙ ap (λ v. key_taken_by_step (Some z.asked) v storing.outcome) d.event_is
-            ∙ ap (option_map target_alone) (no_key z.asked.target.key (not (is_among safe_methods z.asked.method)) ((nat_le 200 d.r.status && nat_le d.r.status 399) && reply_uses_no_stored_response storing.outcome) safe));
+            ∙ ap (option_map scope_of_target_alone) (no_key z.asked.target.key (not (is_among safe_methods z.asked.method)) ((nat_le 200 d.r.status && nat_le d.r.status 399) && reply_uses_no_stored_response storing.outcome) safe));
       }
     where
       no_key : (key : Key) (u rest : Bool) → u ≡ false → cond (u && rest) (Some key) None ≡ None
@@ -560,18 +560,18 @@ nothing_invalidated_is_sent table start first trace g later middle between befor
     let o = out_since table start first f before (exchange_id_of_event storing.event) between at_storing.1 forward same none d.z d.w_is d.stage in
     let st = state_after_trace (initial_state table start first) (middle ++ storing ∷ base) in
     let p = stands_for table start first (middle ++ storing ∷ base) at_sending.1 in
-    let i = since table start first s d.z.asked.target.key storing base middle at_sending.1 d.since_then in
+    let i = since table start first s d.z.asked.target.key storing base middle at_sending.1 d.no_forward_since in
     let held : serial_is_in s (held_serials table start (middle ++ storing ∷ base)) ≡ true =
     sym (ap (serial_is_in s) p.serials_are)
     ∙ sent_held st.entries _ sending.event st.next _ _ _ s (kind_in table st sending p.fresh at_sending.0) used
     in
-    subst (λ (r : Asked). NoItemInvalidates table start s r.target.key middle (storing ∷ base) × NoItemOvertakes r.target.key (storing ∷ between) (f ∷ before))
+    subst (λ (r : Asked). NoItemInvalidatesResponse table start s r.target.key middle (storing ∷ base) × NoItemOvertakesKey r.target.key (storing ∷ between) (f ∷ before))
     (same_Some d.z.asked asked (sym o.0 ∙ ask))
     (i.clean held, (d.clean d.z.asked.target.key, none_of_some d.z.asked.target.key between (f ∷ before) (sym o.1 ∙ d.in_time)))
 
 -- ---- from the start to the sending
 
-begun : (start : State) (trace : List Item) → IsGood start trace → StartStands (bounds_of start.table start.limit) start.next start.entries
+begun : (start : State) (trace : List Item) → IsGood start trace → StartIsValid (bounds_of start.table start.limit) start.next start.entries
 begun start [] g = g
 begun start (i ∷ past) g = begun start past g.1
 

@@ -20,10 +20,10 @@ use Rattle.proxy_core.specs.declared.open.stage.Stage.{Stage}
 use Rattle.proxy_core.specs.declared.open.stage.Stage.TheVariants.{Forwarded, Waiting, Released}
 use Rattle.proxy_core.specs.declared.open.wait_index.WaitIndex.{WaitIndex}
 use Rattle.proxy_core.specs.Leading.{is_forwarded, waits_for}
-use Rattle.proxy_core.specs.Scopes.{Scope, is_in_scope}
+use Rattle.proxy_core.specs.Scopes.{Scope, key_is_in_scope}
 use Rattle.proxy_core.specs.State.{released_exchange, overtaken_exchange}
-use Rattle.proxy_core.specs.Waiters.{is_in_wait_index, WaiterIsEntered, WaiterHasLeft, WaitersAreTakenOut, IsSameWaitIndex, IsNotInWaitIndex, SetHasMembers, HasNoEmptyWaiterSets, HasNoOtherEmptyWaiterSets}
-use Rattle.proxy_core.specs.Arrivals.{map_exchanges, HaveDistinctArrivalsAndIds, SelectedArrivalsPass, IsExactIndexOfSelected, WaitingArrivalsPass}
+use Rattle.proxy_core.specs.Waiters.{is_in_wait_index, WaiterIsEntered, WaiterIsRemoved, WaitersAreRemoved, WaitIndexesHaveSameMembers, ArrivalIsNotInWaitIndex, SetIsNotEmpty, WaitIndexHasNoEmptySet, OtherIdsHaveNoEmptyWaiterSet}
+use Rattle.proxy_core.specs.Arrivals.{map_exchanges, HaveDistinctArrivalsAndIds, SelectedArrivalsPassTest, IsExactIndexOfSelected, WaitingArrivalsPassTest}
 use Rattle.proxy_core.proofs.ExchangeLists.{cond_none}
 use Rattle.proxy_core.proofs.Indexed.{lookup-removed, lookup-set, not_indexed, indexes-entered, indexes-left, indexes-on_all}
 
@@ -38,12 +38,12 @@ at_is n k = grind (arith, nat_tests)
 
 -- ---- other tests
 
-pub pass-more : (which : Exchange → Bool) (p q : ℕ → Bool) (es : Numbered) → ((m : ℕ) → p m ≡ true → q m ≡ true) → SelectedArrivalsPass which p es → SelectedArrivalsPass which q es
+pub pass-more : (which : Exchange → Bool) (p q : ℕ → Bool) (es : Numbered) → ((m : ℕ) → p m ≡ true → q m ≡ true) → SelectedArrivalsPassTest which p es → SelectedArrivalsPassTest which q es
 pass-more which p q [] k h = tt
 pass-more which p q (e ∷ es) k h = (λ w. k e.0 (h.0 w), pass-more which p q es k h.1)
 
 -- of a number that none has the test may say what it will
-pub pass-but : (which : Exchange → Bool) (n : ℕ) (p q : ℕ → Bool) (es : Numbered) → lookup (at n) es ≡ None → ((m : ℕ) → eqb n m ≡ false → p m ≡ true → q m ≡ true) → SelectedArrivalsPass which p es → SelectedArrivalsPass which q es
+pub pass-but : (which : Exchange → Bool) (n : ℕ) (p q : ℕ → Bool) (es : Numbered) → lookup (at n) es ≡ None → ((m : ℕ) → eqb n m ≡ false → p m ≡ true → q m ≡ true) → SelectedArrivalsPassTest which p es → SelectedArrivalsPassTest which q es
 pass-but which n p q [] none k h = tt
 pass-but which n p q (e ∷ es) none k h =
     let c = cond_none (at n e.0) e.1 (lookup (at n) es) none in
@@ -58,24 +58,24 @@ none_has n (e ∷ es) h =
 
 -- ---- opening and closing
 
-pub pass-opened : (which : Exchange → Bool) (n : ℕ) (x : Exchange) (p : ℕ → Bool) (es : Numbered) → (which x ≡ true → p n ≡ true) → SelectedArrivalsPass which p es → SelectedArrivalsPass which p (es ++ (n, x) ∷ [])
+pub pass-opened : (which : Exchange → Bool) (n : ℕ) (x : Exchange) (p : ℕ → Bool) (es : Numbered) → (which x ≡ true → p n ≡ true) → SelectedArrivalsPassTest which p es → SelectedArrivalsPassTest which p (es ++ (n, x) ∷ [])
 pass-opened which n x p [] k h = (k, tt)
 pass-opened which n x p (e ∷ es) k h = (h.0, pass-opened which n x p es k h.1)
 
 pub pass-removed : (which : Exchange → Bool) (n : ℕ) (p q : ℕ → Bool) (es : Numbered) → HaveDistinctArrivalsAndIds es → ((m : ℕ) → eqb n m ≡ false → p m ≡ true → q m ≡ true) →
-    SelectedArrivalsPass which p es → SelectedArrivalsPass which q (remove_entry (at n) es)
+    SelectedArrivalsPassTest which p es → SelectedArrivalsPassTest which q (remove_entry (at n) es)
 pass-removed which n p q [] a k h = tt
 pass-removed which n p q (e ∷ es) a k h = elim (cases_Bool (at n e.0)) [
-  | inl t ↦ subst (λ b. SelectedArrivalsPass which q (cond b es (e ∷ remove_entry (at n) es))) (sym t)
+  | inl t ↦ subst (λ b. SelectedArrivalsPassTest which q (cond b es (e ∷ remove_entry (at n) es))) (sym t)
       (pass-but which n p q es (ap (λ i. lookup (at i) es) (eqb-true n e.0 (sym (at_is n e.0) ∙ t)) ∙ a.0) k h.1)
-  | inr f ↦ subst (λ b. SelectedArrivalsPass which q (cond b es (e ∷ remove_entry (at n) es))) (sym f)
+  | inr f ↦ subst (λ b. SelectedArrivalsPassTest which q (cond b es (e ∷ remove_entry (at n) es))) (sym f)
       (λ w. k e.0 (sym (at_is n e.0) ∙ f) (h.0 w), pass-removed which n p q es a.2 k h.1)
 ]
 
 -- ---- changing
 
 pub pass-on_all : (which : Exchange → Bool) (p : ℕ → Bool) (f : Exchange → Exchange) → ((x : Exchange) → which (f x) ≡ true → which x ≡ true) →
-    (es : Numbered) → SelectedArrivalsPass which p es → SelectedArrivalsPass which p (map_exchanges f es)
+    (es : Numbered) → SelectedArrivalsPassTest which p es → SelectedArrivalsPassTest which p (map_exchanges f es)
 pass-on_all which p f k [] h = tt
 pass-on_all which p f k (e ∷ es) h = (λ w. h.0 (k e.1 w), pass-on_all which p f k es h.1)
 
@@ -115,7 +115,7 @@ released_away q = record {
 }
 
 -- where none waits it changes nothing
-pub none_turned : (q : ℕ) (f : Exchange → Exchange) → TurnsAway q f → (es : Numbered) → WaitingArrivalsPass q (λ n. false) es → map_exchanges f es ≡ es
+pub none_turned : (q : ℕ) (f : Exchange → Exchange) → TurnsAway q f → (es : Numbered) → WaitingArrivalsPassTest q (λ n. false) es → map_exchanges f es ≡ es
 none_turned q f k [] h = refl
 none_turned q f k (e ∷ es) h = elim (cases_Bool (waits_for q e.1.stage)) [
   | inl t ↦ absurd (false≢true (h.0 t))
@@ -125,12 +125,12 @@ none_turned q f k (e ∷ es) h = elim (cases_Bool (waits_for q e.1.stage)) [
       )
 ]
 
-pub none_released : (q : ℕ) (es : Numbered) → WaitingArrivalsPass q (λ n. false) es → map_exchanges (released_exchange q) es ≡ es
+pub none_released : (q : ℕ) (es : Numbered) → WaitingArrivalsPassTest q (λ n. false) es → map_exchanges (released_exchange q) es ≡ es
 none_released q es h = none_turned q (released_exchange q) (released_away q) es h
 
 -- those whose numbers are still to come
 abbrev pub TheRest : ℕ → List ℕ → Numbered → Type 0
-TheRest q ns es = WaitingArrivalsPass q (λ k. list_any (λ n. at k n) ns) es
+TheRest q ns es = WaitingArrivalsPassTest q (λ k. list_any (λ n. at k n) ns) es
 
 -- one was turned away at its number
 pub turned_at : (q : ℕ) (f : Exchange → Exchange) → TurnsAway q f → (n : ℕ) (x : Exchange) (es : Numbered) → lookup (at n) es ≡ Some x → map_exchanges f (set_value (at n) es (f x)) ≡ map_exchanges f es
@@ -196,23 +196,23 @@ rest-released q n x ns es s there h = rest-turned q (released_exchange q) (relea
 abbrev pub AllIndexed : WaitIndex → Numbered → Type 0
 AllIndexed index es = (id : ℕ) → IsExactIndexOfSelected (λ x. waits_for id x.stage) (is_in_wait_index index id) es
 
-pub waiters-not : (n : ℕ) (es : Numbered) (index : WaitIndex) → All (λ k. k < n) (keys_of es) → AllIndexed index es → IsNotInWaitIndex n index
+pub waiters-not : (n : ℕ) (es : Numbered) (index : WaitIndex) → All (λ k. k < n) (keys_of es) → AllIndexed index es → ArrivalIsNotInWaitIndex n index
 waiters-not n es index l h id = not_indexed (λ x. waits_for id x.stage) (is_in_wait_index index id) n es (none_has n es l) (h id)
 
 pub waiters-entered : (n : ℕ) (x : Exchange) (es : Numbered) (old new : WaitIndex) → All (λ k. k < n) (keys_of es) → WaiterIsEntered x.stage n old new →
     AllIndexed old es → AllIndexed new (es ++ (n, x) ∷ [])
 waiters-entered n x es old new l k h id = indexes-entered (λ y. waits_for id y.stage) n x (is_in_wait_index old id) (is_in_wait_index new id) es (none_has n es l) (k id) (h id)
 
-pub waiters-again : (es : Numbered) (old new : WaitIndex) → IsSameWaitIndex old new → AllIndexed old es → AllIndexed new es
+pub waiters-again : (es : Numbered) (old new : WaitIndex) → WaitIndexesHaveSameMembers old new → AllIndexed old es → AllIndexed new es
 waiters-again es old new k h id m = k id m ∙ h id m
 
-pub waiters-closed : (n : ℕ) (x : Exchange) (es : Numbered) (old new : WaitIndex) → HaveDistinctArrivalsAndIds es → lookup (at n) es ≡ Some x → WaiterHasLeft x.stage n old new →
+pub waiters-closed : (n : ℕ) (x : Exchange) (es : Numbered) (old new : WaitIndex) → HaveDistinctArrivalsAndIds es → lookup (at n) es ≡ Some x → WaiterIsRemoved x.stage n old new →
     AllIndexed old es → AllIndexed new (remove_entry (at n) es)
 waiters-closed n x es old new a there k h id =
     indexes-left (λ y. waits_for id y.stage) n x None (is_in_wait_index old id) (is_in_wait_index new id) es (remove_entry (at n) es) there refl (λ m. lookup-removed m n es a) (k id) (h id)
 
 -- one that waits for none any more was written at its number
-pub waiters-written : (n : ℕ) (x y : Exchange) (es : Numbered) (old new : WaitIndex) → lookup (at n) es ≡ Some x → is_forwarded y.stage ≡ true → WaiterHasLeft x.stage n old new →
+pub waiters-written : (n : ℕ) (x y : Exchange) (es : Numbered) (old new : WaitIndex) → lookup (at n) es ≡ Some x → is_forwarded y.stage ≡ true → WaiterIsRemoved x.stage n old new →
     AllIndexed old es → AllIndexed new (set_value (at n) es y)
 waiters-written n x y es old new there out k h id =
     indexes-left (λ z. waits_for id z.stage) n x (Some y) (is_in_wait_index old id) (is_in_wait_index new id) es (set_value (at n) es y) there (at_the_origin y.stage out) (λ m. lookup-set m n x y es there) (k id) (h id)
@@ -227,7 +227,7 @@ pub waiters-on_all : (f : Exchange → Exchange) → ((x : Exchange) → (f x).s
 waiters-on_all f k es index h id =
     indexes-on_all (λ x. waits_for id x.stage) f (λ b. b) (is_in_wait_index index id) (is_in_wait_index index id) es refl (λ x. ap (waits_for id) (k x)) (λ m. refl) (h id)
 
-pub waiters-released : (q : ℕ) (es : Numbered) (old new : WaitIndex) → WaitersAreTakenOut q old new → AllIndexed old es → AllIndexed new (map_exchanges (released_exchange q) es)
+pub waiters-released : (q : ℕ) (es : Numbered) (old new : WaitIndex) → WaitersAreRemoved q old new → AllIndexed old es → AllIndexed new (map_exchanges (released_exchange q) es)
 waiters-released q es old new k h id =
     indexes-on_all (λ x. waits_for id x.stage) (released_exchange q) (λ b. not (eqb q id) && b) (is_in_wait_index old id) (is_in_wait_index new id) es (none (eqb q id)) (λ x. still_waits x) (k id) (h id)
   where
@@ -250,22 +250,22 @@ waiters-released q es old new k h id =
     ]
 
 pub overtake-stage : (key : Scope) (x : Exchange) → (overtaken_exchange key x).stage ≡ x.stage
-overtake-stage key x = elim (is_in_scope key x.asked.target.key) as (λ b. (cond b (record x { overtaken = true }) x).stage ≡ x.stage) [ true ↦ refl | false ↦ refl ]
+overtake-stage key x = elim (key_is_in_scope key x.asked.target.key) as (λ b. (cond b (record x { overtaken = true }) x).stage ≡ x.stage) [ true ↦ refl | false ↦ refl ]
 
 -- ---- no id stands there for nothing
 
 abbrev WritesAt : ℕ → Option (BTreeSet ℕ) → WaitIndex → WaitIndex → Type 0
 WritesAt id w old new = (q : ℕ) → get nat_cmp new.arrivals q ≡ cond (is_at (nat_cmp id) q) w (get nat_cmp old.arrivals q)
 
-pub some_has : (set : BTreeSet ℕ) → SetHasMembers set → ForSome (Some set) SetHasMembers
+pub some_has : (set : BTreeSet ℕ) → SetIsNotEmpty set → ForSome (Some set) SetIsNotEmpty
 some_has set n x e k = n (ap (λ (s : BTreeSet ℕ). s.keys) (same_Some set x e) ∙ k)
 
-pub nothing_has : ForSome None SetHasMembers
+pub nothing_has : ForSome None SetIsNotEmpty
 nothing_has x e k =
     let no : None ≡ Some x = e in
     absurd (cc)
 
-pub trim-written : (id : ℕ) (old new : WaitIndex) (w : Option (BTreeSet ℕ)) → WritesAt id w old new → ForSome w SetHasMembers → HasNoEmptyWaiterSets old → HasNoEmptyWaiterSets new
+pub trim-written : (id : ℕ) (old new : WaitIndex) (w : Option (BTreeSet ℕ)) → WritesAt id w old new → ForSome w SetIsNotEmpty → WaitIndexHasNoEmptySet old → WaitIndexHasNoEmptySet new
 trim-written id old new w h n o q set e k =
     let g = get nat_cmp old.arrivals q in
     elim (cases_Bool (is_at (nat_cmp id) q)) [
@@ -273,12 +273,12 @@ trim-written id old new w h n o q set e k =
       | inr f ↦ o q set (sym (h q ∙ ap (λ b. cond b w g) f) ∙ e) k
     ]
 
-pub trim-beside : (id : ℕ) (old new : WaitIndex) (w : Option (BTreeSet ℕ)) → WritesAt id w old new → HasNoEmptyWaiterSets old → HasNoOtherEmptyWaiterSets id new
+pub trim-beside : (id : ℕ) (old new : WaitIndex) (w : Option (BTreeSet ℕ)) → WritesAt id w old new → WaitIndexHasNoEmptySet old → OtherIdsHaveNoEmptyWaiterSet id new
 trim-beside id old new w h o q f set e k =
     let g = get nat_cmp old.arrivals q in
     o q set (sym (h q ∙ ap (λ b. cond b w g) (at_is id q ∙ f)) ∙ e) k
 
-pub trim-removed : (id : ℕ) (mid new : WaitIndex) → WritesAt id None mid new → HasNoOtherEmptyWaiterSets id mid → HasNoEmptyWaiterSets new
+pub trim-removed : (id : ℕ) (mid new : WaitIndex) → WritesAt id None mid new → OtherIdsHaveNoEmptyWaiterSet id mid → WaitIndexHasNoEmptySet new
 trim-removed id mid new h b q set e k =
     let g = get nat_cmp mid.arrivals q in
     elim (cases_Bool (is_at (nat_cmp id) q)) [
@@ -289,7 +289,7 @@ trim-removed id mid new h b q set e k =
       | inr f ↦ b q (sym (at_is id q) ∙ f) set (sym (h q ∙ ap (λ b. cond b None g) f) ∙ e) k
     ]
 
-pub trim-same : (old new : WaitIndex) → new.arrivals.entries ≡ old.arrivals.entries → HasNoEmptyWaiterSets old → HasNoEmptyWaiterSets new
+pub trim-same : (old new : WaitIndex) → new.arrivals.entries ≡ old.arrivals.entries → WaitIndexHasNoEmptySet old → WaitIndexHasNoEmptySet new
 trim-same old new s o q set e k = o q set (ap (lookup (is_at (nat_cmp q))) (sym s) ∙ e) k
 
 -- a number that was put in stands there

@@ -12,16 +12,16 @@ use Rattle.hx_allow.specs.Matching.{policy_of}
 use Rattle.proxy_core.specs.Allowing.{verdict_of_asked, exchanges_to_wait_for}
 use Rattle.hx_allow.specs.declared.verdicts.Verdict.{Verdict}
 use Rattle.hx_allow.specs.declared.verdicts.Verdict.TheVariants as verdict
-use Rattle.hx_allow.specs.declared.verdicts.Route.{Route}
+use Rattle.hx_allow.specs.declared.verdicts.RequestRoute.{RequestRoute}
 use Rattle.hx_store.specs.Stored.{Stored}
-use Rattle.hx_store.specs.Serials.{Distinct}
+use Rattle.hx_store.specs.Serials.{SerialsAreDistinct}
 use Rattle.hx_store.specs.Shelf.{serials}
 use Rattle.proxy_core.proofs.SentBeside.{led_over, sent_over, unless_sent, sent_is_no_wait}
 use Rattle.proxy_core.proofs.Beside.{nothing_beside}
 use Rattle.proxy_core.proofs.FirstRules.{held_distinct}
 use Rattle.hx_store.specs.Serials.{serial_is_in}
 use Rattle.hx_reuse.specs.Rules.{decision_of}
-use Rattle.hx_reuse.specs.ChosenAndNamed.{IsLeastReuseRule, RuleNamesTheResponse}
+use Rattle.hx_reuse.specs.ChosenAndNamed.{IsLeastReuseRule, RuleOnChosenNamesItsSerial}
 use Rattle.hx_reuse.specs.FilledRanges.{forwards_range}
 use Rattle.hx_reuse.specs.declared.rule.ReuseRule.{ReuseRule}
 use Rattle.hx_reuse.specs.declared.rule.ReuseRule.TheVariants.{UriMiss, Range}
@@ -42,21 +42,21 @@ use Rattle.proxy_core.specs.declared.event.Event.{Event}
 use Rattle.proxy_core.specs.declared.event.Event.TheVariants.{Arrive, Answer, Fail, Wake, Abandon, Overdue}
 use Rattle.proxy_core.specs.declared.core_fault.CoreFault.{CoreFault}
 use Rattle.proxy_core.specs.Moments.{moment_too_late_fault}
-use Rattle.proxy_core.specs.Leading.{is_forwarded, is_waiting, is_released, waits_for, is_get, is_uri_miss, names_serial, asks_for, may_serve, answer_may_serve, leads_waiters, leader, ready_ids}
-use Rattle.proxy_core.specs.Awaiting.{asks_the_origin, RequestAwaits, leader_of_request}
+use Rattle.proxy_core.specs.Leading.{is_forwarded, is_waiting, is_released, waits_for, is_get, is_uri_miss, option_names_serial, exchange_asks_for_awaited, answer_may_be_shared_with, answer_may_serve, is_leader_for_request, leader, wakeable_ids}
+use Rattle.proxy_core.specs.Awaiting.{no_cache_request_is_heeded, RequestMayAwaitAnother, leader_of_request}
 use Rattle.proxy_core.specs.declared.open.awaited.Awaited.{Awaited}
 use Rattle.proxy_core.specs.declared.open.awaited.Awaited.TheVariants.{Missing, Expired}
 use Rattle.proxy_core.specs.Validating.{condition_about_serial}
-use Rattle.proxy_core.specs.Outcomes.{find_exchange, exchange_id_of_event, outcome_of_arrival, outcome_of_allowed_request, outcome_of_waiting_or_forwarding, revalidating_status_info, outcome_unless_sent_beside, outcome_without_stored_response, is_only_if_cached, fallback_for, outcome_of_failure, outcome_of_wake, outcome_of, outcome_of_event, or_fault, fault_if_not_released, fault_at_exchange, step_fault, forward_text}
-use Rattle.proxy_core.specs.Scopes.{Scope, is_in_scope}
+use Rattle.proxy_core.specs.Outcomes.{find_exchange, exchange_id_of_event, outcome_of_arrival, outcome_of_allowed_request, outcome_of_waiting_or_forwarding, revalidating_status_info, outcome_unless_stale_is_sent, outcome_without_stored_response, is_only_if_cached, fallback_for_failed_answer, outcome_of_failure, outcome_of_wake, outcome_for_exchange, outcome_of_event, fault_else, fault_if_not_released, fault_at_exchange, step_fault, forward_text}
+use Rattle.proxy_core.specs.Scopes.{Scope, key_is_in_scope}
 use Rattle.proxy_core.specs.State.{State, overtaken_exchange, released_exchange, forwarded_exchange, rule_of_decision, serial_named_by_decision, open_exchanges_after, serial_used_by_outcome}
 use Rattle.proxy_core.specs.Starts.{StoreAtStart}
 use Rattle.proxy_core.specs.Traces.{Item, initial_state, state_after_trace, IsGood}
 use Rattle.proxy_core.specs.Histories.{held_entries, open_exchanges, next_serial, IsGoodHistory}
 use Rattle.proxy_core.specs.Promises.{outcome_ends_exchange, is_arrival_event}
-use Rattle.proxy_core.specs.Carrying.{ArrivesBefore, IdsAreInOrderOfArrival, exchange_ids}
-use Rattle.proxy_core.specs.Sending.{StoredResponseIsReusable, MayBeSentBesideLeader}
-use Rattle.proxy_core.specs.Waiting.{RequestCouldWait, RequestWaitsWhereOneLeads, RequestIsToWait, RequestWaitsNowhereElse, exchange_has_closed, went_forward_for, OnlyOneGoesForwardForKey, PlainLinesWaitForMisses, ExchangeMayBeWoken, ReleasedAreInOrderOfArrival, WakeIsAcceptedExactlyWhereReady, WokenRequestIsJudgedAnew}
+use Rattle.proxy_core.specs.Carrying.{IdArrivesBeforeOtherId, IdsAreInOrderOfArrival, ids_of_exchanges}
+use Rattle.proxy_core.specs.Sending.{StoredResponseIsReusable, MayBeSentWhileLeaderRevalidates}
+use Rattle.proxy_core.specs.Waiting.{RequestCouldWait, RequestWaitsWhereALeaderIsOpen, ArrivingRequestWaitsForLeader, RequestWaitsNowhereElse, exchange_has_closed, went_forward_for, OnlyOneGetPerKeyGoesForward, LineWithoutWaitWaitsForMissesOnly, ExchangeMayBeWoken, ReleasedAreInOrderOfArrival, WakeIsAcceptedExactlyWhereReady, WokenRequestIsJudgedAnew}
 use Rattle.proxy_core.proofs.Awaits.{one_named}
 use Rattle.proxy_core.proofs.Leads.{led_by, led_for, first_leads, is_led, no_leader}
 use Rattle.proxy_core.proofs.ExchangeLists.{changed_by, find-push}
@@ -71,24 +71,24 @@ use Rattle.proxy_core.proofs.OpenLaws.{id_was_free}
 -- ---- the first that leads
 
 -- where one leads there is a first
-some_leads : (policy : Policy) (awaited : Awaited) (asked : Asked) (id : ℕ) (xs : List Exchange) (z : Exchange) → find_exchange id xs ≡ Some z → leads_waiters policy awaited asked z ≡ true → (l : ℕ) × (leader policy awaited asked xs ≡ Some l)
+some_leads : (policy : Policy) (awaited : Awaited) (asked : Asked) (id : ℕ) (xs : List Exchange) (z : Exchange) → find_exchange id xs ≡ Some z → is_leader_for_request policy awaited asked z ≡ true → (l : ℕ) × (leader policy awaited asked xs ≡ Some l)
 some_leads policy awaited asked id [] z f h = absurd (cc)
-some_leads policy awaited asked id (x ∷ xs) z f h = by_test (λ g. some_leads policy awaited asked id xs z g h) (leads_waiters policy awaited asked x) refl
+some_leads policy awaited asked id (x ∷ xs) z f h = by_test (λ g. some_leads policy awaited asked id xs z g h) (is_leader_for_request policy awaited asked x) refl
   where
-    by_id : (find_exchange id xs ≡ Some z → (l : ℕ) × (leader policy awaited asked xs ≡ Some l)) → leads_waiters policy awaited asked x ≡ false → (b : Bool) → cond b (Some x) (find_exchange id xs) ≡ Some z → (l : ℕ) × (leader policy awaited asked xs ≡ Some l)
-    by_id rest k true f = absurd (false≢true (sym k ∙ (ap (leads_waiters policy awaited asked) (same_Some x z f) ∙ h)))
+    by_id : (find_exchange id xs ≡ Some z → (l : ℕ) × (leader policy awaited asked xs ≡ Some l)) → is_leader_for_request policy awaited asked x ≡ false → (b : Bool) → cond b (Some x) (find_exchange id xs) ≡ Some z → (l : ℕ) × (leader policy awaited asked xs ≡ Some l)
+    by_id rest k true f = absurd (false≢true (sym k ∙ (ap (is_leader_for_request policy awaited asked) (same_Some x z f) ∙ h)))
     by_id rest k false f = rest f
 
-    by_test : (find_exchange id xs ≡ Some z → (l : ℕ) × (leader policy awaited asked xs ≡ Some l)) → (b : Bool) → leads_waiters policy awaited asked x ≡ b → (l : ℕ) × (cond b (Some x.id) (leader policy awaited asked xs) ≡ Some l)
+    by_test : (find_exchange id xs ≡ Some z → (l : ℕ) × (leader policy awaited asked xs ≡ Some l)) → (b : Bool) → is_leader_for_request policy awaited asked x ≡ b → (l : ℕ) × (cond b (Some x.id) (leader policy awaited asked xs) ≡ Some l)
     by_test rest true k = (x.id, refl)
     by_test rest false k = by_id rest k (eqb x.id id) f
 
 -- ---- who waits
 
 -- what becomes of a GET that may wait, where one leads
-waits_for_it : (table : Table) (start : StoreAtStart) (first now id : ℕ) (line : Route) (l : ℕ) (asked : Asked) (awaited : Awaited) (item : Item) (past : List Item) → IsGoodHistory table start first (item ∷ past) →
+waits_for_it : (table : Table) (start : StoreAtStart) (first now id : ℕ) (line : RequestRoute) (l : ℕ) (asked : Asked) (awaited : Awaited) (item : Item) (past : List Item) → IsGoodHistory table start first (item ∷ past) →
     item.event ≡ Arrive now id asked → RequestCouldWait table start past now line asked awaited → leader (policy_of table.lines line) awaited asked (exchanges_to_wait_for table line asked (open_exchanges table start past)) ≡ Some l →
-    ((s : ℕ) → MayBeSentBesideLeader (policy_of table.lines line) (held_entries table start past) (exchanges_to_wait_for table line asked (open_exchanges table start past)) asked now s → ⊥) → item.outcome ≡ Waits l
+    ((s : ℕ) → MayBeSentWhileLeaderRevalidates (policy_of table.lines line) (held_entries table start past) (exchanges_to_wait_for table line asked (open_exchanges table start past)) asked now s → ⊥) → item.outcome ≡ Waits l
 waits_for_it table start first now id line l asked awaited item past g e could led never =
     let es = held_entries table start past in
     let xs = open_exchanges table start past in
@@ -98,12 +98,12 @@ waits_for_it table start first now id line l asked awaited item past g e could l
     arrival_is table start first now id asked item past g e
     ∙ (ap (λ (v : Verdict). outcome_of_arrival table es xs now asked v) could.line_allows
     ∙ (ap (λ (d : Decision). outcome_of_allowed_request table es xs line now asked d) d.1
-    ∙ (ap (λ b. outcome_without_stored_response table es xs line now asked rule (condition_about_serial es d.0) b) could.takes_others
-    ∙ (ap (λ (o : Option ℕ). outcome_unless_sent_beside table es line now asked o (outcome_of_waiting_or_forwarding table line asked (condition_about_serial es d.0) (led_over table es xs line asked rule)))
-    (nothing_beside (policy_of table.lines line) es (held_distinct table start first past g.1) (exchanges_to_wait_for table line asked xs) asked now rule least never could.takes_others)
+    ∙ (ap (λ b. outcome_without_stored_response table es xs line now asked rule (condition_about_serial es d.0) b) could.is_not_only_if_cached
+    ∙ (ap (λ (o : Option ℕ). outcome_unless_stale_is_sent table es line now asked o (outcome_of_waiting_or_forwarding table line asked (condition_about_serial es d.0) (led_over table es xs line asked rule)))
+    (nothing_beside (policy_of table.lines line) es (held_distinct table start first past g.1) (exchanges_to_wait_for table line asked xs) asked now rule least never could.is_not_only_if_cached)
     ∙ ap (λ (o : Option ℕ). outcome_of_waiting_or_forwarding table line asked (condition_about_serial es d.0) o) (led_for (policy_of table.lines line) es (held_distinct table start first past g.1) (exchanges_to_wait_for table line asked xs) asked now rule least awaited l could.awaits led)))))
 
-pub waits_where_one_leads : RequestWaitsWhereOneLeads
+pub waits_where_one_leads : RequestWaitsWhereALeaderIsOpen
 waits_where_one_leads table start first now id line l asked awaited item past g e could f never =
     waits_for_it table start first now id line l asked awaited item past g e could
     (first_leads (policy_of table.lines line) awaited asked (exchanges_to_wait_for table line asked (open_exchanges table start past)) l f) never
@@ -111,10 +111,10 @@ waits_where_one_leads table start first now id line l asked awaited item past g 
 -- what is known of a request that waits
 abbrev WaitsBy : Table → List Stored → List Exchange → ℕ → ℕ → Asked → Type 0
 WaitsBy table es xs now l asked =
-    (line : Route) × (verdict_of_asked table asked ≡ verdict.Allowed line) × (is_only_if_cached asked ≡ false)
-    × ((awaited : Awaited) × RequestAwaits (policy_of table.lines line) es asked now awaited × (leader (policy_of table.lines line) awaited asked (exchanges_to_wait_for table line asked xs) ≡ Some l))
+    (line : RequestRoute) × (verdict_of_asked table asked ≡ verdict.Allowed line) × (is_only_if_cached asked ≡ false)
+    × ((awaited : Awaited) × RequestMayAwaitAnother (policy_of table.lines line) es asked now awaited × (leader (policy_of table.lines line) awaited asked (exchanges_to_wait_for table line asked xs) ≡ Some l))
 
-wait_parts : (table : Table) (es : List Stored) (distinct : Distinct (serials es)) (xs : List Exchange) (now l : ℕ) (asked : Asked) (v : Verdict) → verdict_of_asked table asked ≡ v →
+wait_parts : (table : Table) (es : List Stored) (distinct : SerialsAreDistinct (serials es)) (xs : List Exchange) (now l : ℕ) (asked : Asked) (v : Verdict) → verdict_of_asked table asked ≡ v →
     outcome_of_arrival table es xs now asked v ≡ Waits l → WaitsBy table es xs now l asked
 wait_parts table es distinct xs now l asked (verdict.Allowed line) v h = by_decision (decision_of (policy_of table.lines line) es asked now) refl h
   where
@@ -156,13 +156,13 @@ either_no_wait (Waits l) h = absurd (false≢true h)
 either_no_wait Ended h = absurd (false≢true h)
 either_no_wait WaitsNoMore h = absurd (false≢true h)
 
-pub late_no_wait : (table : Table) (es : List Stored) (xs : List Exchange) (w : Option Exchange) (next : Option ℕ) (event : Event) → is_arrival_event event ≡ false → is_wait (outcome_of table es xs w next event) ≡ false
+pub late_no_wait : (table : Table) (es : List Stored) (xs : List Exchange) (w : Option Exchange) (next : Option ℕ) (event : Event) → is_arrival_event event ≡ false → is_wait (outcome_for_exchange table es xs w next event) ≡ false
 late_no_wait table es xs w next (Arrive now id asked) h = absurd (false≢true (sym h))
 late_no_wait table es xs None next (Answer now id r) h = refl
 late_no_wait table es xs (Some x) next (Answer now id r) h =
     either_no_wait _ (answer_either table es now x r next (decision_of (policy_of table.lines x.line) es x.asked now))
 late_no_wait table es xs None next (Fail now id kind) h = refl
-late_no_wait table es xs (Some x) next (Fail now id kind) h = by_fallback (fallback_for (policy_of table.lines x.line) es x.asked now (decision_of (policy_of table.lines x.line) es x.asked now))
+late_no_wait table es xs (Some x) next (Fail now id kind) h = by_fallback (fallback_for_failed_answer (policy_of table.lines x.line) es x.asked now (decision_of (policy_of table.lines x.line) es x.asked now))
   where
     by_fallback : (fallback : Fallback) → is_wait (outcome_of_failure table es now x kind None fallback) ≡ false
     by_fallback (Sends s detail) = refl
@@ -188,12 +188,12 @@ waits_nowhere_else table start first l item past g h = by_event item.event refl
     xs : List Exchange
     xs = open_exchanges table start past
 
-    late : is_arrival_event item.event ≡ false → RequestIsToWait table start l item past
+    late : is_arrival_event item.event ≡ false → ArrivingRequestWaitsForLeader table start l item past
     late n =
         absurd (false≢true (sym (ap is_wait g.0.outcome_is ∙ late_no_wait table (held_entries table start past) (open_exchanges table start past) (find_exchange (exchange_id_of_event item.event) (open_exchanges table start past)) (next_serial first past) item.event n)
         ∙ (ap is_wait h ∙ wait_is l)))
 
-    by_event : (event : Event) → item.event ≡ event → RequestIsToWait table start l item past
+    by_event : (event : Event) → item.event ≡ event → ArrivingRequestWaitsForLeader table start l item past
     by_event (Arrive now id asked) e =
         let p = wait_parts table (held_entries table start past) (held_distinct table start first past g.1) (open_exchanges table start past) now l asked (verdict_of_asked table asked) refl (sym (arrival_is table start first now id asked item past g e) ∙ h) in
         record {
@@ -203,7 +203,7 @@ waits_nowhere_else table start first l item past g h = by_event item.event refl
           line = p.0;
           arrives = e;
           awaited = p.3.0;
-          could = record { line_allows = p.1; takes_others = p.2; awaits = p.3.1 };
+          could = record { line_allows = p.1; is_not_only_if_cached = p.2; awaits = p.3.1 };
           first_leads = led_by (policy_of table.lines p.0) p.3.0 asked (exchanges_to_wait_for table p.0 asked (open_exchanges table start past)) l p.3.2;
         }
     by_event (Answer now id r) e = late (ap is_arrival_event e)
@@ -227,28 +227,28 @@ ready_by xs now id h = by_open (find_exchange id xs) refl h
 
 -- ---- those that may be woken
 
-all_ready : (P : ℕ → Type 0) (xs : List Exchange) → AllByRecursion P (exchange_ids xs) → AllByRecursion P (ready_ids xs)
+all_ready : (P : ℕ → Type 0) (xs : List Exchange) → AllByRecursion P (ids_of_exchanges xs) → AllByRecursion P (wakeable_ids xs)
 all_ready P [] h = tt
 all_ready P (x ∷ xs) h = by_test (is_released x.stage) (all_ready P xs h.1)
   where
-    by_test : (b : Bool) → AllByRecursion P (ready_ids xs) → AllByRecursion P (cond b (x.id ∷ ready_ids xs) (ready_ids xs))
+    by_test : (b : Bool) → AllByRecursion P (wakeable_ids xs) → AllByRecursion P (cond b (x.id ∷ wakeable_ids xs) (wakeable_ids xs))
     by_test true rest = (h.0, rest)
     by_test false rest = rest
 
-ready_in_order : (xs : List Exchange) (past : List Item) → IdsAreInOrderOfArrival (exchange_ids xs) past → IdsAreInOrderOfArrival (ready_ids xs) past
+ready_in_order : (xs : List Exchange) (past : List Item) → IdsAreInOrderOfArrival (ids_of_exchanges xs) past → IdsAreInOrderOfArrival (wakeable_ids xs) past
 ready_in_order [] past h = tt
 ready_in_order (x ∷ xs) past h = by_test (is_released x.stage) (ready_in_order xs past h.1)
   where
-    by_test : (b : Bool) → IdsAreInOrderOfArrival (ready_ids xs) past → IdsAreInOrderOfArrival (cond b (x.id ∷ ready_ids xs) (ready_ids xs)) past
-    by_test true rest = (all_ready (λ m. ArrivesBefore x.id m past) xs h.0, rest)
+    by_test : (b : Bool) → IdsAreInOrderOfArrival (wakeable_ids xs) past → IdsAreInOrderOfArrival (cond b (x.id ∷ wakeable_ids xs) (wakeable_ids xs)) past
+    by_test true rest = (all_ready (λ m. IdArrivesBeforeOtherId x.id m past) xs h.0, rest)
     by_test false rest = rest
 
 pub ready_in_order_of_arrival : ReleasedAreInOrderOfArrival
 ready_in_order_of_arrival table start first trace g = ready_in_order (open_exchanges table start trace) trace (open_in_order_of_arrival table start first trace g)
 
 -- no id arrives before itself
-never_before_itself : (id : ℕ) (past : List Item) → ArrivesBefore id id past → ⊥
-never_before_itself id past h = not_both _ _ (eq-eqb (exchange_id_of_event h.later.event) id h.later_id) h.later_arrives h.none_of_it.1.0
+never_before_itself : (id : ℕ) (past : List Item) → IdArrivesBeforeOtherId id id past → ⊥
+never_before_itself id past h = not_both _ _ (eq-eqb (exchange_id_of_event h.later.event) id h.later_id) h.later_arrives h.id_arrives_no_more.1.0
 
 id_is_in : (id : ℕ) (P : ℕ → Type 0) (ids : List ℕ) → AllByRecursion P ids → serial_is_in id ids ≡ true → P id
 id_is_in id P [] h m = absurd (false≢true m)
@@ -258,35 +258,35 @@ id_is_in id P (n ∷ ids) h m = by_test (λ k. id_is_in id P ids h.1 k) (eqb n i
     by_test rest true e m = subst P (eqb-true n id e) h.0
     by_test rest false e m = rest m
 
-ready_found : (id : ℕ) (xs : List Exchange) (past : List Item) → IdsAreInOrderOfArrival (exchange_ids xs) past → serial_is_in id (ready_ids xs) ≡ true → ExchangeMayBeWoken id xs
+ready_found : (id : ℕ) (xs : List Exchange) (past : List Item) → IdsAreInOrderOfArrival (ids_of_exchanges xs) past → serial_is_in id (wakeable_ids xs) ≡ true → ExchangeMayBeWoken id xs
 ready_found id [] past o m = absurd (false≢true m)
 ready_found id (x ∷ xs) past o m = by_id (λ k. ready_found id xs past o.1 k) (eqb x.id id) refl (is_released x.stage) refl m
   where
-    rest : (serial_is_in id (ready_ids xs) ≡ true → ExchangeMayBeWoken id xs) → eqb x.id id ≡ false → serial_is_in id (ready_ids xs) ≡ true → ExchangeMayBeWoken id (x ∷ xs)
+    rest : (serial_is_in id (wakeable_ids xs) ≡ true → ExchangeMayBeWoken id xs) → eqb x.id id ≡ false → serial_is_in id (wakeable_ids xs) ≡ true → ExchangeMayBeWoken id (x ∷ xs)
     rest others e m =
         let r = others m in
         record { x = r.x; is_open = ap (λ b. cond b (Some x) (find_exchange id xs)) e ∙ r.is_open; stage = r.stage }
 
-    by_id : (serial_is_in id (ready_ids xs) ≡ true → ExchangeMayBeWoken id xs) → (b : Bool) → eqb x.id id ≡ b → (c : Bool) → is_released x.stage ≡ c → serial_is_in id (cond c (x.id ∷ ready_ids xs) (ready_ids xs)) ≡ true → ExchangeMayBeWoken id (x ∷ xs)
+    by_id : (serial_is_in id (wakeable_ids xs) ≡ true → ExchangeMayBeWoken id xs) → (b : Bool) → eqb x.id id ≡ b → (c : Bool) → is_released x.stage ≡ c → serial_is_in id (cond c (x.id ∷ wakeable_ids xs) (wakeable_ids xs)) ≡ true → ExchangeMayBeWoken id (x ∷ xs)
     by_id others true e true s m = record { x = x; is_open = ap (λ b. cond b (Some x) (find_exchange id xs)) e; stage = s }
     by_id others true e false s m =
-        let before = id_is_in id (λ n. ArrivesBefore x.id n past) (ready_ids xs) (all_ready (λ n. ArrivesBefore x.id n past) xs o.0) m in
-        absurd (never_before_itself id past (subst (λ n. ArrivesBefore n id past) (eqb-true x.id id e) before))
-    by_id others false e true s m = rest others e (sym (ap (λ b. b || serial_is_in id (ready_ids xs)) e) ∙ m)
+        let before = id_is_in id (λ n. IdArrivesBeforeOtherId x.id n past) (wakeable_ids xs) (all_ready (λ n. IdArrivesBeforeOtherId x.id n past) xs o.0) m in
+        absurd (never_before_itself id past (subst (λ n. IdArrivesBeforeOtherId n id past) (eqb-true x.id id e) before))
+    by_id others false e true s m = rest others e (sym (ap (λ b. b || serial_is_in id (wakeable_ids xs)) e) ∙ m)
     by_id others false e false s m = rest others e m
 
-found_ready : (id : ℕ) (xs : List Exchange) (z : Exchange) → find_exchange id xs ≡ Some z → is_released z.stage ≡ true → serial_is_in id (ready_ids xs) ≡ true
+found_ready : (id : ℕ) (xs : List Exchange) (z : Exchange) → find_exchange id xs ≡ Some z → is_released z.stage ≡ true → serial_is_in id (wakeable_ids xs) ≡ true
 found_ready id [] z f s = absurd (cc)
 found_ready id (x ∷ xs) z f s = by_id (λ g. found_ready id xs z g s) (eqb x.id id) refl f
   where
-    passed : (c : Bool) → serial_is_in id (ready_ids xs) ≡ true → eqb x.id id ≡ false → serial_is_in id (cond c (x.id ∷ ready_ids xs) (ready_ids xs)) ≡ true
-    passed true m e = ap (λ b. b || serial_is_in id (ready_ids xs)) e ∙ m
+    passed : (c : Bool) → serial_is_in id (wakeable_ids xs) ≡ true → eqb x.id id ≡ false → serial_is_in id (cond c (x.id ∷ wakeable_ids xs) (wakeable_ids xs)) ≡ true
+    passed true m e = ap (λ b. b || serial_is_in id (wakeable_ids xs)) e ∙ m
     passed false m e = m
 
-    by_id : (find_exchange id xs ≡ Some z → serial_is_in id (ready_ids xs) ≡ true) → (b : Bool) → eqb x.id id ≡ b → cond b (Some x) (find_exchange id xs) ≡ Some z → serial_is_in id (ready_ids (x ∷ xs)) ≡ true
+    by_id : (find_exchange id xs ≡ Some z → serial_is_in id (wakeable_ids xs) ≡ true) → (b : Bool) → eqb x.id id ≡ b → cond b (Some x) (find_exchange id xs) ≡ Some z → serial_is_in id (wakeable_ids (x ∷ xs)) ≡ true
     by_id others true e f =
         let released : is_released x.stage ≡ true = ap (λ (y : Exchange). is_released y.stage) (same_Some x z f) ∙ s in
-        ap (λ c. serial_is_in id (cond c (x.id ∷ ready_ids xs) (ready_ids xs))) released ∙ ap (λ b. b || serial_is_in id (ready_ids xs)) e
+        ap (λ c. serial_is_in id (cond c (x.id ∷ wakeable_ids xs) (wakeable_ids xs))) released ∙ ap (λ b. b || serial_is_in id (wakeable_ids xs)) e
     by_id others false e f = passed (is_released x.stage) (others f) e
 
 pub woken_exactly_where_ready : WakeIsAcceptedExactlyWhereReady
@@ -300,7 +300,7 @@ woken_exactly_where_ready table start first now id trace g = (
     xs : List Exchange
     xs = open_exchanges table start trace
 
-    accepted : (s : Stage) (a : Option CoreFault) → is_released s ≡ true → or_fault a (fault_if_not_released s) ≡ a
+    accepted : (s : Stage) (a : Option CoreFault) → is_released s ≡ true → fault_else a (fault_if_not_released s) ≡ a
     accepted Forwarded a h = absurd (false≢true h)
     accepted (Waiting l) a h = absurd (false≢true h)
     accepted Released None h = refl
@@ -310,7 +310,7 @@ pub woken_is_judged_anew : WokenRequestIsJudgedAnew
 woken_is_judged_anew table start first now id item past g e =
     let r = ready_by xs now id (ap (step_fault xs) (sym e) ∙ g.0.allowed) in
     let is : item.outcome ≡ outcome_of_wake table es now r.x (decision_of (policy_of table.lines r.x.line) es r.x.asked now) =
-    g.0.outcome_is ∙ (ap (λ (v : Event). outcome_of_event table es xs (next_serial first past) v) e ∙ ap (λ (w : Option Exchange). outcome_of table es xs w (next_serial first past) (Wake now id)) r.is_open) in
+    g.0.outcome_is ∙ (ap (λ (v : Event). outcome_of_event table es xs (next_serial first past) v) e ∙ ap (λ (w : Option Exchange). outcome_for_exchange table es xs w (next_serial first past) (Wake now id)) r.is_open) in
     record { x = r.x; is_open = r.is_open; gets = by_decision r.x (decision_of (policy_of table.lines r.x.line) es r.x.asked now) refl is }
   where
     es : List Stored
@@ -347,7 +347,7 @@ module _ (table : Table) (start : StoreAtStart) (first now id : ℕ) (rule : Reu
   its items = find_exchange id (state_after_trace began (items ++ first_item ∷ before)).exchanges
 
   overtaken_at : (key : Scope) (x : Exchange) → AtTheOrigin rule named asked (Some x) → AtTheOrigin rule named asked (Some (overtaken_exchange key x))
-  overtaken_at key x a = by_test (is_in_scope key x.asked.target.key)
+  overtaken_at key x a = by_test (key_is_in_scope key x.asked.target.key)
     where
       same : a.x ≡ x
       same = same_Some a.x x (sym a.y_is)
@@ -412,9 +412,9 @@ module _ (table : Table) (start : StoreAtStart) (first now id : ℕ) (rule : Reu
       by_rest (inr a) = origin_more i items _ (its items) (its (i ∷ items)) (move_of table (state_after_trace began (items ++ first_item ∷ before)) i id (same_table began (items ++ first_item ∷ before)) g.0) a
 
 -- it is, right behind the arrival at which it goes there
-at_the_arrival : (table : Table) (start : StoreAtStart) (first now id : ℕ) (line : Route) (rule : ReuseRule) (named : Option ℕ) (asked : Asked) (bytes : List ℕ) (before : List Item) (o : Outcome) → o ≡ Forward line bytes →
+at_the_arrival : (table : Table) (start : StoreAtStart) (first now id : ℕ) (line : RequestRoute) (rule : ReuseRule) (named : Option ℕ) (asked : Asked) (bytes : List ℕ) (before : List Item) (o : Outcome) → o ≡ Forward line bytes →
     IsGood (initial_state table start first) (record { event = Arrive now id asked; outcome = o } ∷ before) →
-    IsLeastReuseRule (policy_of table.lines line) (held_entries table start before) asked now rule → RuleNamesTheResponse (held_entries table start before) asked rule named →
+    IsLeastReuseRule (policy_of table.lines line) (held_entries table start before) asked now rule → RuleOnChosenNamesItsSerial (held_entries table start before) asked rule named →
     AtTheOrigin rule named asked (find_exchange id (state_after_trace (initial_state table start first) (record { event = Arrive now id asked; outcome = o } ∷ before)).exchanges)
 at_the_arrival table start first now id line rule named asked bytes before o went g least names =
     let s = state_after_trace (initial_state table start first) before in
@@ -444,11 +444,11 @@ where_the_word_stands : (w b : Bool) → (w ≡ true → b ≡ true) → (not w 
 where_the_word_stands true b h = h refl
 where_the_word_stands false b h = refl
 
-asks_for_it : (awaited : Awaited) (rule : ReuseRule) (named : Option ℕ) (x : Exchange) → x.rule ≡ rule → x.named ≡ named → went_forward_for awaited rule named ≡ true → asks_for awaited x ≡ true
+asks_for_it : (awaited : Awaited) (rule : ReuseRule) (named : Option ℕ) (x : Exchange) → x.rule ≡ rule → x.named ≡ named → went_forward_for awaited rule named ≡ true → exchange_asks_for_awaited awaited x ≡ true
 asks_for_it Missing rule named x r n h = ap is_uri_miss r ∙ h
-asks_for_it (Expired serial) rule named x r n h = ap (λ m. names_serial m serial) n ∙ h
+asks_for_it (Expired serial) rule named x r n h = ap (λ m. option_names_serial m serial) n ∙ h
 
-pub one_goes_forward : OnlyOneGoesForwardForKey
+pub one_goes_forward : OnlyOneGetPerKeyGoesForward
 one_goes_forward table start first line awaited rule named bytes now id asked later earlier between before g arrives forward stays awaits e gets whole same went serves =
     ap (λ (v : Event). exchange_has_closed (exchange_id_of_event v) between) e.arrives
     ∙ by_fate (origin table start first e.now e.id rule named e.asked before earlier.outcome between p
@@ -472,11 +472,11 @@ one_goes_forward table start first line awaited rule named bytes now id asked la
     past : List Item
     past = between ++ earlier ∷ before
 
-    its_leads : (x : Exchange) → x.asked ≡ e.asked → x.rule ≡ rule → x.named ≡ named → x.stage ≡ Forwarded → (policy.waits_for_stale ≡ true → may_serve policy asked x ≡ true) → leads_waiters policy awaited asked x ≡ true
+    its_leads : (x : Exchange) → x.asked ≡ e.asked → x.rule ≡ rule → x.named ≡ named → x.stage ≡ Forwarded → (policy.waits_for_stale ≡ true → answer_may_be_shared_with policy asked x ≡ true) → is_leader_for_request policy awaited asked x ≡ true
     its_leads x a r n t may =
-        all_five (same_key x.asked.target.key asked.target.key) (is_get x.asked) (is_forwarded x.stage) (asks_for awaited x) (answer_may_serve policy asked x)
+        all_five (same_key x.asked.target.key asked.target.key) (is_get x.asked) (is_forwarded x.stage) (exchange_asks_for_awaited awaited x) (answer_may_serve policy asked x)
         (ap (λ (q : Asked). same_key q.target.key asked.target.key) a ∙ same) (ap is_get a ∙ gets) (ap is_forwarded t) (asks_for_it awaited rule named x r n went)
-        (ap (λ (q : Asked). not (forwards_range policy q) && (not policy.waits_for_stale || may_serve policy asked x)) a ∙ (ap (λ b. not b && (not policy.waits_for_stale || may_serve policy asked x)) whole ∙ where_the_word_stands policy.waits_for_stale (may_serve policy asked x) may))
+        (ap (λ (q : Asked). not (forwards_range policy q) && (not policy.waits_for_stale || answer_may_be_shared_with policy asked x)) a ∙ (ap (λ b. not b && (not policy.waits_for_stale || answer_may_be_shared_with policy asked x)) whole ∙ where_the_word_stands policy.waits_for_stale (answer_may_be_shared_with policy asked x) may))
 
     by_fate : (exchange_has_closed e.id between ≡ true) ⊎ AtTheOrigin rule named e.asked (its table start first e.now e.id rule named e.asked before earlier.outcome between) → exchange_has_closed e.id between ≡ true
     by_fate (inl c) = c
@@ -484,8 +484,8 @@ one_goes_forward table start first line awaited rule named bytes now id asked la
         let at : find_exchange e.id (open_exchanges table start past) ≡ Some a.x =
         ap (λ (i : Item). find_exchange e.id (open_exchanges table start (between ++ i ∷ before))) item_is
         ∙ (sym (ap (find_exchange e.id) (exchanges_are_open table start first (between ++ record { event = Arrive e.now e.id e.asked; outcome = earlier.outcome } ∷ before) p)) ∙ a.y_is) in
-        let may : policy.waits_for_stale ≡ true → may_serve policy asked a.x ≡ true =
-        (λ w. subst (λ (o : Option Exchange). IfSome o (λ (x : Exchange). may_serve policy asked x ≡ true)) at (serves w)) in
+        let may : policy.waits_for_stale ≡ true → answer_may_be_shared_with policy asked a.x ≡ true =
+        (λ w. subst (λ (o : Option Exchange). IfSome o (λ (x : Exchange). answer_may_be_shared_with policy asked x ≡ true)) at (serves w)) in
         let led = some_leads policy awaited asked e.id (open_exchanges table start past) a.x at (its_leads a.x a.asked_is a.rule_is a.named_is a.stage may) in
         let went = forwards_nothing_else table start first now id line asked bytes later past g arrives forward in
         let leads : leader policy awaited asked (exchanges_to_wait_for table line asked (open_exchanges table start past)) ≡ Some led.0 =
@@ -501,20 +501,20 @@ and_always : (a : Bool) → (a && true) ≡ a
 and_always true = refl
 and_always false = refl
 
-pub plain_lines_wait_for_misses : PlainLinesWaitForMisses
+pub plain_lines_wait_for_misses : LineWithoutWaitWaitsForMissesOnly
 plain_lines_wait_for_misses policy held asked now awaited x plain = (awaits_a_miss awaited, on_a_miss, it_leads, is_whole)
   where
-    awaits_a_miss : (awaited : Awaited) → RequestAwaits policy held asked now awaited → (awaited ≡ Missing) × IsLeastReuseRule policy held asked now UriMiss
+    awaits_a_miss : (awaited : Awaited) → RequestMayAwaitAnother policy held asked now awaited → (awaited ≡ Missing) × IsLeastReuseRule policy held asked now UriMiss
     awaits_a_miss Missing w = (refl, subst (IsLeastReuseRule policy held asked now) w.leaves w.is_least)
     awaits_a_miss (Expired serial) w = absurd (false≢true (sym plain ∙ w.leaves.0))
 
-    on_a_miss : is_get asked ≡ true → IsLeastReuseRule policy held asked now UriMiss → RequestAwaits policy held asked now Missing
-    on_a_miss gets least = record { gets = gets; takes_what_is_fresh = ap (λ b. b && asks_the_origin policy asked) plain; rule = UriMiss; is_least = least; leaves = refl }
+    on_a_miss : is_get asked ≡ true → IsLeastReuseRule policy held asked now UriMiss → RequestMayAwaitAnother policy held asked now Missing
+    on_a_miss gets least = record { gets = gets; no_cache_is_not_heeded = ap (λ b. b && no_cache_request_is_heeded policy asked) plain; rule = UriMiss; is_least = least; leaves = refl }
 
     is_whole : policy.forwards_ranges ≡ true → IsLeastReuseRule policy held asked now UriMiss → asks_for_range asked ≡ false
     is_whole forwards least = second_false policy.forwards_ranges (asks_for_range asked) forwards (least.none_before Range (omega arith))
 
-    it_leads : leads_waiters policy Missing asked x ≡ (same_key x.asked.target.key asked.target.key && (is_get x.asked && (is_forwarded x.stage && (is_uri_miss x.rule && not (forwards_range policy x.asked)))))
+    it_leads : is_leader_for_request policy Missing asked x ≡ (same_key x.asked.target.key asked.target.key && (is_get x.asked && (is_forwarded x.stage && (is_uri_miss x.rule && not (forwards_range policy x.asked)))))
     it_leads =
-        ap (λ w. same_key x.asked.target.key asked.target.key && (is_get x.asked && (is_forwarded x.stage && (is_uri_miss x.rule && (not (forwards_range policy x.asked) && (not w || may_serve policy asked x)))))) plain
+        ap (λ w. same_key x.asked.target.key asked.target.key && (is_get x.asked && (is_forwarded x.stage && (is_uri_miss x.rule && (not (forwards_range policy x.asked) && (not w || answer_may_be_shared_with policy asked x)))))) plain
         ∙ ap (λ b. same_key x.asked.target.key asked.target.key && (is_get x.asked && (is_forwarded x.stage && (is_uri_miss x.rule && b)))) (and_always (not (forwards_range policy x.asked)))

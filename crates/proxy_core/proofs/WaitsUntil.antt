@@ -14,17 +14,17 @@ use Rattle.proxy_core.specs.declared.event.Event.{Event}
 use Rattle.proxy_core.specs.declared.event.Event.TheVariants.{Arrive, Answer, Fail, Wake, Abandon, Overdue}
 use Rattle.proxy_core.specs.Leading.{is_forwarded, is_waiting, is_released, waits_for}
 use Rattle.proxy_core.specs.Outcomes.{find_exchange, exchange_id_of_event, outcome_of_event, step_fault}
-use Rattle.proxy_core.specs.Scopes.{Scope, is_in_scope}
-use Rattle.proxy_core.specs.State.{State, overtaken_exchange, released_exchange, waiting_exchange, open_exchanges_after, exchange_past_its_wait}
+use Rattle.proxy_core.specs.Scopes.{Scope, key_is_in_scope}
+use Rattle.proxy_core.specs.State.{State, overtaken_exchange, released_exchange, waiting_exchange, open_exchanges_after, exchange_released_by_timeout}
 use Rattle.proxy_core.specs.Starts.{StoreAtStart}
 use Rattle.proxy_core.specs.Traces.{Item, ItemIsAccepted, initial_state, state_after_trace, IsGood}
 use Rattle.proxy_core.specs.Promises.{outcome_goes_forward, outcome_ends_exchange, is_arrival_event, NoRequestArrives}
 use Rattle.proxy_core.specs.TraceMeaning.{opens_an_exchange}
-use Rattle.proxy_core.specs.Waiting.{is_wake_event, was_woken, is_overdue_event, NothingButItsTimeHappened, stage_of_exchange, leader_of_stage, stage_of_waiter, leader_followed, leader_after_end, leader_after_item, leader_of_waiter, ExchangeMayBeWoken, RequestWaitsUntilItsLeaderEndsOrItsTime, RequestIsWokenOnceBehindItsLeaderOrItsTime}
+use Rattle.proxy_core.specs.Waiting.{is_wake_event, request_was_woken, is_overdue_event, NothingButItsTimeoutHappened, stage_of_exchange, leader_of_stage, stage_of_waiter, leader_after_abandon, leader_after_end, leader_after_item, leader_of_waiter, ExchangeMayBeWoken, RequestWaitsUntilLeaderEndsOrTimeout, RequestIsWokenOnceAfterLeaderOrTimeout}
 use Rattle.proxy_core.proofs.Waits.{is_wait, ready_by}
 use Rattle.std.specs.Option.{option_and_then}
-use Rattle.proxy_core.specs.declared.open.leading_on.NextLeader.{NextLeader}
-use Rattle.proxy_core.specs.LeadingOn.{wait_has_an_end, next_leader, stage_after_leader, led_on_exchange, exchanges_without}
+use Rattle.proxy_core.specs.declared.open.as_next_leader.NextLeader.{NextLeader}
+use Rattle.proxy_core.specs.LeadingOn.{wait_is_limited, next_leader, stage_after_leader, after_abandon, exchanges_without}
 use Rattle.proxy_core.proofs.LedOn.{behind_is, led_on-stage}
 use Rattle.proxy_core.proofs.ExchangeLists.{changed_by, find-abandoned, find-without}
 use Rattle.proxy_core.proofs.Moves.{Move, apart, opens, queues, passes, again, wakes, closes, turns, lapses, asked_of, ended_by, move_of, and_none, key_taken_by_step}
@@ -39,7 +39,7 @@ stage_by None s = s
 stage_by (Some i) s = cond (waits_for i s) Released s
 
 overtaken_stage : (key : Scope) (x : Exchange) → (overtaken_exchange key x).stage ≡ x.stage
-overtaken_stage key x = elim (is_in_scope key x.asked.target.key) as (λ b. (cond b (record x { overtaken = true }) x).stage ≡ x.stage) [
+overtaken_stage key x = elim (key_is_in_scope key x.asked.target.key) as (λ b. (cond b (record x { overtaken = true }) x).stage ≡ x.stage) [
   | true ↦ refl
   | false ↦ refl
 ]
@@ -106,7 +106,7 @@ stage_more table xs id i (Some l) n k =
 of_its_leader : (table : Table) (next : Option NextLeader) (x : Exchange) → stage_after_leader table next x ≡ stage_of_waiter (leader_of_stage (stage_after_leader table next x))
 of_its_leader table next x = by_stage (behind_is table next x)
   where
-    by_stage : (stage_after_leader table next x ≡ Released) ⊎ ((l : ℕ) × (stage_after_leader table next x ≡ Waiting l) × (wait_has_an_end table x ≡ true)) → stage_after_leader table next x ≡ stage_of_waiter (leader_of_stage (stage_after_leader table next x))
+    by_stage : (stage_after_leader table next x ≡ Released) ⊎ ((l : ℕ) × (stage_after_leader table next x ≡ Waiting l) × (wait_is_limited table x ≡ true)) → stage_after_leader table next x ≡ stage_of_waiter (leader_of_stage (stage_after_leader table next x))
     by_stage (inl r) = r ∙ sym (ap (λ (s : Stage). stage_of_waiter (leader_of_stage s)) r)
     by_stage (inr w) = w.1 ∙ sym (ap (λ (s : Stage). stage_of_waiter (leader_of_stage s)) w.1)
 
@@ -120,16 +120,16 @@ stage_abandoned table xs id j o x (Some l) n e f s =
     ap (λ (t : Stage). cond (waits_for j t) (stage_after_leader table (next_leader table j xs) x) t) s
     ∙ (ap (λ b. cond b (stage_after_leader table (next_leader table j xs) x) (Waiting l)) (other_way l j)
     ∙ (by_id (eqb j l) refl
-    ∙ sym (ap (λ b. stage_of_waiter (cond (b && false) None (cond (eqb j l && (true && outcome_ends_exchange o)) (leader_followed table xs id l) (Some l)))) n
-    ∙ ap (λ (o : Outcome). stage_of_waiter (cond (eqb j l && (true && outcome_ends_exchange o)) (leader_followed table xs id l) (Some l))) e)))
+    ∙ sym (ap (λ b. stage_of_waiter (cond (b && false) None (cond (eqb j l && (true && outcome_ends_exchange o)) (leader_after_abandon table xs id l) (Some l)))) n
+    ∙ ap (λ (o : Outcome). stage_of_waiter (cond (eqb j l && (true && outcome_ends_exchange o)) (leader_after_abandon table xs id l) (Some l))) e)))
   where
-    followed : eqb j l ≡ true → leader_followed table xs id l ≡ leader_of_stage (stage_after_leader table (next_leader table j xs) x)
+    followed : eqb j l ≡ true → leader_after_abandon table xs id l ≡ leader_of_stage (stage_after_leader table (next_leader table j xs) x)
     followed t =
-        ap (leader_followed table xs id) (sym (eqb-true j l t))
+        ap (leader_after_abandon table xs id) (sym (eqb-true j l t))
         ∙ ap (λ (w : Option Exchange). option_and_then (λ (x : Exchange). leader_of_stage (stage_after_leader table (next_leader table j xs) x)) w)
         (find-without j id xs ∙ (ap (λ b. cond b None (find_exchange id xs)) n ∙ f))
 
-    by_id : (b : Bool) → eqb j l ≡ b → cond b (stage_after_leader table (next_leader table j xs) x) (Waiting l) ≡ stage_of_waiter (cond (b && true) (leader_followed table xs id l) (Some l))
+    by_id : (b : Bool) → eqb j l ≡ b → cond b (stage_after_leader table (next_leader table j xs) x) (Waiting l) ≡ stage_of_waiter (cond (b && true) (leader_after_abandon table xs id l) (Some l))
     by_id true t = of_its_leader table (next_leader table j xs) x ∙ sym (ap stage_of_waiter (followed t))
     by_id false t = refl
 
@@ -156,7 +156,7 @@ record StandsBy (id : ℕ) (leads : Option ℕ) (items : List Item) (y : Option 
   x : Exchange
   y_is : y ≡ Some x
   stage : x.stage ≡ stage_of_waiter leads
-  unwoken : was_woken id items ≡ false
+  unwoken : request_was_woken id items ≡ false
 
 -- a step of another id
 module _ (table : Table) (es : List Stored) (xs : List Exchange) (next : Option ℕ) (id : ℕ) where
@@ -166,8 +166,8 @@ module _ (table : Table) (es : List Stored) (xs : List Exchange) (next : Option 
       StandsBy id (option_and_then (λ l. leader_after_item table xs id l i) leads) (i ∷ items) (find_exchange id (open_exchanges_after table es xs i.event i.outcome))
   stands_elsewhere i items leads accepted n move s = by_event i.event refl
     where
-      unwoken : was_woken id (i ∷ items) ≡ false
-      unwoken = ap (λ b. cond (b && is_wake_event i.event) true (was_woken id items)) n ∙ s.unwoken
+      unwoken : request_was_woken id (i ∷ items) ≡ false
+      unwoken = ap (λ b. cond (b && is_wake_event i.event) true (request_was_woken id items)) n ∙ s.unwoken
 
       its_own : eqb (exchange_id_of_event i.event) id ≡ true → ⊥
       its_own t = false≢true (sym n ∙ t)
@@ -198,13 +198,13 @@ module _ (table : Table) (es : List Stored) (xs : List Exchange) (next : Option 
       by_event (Abandon j) e =
           let away : eqb j id ≡ false = sym (ap (λ (v : Event). eqb (exchange_id_of_event v) id) e) ∙ n in
           let ended : i.outcome ≡ Ended = accepted.outcome_is ∙ ap (outcome_of_event table es xs next) e in
-          let follower = led_on_exchange table (next_leader table j xs) j s.x in
+          let follower = after_abandon table (next_leader table j xs) j s.x in
           let is : record { event = Abandon j; outcome = i.outcome } ≡ i = ap (λ (v : Event). record { event = v; outcome = i.outcome }) (sym e) in
           record {
             x = follower;
             y_is = ap (λ (v : Event). find_exchange id (open_exchanges_after table es xs v i.outcome)) e
-                ∙ (find-abandoned table j id xs ∙ (ap (λ b. cond b None (option_map (led_on_exchange table (next_leader table j xs) j) (find_exchange id xs))) away
-                ∙ ap (option_map (led_on_exchange table (next_leader table j xs) j)) s.y_is));
+                ∙ (find-abandoned table j id xs ∙ (ap (λ b. cond b None (option_map (after_abandon table (next_leader table j xs) j) (find_exchange id xs))) away
+                ∙ ap (option_map (after_abandon table (next_leader table j xs) j)) s.y_is));
             stage = led_on-stage table (next_leader table j xs) j s.x
                 ∙ (stage_abandoned table xs id j i.outcome s.x leads away ended s.y_is s.stage
                 ∙ ap (λ (v : Item). stage_of_waiter (option_and_then (λ l. leader_after_item table xs id l v) leads)) is);
@@ -212,13 +212,13 @@ module _ (table : Table) (es : List Stored) (xs : List Exchange) (next : Option 
           }
 
 -- its time to wait is over
-stands_past : (table : Table) (xs : List Exchange) (id : ℕ) (leads : Option ℕ) (i : Item) (items : List Item) (z : Exchange) (y : Option Exchange) → i.event ≡ Overdue id → y ≡ Some (exchange_past_its_wait z) → was_woken id items ≡ false →
+stands_past : (table : Table) (xs : List Exchange) (id : ℕ) (leads : Option ℕ) (i : Item) (items : List Item) (z : Exchange) (y : Option Exchange) → i.event ≡ Overdue id → y ≡ Some (exchange_released_by_timeout z) → request_was_woken id items ≡ false →
     StandsBy id (option_and_then (λ l. leader_after_item table xs id l i) leads) (i ∷ items) y
 stands_past table xs id leads i items z y e h unwoken = record {
-  x = exchange_past_its_wait z;
+  x = exchange_released_by_timeout z;
   y_is = h;
   stage = ap stage_of_waiter (sym (nobody leads));
-  unwoken = ap (λ (v : Event). cond (eqb (exchange_id_of_event v) id && is_wake_event v) true (was_woken id items)) e ∙ (ap (λ b. cond b true (was_woken id items)) (and_none (eqb id id)) ∙ unwoken);
+  unwoken = ap (λ (v : Event). cond (eqb (exchange_id_of_event v) id && is_wake_event v) true (request_was_woken id items)) e ∙ (ap (λ b. cond b true (request_was_woken id items)) (and_none (eqb id id)) ∙ unwoken);
 }
   where
     nobody : (leads : Option ℕ) → option_and_then (λ l. leader_after_item table xs id l i) leads ≡ None
@@ -292,7 +292,7 @@ module _ (table : Table) (start : StoreAtStart) (first l : ℕ) (before : List I
       (subst (λ (t : Table). ItemIsAccepted t c.entries c.exchanges c.next i) (sym (same_table begun (items ++ arrival ∷ before))) g.0) n
       (move_of table c i id (same_table begun (items ++ arrival ∷ before)) g.0) s))
 
-  past_its_time : (i : Item) (items : List Item) (z : Exchange) (y : Option Exchange) → IsGood begun (items ++ arrival ∷ before) → i.event ≡ Overdue id → y ≡ Some (exchange_past_its_wait z) → was_woken id items ≡ false → StandsBy id (leads (i ∷ items)) (i ∷ items) y
+  past_its_time : (i : Item) (items : List Item) (z : Exchange) (y : Option Exchange) → IsGood begun (items ++ arrival ∷ before) → i.event ≡ Overdue id → y ≡ Some (exchange_released_by_timeout z) → request_was_woken id items ≡ false → StandsBy id (leads (i ∷ items)) (i ∷ items) y
   past_its_time i items z y g e h u =
       subst (λ (o : Option ℕ). StandsBy id o (i ∷ items) y) (leads_more i items g) (stands_past table (core items).exchanges id (leads items) i items z y e h u)
 
@@ -344,7 +344,7 @@ module _ (table : Table) (start : StoreAtStart) (first l : ℕ) (before : List I
       fate_more i items (exchange items) (exchange (i ∷ items)) _ n.0 g.1 (elsewhere i items g) (move_of table (core items) i id (same_table begun (items ++ arrival ∷ before)) g.0) (fate items g.1 w n.1)
 
   -- while nothing but the end of its time happens to it
-  applies : (items : List Item) → IsGood begun (items ++ arrival ∷ before) → arrival.outcome ≡ Waits l → NothingButItsTimeHappened id items → StandsBy id (leads items) items (exchange items)
+  applies : (items : List Item) → IsGood begun (items ++ arrival ∷ before) → arrival.outcome ≡ Waits l → NothingButItsTimeoutHappened id items → StandsBy id (leads items) items (exchange items)
   applies [] g w n = at_first g w
   applies (i ∷ items) g w n =
       by_move (applies items g.1 w n.1) (exchange (i ∷ items)) (elsewhere i items g) (move_of table (core items) i id (same_table begun (items ++ arrival ∷ before)) g.0)
@@ -375,7 +375,7 @@ module _ (table : Table) (start : StoreAtStart) (first l : ℕ) (before : List I
       by_move was y still (turns z j m e n x_is r f h) = still (ap (λ (v : Event). eqb (exchange_id_of_event v) id) e ∙ n) was
       by_move was y still (lapses z e x_is s f h) = past_its_time i items z y g.1 e h was.unwoken
 
-pub waits_until_its_leader_ends : RequestWaitsUntilItsLeaderEndsOrItsTime
+pub waits_until_its_leader_ends : RequestWaitsUntilLeaderEndsOrTimeout
 waits_until_its_leader_ends table start first l items before arrival g w n =
     let p = good_plain table start first (items ++ arrival ∷ before) g in
     let s = applies table start first l before arrival items p w n in
@@ -388,7 +388,7 @@ waits_for_none : (leads : Option ℕ) → is_released (stage_of_waiter leads) �
 waits_for_none None h = refl
 waits_for_none (Some l) h = absurd (false≢true h)
 
-pub woken_once_behind_its_leader : RequestIsWokenOnceBehindItsLeaderOrItsTime
+pub woken_once_behind_its_leader : RequestIsWokenOnceAfterLeaderOrTimeout
 woken_once_behind_its_leader table start first now l items before wake arrival g w e n =
     let p = good_plain table start first (wake ∷ (items ++ arrival ∷ before)) g in
     let id = exchange_id_of_event arrival.event in
@@ -401,7 +401,7 @@ woken_once_behind_its_leader table start first now l items before wake arrival g
 
     by_fate : ExchangeMayBeWoken (exchange_id_of_event arrival.event) (state_after_trace (initial_state table start first) (items ++ arrival ∷ before)).exchanges →
         Fate table start first l before arrival items (find_exchange (exchange_id_of_event arrival.event) (state_after_trace (initial_state table start first) (items ++ arrival ∷ before)).exchanges) →
-        (leader_of_waiter table start (exchange_id_of_event arrival.event) l items (arrival ∷ before) ≡ None) × (was_woken (exchange_id_of_event arrival.event) items ≡ false)
+        (leader_of_waiter table start (exchange_id_of_event arrival.event) l items (arrival ∷ before) ≡ None) × (request_was_woken (exchange_id_of_event arrival.event) items ≡ false)
     by_fate r (stands_by s) =
         let leads = leader_of_waiter table start (exchange_id_of_event arrival.event) l items (arrival ∷ before) in
         let same : r.x.stage ≡ stage_of_waiter leads = same_stage _ r.x s.x r.is_open s.y_is ∙ s.stage in

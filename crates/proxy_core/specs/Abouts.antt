@@ -12,13 +12,13 @@ use Rattle.hx_policy.specs.declared.words.Policy.{Policy}
 use Rattle.hx_store.specs.Stored.{Stored}
 use Rattle.hx_status.specs.Abouts.{about_purge, about_refusal, reason_text}
 use Rattle.hx_status.specs.Member.{member_text}
-use Rattle.hx_status.specs.declared.about.About.{About}
+use Rattle.hx_status.specs.declared.about.StatusAndReason.{StatusAndReason}
 use Rattle.hx_status.specs.declared.about.Told.{Told}
 use Rattle.hx_status.specs.declared.about.Told.TheVariants.{Handled, Purged, Refused}
 use Rattle.hx_status.specs.declared.cause.Cause.{Cause}
 use Rattle.hx_status.specs.declared.status.Status.{Status}
 use Rattle.hx_storable.specs.declared.rule.StoreRule.{StoreRule}
-use Rattle.hx_validate.specs.NotModified.{gets_304}
+use Rattle.hx_validate.specs.NotModified.{stored_gets_304}
 use Rattle.hx_validate.specs.Room.{head_leaves_room}
 use Rattle.hx_validate.specs.declared.ranges.RangeAnswer.{RangeAnswer}
 use Rattle.hx_validate.specs.declared.ranges.RangeAnswer.TheVariants.{Whole, Part, Unsatisfiable}
@@ -28,27 +28,27 @@ use Rattle.proxy_core.specs.declared.outcome.Outcome.TheVariants.{Reply, Forward
 use Rattle.proxy_core.specs.declared.replies.stored_reply.CacheStatusInfo.{CacheStatusInfo}
 use Rattle.proxy_core.specs.Replies.{cache_status_of_sent, cache_status_of_passed_answer}
 use Rattle.proxy_core.specs.Replies.{cache_status_in_place_of_answer}
-use Rattle.proxy_core.specs.Replies.{client_has_answer, fields_of_answer_416}
-use Rattle.proxy_core.specs.Replies.{fields_of_answer_part, stored_response_as_sent}
+use Rattle.proxy_core.specs.Replies.{client_wants_304_for_answer, fields_of_answer_416}
+use Rattle.proxy_core.specs.Replies.{fields_of_partial_answer, stored_response_as_sent}
 use Rattle.proxy_core.specs.Replies.{passed_answer_text, purge_reply_text, range_of_answer, refusal_reply_text, line}
-use Rattle.proxy_core.specs.Replies.{stored_text}
+use Rattle.proxy_core.specs.Replies.{stored_reply_text}
 
 -- a stored response that is sent under a status
-abbrev pub about_sent : ℕ → Stored → ℕ → CacheStatusInfo → About
-about_sent status e now info = record {
+abbrev pub about_stored_response_sent : ℕ → Stored → ℕ → CacheStatusInfo → StatusAndReason
+about_stored_response_sent status e now info = record {
   status = status;
   told = Handled (cache_status_of_sent status e now info);
   origin_line = info.origin_line;
 }
 
 -- as a 304 to who has it already, or in the form that the request asks for
-abbrev pub about_stored : Stored → ℕ → CacheStatusInfo → Asked → About
+abbrev pub about_stored : Stored → ℕ → CacheStatusInfo → Asked → StatusAndReason
 about_stored e now info asked =
-    cond (gets_304 asked e) (about_sent 304 e now info)
-    (about_sent (stored_response_as_sent info.policy asked e).status e now info)
+    cond (stored_gets_304 asked e) (about_stored_response_sent 304 e now info)
+    (about_stored_response_sent (stored_response_as_sent info.policy asked e).status e now info)
 
 -- a response that is sent under a status, where the origin of the exchange's line answered
-abbrev pub about_answer : Exchange → ℕ → Status → About
+abbrev pub about_answer : Exchange → ℕ → Status → StatusAndReason
 about_answer x status shown = record {
   status = status;
   told = Handled shown;
@@ -56,33 +56,34 @@ about_answer x status shown = record {
 }
 
 -- the answer, whole
-abbrev pub about_whole_answer : Policy → Exchange → Response → ℕ → Bool → Option StoreRule → About
-about_whole_answer policy x r now stored rule =
+abbrev pub about_answer_passed_whole : Policy → Exchange → Response → ℕ → Bool → Option StoreRule → StatusAndReason
+about_answer_passed_whole policy x r now stored rule =
     about_answer x r.status (cache_status_of_passed_answer policy x r.status (answered_of r now).fields now stored rule)
 
 -- what is sent in its place, under a status of its own
-abbrev pub about_in_place_of_answer : Policy → Exchange → Response → ℕ → Bool → Option StoreRule → ℕ → About
+abbrev pub about_in_place_of_answer : Policy → Exchange → Response → ℕ → Bool → Option StoreRule → ℕ → StatusAndReason
 about_in_place_of_answer policy x r now stored rule status = about_answer x status
     (cache_status_in_place_of_answer policy x r.status (answered_of r now).fields now stored rule)
 
 -- the part of it that its client asked for
-abbrev pub about_answer_in_range : Policy → Exchange → Response → ℕ → Bool → Option StoreRule → RangeAnswer → About
-about_answer_in_range policy x r now stored rule Whole = about_whole_answer policy x r now stored rule
+abbrev pub about_answer_in_range : Policy → Exchange → Response → ℕ → Bool → Option StoreRule → RangeAnswer
+    → StatusAndReason
+about_answer_in_range policy x r now stored rule Whole = about_answer_passed_whole policy x r now stored rule
 about_answer_in_range policy x r now stored rule (Part first last) =
-    cond (head_leaves_room (fields_of_answer_part r now first last))
-    (about_in_place_of_answer policy x r now stored rule 206) (about_whole_answer policy x r now stored rule)
+    cond (head_leaves_room (fields_of_partial_answer r now first last))
+    (about_in_place_of_answer policy x r now stored rule 206) (about_answer_passed_whole policy x r now stored rule)
 about_answer_in_range policy x r now stored rule Unsatisfiable =
     cond (head_leaves_room (fields_of_answer_416 r now))
-    (about_in_place_of_answer policy x r now stored rule 416) (about_whole_answer policy x r now stored rule)
+    (about_in_place_of_answer policy x r now stored rule 416) (about_answer_passed_whole policy x r now stored rule)
 
 -- an answer of the origin that is passed on, as a 304 to who has it already, or the part of it
-abbrev pub about_passed_answer : Policy → Exchange → Response → ℕ → Bool → Option StoreRule → About
+abbrev pub about_passed_answer : Policy → Exchange → Response → ℕ → Bool → Option StoreRule → StatusAndReason
 about_passed_answer policy x r now stored rule =
-    cond (client_has_answer policy x r now) (about_in_place_of_answer policy x r now stored rule 304)
+    cond (client_wants_304_for_answer policy x r now) (about_in_place_of_answer policy x r now stored rule 304)
     (about_answer_in_range policy x r now stored rule (range_of_answer policy x r now))
 
 -- what is told of an outcome; what is no reply tells nothing
-abbrev pub about_by_outcome : Outcome → Option About
+abbrev pub about_by_outcome : Outcome → Option StatusAndReason
 about_by_outcome (Reply r) = Some r.about
 about_by_outcome (Forward line bytes) = None
 about_by_outcome (Waits leader) = None
@@ -92,7 +93,7 @@ about_by_outcome WaitsNoMore = None
 -- ---- the statement
 
 -- A reply of that status has this as the last of its lines.
-pub record HasStatusAndLine (bytes : List ℕ) (status : ℕ) (last : Field) : Type 0 where
+pub record ReplyHasStatusAndLastField (bytes : List ℕ) (status : ℕ) (last : Field) : Type 0 where
   pub fields : List Field
   pub length : Option ℕ
   pub close : Bool
@@ -101,31 +102,32 @@ pub record HasStatusAndLine (bytes : List ℕ) (status : ℕ) (last : Field) : T
 
 -- What is told of a reply stands in its bytes: its status, and the line that the proxy adds by itself, Cache-Status
 -- (RFC 9211), Refusal or Purged.
-abbrev pub IsToldInBytes : List ℕ → About → List ℕ → Told → Type 0
-IsToldInBytes name about bytes (Handled status) =
-    HasStatusAndLine bytes about.status (line (codes "Cache-Status") (member_text name status))
-IsToldInBytes name about bytes (Refused cause) =
-    HasStatusAndLine bytes about.status (line (codes "Refusal") (reason_text (Refused cause)))
-IsToldInBytes name about bytes (Purged count) =
-    HasStatusAndLine bytes about.status (line (codes "Purged") (decimal count))
+abbrev pub ReplyBytesShowWhatIsReported : List ℕ → StatusAndReason → List ℕ → Told → Type 0
+ReplyBytesShowWhatIsReported name about bytes (Handled status) =
+    ReplyHasStatusAndLastField bytes about.status (line (codes "Cache-Status") (member_text name status))
+ReplyBytesShowWhatIsReported name about bytes (Refused cause) =
+    ReplyHasStatusAndLastField bytes about.status (line (codes "Refusal") (reason_text (Refused cause)))
+ReplyBytesShowWhatIsReported name about bytes (Purged count) =
+    ReplyHasStatusAndLastField bytes about.status (line (codes "Purged") (decimal count))
 
-abbrev pub SaysWhatItIs : List ℕ → List ℕ → About → Type 0
-SaysWhatItIs name bytes about = IsToldInBytes name about bytes about.told
+abbrev pub BytesShowReportedStatusAndLine : List ℕ → List ℕ → StatusAndReason → Type 0
+BytesShowReportedStatusAndLine name bytes about = ReplyBytesShowWhatIsReported name about bytes about.told
 
-abbrev pub StoredReplySaysWhatItIs : Type 0
-StoredReplySaysWhatItIs = (name : List ℕ) (e : Stored) (now : ℕ) (info : CacheStatusInfo) (asked : Asked)
-    → SaysWhatItIs name (stored_text name e now info asked) (about_stored e now info asked)
+abbrev pub StoredReplyShowsStatusAndCacheStatus : Type 0
+StoredReplyShowsStatusAndCacheStatus = (name : List ℕ) (e : Stored) (now : ℕ) (info : CacheStatusInfo) (asked : Asked)
+    → BytesShowReportedStatusAndLine name (stored_reply_text name e now info asked) (about_stored e now info asked)
 
-abbrev pub PassedAnswerSaysWhatItIs : Type 0
-PassedAnswerSaysWhatItIs = (policy : Policy) (name : List ℕ) (x : Exchange) (r : Response) (now : ℕ) (stored : Bool)
+abbrev pub PassedAnswerShowsStatusAndCacheStatus : Type 0
+PassedAnswerShowsStatusAndCacheStatus =
+    (policy : Policy) (name : List ℕ) (x : Exchange) (r : Response) (now : ℕ) (stored : Bool)
     (rule : Option StoreRule)
-    → SaysWhatItIs name (passed_answer_text policy name x r now stored rule)
+    → BytesShowReportedStatusAndLine name (passed_answer_text policy name x r now stored rule)
     (about_passed_answer policy x r now stored rule)
 
-abbrev pub RefusalSaysWhatItIs : Type 0
-RefusalSaysWhatItIs = (name date : List ℕ) (cause : Cause) (close head : Bool)
-    → SaysWhatItIs name (refusal_reply_text date cause close head) (about_refusal cause)
+abbrev pub RefusalShowsStatusAndCause : Type 0
+RefusalShowsStatusAndCause = (name date : List ℕ) (cause : Cause) (close head : Bool)
+    → BytesShowReportedStatusAndLine name (refusal_reply_text date cause close head) (about_refusal cause)
 
-abbrev pub PurgeSaysWhatItIs : Type 0
-PurgeSaysWhatItIs = (name date : List ℕ) (count : ℕ) (close : Bool)
-    → SaysWhatItIs name (purge_reply_text date count close) (about_purge count)
+abbrev pub PurgeReplyShowsStatusAndCount : Type 0
+PurgeReplyShowsStatusAndCount = (name date : List ℕ) (count : ℕ) (close : Bool)
+    → BytesShowReportedStatusAndLine name (purge_reply_text date count close) (about_purge count)

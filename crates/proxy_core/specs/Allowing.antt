@@ -2,8 +2,8 @@
 use Rattle.std.specs.Prelude.{Bool, true, false, List, [], if◌then◌else◌}
 use Rattle.hx_hop.specs.declared.request_view.Asked.{Asked}
 use Rattle.hx_allow.specs.TableLines.{Table}
-use Rattle.hx_allow.specs.Matching.{verdict_of_request, request_came_back}
-use Rattle.hx_allow.specs.declared.verdicts.Route.{Route}
+use Rattle.hx_allow.specs.Matching.{verdict_of_request, request_is_refused_as_loop}
+use Rattle.hx_allow.specs.declared.verdicts.RequestRoute.{RequestRoute}
 use Rattle.hx_allow.specs.declared.verdicts.Verdict.{Verdict}
 use Rattle.hx_allow.specs.declared.verdicts.Verdict.TheVariants as verdict
 use Rattle.proxy_core.specs.declared.open.exchange.Exchange.{Exchange}
@@ -12,22 +12,22 @@ use Rattle.proxy_core.specs.declared.open.exchange.Exchange.{Exchange}
 abbrev pub verdict_of_asked : Table → Asked → Verdict
 verdict_of_asked table asked = verdict_of_request table asked.method asked.target asked.fields
 
-abbrev pub is_purge : Verdict → Bool
-is_purge (verdict.Allowed line) = false
-is_purge (verdict.DeniedBy line) = false
-is_purge verdict.NoLine = false
-is_purge (verdict.Looped line) = false
-is_purge (verdict.Purged line) = true
+abbrev pub is_purge_verdict : Verdict → Bool
+is_purge_verdict (verdict.Allowed line) = false
+is_purge_verdict (verdict.DeniedBy line) = false
+is_purge_verdict verdict.NoLine = false
+is_purge_verdict (verdict.Looped line) = false
+is_purge_verdict (verdict.Purged line) = true
 
 -- the request purges what is held within its scope, by the first line that matches
 abbrev pub request_purges : Table → Asked → Bool
-request_purges table asked = is_purge (verdict_of_asked table asked)
+request_purges table asked = is_purge_verdict (verdict_of_asked table asked)
 
 -- over a line that refuses loops the request was here before
-abbrev pub came_back : Table → Route → Asked → Bool
-came_back table line asked = request_came_back table line asked.fields
+abbrev pub came_back : Table → RequestRoute → Asked → Bool
+came_back table line asked = request_is_refused_as_loop table line asked.fields
 
 -- the open exchanges for whose answer a request may wait
 -- own: one that came back waits for none, which could be its own ("A request that came back waits for nobody")
-abbrev pub exchanges_to_wait_for : Table → Route → Asked → List Exchange → List Exchange
+abbrev pub exchanges_to_wait_for : Table → RequestRoute → Asked → List Exchange → List Exchange
 exchanges_to_wait_for table line asked xs = if came_back table line asked then [] else xs

@@ -1,10 +1,10 @@
 -- Which requests wait for the answer to another, and for what: a response that could be sent to them.
 --
--- asks_the_origin: the request has a no-cache that its line heeds
--- ResponseIsOver, RequestAwaits: what a request could be sent of the answer to another
--- awaited_of: the same by the first rule against what is held
+-- no_cache_request_is_heeded: the request has a no-cache that its line heeds
+-- ResponseHasExpired, RequestMayAwaitAnother: what a request could be sent of the answer to another
+-- awaited_by_request: the same by the first rule against what is held
 -- leader_of_request: the exchange for which a request waits
--- WhoWaitedIsKeptBackByTheAnswerAlone: nobody waits in vain, but by what the answer says
+-- WaiterIsServedUnlessTheResponseForbids: nobody waits in vain, but by what the answer says
 use Rattle.std.specs.Prelude.{◌≡◌, ◌⊎◌, ℕ, ◌<◌, ◌&&◌, ◌||◌, nat_lt, not, Bool, true, false, List, Option, Some}
 use Rattle.std.specs.Prelude.{None, cond}
 use Rattle.std.specs.Option.{option_and_then}
@@ -18,9 +18,9 @@ use Rattle.hx_age.specs.Age.{age_of, is_fresh_of}
 use Rattle.hx_hop.specs.declared.request_view.Asked.{Asked}
 use Rattle.hx_store.specs.Stored.{Stored}
 use Rattle.hx_store.specs.Shelf.{find_entry}
-use Rattle.hx_reuse.specs.Lifetimes.{lifetime_of_held, lifetime_under}
+use Rattle.hx_reuse.specs.Lifetimes.{lifetime_of_stored_response, lifetime_under_policy}
 use Rattle.hx_reuse.specs.Chosen.{chosen_of}
-use Rattle.hx_reuse.specs.Rules.{names_chosen, decision_of}
+use Rattle.hx_reuse.specs.Rules.{is_rule_on_chosen, decision_of}
 use Rattle.hx_reuse.specs.ChosenAndNamed.{IsLeastReuseRule}
 use Rattle.hx_reuse.specs.declared.rule.ReuseRule.{ReuseRule}
 use Rattle.hx_reuse.specs.declared.rule.ReuseRule.TheVariants.{UriMiss, VaryMiss, ResponseNoCache, AboveMaxAge}
@@ -30,107 +30,108 @@ use Rattle.hx_reuse.specs.declared.decision.Decision.TheVariants.{Hit}
 use Rattle.proxy_core.specs.declared.open.awaited.Awaited.{Awaited}
 use Rattle.proxy_core.specs.declared.open.awaited.Awaited.TheVariants.{Missing, Expired}
 use Rattle.proxy_core.specs.declared.open.exchange.Exchange.{Exchange}
-use Rattle.proxy_core.specs.Leading.{is_get, is_uri_miss, leader_if_awaited}
+use Rattle.proxy_core.specs.Leading.{is_get, is_uri_miss, leader_id_if_awaited}
 
 -- The request has no-cache (RFC 9111, section 5.2.1.4), and its line heeds that: what is held isn't
 -- sent to it without asking the origin, also if it was freshened a moment ago.
-abbrev pub asks_the_origin : Policy → Asked → Bool
-asks_the_origin policy asked = policy.heeds_requests && has_directive (occurrences_of asked.fields) NoCache
+abbrev pub no_cache_request_is_heeded : Policy → Asked → Bool
+no_cache_request_is_heeded policy asked = policy.heeds_requests && has_directive (occurrences_of asked.fields) NoCache
 
 -- ---- in the standard's words
 
 -- A response had a lifetime under the line (RFC 9111, section 4.2.1), which is over (section 4.2),
 -- be it by a purge, and its origin doesn't want to be asked about it each time (section 5.2.2.4). So the origin's word
 -- on it now makes it fresh again, for all that it could be sent to.
-pub record ResponseIsOver (policy : Policy) (now : ℕ) (response : Stored) : Type 0 where
-  pub had_lifetime : 0 < (lifetime_under policy response.status response.fields).seconds
-  pub is_over : is_fresh_of (lifetime_of_held policy response) (age_of response.times now) ≡ false
-  pub not_asked_each_time : has_directive (occurrences_of response.fields) NoCache ≡ false
+pub record ResponseHasExpired (policy : Policy) (now : ℕ) (response : Stored) : Type 0 where
+  pub had_lifetime : 0 < (lifetime_under_policy policy response.status response.fields).seconds
+  pub is_over : is_fresh_of (lifetime_of_stored_response policy response) (age_of response.times now) ≡ false
+  pub response_lacks_no_cache : has_directive (occurrences_of response.fields) NoCache ≡ false
 
 -- By this rule, the first that stands against what is held, a request could be sent the answer to
 -- another: nothing is held for its key, or by the word of its line the chosen response, which is
 -- over, and no rule before that is against sending it.
 -- own: a request for another variant (RFC 9111, section 4.1) waits for nobody: whether the answer to
 -- another could be sent to it is told by that answer alone
-abbrev pub RuleLeavesToAwait : Policy → List Stored → Asked → ℕ → ReuseRule → Awaited → Type 0
-RuleLeavesToAwait policy held asked now rule Missing = rule ≡ UriMiss
-RuleLeavesToAwait policy held asked now rule (Expired serial) =
-    (policy.waits_for_stale ≡ true) × (names_chosen rule ≡ true)
-    × ((response : Stored) × (chosen_of held asked ≡ Some response) × ResponseIsOver policy now response
+abbrev pub RuleAllowsAwaiting : Policy → List Stored → Asked → ℕ → ReuseRule → Awaited → Type 0
+RuleAllowsAwaiting policy held asked now rule Missing = rule ≡ UriMiss
+RuleAllowsAwaiting policy held asked now rule (Expired serial) =
+    (policy.waits_for_stale ≡ true) × (is_rule_on_chosen rule ≡ true)
+    × ((response : Stored) × (chosen_of held asked ≡ Some response) × ResponseHasExpired policy now response
     × (response.serial ≡ serial))
 
 -- What a GET could be sent of the answer to another.
 -- own: over a line without the word one with no-cache awaits what is missing, too
-pub record RequestAwaits (policy : Policy) (held : List Stored) (asked : Asked) (now : ℕ)
+pub record RequestMayAwaitAnother (policy : Policy) (held : List Stored) (asked : Asked) (now : ℕ)
     (awaited : Awaited) : Type 0 where
   pub gets : is_get asked ≡ true
-  pub takes_what_is_fresh : (policy.waits_for_stale && asks_the_origin policy asked) ≡ false
+  pub no_cache_is_not_heeded : (policy.waits_for_stale && no_cache_request_is_heeded policy asked) ≡ false
   pub rule : ReuseRule
   pub is_least : IsLeastReuseRule policy held asked now rule
-  pub leaves : RuleLeavesToAwait policy held asked now rule awaited
+  pub leaves : RuleAllowsAwaiting policy held asked now rule awaited
 
 -- ---- by the first rule
 
 -- The chosen response is stale, and nothing but its age keeps it back. It may have had no lifetime.
-abbrev pub has_expired : ReuseRule → Bool
-has_expired MustRevalidate = true
-has_expired NoMaxStale = true
-has_expired PastMaxStale = true
-has_expired StaleMaxAge = true
-has_expired StaleMinFresh = true
-has_expired rule = false
+abbrev pub is_staleness_rule : ReuseRule → Bool
+is_staleness_rule MustRevalidate = true
+is_staleness_rule NoMaxStale = true
+is_staleness_rule PastMaxStale = true
+is_staleness_rule StaleMaxAge = true
+is_staleness_rule StaleMinFresh = true
+is_staleness_rule rule = false
 
 abbrev pub awaited_of_chosen : Policy → Option Stored → Option Awaited
 awaited_of_chosen policy None = None
 awaited_of_chosen policy (Some e) =
-    cond (nat_lt 0 (lifetime_under policy e.status e.fields).seconds) (Some (Expired e.serial)) None
+    cond (nat_lt 0 (lifetime_under_policy policy e.status e.fields).seconds) (Some (Expired e.serial)) None
 
 abbrev pub awaited_by_rule : Policy → Option Stored → Asked → ReuseRule → Option Awaited
 awaited_by_rule policy chosen asked rule =
-    cond (not (is_get asked) || (policy.waits_for_stale && asks_the_origin policy asked)) None
+    cond (not (is_get asked) || (policy.waits_for_stale && no_cache_request_is_heeded policy asked)) None
     (cond (is_uri_miss rule) (Some Missing)
-    (cond (policy.waits_for_stale && has_expired rule) (awaited_of_chosen policy chosen) None))
+    (cond (policy.waits_for_stale && is_staleness_rule rule) (awaited_of_chosen policy chosen) None))
 
 -- the chosen response, found by its serial
 abbrev pub chosen_by_serial : List Stored → Asked → Option Stored
 chosen_by_serial held asked = option_and_then (λ e. find_entry e.serial held) (chosen_of held asked)
 
-abbrev pub awaited_of : Policy → List Stored → Asked → ReuseRule → Option Awaited
-awaited_of policy held asked rule = awaited_by_rule policy (chosen_by_serial held asked) asked rule
+abbrev pub awaited_by_request : Policy → List Stored → Asked → ReuseRule → Option Awaited
+awaited_by_request policy held asked rule = awaited_by_rule policy (chosen_by_serial held asked) asked rule
 
 -- the first of the open exchanges to arrive whose answer the request could be sent
 abbrev pub leader_of_request : Policy → List Stored → List Exchange → Asked → ReuseRule → Option ℕ
-leader_of_request policy held xs asked rule = leader_if_awaited policy asked xs (awaited_of policy held asked rule)
+leader_of_request policy held xs asked rule =
+    leader_id_if_awaited policy asked xs (awaited_by_request policy held asked rule)
 
 -- ---- nobody waits in vain
 
 -- The rule looks at what is held: at the fields that its Vary names (RFC 9111, section 4.1), at its
 -- no-cache (section 5.2.2.4), or at its age and lifetime (section 4.2). Each other one is the
 -- operator's or the request's own, and stands whatever is held.
-abbrev pub looks_at_the_response : ReuseRule → Bool
-looks_at_the_response VaryMiss = true
-looks_at_the_response ResponseNoCache = true
-looks_at_the_response AboveMaxAge = true
-looks_at_the_response BelowMinFresh = true
-looks_at_the_response MustRevalidate = true
-looks_at_the_response NoLifetime = true
-looks_at_the_response NoMaxStale = true
-looks_at_the_response PastMaxStale = true
-looks_at_the_response StaleMaxAge = true
-looks_at_the_response StaleMinFresh = true
-looks_at_the_response rule = false
+abbrev pub rule_depends_on_the_response : ReuseRule → Bool
+rule_depends_on_the_response VaryMiss = true
+rule_depends_on_the_response ResponseNoCache = true
+rule_depends_on_the_response AboveMaxAge = true
+rule_depends_on_the_response BelowMinFresh = true
+rule_depends_on_the_response MustRevalidate = true
+rule_depends_on_the_response NoLifetime = true
+rule_depends_on_the_response NoMaxStale = true
+rule_depends_on_the_response PastMaxStale = true
+rule_depends_on_the_response StaleMaxAge = true
+rule_depends_on_the_response StaleMinFresh = true
+rule_depends_on_the_response rule = false
 
 -- a held response is sent to the request, or a rule keeps each back that looks at it
-abbrev pub IsKeptBackByTheAnswerAlone : Policy → List Stored → Asked → ℕ → Type 0
-IsKeptBackByTheAnswerAlone policy held asked now =
+abbrev pub IsServedUnlessTheResponseForbids : Policy → List Stored → Asked → ℕ → Type 0
+IsServedUnlessTheResponseForbids policy held asked now =
     ((serial : ℕ) × (decision_of policy held asked now ≡ Hit serial))
-    ⊎ ((rule : ReuseRule) × IsLeastReuseRule policy held asked now rule × (looks_at_the_response rule ≡ true))
+    ⊎ ((rule : ReuseRule) × IsLeastReuseRule policy held asked now rule × (rule_depends_on_the_response rule ≡ true))
 
 -- So who could be sent the answer to another, over a line with the word, is sent one that is held for
 -- its key, whatever is held by then and whenever that is, unless what is held forbids it.
-abbrev pub WhoWaitedIsKeptBackByTheAnswerAlone : Type 0
-WhoWaitedIsKeptBackByTheAnswerAlone = (policy : Policy) (held later : List Stored) (asked : Asked) (now moment : ℕ)
+abbrev pub WaiterIsServedUnlessTheResponseForbids : Type 0
+WaiterIsServedUnlessTheResponseForbids = (policy : Policy) (held later : List Stored) (asked : Asked) (now moment : ℕ)
     (awaited : Awaited) (response : Stored) →
-    policy.waits_for_stale ≡ true → RequestAwaits policy held asked now awaited →
+    policy.waits_for_stale ≡ true → RequestMayAwaitAnother policy held asked now awaited →
     Contains later response → same_key response.key asked.target.key ≡ true
-    → IsKeptBackByTheAnswerAlone policy later asked moment
+    → IsServedUnlessTheResponseForbids policy later asked moment

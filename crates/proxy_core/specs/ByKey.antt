@@ -1,7 +1,8 @@
 -- The open exchanges by the key that they ask for: an index of the GETs that are at the origin, and one of all others.
 --
 -- is_get_at_origin_for_key: a GET for a key is at the origin
--- is_other_for_key: any other exchange for that key: of another method, or a GET that waits or was released
+-- is_for_key_but_no_get_at_origin: any other exchange for that key: of another method, or a GET that waits or was
+-- released
 -- is_in_key_index: the arrival is in the index at that key
 -- ArrivalIsMovedToOrigin: what changes where an exchange goes forward
 use Rattle.std.specs.Prelude.{◌≡◌, ℕ, ◌==◌, ◌&&◌, ◌||◌, not, Bool, true, false, List}
@@ -14,8 +15,8 @@ use Rattle.proxy_core.specs.declared.open.exchange.Exchange.{Exchange}
 use Rattle.proxy_core.specs.declared.open.arrivals_by_key.ArrivalsByKey.{ArrivalsByKey}
 use Rattle.proxy_core.specs.declared.open.key_index.KeyIndex.{KeyIndex}
 use Rattle.proxy_core.specs.Leading.{is_get, is_forwarded}
-use Rattle.proxy_core.specs.Waiters.{set_contains, SetHasMembers}
-use Rattle.proxy_core.specs.Arrivals.{SelectedArrivalsPass, IsExactIndexOfSelected}
+use Rattle.proxy_core.specs.Waiters.{set_contains, SetIsNotEmpty}
+use Rattle.proxy_core.specs.Arrivals.{SelectedArrivalsPassTest, IsExactIndexOfSelected}
 
 abbrev pub is_get_at_origin : Exchange → Bool
 is_get_at_origin x = is_get x.asked && is_forwarded x.stage
@@ -30,8 +31,8 @@ is_get_at_origin_for_key key x = same_key x.asked.target.key key && is_get_at_or
 abbrev pub is_get_not_at_origin_for_key : Key → Exchange → Bool
 is_get_not_at_origin_for_key key x = same_key x.asked.target.key key && is_get_not_at_origin x
 
-abbrev pub is_other_for_key : Key → Exchange → Bool
-is_other_for_key key x = same_key x.asked.target.key key && not (is_get_at_origin x)
+abbrev pub is_for_key_but_no_get_at_origin : Key → Exchange → Bool
+is_for_key_but_no_get_at_origin key x = same_key x.asked.target.key key && not (is_get_at_origin x)
 
 abbrev pub is_in_key_index : KeyIndex → Key → ℕ → Bool
 is_in_key_index index key n = set_contains (get key_cmp index.arrivals key) n
@@ -39,80 +40,83 @@ is_in_key_index index key n = set_contains (get key_cmp index.arrivals key) n
 abbrev pub IsEmptyKeyIndex : KeyIndex → Type 0
 IsEmptyKeyIndex index = (key : Key) (m : ℕ) → is_in_key_index index key m ≡ false
 
-abbrev pub AreSameKeyIndex : KeyIndex → KeyIndex → Type 0
-AreSameKeyIndex old new = (key : Key) (m : ℕ) → is_in_key_index new key m ≡ is_in_key_index old key m
+abbrev pub KeyIndexesHaveSameMembers : KeyIndex → KeyIndex → Type 0
+KeyIndexesHaveSameMembers old new = (key : Key) (m : ℕ) → is_in_key_index new key m ≡ is_in_key_index old key m
 
 -- an arrival was put in at a key, and one was taken out there
-abbrev pub ArrivalIsPut : Key → ℕ → KeyIndex → KeyIndex → Type 0
-ArrivalIsPut key n old new = (q : Key) (m : ℕ) → is_in_key_index new q m ≡
+abbrev pub ArrivalIsAddedAtKey : Key → ℕ → KeyIndex → KeyIndex → Type 0
+ArrivalIsAddedAtKey key n old new = (q : Key) (m : ℕ) → is_in_key_index new q m ≡
     ((same_key key q && n == m) || is_in_key_index old q m)
 
-abbrev pub ArrivalIsTakenOut : Key → ℕ → KeyIndex → KeyIndex → Type 0
-ArrivalIsTakenOut key n old new = (q : Key) (m : ℕ) → is_in_key_index new q m ≡
+abbrev pub ArrivalIsRemovedAtKey : Key → ℕ → KeyIndex → KeyIndex → Type 0
+ArrivalIsRemovedAtKey key n old new = (q : Key) (m : ℕ) → is_in_key_index new q m ≡
     (not (same_key key q && n == m) && is_in_key_index old q m)
 
 -- it was put in where others ask for that key, and else nothing was done
 abbrev pub ArrivalIsIndexedIf : Bool → Key → ℕ → KeyIndex → KeyIndex → Type 0
-ArrivalIsIndexedIf true key n old new = ArrivalIsPut key n old new
-ArrivalIsIndexedIf false key n old new = AreSameKeyIndex old new × ((m : ℕ) → is_in_key_index old key m ≡ false)
+ArrivalIsIndexedIf true key n old new = ArrivalIsAddedAtKey key n old new
+ArrivalIsIndexedIf false key n old new = KeyIndexesHaveSameMembers old new
+    × ((m : ℕ) → is_in_key_index old key m ≡ false)
 
 -- the arrival of such an exchange was put in, and taken out
-abbrev pub ArrivalIsPutWhere : (Key → Exchange → Bool) → Exchange → ℕ → KeyIndex → KeyIndex → Type 0
-ArrivalIsPutWhere which x n old new = (q : Key) (m : ℕ) → is_in_key_index new q m ≡ ((which q x && n == m)
+abbrev pub ArrivalIsAddedIfSelected : (Key → Exchange → Bool) → Exchange → ℕ → KeyIndex → KeyIndex → Type 0
+ArrivalIsAddedIfSelected which x n old new = (q : Key) (m : ℕ) → is_in_key_index new q m ≡ ((which q x && n == m)
     || is_in_key_index old q m)
 
-abbrev pub ArrivalIsTakenOutWhere : (Key → Exchange → Bool) → Exchange → ℕ → KeyIndex → KeyIndex → Type 0
-ArrivalIsTakenOutWhere which x n old new = (q : Key) (m : ℕ) → is_in_key_index new q m ≡
+abbrev pub ArrivalIsRemovedIfSelected : (Key → Exchange → Bool) → Exchange → ℕ → KeyIndex → KeyIndex → Type 0
+ArrivalIsRemovedIfSelected which x n old new = (q : Key) (m : ℕ) → is_in_key_index new q m ≡
     (not (which q x && n == m) && is_in_key_index old q m)
 
 -- the arrival isn't in the index
-abbrev pub IsNotInKeyIndex : ℕ → KeyIndex → Type 0
-IsNotInKeyIndex n index = (key : Key) → is_in_key_index index key n ≡ false
+abbrev pub ArrivalIsNotInKeyIndex : ℕ → KeyIndex → Type 0
+ArrivalIsNotInKeyIndex n index = (key : Key) → is_in_key_index index key n ≡ false
 
 -- no key is in the index for nothing, and the same of each key but this one
-abbrev pub HasNoEmptyKeys : KeyIndex → Type 0
-HasNoEmptyKeys index = (key : Key) → ForSome (get key_cmp index.arrivals key) SetHasMembers
+abbrev pub KeyIndexHasNoEmptySet : KeyIndex → Type 0
+KeyIndexHasNoEmptySet index = (key : Key) → ForSome (get key_cmp index.arrivals key) SetIsNotEmpty
 
-abbrev pub HasNoOtherEmptyKeys : Key → KeyIndex → Type 0
-HasNoOtherEmptyKeys key index = (q : Key) → same_key key q ≡ false → ForSome
-    (get key_cmp index.arrivals q) SetHasMembers
+abbrev pub OtherKeysHaveNoEmptySet : Key → KeyIndex → Type 0
+OtherKeysHaveNoEmptySet key index = (q : Key) → same_key key q ≡ false → ForSome
+    (get key_cmp index.arrivals q) SetIsNotEmpty
 
 -- ---- both indexes
 
 -- an arrival was entered as that of such an exchange, and left
-abbrev pub ArrivalIsEntered : Exchange → ℕ → ArrivalsByKey → ArrivalsByKey → Type 0
-ArrivalIsEntered x n old new = ArrivalIsPutWhere is_get_at_origin_for_key x n old.gets new.gets
-    × ArrivalIsPutWhere is_other_for_key x n old.others new.others
+abbrev pub ArrivalIsAddedToItsKeyIndex : Exchange → ℕ → ArrivalsByKey → ArrivalsByKey → Type 0
+ArrivalIsAddedToItsKeyIndex x n old new = ArrivalIsAddedIfSelected is_get_at_origin_for_key x n old.gets new.gets
+    × ArrivalIsAddedIfSelected is_for_key_but_no_get_at_origin x n old.others new.others
 
-abbrev pub ArrivalHasLeft : Exchange → ℕ → ArrivalsByKey → ArrivalsByKey → Type 0
-ArrivalHasLeft x n old new = ArrivalIsTakenOutWhere is_get_at_origin_for_key x n old.gets new.gets
-    × ArrivalIsTakenOutWhere is_other_for_key x n old.others new.others
+abbrev pub ArrivalIsRemovedFromItsKeyIndex : Exchange → ℕ → ArrivalsByKey → ArrivalsByKey → Type 0
+ArrivalIsRemovedFromItsKeyIndex x n old new = ArrivalIsRemovedIfSelected is_get_at_origin_for_key x n old.gets new.gets
+    × ArrivalIsRemovedIfSelected is_for_key_but_no_get_at_origin x n old.others new.others
 
 -- the exchange goes forward: the arrival of a GET that wasn't at the origin is no longer among the others, but among
 -- those that are, and else nothing was done
 abbrev pub ArrivalIsMovedToOrigin : Exchange → ℕ → ArrivalsByKey → ArrivalsByKey → Type 0
-ArrivalIsMovedToOrigin x n old new = ArrivalIsPutWhere is_get_not_at_origin_for_key x n old.gets new.gets
-    × ArrivalIsTakenOutWhere is_get_not_at_origin_for_key x n old.others new.others
+ArrivalIsMovedToOrigin x n old new = ArrivalIsAddedIfSelected is_get_not_at_origin_for_key x n old.gets new.gets
+    × ArrivalIsRemovedIfSelected is_get_not_at_origin_for_key x n old.others new.others
 
-abbrev pub AreSameArrivals : ArrivalsByKey → ArrivalsByKey → Type 0
-AreSameArrivals old new = AreSameKeyIndex old.gets new.gets × AreSameKeyIndex old.others new.others
+abbrev pub ArrivalsByKeyAreUnchanged : ArrivalsByKey → ArrivalsByKey → Type 0
+ArrivalsByKeyAreUnchanged old new = KeyIndexesHaveSameMembers old.gets new.gets
+    × KeyIndexesHaveSameMembers old.others new.others
 
-abbrev pub IsInNeitherIndex : ℕ → ArrivalsByKey → Type 0
-IsInNeitherIndex n by_key = IsNotInKeyIndex n by_key.gets × IsNotInKeyIndex n by_key.others
+abbrev pub ArrivalIsInNeitherKeyIndex : ℕ → ArrivalsByKey → Type 0
+ArrivalIsInNeitherKeyIndex n by_key = ArrivalIsNotInKeyIndex n by_key.gets × ArrivalIsNotInKeyIndex n by_key.others
 
-abbrev pub HasNoEmptyKeysInEither : ArrivalsByKey → Type 0
-HasNoEmptyKeysInEither by_key = HasNoEmptyKeys by_key.gets × HasNoEmptyKeys by_key.others
+abbrev pub NoIndexOfArrivalsHasEmptySet : ArrivalsByKey → Type 0
+NoIndexOfArrivalsHasEmptySet by_key = KeyIndexHasNoEmptySet by_key.gets × KeyIndexHasNoEmptySet by_key.others
 
 -- each tells just those of the open exchanges that belong there
-abbrev pub TellsAllByKey : ArrivalsByKey → List (ℕ × Exchange) → Type 0
-TellsAllByKey by_key es =
+abbrev pub ArrivalsByKeyAreExact : ArrivalsByKey → List (ℕ × Exchange) → Type 0
+ArrivalsByKeyAreExact by_key es =
     ((key : Key) → IsExactIndexOfSelected (is_get_at_origin_for_key key) (is_in_key_index by_key.gets key) es)
-    × ((key : Key) → IsExactIndexOfSelected (is_other_for_key key) (is_in_key_index by_key.others key) es)
+    × ((key : Key)
+    → IsExactIndexOfSelected (is_for_key_but_no_get_at_origin key) (is_in_key_index by_key.others key) es)
 
 -- the GETs for a key that are at the origin have numbers that pass, and so those have that lead; and the others for
 -- that key have
-abbrev pub GetArrivalsPass : Key → (ℕ → Bool) → List (ℕ × Exchange) → Type 0
-GetArrivalsPass key test es = SelectedArrivalsPass (is_get_at_origin_for_key key) test es
+abbrev pub ArrivalsOfGetsAtOriginPassTest : Key → (ℕ → Bool) → List (ℕ × Exchange) → Type 0
+ArrivalsOfGetsAtOriginPassTest key test es = SelectedArrivalsPassTest (is_get_at_origin_for_key key) test es
 
-abbrev pub OtherArrivalsPass : Key → (ℕ → Bool) → List (ℕ × Exchange) → Type 0
-OtherArrivalsPass key test es = SelectedArrivalsPass (is_other_for_key key) test es
+abbrev pub ArrivalsButGetsAtOriginPassTest : Key → (ℕ → Bool) → List (ℕ × Exchange) → Type 0
+ArrivalsButGetsAtOriginPassTest key test es = SelectedArrivalsPassTest (is_for_key_but_no_get_at_origin key) test es

@@ -1,11 +1,12 @@
 -- What an open exchange carries from its arrival on, and in which order exchanges stand open. A
 -- trace has its latest item first.
 --
--- judges_a_request: an arrival, and a wake
+-- is_arrival_or_wake: an arrival, and a wake
 -- ExchangeWasJudged: its request was judged there, and has the line that allows it
 -- RuleWasLeastWhenJudged: the rule that it kept
--- WentForwardOnce, WentForwardASecondTime, HasWaitedSinceItsArrival: how it went forward last, or that it waits
--- ArrivesBefore, IdsAreInOrderOfArrival: the order of arrival
+-- ExchangeWentForwardOnce, ExchangeWentForwardASecondTime, HasWaitedSinceItsArrival: how it went forward last, or that
+-- it waits
+-- IdArrivesBeforeOtherId, IdsAreInOrderOfArrival: the order of arrival
 -- Below them are the statements that a law of `src/laws.rt` proves.
 use Rattle.std.specs.Prelude.{◌≡◌, ◌⊎◌, ℕ, ◌==◌, ◌&&◌, Bool, true, false, List, [], ◌∷◌, ◌++◌, map, Option, Some, None}
 use Rattle.std.specs.List.{AllByRecursion}
@@ -14,7 +15,7 @@ use Rattle.hx_allow.specs.TableLines.{Table}
 use Rattle.hx_allow.specs.Matching.{policy_of}
 use Rattle.proxy_core.specs.Allowing.{verdict_of_asked}
 use Rattle.hx_allow.specs.declared.verdicts.Verdict.TheVariants.{Allowed}
-use Rattle.hx_reuse.specs.ChosenAndNamed.{IsLeastReuseRule, RuleNamesTheResponse}
+use Rattle.hx_reuse.specs.ChosenAndNamed.{IsLeastReuseRule, RuleOnChosenNamesItsSerial}
 use Rattle.proxy_core.specs.declared.open.stage.Stage.TheVariants.{Forwarded, Waiting, Released}
 use Rattle.proxy_core.specs.declared.open.exchange.Exchange.{Exchange}
 use Rattle.proxy_core.specs.declared.outcome.Outcome.{Outcome}
@@ -23,7 +24,7 @@ use Rattle.proxy_core.specs.declared.event.Event.{Event}
 use Rattle.proxy_core.specs.declared.event.Event.TheVariants.{Arrive, Answer, Fail, Wake, Abandon, Overdue}
 use Rattle.proxy_core.specs.Validating.{condition_about_serial}
 use Rattle.proxy_core.specs.Leading.{is_waiting}
-use Rattle.proxy_core.specs.LeadingOn.{wait_has_an_end}
+use Rattle.proxy_core.specs.LeadingOn.{wait_is_limited}
 use Rattle.proxy_core.specs.Outcomes.{find_exchange, exchange_id_of_event, forward_text}
 use Rattle.proxy_core.specs.Traces.{Item}
 use Rattle.proxy_core.specs.Histories.{held_entries, open_exchanges, IsGoodHistory}
@@ -31,23 +32,23 @@ use Rattle.proxy_core.specs.Promises.{outcome_goes_forward, is_arrival_event, co
 use Rattle.proxy_core.specs.Starts.{StoreAtStart}
 
 -- a request is judged when it arrives, and anew when it is woken
-abbrev pub judges_a_request : Event → Bool
-judges_a_request (Arrive now id asked) = true
-judges_a_request (Answer now id r) = false
-judges_a_request (Fail now id kind) = false
-judges_a_request (Wake now id) = true
-judges_a_request (Abandon id) = false
-judges_a_request (Overdue id) = false
+abbrev pub is_arrival_or_wake : Event → Bool
+is_arrival_or_wake (Arrive now id asked) = true
+is_arrival_or_wake (Answer now id r) = false
+is_arrival_or_wake (Fail now id kind) = false
+is_arrival_or_wake (Wake now id) = true
+is_arrival_or_wake (Abandon id) = false
+is_arrival_or_wake (Overdue id) = false
 
 -- no request of this id is judged
-abbrev pub NoRequestIsJudged : ℕ → List Item → Type 0
-NoRequestIsJudged id [] = Unit {0}
-NoRequestIsJudged id (i ∷ items) = ((exchange_id_of_event i.event == id && judges_a_request i.event) ≡ false)
-    × NoRequestIsJudged id items
+abbrev pub NoItemJudgesTheRequest : ℕ → List Item → Type 0
+NoItemJudgesTheRequest id [] = Unit {0}
+NoItemJudgesTheRequest id (i ∷ items) = ((exchange_id_of_event i.event == id && is_arrival_or_wake i.event) ≡ false)
+    × NoItemJudgesTheRequest id items
 
 -- at this moment the request of an exchange arrives, or is woken
-abbrev pub IsEventThatJudges : Event → ℕ → Exchange → Type 0
-IsEventThatJudges event now x = (event ≡ Arrive now x.id x.asked) ⊎ (event ≡ Wake now x.id)
+abbrev pub EventJudgesExchange : Event → ℕ → Exchange → Type 0
+EventJudgesExchange event now x = (event ≡ Arrive now x.id x.asked) ⊎ (event ≡ Wake now x.id)
 
 -- the client's own request goes forward once more, behind an answer
 abbrev pub second_forward_item : Table → Exchange → ℕ → Response → Item
@@ -56,25 +57,26 @@ second_forward_item table x now r =
 
 -- It went forward where it was judged alone: its request time is that moment, and its conditions,
 -- which ask about the response that its rule names, are those in the bytes that went.
-pub record WentForwardOnce (table : Table) (start : StoreAtStart) (x : Exchange) (since before : List Item) (now : ℕ)
+pub record ExchangeWentForwardOnce (table : Table) (start : StoreAtStart) (x : Exchange) (since before : List Item)
+    (now : ℕ)
     (outcome : Outcome) : Type 0 where
   pub stage : x.stage ≡ Forwarded
-  pub since_then : count_of_outcomes outcome_goes_forward x.id since ≡ 0
+  pub no_forward_since : count_of_outcomes outcome_goes_forward x.id since ≡ 0
   pub request_time : x.request_time ≡ now
   pub against : Option ℕ
-  pub names : RuleNamesTheResponse (held_entries table start before) x.asked x.rule against
+  pub names : RuleOnChosenNamesItsSerial (held_entries table start before) x.asked x.rule against
   pub condition : x.condition ≡ condition_about_serial (held_entries table start before) against
   pub outcome_is : outcome ≡ Forward x.line (forward_text table x.line x.asked x.condition)
 
 -- it went forward once more, without conditions: its request time is the moment of that
-pub record WentForwardASecondTime (table : Table) (x : Exchange) (since : List Item) : Type 0 where
+pub record ExchangeWentForwardASecondTime (table : Table) (x : Exchange) (since : List Item) : Type 0 where
   pub stage : x.stage ≡ Forwarded
   pub later : List Item
   pub between : List Item
   pub now : ℕ
   pub response : Response
   pub since_is : since ≡ later ++ second_forward_item table x now response ∷ between
-  pub since_then : count_of_outcomes outcome_goes_forward x.id later ≡ 0
+  pub no_forward_since : count_of_outcomes outcome_goes_forward x.id later ≡ 0
   pub request_time : x.request_time ≡ now
   pub condition : x.condition ≡ None
 
@@ -85,10 +87,10 @@ pub record HasWaitedSinceItsArrival (table : Table) (start : StoreAtStart) (x : 
   pub leader : ℕ
   pub outcome_is : outcome ≡ Waits leader
   pub stage : (x.stage ≡ Waiting leader)
-      ⊎ ((x.stage ≡ Released) ⊎ ((is_waiting x.stage ≡ true) × (wait_has_an_end table x ≡ true)))
-  pub since_then : count_of_outcomes outcome_goes_forward x.id since ≡ 0
+      ⊎ ((x.stage ≡ Released) ⊎ ((is_waiting x.stage ≡ true) × (wait_is_limited table x ≡ true)))
+  pub no_forward_since : count_of_outcomes outcome_goes_forward x.id since ≡ 0
   pub against : Option ℕ
-  pub names : RuleNamesTheResponse (held_entries table start before) x.asked x.rule against
+  pub names : RuleOnChosenNamesItsSerial (held_entries table start before) x.asked x.rule against
   pub condition : x.condition ≡ condition_about_serial (held_entries table start before) against
 
 -- The request of an open exchange was judged, and none of its id since: the line allows it, and its
@@ -99,13 +101,14 @@ pub record ExchangeWasJudged (table : Table) (start : StoreAtStart) (x : Exchang
   pub item : Item
   pub now : ℕ
   pub past_is : past ≡ since ++ item ∷ before
-  pub judged : IsEventThatJudges item.event now x
-  pub none_since : NoRequestIsJudged x.id since
+  pub judged : EventJudgesExchange item.event now x
+  pub not_judged_since : NoItemJudgesTheRequest x.id since
   pub line_allows : verdict_of_asked table x.asked ≡ Allowed x.line
   pub rule_is_least : IsLeastReuseRule (policy_of table.lines x.line)
       (held_entries table start before) x.asked now x.rule
-  pub went : WentForwardOnce table start x since before now item.outcome
-      ⊎ (WentForwardASecondTime table x since ⊎ HasWaitedSinceItsArrival table start x since before item.outcome)
+  pub went : ExchangeWentForwardOnce table start x since before now item.outcome
+      ⊎ (ExchangeWentForwardASecondTime table x since
+      ⊎ HasWaitedSinceItsArrival table start x since before item.outcome)
 
 -- the rule of an open exchange is the least that stood when its request was judged
 pub record RuleWasLeastWhenJudged (table : Table) (start : StoreAtStart) (x : Exchange)
@@ -115,12 +118,12 @@ pub record RuleWasLeastWhenJudged (table : Table) (start : StoreAtStart) (x : Ex
   pub item : Item
   pub now : ℕ
   pub past_is : past ≡ since ++ item ∷ before
-  pub judged : IsEventThatJudges item.event now x
-  pub none_since : NoRequestIsJudged x.id since
+  pub judged : EventJudgesExchange item.event now x
+  pub not_judged_since : NoItemJudgesTheRequest x.id since
   pub least : IsLeastReuseRule (policy_of table.lines x.line) (held_entries table start before) x.asked now x.rule
 
 -- of two ids the latest arrival of the one comes before that of the other
-pub record ArrivesBefore (id other : ℕ) (past : List Item) : Type 0 where
+pub record IdArrivesBeforeOtherId (id other : ℕ) (past : List Item) : Type 0 where
   pub since : List Item
   pub between : List Item
   pub before : List Item
@@ -131,22 +134,22 @@ pub record ArrivesBefore (id other : ℕ) (past : List Item) : Type 0 where
   pub earlier_arrives : is_arrival_event earlier.event ≡ true
   pub later_id : exchange_id_of_event later.event ≡ other
   pub earlier_id : exchange_id_of_event earlier.event ≡ id
-  pub none_of_it : NoRequestArrives id since × NoRequestArrives id (later ∷ between)
-  pub none_of_the_other : NoRequestArrives other since
+  pub id_arrives_no_more : NoRequestArrives id since × NoRequestArrives id (later ∷ between)
+  pub other_arrives_no_more : NoRequestArrives other since
 
 -- of these ids each arrived before those behind it
 abbrev pub IdsAreInOrderOfArrival : List ℕ → List Item → Type 0
 IdsAreInOrderOfArrival [] past = Unit {0}
-IdsAreInOrderOfArrival (id ∷ ids) past = AllByRecursion (λ (other : ℕ). ArrivesBefore id other past) ids
+IdsAreInOrderOfArrival (id ∷ ids) past = AllByRecursion (λ (other : ℕ). IdArrivesBeforeOtherId id other past) ids
     × IdsAreInOrderOfArrival ids past
 
-abbrev pub exchange_ids : List Exchange → List ℕ
-exchange_ids exchanges = map (λ (x : Exchange). x.id) exchanges
+abbrev pub ids_of_exchanges : List Exchange → List ℕ
+ids_of_exchanges exchanges = map (λ (x : Exchange). x.id) exchanges
 
 -- ---- the statements
 
-abbrev pub OpenExchangeCarriesItsArrival : Type 0
-OpenExchangeCarriesItsArrival =
+abbrev pub OpenExchangeRecordsHowItWasJudged : Type 0
+OpenExchangeRecordsHowItWasJudged =
     (table : Table) (start : StoreAtStart) (first id : ℕ) (trace : List Item) (x : Exchange)
     → IsGoodHistory table start first trace →
     find_exchange id (open_exchanges table start trace) ≡ Some x → ExchangeWasJudged table start x trace × (x.id ≡ id)
@@ -154,4 +157,4 @@ OpenExchangeCarriesItsArrival =
 abbrev pub ExchangesAreOpenInOrderOfArrival : Type 0
 ExchangesAreOpenInOrderOfArrival = (table : Table) (start : StoreAtStart) (first : ℕ) (trace : List Item)
     → IsGoodHistory table start first trace →
-    IdsAreInOrderOfArrival (exchange_ids (open_exchanges table start trace)) trace
+    IdsAreInOrderOfArrival (ids_of_exchanges (open_exchanges table start trace)) trace

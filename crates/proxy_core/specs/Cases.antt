@@ -6,11 +6,11 @@ use Rattle.hx_fields.specs.Line.{Field}
 use Rattle.hx_fields.specs.Examples.{line}
 use Rattle.hx_framing.specs.declared.messages.Response.{Response}
 use Rattle.hx_target.specs.declared.keys.Key.{Key}
-use Rattle.hx_vary.specs.Vary.{kept_values}
+use Rattle.hx_vary.specs.Vary.{nominated_values_of}
 use Rattle.hx_hop.specs.declared.request_view.Asked.{Asked}
 use Rattle.hx_allow.specs.TableLines.{Line, Table}
 use Rattle.hx_allow.specs.declared.line_hosts.LineHost.TheVariants.{Every}
-use Rattle.hx_allow.specs.Matching.{over_line}
+use Rattle.hx_allow.specs.Matching.{route_over}
 use Rattle.hx_store.specs.Stored.{Stored}
 use Rattle.hx_reuse.specs.declared.rule.ReuseRule.TheVariants.{UriMiss, NoLifetime, NoMaxStale}
 use Rattle.proxy_core.specs.Leading.{has_no_store}
@@ -24,8 +24,8 @@ abbrev pub key_of_path : List ℕ → Key
 key_of_path path = record { host = codes "h"; port = 80; path_query = path }
 
 -- a request of this method for a path, with these lines
-abbrev pub request_for : List ℕ → List ℕ → List Field → Asked
-request_for method path fields = record {
+abbrev pub request_for_path : List ℕ → List ℕ → List Field → Asked
+request_for_path method path fields = record {
   method = method;
   minor = 1;
   target = record { key = key_of_path path; table_path = path };
@@ -35,14 +35,14 @@ request_for method path fields = record {
 }
 
 abbrev pub get_a_with : List Field → Asked
-get_a_with fields = request_for (codes "GET") (codes "/a") fields
+get_a_with fields = request_for_path (codes "GET") (codes "/a") fields
 
 -- and one that asks, over a line that purges, to expire what it takes
-abbrev pub get_a_to_expire : Asked
-get_a_to_expire = get_a_with (line (codes "Purge-Mode") (codes "stale") ∷ [])
+abbrev pub get_a_with_purge_mode_stale : Asked
+get_a_with_purge_mode_stale = get_a_with (line (codes "Purge-Mode") (codes "stale") ∷ [])
 
-abbrev pub head_of_a : Asked
-head_of_a = request_for (codes "HEAD") (codes "/a") []
+abbrev pub head_request_for_a : Asked
+head_request_for_a = request_for_path (codes "HEAD") (codes "/a") []
 
 -- the second line of the table has no cache, and what is stored has two bytes at most
 abbrev pub line_with_no_cache : Line
@@ -71,16 +71,16 @@ table = record {
 }
 
 -- the same with one line, which names a field for Vary
-abbrev pub varying_table : Table
-varying_table = record table { lines = record line_with_no_cache { vary = codes "X-Forwarded-Proto" ∷ [] } ∷ [] }
+abbrev pub table_varying_by_scheme : Table
+table_varying_by_scheme = record table { lines = record line_with_no_cache { vary = codes "X-Forwarded-Proto" ∷ [] } ∷ [] }
 
 -- the same, but for the words of its one line
 abbrev pub table_with_policy : Policy → Table
 table_with_policy policy = record table { lines = record line_with_no_cache { policy = policy } ∷ [] }
 
 -- the same with the words of its one line, over which a request waits for five seconds at most
-abbrev pub table_with_waits : Policy → Table
-table_with_waits policy = record table {
+abbrev pub table_with_wait_timeout_5 : Policy → Table
+table_with_wait_timeout_5 policy = record table {
   lines = record line_with_no_cache { policy = policy; wait_timeout = Some 5 } ∷ [];
 }
 
@@ -99,17 +99,17 @@ explains_storing_policy = record (plain true) { explains_storing = true }
 abbrev pub lifetime_60_policy : Policy
 lifetime_60_policy = record (plain true) { lifetime = Some 60 }
 
-abbrev pub private_lifetime_policy : Policy
-private_lifetime_policy = record lifetime_60_policy { gives_to_cookies = false }
+abbrev pub lifetime_60_but_not_to_cookies_policy : Policy
+lifetime_60_but_not_to_cookies_policy = record lifetime_60_policy { gives_to_cookies = false }
 
-abbrev pub lifetime_most_15_policy : Policy
-lifetime_most_15_policy = record (plain true) { lifetime_most = Some 15 }
+abbrev pub lifetime_at_most_15_policy : Policy
+lifetime_at_most_15_policy = record (plain true) { lifetime_most = Some 15 }
 
-abbrev pub no_cookies_policy : Policy
-no_cookies_policy = record (plain true) { stores_cookies = false }
+abbrev pub stores_no_cookies_policy : Policy
+stores_no_cookies_policy = record (plain true) { stores_cookies = false }
 
-abbrev pub no_errors_policy : Policy
-no_errors_policy = record (plain true) { stores_errors = false }
+abbrev pub stores_no_errors_policy : Policy
+stores_no_errors_policy = record (plain true) { stores_errors = false }
 
 -- a request that went forward at 100, since nothing was held for it
 abbrev pub forwarded_on_miss : Asked → Exchange
@@ -117,7 +117,7 @@ forwarded_on_miss asked =
     record {
       id = 1;
       asked = asked;
-      line = over_line 1;
+      line = route_over 1;
       vary = [];
       removes_cookies = false;
       rule = UriMiss;
@@ -130,30 +130,30 @@ forwarded_on_miss asked =
     }
 
 -- the same over a line that names a field for Vary
-abbrev pub varied_by_scheme : Exchange → Exchange
-varied_by_scheme x = record x { vary = codes "X-Forwarded-Proto" ∷ [] }
+abbrev pub over_line_varying_by_scheme : Exchange → Exchange
+over_line_varying_by_scheme x = record x { vary = codes "X-Forwarded-Proto" ∷ [] }
 
 -- the same over a line that removes cookies
-abbrev pub removing_cookies : Exchange → Exchange
-removing_cookies x = record x { removes_cookies = true }
+abbrev pub over_line_removing_cookies : Exchange → Exchange
+over_line_removing_cookies x = record x { removes_cookies = true }
 
 -- a line of a table of version 4 hides tags
-abbrev pub hiding_policy : Policy
-hiding_policy = record (plain true) { hides_tags = true }
+abbrev pub hides_tags_policy : Policy
+hides_tags_policy = record (plain true) { hides_tags = true }
 
-abbrev pub removing_policy : Policy
-removing_policy = record (plain true) { removes_cookies = true }
+abbrev pub removes_cookies_policy : Policy
+removes_cookies_policy = record (plain true) { removes_cookies = true }
 
 -- a request that a front got in this scheme
 abbrev pub get_a_by_scheme : List ℕ → Asked
 get_a_by_scheme scheme = get_a_with (line (codes "X-Forwarded-Proto") scheme ∷ [])
 
 -- one that went forward since the response of serial 1 was stale, which has no validator
-abbrev pub forwarded_on_stale_by : Asked → Exchange
-forwarded_on_stale_by asked = record (forwarded_on_miss asked) { rule = NoMaxStale; named = Some 1 }
+abbrev pub exchange_forwarded_on_stale_by : Asked → Exchange
+exchange_forwarded_on_stale_by asked = record (forwarded_on_miss asked) { rule = NoMaxStale; named = Some 1 }
 
-abbrev pub forwarded_on_stale : Exchange
-forwarded_on_stale = forwarded_on_stale_by (get_a_with [])
+abbrev pub exchange_forwarded_on_stale : Exchange
+exchange_forwarded_on_stale = exchange_forwarded_on_stale_by (get_a_with [])
 
 -- a line that lets requests wait for that, and a request with Authorization
 abbrev pub wait_for_stale_policy : Policy
@@ -170,8 +170,8 @@ get_a_for_range value beside = get_a_with (line (codes "Range") value ∷ beside
 abbrev pub get_a_with_cookie : Asked
 get_a_with_cookie = get_a_with (line (codes "Cookie") (codes "session=alice") ∷ [])
 
-abbrev pub forwarded_over_line_2 : Exchange
-forwarded_over_line_2 = record (forwarded_on_miss (get_a_with [])) { line = over_line 2 }
+abbrev pub exchange_forwarded_over_line_2 : Exchange
+exchange_forwarded_over_line_2 = record (forwarded_on_miss (get_a_with [])) { line = route_over 2 }
 
 -- one that waits for it
 abbrev pub waiting : Exchange
@@ -181,23 +181,23 @@ waiting = record (forwarded_on_miss (get_a_with [])) { id = 2; stage = Waiting 1
 abbrev pub exchange_waiting_for : ℕ → ℕ → Asked → Exchange
 exchange_waiting_for leader id asked = record (forwarded_on_miss asked) { id = id; stage = Waiting leader }
 
-abbrev pub stages_of : List Exchange → List Stage
-stages_of xs = map (λ (x : Exchange). x.stage) xs
+abbrev pub stages_of_exchanges : List Exchange → List Stage
+stages_of_exchanges xs = map (λ (x : Exchange). x.stage) xs
 
 -- the first leads, two wait for it behind the one of this request, and one waits for another
-abbrev pub exchanges_waiting_with : Asked → List Exchange
-exchanges_waiting_with asked =
+abbrev pub exchanges_with_leader_and_waiters : Asked → List Exchange
+exchanges_with_leader_and_waiters asked =
     forwarded_on_miss (get_a_with []) ∷ exchange_waiting_for 1 2 asked ∷ exchange_waiting_for 1 3 (get_a_with [])
     ∷ exchange_waiting_for 7 4 (get_a_with []) ∷ exchange_waiting_for 1 5 (get_a_with []) ∷ []
 
 -- so many that wait for the first
-abbrev pub waits_in_a_row : ℕ → List Exchange
-waits_in_a_row zero = []
-waits_in_a_row (suc n) = exchange_waiting_for 1 (2 + n) (get_a_with []) ∷ waits_in_a_row n
+abbrev pub exchanges_waiting_for_first : ℕ → List Exchange
+exchanges_waiting_for_first zero = []
+exchanges_waiting_for_first (suc n) = exchange_waiting_for 1 (2 + n) (get_a_with []) ∷ exchanges_waiting_for_first n
 
 -- one that asked about the stored response of serial 1, which states no lifetime, by its tag
-abbrev pub revalidates_e : Asked → Exchange
-revalidates_e asked =
+abbrev pub exchange_that_revalidates_e : Asked → Exchange
+exchange_that_revalidates_e asked =
     record (forwarded_on_miss asked) {
       rule = NoLifetime;
       named = Some 1;
@@ -206,7 +206,7 @@ revalidates_e asked =
 
 -- one that no stored response may answer, of this id and for this path
 abbrev pub post_exchange : ℕ → List ℕ → Exchange
-post_exchange id path = record (forwarded_on_miss (request_for (codes "POST") path [])) { id = id }
+post_exchange id path = record (forwarded_on_miss (request_for_path (codes "POST") path [])) { id = id }
 
 -- the same, once what its answer may be was purged
 abbrev pub as_overtaken : Exchange → Exchange
@@ -237,12 +237,12 @@ set_cookie_field = line (codes "Set-Cookie") (codes "a=1")
 abbrev pub accept_language : List ℕ → Field
 accept_language value = line (codes "Accept-Language") value
 
-abbrev pub date_101 : Field
-date_101 = line (codes "Date") (codes "Thu, 01 Jan 1970 00:01:41 GMT")
+abbrev pub date_at_101 : Field
+date_at_101 = line (codes "Date") (codes "Thu, 01 Jan 1970 00:01:41 GMT")
 
 -- the answer of the first run, made and received at 101
 abbrev pub first_answer_fields : List Field
-first_answer_fields = date_101 ∷ cache_control (codes "max-age=60") ∷ etag_field (codes "\"v1\"") ∷ []
+first_answer_fields = date_at_101 ∷ cache_control (codes "max-age=60") ∷ etag_field (codes "\"v1\"") ∷ []
 
 -- a stored response of these lines, asked for at 100 and received at 101
 abbrev pub stored_with : ℕ → List Field → Stored
@@ -256,15 +256,15 @@ stored_with serial fields = record {
   times = record { date = 101; age_value = 0; request_time = 100; response_time = 101; expired = None };
 }
 
-abbrev pub first_stored : Stored
-first_stored = stored_with 1 first_answer_fields
+abbrev pub stored_from_first_answer : Stored
+stored_from_first_answer = stored_with 1 first_answer_fields
 
 -- a response once a purge expired it at a moment, and one that was received in the second in which it was asked for
 abbrev pub purged_at : ℕ → Stored → Stored
 purged_at moment e = record e { times = record e.times { expired = Some moment } }
 
-abbrev pub stored_at_once : Stored → Stored
-stored_at_once e = record e { times = record e.times { request_time = 101 } }
+abbrev pub stored_without_response_delay : Stored → Stored
+stored_without_response_delay e = record e { times = record e.times { request_time = 101 } }
 
 -- one of /a with these tags
 abbrev pub stored_with_tags : ℕ → List ℕ → Stored
@@ -281,29 +281,29 @@ entries_held_with_tags =
 abbrev pub stored_in_language : ℕ → List ℕ → Stored
 stored_in_language serial language =
     record (stored_with serial first_answer_fields) {
-      nominated = kept_values (vary_field (codes "Accept-Language")
+      nominated = nominated_values_of (vary_field (codes "Accept-Language")
           ∷ []) (accept_language language ∷ []);
     }
 
--- one that states no lifetime, with the tag that `revalidates_e` asks about, and what a 304 brings
+-- one that states no lifetime, with the tag that `exchange_that_revalidates_e` asks about, and what a 304 brings
 abbrev pub stored_without_lifetime : Stored
 stored_without_lifetime = stored_with 1 (etag_field (codes "\"e\"") ∷ [])
 
 abbrev pub lines_of_304 : List Field
-lines_of_304 = date_101 ∷ cache_control (codes "max-age=60") ∷ etag_field (codes "\"e\"") ∷ []
+lines_of_304 = date_at_101 ∷ cache_control (codes "max-age=60") ∷ etag_field (codes "\"e\"") ∷ []
 
 -- three that are held: two of /a, in German and in English, and one of /b
-abbrev pub three_held : List Stored
-three_held =
+abbrev pub three_held_responses : List Stored
+three_held_responses =
     stored_in_language 3 (codes "de") ∷ stored_in_language 2 (codes "en")
     ∷ record (stored_in_language 1 (codes "de")) { key = key_of_path (codes "/b") } ∷ []
 
 -- what was fresh for 10 seconds, has no validator, and is stale at 130
-abbrev pub stale_with : List ℕ → Stored
-stale_with directives = stored_with 1 (cache_control directives ∷ [])
+abbrev pub stale_stored_with_directives : List ℕ → Stored
+stale_stored_with_directives directives = stored_with 1 (cache_control directives ∷ [])
 
-abbrev pub stale_held : List Stored
-stale_held = stale_with (codes "max-age=10") ∷ []
+abbrev pub held_with_lifetime_10 : List Stored
+held_with_lifetime_10 = stale_stored_with_directives (codes "max-age=10") ∷ []
 
 -- a request with a condition of the client's own, and one that asks the origin
 abbrev pub get_a_if_changed : Asked
@@ -316,9 +316,9 @@ abbrev pub get_a_with_no_store : Asked
 get_a_with_no_store = get_a_with (cache_control (codes "no-store") ∷ [])
 
 -- the bytes of a reply
-abbrev pub reply_bytes : Outcome → List ℕ
-reply_bytes (Reply r) = r.bytes
-reply_bytes (Forward line bytes) = bytes
-reply_bytes (Waits leader) = []
-reply_bytes Ended = []
-reply_bytes WaitsNoMore = []
+abbrev pub bytes_of_reply_outcome : Outcome → List ℕ
+bytes_of_reply_outcome (Reply r) = r.bytes
+bytes_of_reply_outcome (Forward line bytes) = bytes
+bytes_of_reply_outcome (Waits leader) = []
+bytes_of_reply_outcome Ended = []
+bytes_of_reply_outcome WaitsNoMore = []

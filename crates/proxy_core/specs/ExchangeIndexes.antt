@@ -5,16 +5,16 @@ use Rattle.proxy_core.specs.declared.open.exchange.Exchange.{Exchange}
 use Rattle.proxy_core.specs.declared.open.released.Released.{Released}
 use Rattle.proxy_core.specs.declared.open.wait_index.WaitIndex.{WaitIndex}
 use Rattle.proxy_core.specs.Arrivals.{IndexesMatchExchanges}
-use Rattle.proxy_core.specs.ByKey.{TellsAllByKey, HasNoEmptyKeysInEither}
-use Rattle.proxy_core.specs.Releases.{KnowsTheFirstReleased}
-use Rattle.proxy_core.specs.Waiters.{is_in_wait_index, HasNoEmptyWaiterSets}
+use Rattle.proxy_core.specs.ByKey.{ArrivalsByKeyAreExact, NoIndexOfArrivalsHasEmptySet}
+use Rattle.proxy_core.specs.Releases.{ReleasedStatesFirstReleasedArrival}
+use Rattle.proxy_core.specs.Waiters.{is_in_wait_index, WaitIndexHasNoEmptySet}
 
 -- the indexes are right, and what is known of the released ones: of what is over nothing is kept
-pub record IndexesAreRight (es : List (ℕ × Exchange)) (arrivals : ℕ → Option ℕ) (waiting : WaitIndex)
+pub record ExchangeIndexesAreExact (es : List (ℕ × Exchange)) (arrivals : ℕ → Option ℕ) (waiting : WaitIndex)
     (released : Released)
     (by_key : ArrivalsByKey) : Type 0 where
   pub indexes : IndexesMatchExchanges es arrivals (is_in_wait_index waiting)
-  pub releases : KnowsTheFirstReleased released es
-  pub asking : TellsAllByKey by_key es
-  pub trim_waits : HasNoEmptyWaiterSets waiting
-  pub trim_keys : HasNoEmptyKeysInEither by_key
+  pub releases : ReleasedStatesFirstReleasedArrival released es
+  pub asking : ArrivalsByKeyAreExact by_key es
+  pub no_empty_waiter_sets : WaitIndexHasNoEmptySet waiting
+  pub no_empty_keys : NoIndexOfArrivalsHasEmptySet by_key

@@ -4,12 +4,12 @@
 -- stale-if-error allow for that request then, and every other answer names the first rule against
 -- it.
 --
--- RequestReachesExactlyWhereAllowed, RequestGoesForwardWhereAllowed, ExchangeGoesOnToItsAnswer: the first part
+-- RequestReachesCacheOrOriginIffAllowed, RequestGoesForwardWhereAllowed, ClientIsAnsweredAtTheNextStep: the first part
 -- StoredResponseIsSentExactlyWhereItMayBe, SentResponseIsTheStoredOne, AnswerIsStoredExactlyWhereItMayBe,
 -- StoredResponsesAreRemovedExactlyWhereTheyMustBe: the second
--- OtherAnswerNamesTheFirstRule: the third
--- EventComesWhereItMay, ConnectionClosesAsAsked: which events, and what ends a connection
--- OutcomeIsToldAsItIs: what is told of it as data
+-- AnswerNotFromStoreNamesFirstRule: the third
+-- EachEventSuitsExchange, ConnectionClosesAsAsked: which events, and what ends a connection
+-- OutcomeIsReportedTruthfully: what is told of it as data
 -- Headline: all of them, of each step of a trace               docs/THE_PROMISE.md goes through them
 use Rattle.std.specs.Prelude.{◌≡◌, ◌≢◌, ℕ, true, false, List, [], ◌∷◌, Option, Some, None}
 use Rattle.hx_framing.specs.declared.messages.Response.{Response}
@@ -19,27 +19,27 @@ use Rattle.hx_allow.specs.TableLines.{Table}
 use Rattle.hx_allow.specs.Matching.{policy_of}
 use Rattle.proxy_core.specs.Allowing.{verdict_of_asked, request_purges}
 use Rattle.hx_allow.specs.declared.verdicts.Verdict.TheVariants.{Allowed}
-use Rattle.hx_allow.specs.declared.verdicts.Route.{Route}
+use Rattle.hx_allow.specs.declared.verdicts.RequestRoute.{RequestRoute}
 use Rattle.hx_storable.specs.Storable.{StatusIsFinal}
 use Rattle.proxy_core.specs.declared.steps.condition.Condition.{Condition}
 use Rattle.proxy_core.specs.declared.open.exchange.Exchange.{Exchange}
 use Rattle.proxy_core.specs.declared.outcome.Reply.{Reply}
-use Rattle.proxy_core.specs.declared.outcome.Outcome.TheVariants.{Reply as Replied, Forward}
+use Rattle.proxy_core.specs.declared.outcome.Outcome.TheVariants.{Reply as ReplyData, Forward}
 use Rattle.proxy_core.specs.declared.event.Event.TheVariants.{Arrive, Answer}
 use Rattle.proxy_core.specs.Abouts.{about_by_outcome}
 use Rattle.proxy_core.specs.Outcomes.{about_of_event, find_exchange, exchange_id_of_event, forward_text}
 use Rattle.proxy_core.specs.State.{serial_stored_by_outcome, serial_used_by_outcome, outcome_purges, bounds_of}
-use Rattle.proxy_core.specs.Starts.{StoreAtStart, StartStands}
+use Rattle.proxy_core.specs.Starts.{StoreAtStart, StartIsValid}
 use Rattle.proxy_core.specs.Traces.{Item, DeniedRequestsLeaveNoTrace}
 use Rattle.proxy_core.specs.Histories.{held_entries, open_exchanges, next_serial, IsGoodHistory}
 use Rattle.proxy_core.specs.Promises.{latest_request_of, TwiceForwardOneReply}
 use Rattle.proxy_core.specs.Promises.{NothingInvalidatedIsSent, NothingInvalidatedSinceTheStartIsSent}
-use Rattle.proxy_core.specs.Sending.{RequestReachesCacheOrOrigin, RequestIsTurnedAway, RequestPurges}
+use Rattle.proxy_core.specs.Sending.{RequestReachesCacheOrOrigin, RequestIsRefusedByTheTable, OutcomeIsOfRequestedPurge}
 use Rattle.proxy_core.specs.Sending.{StoredResponseMayBeSent}
-use Rattle.proxy_core.specs.Sending.{ReplyIsThatStoredResponse}
-use Rattle.proxy_core.specs.GoingOn.{EventMayCome, ExchangeGoesOnBy, IsConditionOfEvent}
-use Rattle.proxy_core.specs.StoredAnswers.{AnswerMayBeStored, IsAnswerThatMayBeStored, ThoseAreRemoved}
-use Rattle.proxy_core.specs.StoredAnswers.{ThoseAreExpired}
+use Rattle.proxy_core.specs.Sending.{ReplyIsTheStoredResponse}
+use Rattle.proxy_core.specs.GoingOn.{EventSuitsExchange, ExchangeContinuesByEvent, ConditionIsSentAtEvent}
+use Rattle.proxy_core.specs.StoredAnswers.{AnswerMayBeStored, IsAnswerThatMayBeStored, OutcomeRemovesExactlyWhatItMust}
+use Rattle.proxy_core.specs.StoredAnswers.{OutcomeExpiresExactlyWhatItMust}
 use Rattle.proxy_core.specs.StoredAnswers.{event_purges}
 use Rattle.proxy_core.specs.Naming.{AnswerNamesFirstRule}
 
@@ -49,39 +49,40 @@ HoldsAtEachItem P [] = Unit {0}
 HoldsAtEachItem P (item ∷ past) = P item past × HoldsAtEachItem P past
 
 -- each event comes to an exchange that is open for it, and a request to none
-abbrev pub EventComesWhereItMay : Table → StoreAtStart → Item → List Item → Type 0
-EventComesWhereItMay table start item past =
-    EventMayCome (find_exchange (exchange_id_of_event item.event) (open_exchanges table start past)) item.event
+abbrev pub EachEventSuitsExchange : Table → StoreAtStart → Item → List Item → Type 0
+EachEventSuitsExchange table start item past =
+    EventSuitsExchange (find_exchange (exchange_id_of_event item.event) (open_exchanges table start past)) item.event
 
 -- A request reaches the cache or the origin of its line exactly where the table's first line that
 -- matches allows it, and the cache alone, of which it purges its scope, where that line purges and
 -- it shows the key; any other is turned away by the line, which denies it or refuses its loop, or
 -- because none matches.
-abbrev pub RequestReachesExactlyWhereAllowed : Table → StoreAtStart → Item → List Item → Type 0
-RequestReachesExactlyWhereAllowed table start item past = (now id : ℕ) (asked : Asked) → item.event
+abbrev pub RequestReachesCacheOrOriginIffAllowed : Table → StoreAtStart → Item → List Item → Type 0
+RequestReachesCacheOrOriginIffAllowed table start item past = (now id : ℕ) (asked : Asked) → item.event
     ≡ Arrive now id asked →
-    ((line : Route) → verdict_of_asked table asked ≡ Allowed line
+    ((line : RequestRoute) → verdict_of_asked table asked ≡ Allowed line
     → RequestReachesCacheOrOrigin table (held_entries table start past)
     (open_exchanges table start past) now asked line item.outcome)
-    × ((request_purges table asked ≡ true → RequestPurges (held_entries table start past) now asked item.outcome)
-    × (((line : Route) → verdict_of_asked table asked ≢ Allowed line) → request_purges table asked ≡ false
-    → RequestIsTurnedAway table now asked item.outcome))
+    × ((request_purges table asked ≡ true
+    → OutcomeIsOfRequestedPurge (held_entries table start past) now asked item.outcome)
+    × (((line : RequestRoute) → verdict_of_asked table asked ≢ Allowed line) → request_purges table asked ≡ false
+    → RequestIsRefusedByTheTable table now asked item.outcome))
 
 -- Whatever goes forward, at an arrival, a wake or a second time, goes to the origin of the line
 -- that allows its request, and is that request's text, with the proxy's conditions of that moment.
 abbrev pub RequestGoesForwardWhereAllowed : Table → StoreAtStart → Item → List Item → Type 0
-RequestGoesForwardWhereAllowed table start item past = (line : Route) (bytes : List ℕ) → item.outcome
+RequestGoesForwardWhereAllowed table start item past = (line : RequestRoute) (bytes : List ℕ) → item.outcome
     ≡ Forward line bytes →
     (asked : Asked) ×
     (condition : Option Condition) × (latest_request_of (exchange_id_of_event item.event) (item ∷ past) ≡ Some asked)
     × (verdict_of_asked table asked ≡ Allowed line)
-    × IsConditionOfEvent (policy_of table.lines line) (held_entries table start past) asked item.event condition
+    × ConditionIsSentAtEvent (policy_of table.lines line) (held_entries table start past) asked item.event condition
     × (bytes ≡ forward_text table line asked condition)
 
 -- and behind it the client gets its answer at the next step, but for the one second forward, unless it goes away
-abbrev pub ExchangeGoesOnToItsAnswer : Table → StoreAtStart → Item → List Item → Type 0
-ExchangeGoesOnToItsAnswer table start item past =
-    ExchangeGoesOnBy table (held_entries table start past)
+abbrev pub ClientIsAnsweredAtTheNextStep : Table → StoreAtStart → Item → List Item → Type 0
+ClientIsAnsweredAtTheNextStep table start item past =
+    ExchangeContinuesByEvent table (held_entries table start past)
     (find_exchange (exchange_id_of_event item.event) (open_exchanges table start past)) item.event item.outcome
 
 -- A stored response is sent exactly where one is held that may be sent at this event (RFC 9111,
@@ -98,14 +99,14 @@ StoredResponseIsSentExactlyWhereItMayBe table start item past = (s : ℕ) →
 -- and what is sent is that response: its content, its head or its 304
 abbrev pub SentResponseIsTheStoredOne : Table → StoreAtStart → Item → List Item → Type 0
 SentResponseIsTheStoredOne table start item past = (s : ℕ) → serial_used_by_outcome item.outcome ≡ Some s →
-    ReplyIsThatStoredResponse table (held_entries table start past)
+    ReplyIsTheStoredResponse table (held_entries table start past)
     (find_exchange (exchange_id_of_event item.event) (open_exchanges table start past)) item.event item.outcome s
 
 -- every other answer names the first rule against it: the line of the table, the least reuse rule
 -- with the least error rule, or where an answer of the origin is passed on the least rule that
 -- stood when its request was judged, at its arrival or its wake
-abbrev pub OtherAnswerNamesTheFirstRule : Table → StoreAtStart → ℕ → Item → List Item → Type 0
-OtherAnswerNamesTheFirstRule table start first item past =
+abbrev pub AnswerNotFromStoreNamesFirstRule : Table → StoreAtStart → ℕ → Item → List Item → Type 0
+AnswerNotFromStoreNamesFirstRule table start first item past =
     AnswerNamesFirstRule table start past (next_serial first past) (find_exchange (exchange_id_of_event item.event)
     (open_exchanges table start past)) item.event item.outcome
 
@@ -126,40 +127,40 @@ AnswerIsStoredExactlyWhereItMayBe table start first item past =
 -- expired.
 abbrev pub StoredResponsesAreRemovedExactlyWhereTheyMustBe : Table → StoreAtStart → Item → List Item → Type 0
 StoredResponsesAreRemovedExactlyWhereTheyMustBe table start item past =
-    ThoseAreRemoved table (held_entries table start past)
+    OutcomeRemovesExactlyWhatItMust table (held_entries table start past)
     (find_exchange (exchange_id_of_event item.event) (open_exchanges table start past)) item.event item.outcome
     × (outcome_purges item.outcome ≡ event_purges table item.event)
-    × ThoseAreExpired table (held_entries table start past) item.event item.outcome
+    × OutcomeExpiresExactlyWhatItMust table (held_entries table start past) item.event item.outcome
 
 -- a client's connection closes behind its reply where its request says so
 abbrev pub ConnectionClosesAsAsked : Item → List Item → Type 0
-ConnectionClosesAsAsked item past = (reply : Reply) → item.outcome ≡ Replied reply
+ConnectionClosesAsAsked item past = (reply : Reply) → item.outcome ≡ ReplyData reply
     → (asked : Asked) × (latest_request_of (exchange_id_of_event item.event) (item ∷ past)
     ≡ Some asked) × (reply.close ≡ asked.close)
 
 -- and what is told of the outcome is what it is: its status, its rule or cause, the line whose origin was asked
-abbrev pub OutcomeIsToldAsItIs : Table → StoreAtStart → ℕ → Item → List Item → Type 0
-OutcomeIsToldAsItIs table start first item past = about_by_outcome item.outcome
+abbrev pub OutcomeIsReportedTruthfully : Table → StoreAtStart → ℕ → Item → List Item → Type 0
+OutcomeIsReportedTruthfully table start first item past = about_by_outcome item.outcome
     ≡ about_of_event table (held_entries table start past) (open_exchanges table start past) (next_serial first past)
     item.event
 
 pub record Headline (table : Table) (start : StoreAtStart) (first : ℕ) (trace : List Item) : Type 0 where
-  pub begins_as_it_may : StartStands (bounds_of table start.limit) (Some first) start.entries
-  pub comes_where_it_may : HoldsAtEachItem (EventComesWhereItMay table start) trace
-  pub reaches_where_allowed : HoldsAtEachItem (RequestReachesExactlyWhereAllowed table start) trace
-  pub goes_where_allowed : HoldsAtEachItem (RequestGoesForwardWhereAllowed table start) trace
-  pub goes_on_to_its_answer : HoldsAtEachItem (ExchangeGoesOnToItsAnswer table start) trace
-  pub sends_where_one_may_be : HoldsAtEachItem (StoredResponseIsSentExactlyWhereItMayBe table start) trace
-  pub sends_that_response : HoldsAtEachItem (SentResponseIsTheStoredOne table start) trace
-  pub names_the_first_rule : HoldsAtEachItem (OtherAnswerNamesTheFirstRule table start first) trace
-  pub stores_where_it_may : HoldsAtEachItem (AnswerIsStoredExactlyWhereItMayBe table start first) trace
-  pub removes_what_goes : HoldsAtEachItem (StoredResponsesAreRemovedExactlyWhereTheyMustBe table start) trace
+  pub store_at_start_is_valid : StartIsValid (bounds_of table start.limit) (Some first) start.entries
+  pub events_fit_exchanges : HoldsAtEachItem (EachEventSuitsExchange table start) trace
+  pub reaches_cache_or_origin_iff_allowed : HoldsAtEachItem (RequestReachesCacheOrOriginIffAllowed table start) trace
+  pub goes_forward_where_allowed : HoldsAtEachItem (RequestGoesForwardWhereAllowed table start) trace
+  pub client_is_answered : HoldsAtEachItem (ClientIsAnsweredAtTheNextStep table start) trace
+  pub sends_stored_where_allowed : HoldsAtEachItem (StoredResponseIsSentExactlyWhereItMayBe table start) trace
+  pub sends_the_stored_response : HoldsAtEachItem (SentResponseIsTheStoredOne table start) trace
+  pub names_the_first_rule : HoldsAtEachItem (AnswerNotFromStoreNamesFirstRule table start first) trace
+  pub stores_where_allowed : HoldsAtEachItem (AnswerIsStoredExactlyWhereItMayBe table start first) trace
+  pub removes_exactly_what_must_go : HoldsAtEachItem (StoredResponsesAreRemovedExactlyWhereTheyMustBe table start) trace
   pub closes_as_asked : HoldsAtEachItem ConnectionClosesAsAsked trace
-  pub tells_what_it_is : HoldsAtEachItem (OutcomeIsToldAsItIs table start first) trace
+  pub outcome_is_reported_truthfully : HoldsAtEachItem (OutcomeIsReportedTruthfully table start first) trace
   pub nothing_invalidated_is_sent : NothingInvalidatedIsSent table start trace
   pub nothing_invalidated_since : NothingInvalidatedSinceTheStartIsSent table start trace
   pub twice_forward_one_reply : TwiceForwardOneReply trace
-  pub denied_leave_no_trace : DeniedRequestsLeaveNoTrace table trace
+  pub denied_requests_leave_no_trace : DeniedRequestsLeaveNoTrace table trace
 
 -- ---- the statements
 

@@ -2,18 +2,18 @@
 -- its latest item first.
 --
 -- held_serials: what is held          held_entry: the response of a serial     held_entries: those held
--- lines_held: its lines
+-- fields_of_held_response: its lines
 -- store_changes: what was done to the store, with weights
 -- open_exchanges: the open exchanges  next_serial: the next serial
--- IsGoodHistory: each item is what its case gives over these                   HistoryStopsAt: why a run stopped
+-- IsGoodHistory: each item is what its case gives over these                   HistoryStopsWithFault: why a run stopped
 use Rattle.std.specs.Prelude.{◌≡◌, ◌⊎◌, ℕ, List, [], ◌∷◌, Option, Some, None, option_map, cond}
 use Rattle.std.specs.List.{filter_map}
 use Rattle.hx_fields.specs.Line.{Field}
 use Rattle.hx_allow.specs.TableLines.{Table}
 use Rattle.hx_store.specs.Stored.{Stored}
 use Rattle.hx_store.specs.Shelf.{find_entry}
-use Rattle.hx_store.specs.Recency.{StoreChange, is_that_serial}
-use Rattle.hx_store.specs.WeightedRecency.{WeighedChange, weighed_held_of}
+use Rattle.hx_store.specs.Recency.{StoreChange, option_is_serial}
+use Rattle.hx_store.specs.WeightedRecency.{WeighedChange, serials_within_bounds}
 use Rattle.proxy_core.specs.declared.open.exchange.Exchange.{Exchange}
 use Rattle.proxy_core.specs.declared.outcome.Outcome.{Outcome}
 use Rattle.proxy_core.specs.declared.event.Event.{Event}
@@ -24,7 +24,7 @@ use Rattle.proxy_core.specs.State.{serial_stored_by_outcome, serial_used_by_outc
 use Rattle.proxy_core.specs.State.{serials_expired_by_outcome, response_after_expiring}
 use Rattle.proxy_core.specs.State.{stored_response_by_answer, stored_response_as_used, open_exchanges_after}
 use Rattle.proxy_core.specs.State.{next_serial_after, bounds_of}
-use Rattle.proxy_core.specs.Starts.{StoreAtStart, StartStands, changes_at_start, weight_if_any}
+use Rattle.proxy_core.specs.Starts.{StoreAtStart, StartIsValid, changes_at_start, weight_of_stored_if_any}
 use Rattle.proxy_core.specs.Traces.{Item, ItemIsAccepted}
 
 -- what an item did to the store
@@ -46,8 +46,8 @@ response_if_any_after_expiring event (s ∷ expired) response =
 abbrev pub stored_response_after : Option Exchange → Event → Outcome → (ℕ → Option Stored) → ℕ → Option Stored
 stored_response_after x event o entry s =
     response_if_any_after_expiring event (serials_expired_by_outcome o)
-    (cond (is_that_serial (serial_stored_by_outcome o) s) (stored_response_by_answer x event s)
-    (cond (is_that_serial (serial_used_by_outcome o) s) (option_map (stored_response_as_used x event) (entry s))
+    (cond (option_is_serial (serial_stored_by_outcome o) s) (stored_response_by_answer x event s)
+    (cond (option_is_serial (serial_used_by_outcome o) s) (option_map (stored_response_as_used x event) (entry s))
     (entry s)))
 
 -- the open exchanges in the order of arrival, the response of a serial, held or not, and what was done to the store,
@@ -65,14 +65,14 @@ exchanges_and_responses_after table start [] = record {
 }
 exchanges_and_responses_after table start (i ∷ past) = record {
   exchanges = open_exchanges_after table (filter_map (exchanges_and_responses_after table start past).entry
-      (weighed_held_of (bounds_of table start.limit) (exchanges_and_responses_after table start past).changes))
+      (serials_within_bounds (bounds_of table start.limit) (exchanges_and_responses_after table start past).changes))
       (exchanges_and_responses_after table start past).exchanges i.event i.outcome;
   entry = stored_response_after (find_exchange (exchange_id_of_event i.event)
       (exchanges_and_responses_after table start past).exchanges) i.event i.outcome
       (exchanges_and_responses_after table start past).entry;
   changes = record {
     change = store_change_of i;
-    weights = λ s. weight_if_any (stored_response_after (find_exchange (exchange_id_of_event i.event)
+    weights = λ s. weight_of_stored_if_any (stored_response_after (find_exchange (exchange_id_of_event i.event)
         (exchanges_and_responses_after table start past).exchanges) i.event i.outcome
         (exchanges_and_responses_after table start past).entry s);
   } ∷ (exchanges_and_responses_after table start past).changes;
@@ -85,7 +85,7 @@ store_changes table start past = (exchanges_and_responses_after table start past
 -- With room for as many as the store has it, and for the bytes of the table, the serials that are held after a trace,
 -- the latest stored or used first. What was held at first counts as stored before it.
 abbrev pub held_serials : Table → StoreAtStart → List Item → List ℕ
-held_serials table start past = weighed_held_of (bounds_of table start.limit) (store_changes table start past)
+held_serials table start past = serials_within_bounds (bounds_of table start.limit) (store_changes table start past)
 
 -- open from the arrival on to the end
 abbrev pub open_exchanges : Table → StoreAtStart → List Item → List Exchange
@@ -94,13 +94,13 @@ open_exchanges table start past = (exchanges_and_responses_after table start pas
 abbrev pub held_entry : Table → StoreAtStart → List Item → ℕ → Option Stored
 held_entry table start past s = (exchanges_and_responses_after table start past).entry s
 
-abbrev pub lines_if_any : Option Stored → List Field
-lines_if_any None = []
-lines_if_any (Some e) = e.fields
+abbrev pub fields_of_response_if_any : Option Stored → List Field
+fields_of_response_if_any None = []
+fields_of_response_if_any (Some e) = e.fields
 
 -- its lines
-abbrev pub lines_held : Table → StoreAtStart → List Item → ℕ → List Field
-lines_held table start past s = lines_if_any (held_entry table start past s)
+abbrev pub fields_of_held_response : Table → StoreAtStart → List Item → ℕ → List Field
+fields_of_held_response table start past s = fields_of_response_if_any (held_entry table start past s)
 
 -- the responses that are held after a trace, the latest stored or used first
 abbrev pub held_entries : Table → StoreAtStart → List Item → List Stored
@@ -114,13 +114,13 @@ next_serial first (i ∷ past) = next_serial_after (next_serial first past) (ser
 -- What is held at first may be, and each item is what its case gives, over the responses that are held, the exchanges
 -- that are open and the next serial after the items before it; serials begin at the first.
 abbrev pub IsGoodHistory : Table → StoreAtStart → ℕ → List Item → Type 0
-IsGoodHistory table start first [] = StartStands (bounds_of table start.limit) (Some first) start.entries
+IsGoodHistory table start first [] = StartIsValid (bounds_of table start.limit) (Some first) start.entries
 IsGoodHistory table start first (item ∷ past) =
     ItemIsAccepted table (held_entries table start past) (open_exchanges table start past) (next_serial first past) item
     × IsGoodHistory table start first past
 
 -- the next event is refused: by the least fault that stands at it, or where none does because memory ran out
-abbrev pub HistoryStopsAt : List Exchange → Option Event → CoreFault → Type 0
-HistoryStopsAt exchanges None fault = ⊥
-HistoryStopsAt exchanges (Some event) fault =
+abbrev pub HistoryStopsWithFault : List Exchange → Option Event → CoreFault → Type 0
+HistoryStopsWithFault exchanges None fault = ⊥
+HistoryStopsWithFault exchanges (Some event) fault =
     (step_fault exchanges event ≡ Some fault) ⊎ ((step_fault exchanges event ≡ None) × (fault ≡ OutOfMemory))

@@ -1,8 +1,8 @@
 -- What a step gives: the cases, over the held responses, the open exchanges and the next serial.
 --
 -- find_exchange: the open exchange of an id        exchange_id_of_event: of an event
--- fallback_for: what is held instead of an answer  arrived, answered, failed, woken: the cases
--- outcome_of, outcome_of_event: of an event
+-- fallback_for_failed_answer: what is held instead of an answer  arrived, answered, failed, woken: the cases
+-- outcome_for_exchange, outcome_of_event: of an event
 -- step_fault: the least fault that stands, out of memory aside
 use Rattle.std.specs.Prelude.{ℕ, ◌==◌, Bool, true, false, ◌||◌, List, [], ◌∷◌, Option, Some, None, cond, is_some}
 use Rattle.std.specs.Prelude.{length}
@@ -16,18 +16,18 @@ use Rattle.std.specs.Option.{option_and_then}
 use Rattle.hx_hop.specs.declared.request_view.Asked.{Asked}
 use Rattle.hx_hop.specs.Forwarding.{forwarded_of}
 use Rattle.hx_hop.specs.Moments.{date_text_of}
-use Rattle.hx_allow.specs.PurgeModes.{mode_to_purge}
+use Rattle.hx_allow.specs.PurgeModes.{purge_mode_or_remove}
 use Rattle.hx_allow.specs.declared.purge_modes.PurgeMode.{PurgeMode}
 use Rattle.hx_allow.specs.TableLines.{Table}
 use Rattle.hx_allow.specs.Matching.{policy_of}
 use Rattle.proxy_core.specs.Allowing.{verdict_of_asked, exchanges_to_wait_for}
-use Rattle.hx_allow.specs.declared.verdicts.Route.{Route}
+use Rattle.hx_allow.specs.declared.verdicts.RequestRoute.{RequestRoute}
 use Rattle.hx_allow.specs.declared.verdicts.Verdict.{Verdict}
 use Rattle.hx_allow.specs.declared.verdicts.Verdict.TheVariants as verdict
 use Rattle.hx_store.specs.Stored.{Stored}
-use Rattle.hx_store.specs.Shelf.{find_entry, serials_of}
-use Rattle.hx_reuse.specs.Conditions.{keeps_conditions}
-use Rattle.hx_reuse.specs.FilledRanges.{request_forwarded}
+use Rattle.hx_store.specs.Shelf.{find_entry, serials_of_key}
+use Rattle.hx_reuse.specs.Conditions.{withholds_conditions}
+use Rattle.hx_reuse.specs.FilledRanges.{request_sent_to_origin}
 use Rattle.hx_reuse.specs.Rules.{decision_of}
 use Rattle.hx_reuse.specs.ErrorRules.{error_rule_on}
 use Rattle.hx_reuse.specs.declared.rule.ReuseRule.{ReuseRule}
@@ -36,7 +36,7 @@ use Rattle.hx_reuse.specs.declared.decision.Decision.{Decision}
 use Rattle.hx_reuse.specs.declared.decision.Decision.TheVariants as decision
 use Rattle.hx_storable.specs.declared.rule.StoreRule.{StoreRule}
 use Rattle.hx_status.specs.Abouts.{about_purge, about_refusal}
-use Rattle.hx_status.specs.declared.about.About.{About}
+use Rattle.hx_status.specs.declared.about.StatusAndReason.{StatusAndReason}
 use Rattle.hx_status.specs.declared.about.Told.TheVariants.{Purged}
 use Rattle.hx_status.specs.declared.status.How.TheVariants.{Hit, Fwd}
 use Rattle.hx_status.specs.declared.status.Detail.{Detail}
@@ -61,14 +61,16 @@ use Rattle.proxy_core.specs.declared.core_fault.CoreFault.TheVariants.{IdTaken, 
 use Rattle.proxy_core.specs.declared.core_fault.CoreFault.TheVariants.{NotWaiting}
 use Rattle.proxy_core.specs.Moments.{moment_too_late_fault}
 use Rattle.proxy_core.specs.Leading.{is_forwarded, is_waiting, is_released}
-use Rattle.proxy_core.specs.Awaiting.{awaited_of, leader_of_request}
-use Rattle.proxy_core.specs.Revalidating.{sent_beside}
-use Rattle.proxy_core.specs.Scopes.{serials_purged, removed_in_mode, expired_in_mode}
-use Rattle.proxy_core.specs.Replies.{stored_text, passed_answer_text, refusal_reply_text, purge_reply_text, is_head}
+use Rattle.proxy_core.specs.Awaiting.{awaited_by_request, leader_of_request}
+use Rattle.proxy_core.specs.Revalidating.{sent_while_revalidating}
+use Rattle.proxy_core.specs.Scopes.{serials_purged_by_request, serials_removed_in_mode, serials_expired_in_mode}
+use Rattle.proxy_core.specs.Replies.{stored_reply_text, passed_answer_text, refusal_reply_text, purge_reply_text}
+use Rattle.proxy_core.specs.Replies.{is_head}
 use Rattle.proxy_core.specs.Abouts.{about_by_outcome, about_passed_answer, about_stored}
 use Rattle.proxy_core.specs.Validating.{conditions_to_send, condition_about_serial, is_304_to_own_conditions}
 use Rattle.proxy_core.specs.Validating.{stored_response_validated, freshened_by_304, freshened_may_be_kept}
-use Rattle.proxy_core.specs.Storing.{is_storable, storing_rule_to_explain, replaced_by, is_304_without_condition}
+use Rattle.proxy_core.specs.Storing.{is_storable, storing_rule_to_explain, serials_replaced_by_storing}
+use Rattle.proxy_core.specs.Storing.{is_304_without_condition}
 use Rattle.proxy_core.specs.Storing.{status_invalidates, answer_invalidates}
 
 -- the open exchange of an id
@@ -79,10 +81,10 @@ find_exchange id (x ∷ xs) = cond (x.id == id) (Some x) (find_exchange id xs)
 -- the bytes of a held response, sent
 abbrev pub sent_stored_text : List ℕ → Option Stored → ℕ → CacheStatusInfo → Asked → List ℕ
 sent_stored_text name None now info asked = []
-sent_stored_text name (Some e) now info asked = stored_text name e now info asked
+sent_stored_text name (Some e) now info asked = stored_reply_text name e now info asked
 
 -- and what is told of it; nothing is told where none is held
-abbrev pub about_sent_stored : Option Stored → ℕ → CacheStatusInfo → Asked → About
+abbrev pub about_sent_stored : Option Stored → ℕ → CacheStatusInfo → Asked → StatusAndReason
 about_sent_stored None now info asked = record { status = 0; told = Purged 0; origin_line = None }
 about_sent_stored (Some e) now info asked = about_stored e now info asked
 
@@ -114,36 +116,36 @@ outcome_of_refusal now cause asked = Reply (record {
 })
 
 -- a purge, by these bytes, that takes these serials, and tells how many
-abbrev pub outcome_of_taking : List ℕ → Bool → PurgeMode → List ℕ → Outcome
-outcome_of_taking bytes close mode taken = Reply (record {
+abbrev pub outcome_of_purge_reply : List ℕ → Bool → PurgeMode → List ℕ → Outcome
+outcome_of_purge_reply bytes close mode taken = Reply (record {
   bytes = bytes;
   close = close;
   about = about_purge (length taken);
   stored = None;
   used = None;
-  removed = removed_in_mode mode taken;
-  expired = expired_in_mode mode taken;
+  removed = serials_removed_in_mode mode taken;
+  expired = serials_expired_in_mode mode taken;
   purged = true;
 })
 
 -- A purge: what is held within the scope of its request goes, or is expired. Either way it is told how many those are.
 abbrev pub outcome_of_purge : List Stored → ℕ → Asked → Outcome
-outcome_of_purge es now asked = outcome_of_taking
-    (purge_reply_text (date_text_of now) (length (serials_purged asked es)) asked.close)
-    asked.close (mode_to_purge asked.fields) (serials_purged asked es)
+outcome_of_purge es now asked = outcome_of_purge_reply
+    (purge_reply_text (date_text_of now) (length (serials_purged_by_request asked es)) asked.close)
+    asked.close (purge_mode_or_remove asked.fields) (serials_purged_by_request asked es)
 
 -- the bytes of a request that goes forward over a line; its own conditions and its range may stay with the proxy
-abbrev pub forward_text : Table → Route → Asked → Option Condition → List ℕ
+abbrev pub forward_text : Table → RequestRoute → Asked → Option Condition → List ℕ
 forward_text table line asked condition =
-    request_text (forwarded_of (keeps_conditions (policy_of table.lines line) asked)
-    (request_forwarded (policy_of table.lines line) asked) table.name (conditions_to_send condition))
+    request_text (forwarded_of (withholds_conditions (policy_of table.lines line) asked)
+    (request_sent_to_origin (policy_of table.lines line) asked) table.name (conditions_to_send condition))
 
 -- the request takes no response but a stored one (RFC 9111, section 5.2.1.7)
 abbrev pub is_only_if_cached : Asked → Bool
 is_only_if_cached asked = has_directive (occurrences_of asked.fields) OnlyIfHeld
 
 -- a request waits for the exchange that leads, or where none does goes forward
-abbrev pub outcome_of_waiting_or_forwarding : Table → Route → Asked → Option Condition → Option ℕ → Outcome
+abbrev pub outcome_of_waiting_or_forwarding : Table → RequestRoute → Asked → Option Condition → Option ℕ → Outcome
 outcome_of_waiting_or_forwarding table line asked condition (Some leader) = Waits leader
 outcome_of_waiting_or_forwarding table line asked condition None = Forward line
     (forward_text table line asked condition)
@@ -161,19 +163,20 @@ revalidating_status_info policy =
     }
 
 -- the stale response that is sent beside the exchange that leads, or where none is what follows otherwise
-abbrev pub outcome_unless_sent_beside : Table → List Stored → Route → ℕ → Asked → Option ℕ → Outcome → Outcome
-outcome_unless_sent_beside table es line now asked None otherwise = otherwise
-outcome_unless_sent_beside table es line now asked (Some serial) otherwise =
+abbrev pub outcome_unless_stale_is_sent : Table → List Stored → RequestRoute → ℕ → Asked → Option ℕ → Outcome → Outcome
+outcome_unless_stale_is_sent table es line now asked None otherwise = otherwise
+outcome_unless_stale_is_sent table es line now asked (Some serial) otherwise =
     outcome_of_sending_stored table es serial now (revalidating_status_info (policy_of table.lines line)) asked
 
 -- a rule keeps each stored response back
-abbrev pub outcome_without_stored_response : Table → List Stored → List Exchange → Route → ℕ → Asked → ReuseRule
+abbrev pub outcome_without_stored_response : Table → List Stored → List Exchange → RequestRoute → ℕ → Asked → ReuseRule
     → Option Condition → Bool → Outcome
 outcome_without_stored_response table es xs line now asked rule condition true = outcome_of_refusal now
     (OnlyIfCached rule) asked
 outcome_without_stored_response table es xs line now asked rule condition false =
-    outcome_unless_sent_beside table es line now asked
-    (sent_beside (policy_of table.lines line) es asked now (awaited_of (policy_of table.lines line) es asked rule)
+    outcome_unless_stale_is_sent table es line now asked
+    (sent_while_revalidating (policy_of table.lines line) es asked now
+    (awaited_by_request (policy_of table.lines line) es asked rule)
     (leader_of_request (policy_of table.lines line) es (exchanges_to_wait_for table line asked xs) asked rule))
     (outcome_of_waiting_or_forwarding table line asked condition
     (leader_of_request (policy_of table.lines line) es (exchanges_to_wait_for table line asked xs) asked rule))
@@ -190,7 +193,8 @@ hit_status_info policy = record {
 
 -- an allowed request: the stored response that no rule keeps back is sent, else one that may be sent while another
 -- asks, else the request waits or goes forward
-abbrev pub outcome_of_allowed_request : Table → List Stored → List Exchange → Route → ℕ → Asked → Decision → Outcome
+abbrev pub outcome_of_allowed_request : Table → List Stored → List Exchange → RequestRoute → ℕ → Asked → Decision
+    → Outcome
 outcome_of_allowed_request table es xs line now asked (decision.Hit serial) =
     outcome_of_sending_stored table es serial now (hit_status_info (policy_of table.lines line)) asked
 outcome_of_allowed_request table es xs line now asked (decision.Forward rule against) =
@@ -224,8 +228,8 @@ collapsed_status_info policy x =
     record { policy = policy; how = Fwd x.rule; came = None; detail = None; collapsed = true; origin_line = None }
 
 -- the error rule against the held response of a serial
-abbrev pub error_rule_at : Policy → List Stored → ℕ → Asked → ℕ → Option ErrorRule
-error_rule_at policy es serial asked now =
+abbrev pub error_rule_for_serial : Policy → List Stored → ℕ → Asked → ℕ → Option ErrorRule
+error_rule_for_serial policy es serial asked now =
     option_and_then (λ e. error_rule_on policy e (occurrences_of asked.fields) now) (find_entry serial es)
 
 abbrev pub fallback_with_error_rule : ReuseRule → ℕ → Option ErrorRule → Fallback
@@ -234,20 +238,20 @@ fallback_with_error_rule rule serial (Some error) = Refuses rule (Some error)
 
 -- what is held instead of an answer: the one that a rule names and no error rule keeps back (RFC 5861, section 4)
 -- own: or the response that no reuse rule keeps back now ("A failed origin after the store was filled")
-abbrev pub fallback_for : Policy → List Stored → Asked → ℕ → Decision → Fallback
-fallback_for policy es asked now (decision.Hit serial) = Sends serial ReuseAfterError
-fallback_for policy es asked now (decision.Forward rule None) = Refuses rule None
-fallback_for policy es asked now (decision.Forward rule (Some serial)) =
-    fallback_with_error_rule rule serial (error_rule_at policy es serial asked now)
+abbrev pub fallback_for_failed_answer : Policy → List Stored → Asked → ℕ → Decision → Fallback
+fallback_for_failed_answer policy es asked now (decision.Hit serial) = Sends serial ReuseAfterError
+fallback_for_failed_answer policy es asked now (decision.Forward rule None) = Refuses rule None
+fallback_for_failed_answer policy es asked now (decision.Forward rule (Some serial)) =
+    fallback_with_error_rule rule serial (error_rule_for_serial policy es serial asked now)
 
 -- what is held for the key of a request goes where the status that came invalidates it (RFC 9111, section 4.4)
 abbrev pub serials_removed_by_status : List Stored → Asked → Option ℕ → List ℕ
 serials_removed_by_status es asked None = []
 serials_removed_by_status es asked (Some status) =
-    cond (status_invalidates asked status) (serials_of asked.target.key es) []
+    cond (status_invalidates asked status) (serials_of_key asked.target.key es) []
 
 -- a reply after the origin of this line was asked, by which these are held no longer
-abbrev pub outcome_after_origin : Route → List ℕ → Outcome → Outcome
+abbrev pub outcome_after_origin : RequestRoute → List ℕ → Outcome → Outcome
 outcome_after_origin line removed (Reply r) = Reply (record r {
   removed = removed;
   about = record r.about { origin_line = Some line.number };
@@ -272,8 +276,8 @@ serial_of_stored_answer table x r now next = cond (is_storable table x r now nex
 
 -- what is held no longer, ascending: what the stored answer takes the place of, or all of an invalidated key
 abbrev pub serials_removed_by_answer : List Stored → Exchange → Response → Option ℕ → List ℕ
-serials_removed_by_answer es x r (Some serial) = replaced_by es x.asked
-serials_removed_by_answer es x r None = cond (answer_invalidates x r) (serials_of x.asked.target.key es) []
+serials_removed_by_answer es x r (Some serial) = serials_replaced_by_storing es x.asked
+serials_removed_by_answer es x r None = cond (answer_invalidates x r) (serials_of_key x.asked.target.key es) []
 
 -- it tells why it isn't stored where the line says so
 abbrev pub outcome_of_passing_on : Table → List Stored → ℕ → Exchange → Response → Option StoreRule → Option ℕ → Outcome
@@ -310,7 +314,7 @@ outcome_of_passing_on_or_stale table es now x r next false fallback =
 abbrev pub outcome_of_sending_freshened : Table → Exchange → Response → ℕ → Stored → Outcome
 outcome_of_sending_freshened table x r now e =
     Reply (record {
-      bytes = stored_text table.name e now
+      bytes = stored_reply_text table.name e now
           (forwarded_status_info (policy_of table.lines x.line) x (Some r.status) None) x.asked;
       close = x.asked.close;
       about = about_stored e now (forwarded_status_info (policy_of table.lines x.line) x (Some r.status) None) x.asked;
@@ -339,9 +343,9 @@ outcome_of_answer table es now x r next d =
     cond (is_304_to_own_conditions x r) (outcome_of_304 table es now x r (stored_response_validated es x r now) d)
     (cond (is_304_without_condition (policy_of table.lines x.line) x.asked r)
     (outcome_of_failure table es now x BadAnswer (Some r.status)
-    (fallback_for (policy_of table.lines x.line) es x.asked now d))
+    (fallback_for_failed_answer (policy_of table.lines x.line) es x.asked now d))
     (outcome_of_passing_on_or_stale table es now x r next (is_error_status r.status)
-    (fallback_for (policy_of table.lines x.line) es x.asked now d)))
+    (fallback_for_failed_answer (policy_of table.lines x.line) es x.asked now d)))
 
 abbrev pub exchange_id_of_event : Event → ℕ
 exchange_id_of_event (Arrive now id asked) = id
@@ -361,34 +365,34 @@ outcome_of_wake table es now x (decision.Forward rule against) =
     Forward x.line (forward_text table x.line x.asked (condition_about_serial es against))
 
 -- the outcome of an event, by cases; x is the open exchange of its id
-abbrev pub outcome_of : Table → List Stored → List Exchange → Option Exchange → Option ℕ → Event → Outcome
-outcome_of table es xs x next (Arrive now id asked) =
+abbrev pub outcome_for_exchange : Table → List Stored → List Exchange → Option Exchange → Option ℕ → Event → Outcome
+outcome_for_exchange table es xs x next (Arrive now id asked) =
     outcome_of_arrival table es xs now asked (verdict_of_asked table asked)
-outcome_of table es xs (Some x) next (Answer now id r) =
+outcome_for_exchange table es xs (Some x) next (Answer now id r) =
     outcome_of_answer table es now x r next (decision_of (policy_of table.lines x.line) es x.asked now)
-outcome_of table es xs None next (Answer now id r) = Ended
-outcome_of table es xs (Some x) next (Fail now id kind) = outcome_of_failure table es now x kind None
-    (fallback_for (policy_of table.lines x.line) es x.asked now
+outcome_for_exchange table es xs None next (Answer now id r) = Ended
+outcome_for_exchange table es xs (Some x) next (Fail now id kind) = outcome_of_failure table es now x kind None
+    (fallback_for_failed_answer (policy_of table.lines x.line) es x.asked now
     (decision_of (policy_of table.lines x.line) es x.asked now))
-outcome_of table es xs None next (Fail now id kind) = Ended
-outcome_of table es xs (Some x) next (Wake now id) =
+outcome_for_exchange table es xs None next (Fail now id kind) = Ended
+outcome_for_exchange table es xs (Some x) next (Wake now id) =
     outcome_of_wake table es now x (decision_of (policy_of table.lines x.line) es x.asked now)
-outcome_of table es xs None next (Wake now id) = Ended
-outcome_of table es xs x next (Abandon id) = Ended
-outcome_of table es xs x next (Overdue id) = WaitsNoMore
+outcome_for_exchange table es xs None next (Wake now id) = Ended
+outcome_for_exchange table es xs x next (Abandon id) = Ended
+outcome_for_exchange table es xs x next (Overdue id) = WaitsNoMore
 
 -- over the held responses, all open exchanges in the order of arrival, and the next serial
 abbrev pub outcome_of_event : Table → List Stored → List Exchange → Option ℕ → Event → Outcome
-outcome_of_event table es xs next event = outcome_of table es xs
+outcome_of_event table es xs next event = outcome_for_exchange table es xs
     (find_exchange (exchange_id_of_event event) xs) next event
 
 -- what is told of that outcome, if it is a reply
-abbrev pub about_of_event : Table → List Stored → List Exchange → Option ℕ → Event → Option About
+abbrev pub about_of_event : Table → List Stored → List Exchange → Option ℕ → Event → Option StatusAndReason
 about_of_event table es xs next event = about_by_outcome (outcome_of_event table es xs next event)
 
-abbrev pub or_fault : Option CoreFault → Option CoreFault → Option CoreFault
-or_fault (Some fault) later = Some fault
-or_fault None later = later
+abbrev pub fault_else : Option CoreFault → Option CoreFault → Option CoreFault
+fault_else (Some fault) later = Some fault
+fault_else None later = later
 
 -- no origin was asked
 abbrev pub fault_if_not_forwarded : Stage → Option CoreFault
@@ -411,11 +415,11 @@ fault_at_moment (Some x) now = moment_too_late_fault now
 abbrev pub fault_at_exchange : Option Exchange → Event → Option CoreFault
 fault_at_exchange (Some x) (Arrive now id asked) = Some IdTaken
 fault_at_exchange None (Arrive now id asked) = moment_too_late_fault now
-fault_at_exchange (Some x) (Answer now id r) = or_fault (moment_too_late_fault now) (fault_if_not_forwarded x.stage)
+fault_at_exchange (Some x) (Answer now id r) = fault_else (moment_too_late_fault now) (fault_if_not_forwarded x.stage)
 fault_at_exchange None (Answer now id r) = Some UnknownId
-fault_at_exchange (Some x) (Fail now id kind) = or_fault (moment_too_late_fault now) (fault_if_not_forwarded x.stage)
+fault_at_exchange (Some x) (Fail now id kind) = fault_else (moment_too_late_fault now) (fault_if_not_forwarded x.stage)
 fault_at_exchange None (Fail now id kind) = Some UnknownId
-fault_at_exchange (Some x) (Wake now id) = or_fault (moment_too_late_fault now) (fault_if_not_released x.stage)
+fault_at_exchange (Some x) (Wake now id) = fault_else (moment_too_late_fault now) (fault_if_not_released x.stage)
 fault_at_exchange None (Wake now id) = Some UnknownId
 fault_at_exchange (Some x) (Abandon id) = None
 fault_at_exchange (Some x) (Overdue id) = fault_if_not_waiting x.stage

@@ -8,7 +8,7 @@ use Rattle.hx_framing.specs.declared.messages.Response.{Response}
 use Rattle.hx_target.specs.declared.keys.Key.{Key}
 use Rattle.hx_target.specs.Keys.{same_key}
 use Rattle.hx_store.specs.Stored.{Stored}
-use Rattle.hx_store.specs.Shelf.{holds_serial, find_entry, without_serials, with_promoted}
+use Rattle.hx_store.specs.Shelf.{holds_serial, find_entry, without_serials, entries_with_promoted}
 use Rattle.hx_store.specs.Weights.{StoreBounds}
 use Rattle.proxy_core.specs.declared.open.exchange.Exchange.{Exchange}
 use Rattle.proxy_core.specs.declared.outcome.Outcome.{Outcome}
@@ -19,9 +19,9 @@ use Rattle.proxy_core.specs.declared.replies.pending.AfterAnswer.TheVariants.{En
 use Rattle.proxy_core.specs.declared.replies.pending.Change.{Change}
 use Rattle.proxy_core.specs.declared.replies.pending.Change.TheVariants.{Keep, Use, Freshen, Remove, Store}
 use Rattle.proxy_core.specs.declared.replies.pending.PendingReply.{PendingReply}
-use Rattle.proxy_core.specs.Scopes.{target_alone}
+use Rattle.proxy_core.specs.Scopes.{scope_of_target_alone}
 use Rattle.proxy_core.specs.State.{State, entries_without_serials, exchanges_after_end, next_serial_after}
-use Rattle.proxy_core.specs.State.{entries_after, bounds_of, cut_where_touched}
+use Rattle.proxy_core.specs.State.{entries_after_event, bounds_of, evicted_if_stored_or_used}
 use Rattle.proxy_core.specs.Storing.{stored_response_made}
 
 -- the serial that is stored
@@ -53,17 +53,19 @@ outcome_of_pending_reply p = Reply (record {
 })
 
 -- the held responses after a change, and after these serials are gone, before any goes for the bounds
-abbrev pub entries_before_cut : List ℕ → Change → List Stored → List Stored
-entries_before_cut removed Keep es = entries_without_serials removed es
-entries_before_cut removed (Use serial) es = entries_without_serials removed (with_promoted serial es)
-entries_before_cut removed (Freshen e) es = entries_without_serials removed (e ∷ without_serials (e.serial ∷ []) es)
-entries_before_cut removed (Remove serial) es = entries_without_serials removed (without_serials (serial ∷ []) es)
-entries_before_cut removed (Store e) es = e ∷ without_serials removed es
+abbrev pub entries_before_eviction : List ℕ → Change → List Stored → List Stored
+entries_before_eviction removed Keep es = entries_without_serials removed es
+entries_before_eviction removed (Use serial) es = entries_without_serials removed (entries_with_promoted serial es)
+entries_before_eviction removed (Freshen e) es =
+    entries_without_serials removed (e ∷ without_serials (e.serial ∷ []) es)
+entries_before_eviction removed (Remove serial) es = entries_without_serials removed (without_serials (serial ∷ []) es)
+entries_before_eviction removed (Store e) es = e ∷ without_serials removed es
 
 -- and once the last ones went
 abbrev pub entries_after_change : StoreBounds → List ℕ → Change → List Stored → List Stored
 entries_after_change bounds removed c es =
-    cut_where_touched bounds (serial_stored_by_change c) (serial_used_by_change c) (entries_before_cut removed c es)
+    evicted_if_stored_or_used bounds (serial_stored_by_change c) (serial_used_by_change c)
+    (entries_before_eviction removed c es)
 
 -- the core after a pending reply by which the exchange of this id ends, and by which this key may be invalidated
 abbrev pub state_after_reply : State → ℕ → PendingReply → Option Key → State
@@ -71,7 +73,7 @@ state_after_reply s id p invalidated = record {
   table = s.table;
   limit = s.limit;
   entries = entries_after_change (bounds_of s.table s.limit) p.removed p.change s.entries;
-  exchanges = exchanges_after_end (option_map target_alone invalidated) id s.exchanges;
+  exchanges = exchanges_after_end (option_map scope_of_target_alone invalidated) id s.exchanges;
   next = next_serial_after s.next (serial_stored_by_change p.change);
 }
 
@@ -119,12 +121,12 @@ ChangeStoresNothing (Store e) = ⊥
 -- a pending reply leaves of the held responses what the step leaves of them
 abbrev pub ReplyLeavesHeldAsStepDoes : StoreBounds → List Stored → Exchange → Event → PendingReply → Type 0
 ReplyLeavesHeldAsStepDoes bounds es x event p = entries_after_change bounds p.removed p.change es
-    ≡ entries_after bounds es (Some x) event (outcome_of_pending_reply p)
+    ≡ entries_after_event bounds es (Some x) event (outcome_of_pending_reply p)
 
 -- the outcome of an answer: the exchange ends, or goes forward once more
-abbrev pub outcome_after : Exchange → AfterAnswer → Outcome
-outcome_after x (Ends p) = outcome_of_pending_reply p
-outcome_after x (GoesOn bytes) = Forward x.line bytes
+abbrev pub outcome_after_answer : Exchange → AfterAnswer → Outcome
+outcome_after_answer x (Ends p) = outcome_of_pending_reply p
+outcome_after_answer x (GoesOn bytes) = Forward x.line bytes
 
 -- what an answer leaves where the exchange ends by it
 abbrev pub AnswerLeavesHeldAsStepDoes : StoreBounds → List Stored → Exchange → Event → AfterAnswer → Type 0
@@ -132,9 +134,9 @@ AnswerLeavesHeldAsStepDoes bounds es x event (Ends p) = ReplyLeavesHeldAsStepDoe
 AnswerLeavesHeldAsStepDoes bounds es x event (GoesOn bytes) = Unit {0}
 
 -- what an answer stores has the next serial, and what it freshens is held
-abbrev pub AnswerChangeFits : Option ℕ → List Stored → AfterAnswer → Type 0
-AnswerChangeFits next es (Ends p) = StoresUnderNextSerial next p.change × FreshensHeldResponse p.change es
-AnswerChangeFits next es (GoesOn bytes) = Unit {0}
+abbrev pub AnswerChangeIsApplicable : Option ℕ → List Stored → AfterAnswer → Type 0
+AnswerChangeIsApplicable next es (Ends p) = StoresUnderNextSerial next p.change × FreshensHeldResponse p.change es
+AnswerChangeIsApplicable next es (GoesOn bytes) = Unit {0}
 
 abbrev pub AnswerStoresNothing : AfterAnswer → Type 0
 AnswerStoresNothing (Ends p) = ChangeStoresNothing p.change

@@ -2,7 +2,7 @@
 --
 -- count_of_outcomes: how many items of an exchange's id have such an outcome
 -- latest_request_of: the request of an exchange
--- overtakes_key: an item that overtakes what is on its way for a key
+-- item_overtakes_key: an item that overtakes what is on its way for a key
 -- invalidates_response: one that invalidates what is held for it
 -- TwiceForwardOneReply, NothingInvalidatedIsSent, NothingInvalidatedSinceTheStartIsSent: the promises
 use Rattle.std.specs.Prelude.{◌≡◌, ℕ, ◌+◌, ◌≤◌, ◌==◌, ◌&&◌, ◌||◌, Bool, true, false, List, [], ◌∷◌, ◌++◌}
@@ -20,12 +20,13 @@ use Rattle.proxy_core.specs.declared.event.Event.{Event}
 use Rattle.proxy_core.specs.declared.event.Event.TheVariants.{Arrive, Answer, Fail, Wake, Abandon, Overdue}
 use Rattle.proxy_core.specs.Storing.{status_invalidates}
 use Rattle.proxy_core.specs.Outcomes.{exchange_id_of_event}
-use Rattle.hx_allow.specs.PurgeModes.{mode_to_purge}
-use Rattle.proxy_core.specs.Scopes.{Scope, is_in_scope, scope_takes, scope_if_removing, target_alone}
+use Rattle.hx_allow.specs.PurgeModes.{purge_mode_or_remove}
+use Rattle.proxy_core.specs.Scopes.{Scope, key_is_in_scope, scope_includes_response, scope_if_removing}
+use Rattle.proxy_core.specs.Scopes.{scope_of_target_alone}
 use Rattle.proxy_core.specs.State.{serial_stored_by_outcome, serial_used_by_outcome, scope_purged}
 use Rattle.proxy_core.specs.Starts.{StoreAtStart}
 use Rattle.proxy_core.specs.Traces.{Item}
-use Rattle.proxy_core.specs.Histories.{lines_held}
+use Rattle.proxy_core.specs.Histories.{fields_of_held_response}
 
 abbrev pub outcome_goes_forward : Outcome → Bool
 outcome_goes_forward (Forward line bytes) = true
@@ -112,7 +113,7 @@ key_invalidated_by_answer asked r = cond (status_invalidates asked r.status) (So
 -- own: a request that purges overtakes what is within its scope ("A purge has a key")
 abbrev pub scope_overtaken_by_event : Option Asked → Event → Outcome → Option Scope
 scope_overtaken_by_event (Some asked) (Answer now id r) outcome =
-    option_map target_alone (key_invalidated_by_answer asked r)
+    option_map scope_of_target_alone (key_invalidated_by_answer asked r)
 scope_overtaken_by_event None (Answer now id r) outcome = None
 scope_overtaken_by_event asked (Arrive now id other) outcome = scope_purged other outcome
 scope_overtaken_by_event asked (Fail now id kind) outcome = None
@@ -123,7 +124,7 @@ scope_overtaken_by_event asked (Overdue id) outcome = None
 -- Of that it invalidates what it is to remove.
 -- own: a purge that expires removes nothing ("A purge that expires")
 abbrev pub scope_invalidated_of : Event → Option Scope → Option Scope
-scope_invalidated_of (Arrive now id asked) scope = scope_if_removing (mode_to_purge asked.fields) scope
+scope_invalidated_of (Arrive now id asked) scope = scope_if_removing (purge_mode_or_remove asked.fields) scope
 scope_invalidated_of (Answer now id r) scope = scope
 scope_invalidated_of (Fail now id kind) scope = scope
 scope_invalidated_of (Wake now id) scope = scope
@@ -139,43 +140,43 @@ scope_invalidated_by_event asked event outcome =
 
 abbrev pub is_overtaken_key : Option Scope → Key → Bool
 is_overtaken_key None key = false
-is_overtaken_key (Some scope) key = is_in_scope scope key
+is_overtaken_key (Some scope) key = key_is_in_scope scope key
 
 -- this item, after this past, overtakes what was asked for under the key before it: that isn't stored, whatever tags it
 -- will name
-abbrev pub overtakes_key : Key → Item → List Item → Bool
-overtakes_key key i past = is_overtaken_key
+abbrev pub item_overtakes_key : Key → Item → List Item → Bool
+item_overtakes_key key i past = is_overtaken_key
     (scope_overtaken_by_event (latest_request_of (exchange_id_of_event i.event) past) i.event i.outcome) key
 
 -- none of these items, after this past, does
-abbrev pub NoItemOvertakes : Key → List Item → List Item → Type 0
-NoItemOvertakes key [] past = Unit {0}
-NoItemOvertakes key (i ∷ items) past = (overtakes_key key i (items ++ past) ≡ false)
-    × NoItemOvertakes key items past
+abbrev pub NoItemOvertakesKey : Key → List Item → List Item → Type 0
+NoItemOvertakesKey key [] past = Unit {0}
+NoItemOvertakesKey key (i ∷ items) past = (item_overtakes_key key i (items ++ past) ≡ false)
+    × NoItemOvertakesKey key items past
 
 -- some of them does
-abbrev pub some_item_overtakes : Key → List Item → List Item → Bool
-some_item_overtakes key [] past = false
-some_item_overtakes key (i ∷ items) past = overtakes_key key i (items ++ past)
-    || some_item_overtakes key items past
+abbrev pub some_item_overtakes_key : Key → List Item → List Item → Bool
+some_item_overtakes_key key [] past = false
+some_item_overtakes_key key (i ∷ items) past = item_overtakes_key key i (items ++ past)
+    || some_item_overtakes_key key items past
 
 abbrev pub is_invalidated_response : Option Scope → Key → List Field → Bool
 is_invalidated_response None key fields = false
-is_invalidated_response (Some scope) key fields = scope_takes scope key fields
+is_invalidated_response (Some scope) key fields = scope_includes_response scope key fields
 
 -- this item, after this past, invalidates the response of a serial that is held for the key: without a tag by the key
 -- alone; by a purge with a tag where the lines that the response has then name it, too
 abbrev pub invalidates_response : Table → StoreAtStart → ℕ → Key → Item → List Item → Bool
 invalidates_response table start s key i past = is_invalidated_response
     (scope_invalidated_by_event (latest_request_of (exchange_id_of_event i.event) past) i.event i.outcome) key
-    (lines_held table start past s)
+    (fields_of_held_response table start past s)
 
 -- none of these items, after this past, does
-abbrev pub NoItemInvalidates : Table → StoreAtStart → ℕ → Key → List Item → List Item → Type 0
-NoItemInvalidates table start s key [] past = Unit {0}
-NoItemInvalidates table start s key (i ∷ items) past =
+abbrev pub NoItemInvalidatesResponse : Table → StoreAtStart → ℕ → Key → List Item → List Item → Type 0
+NoItemInvalidatesResponse table start s key [] past = Unit {0}
+NoItemInvalidatesResponse table start s key (i ∷ items) past =
     (invalidates_response table start s key i (items ++ past) ≡ false)
-    × NoItemInvalidates table start s key items past
+    × NoItemInvalidatesResponse table start s key items past
 
 -- Let an item send the stored response s, and let f be the last going forward, before s was stored,
 -- of the exchange that stored s. No item between storing and sending invalidates that response, and none
@@ -190,12 +191,12 @@ NothingInvalidatedIsSent table start trace =
     exchange_id_of_event f.event ≡ exchange_id_of_event storing.event →
     count_of_outcomes outcome_goes_forward (exchange_id_of_event storing.event) between ≡ 0 →
     latest_request_of (exchange_id_of_event storing.event) (f ∷ before) ≡ Some asked →
-    NoItemInvalidates table start s asked.target.key middle (storing ∷ (between ++ f ∷ before))
-    × NoItemOvertakes asked.target.key (storing ∷ between) (f ∷ before)
+    NoItemInvalidatesResponse table start s asked.target.key middle (storing ∷ (between ++ f ∷ before))
+    × NoItemOvertakesKey asked.target.key (storing ∷ between) (f ∷ before)
 
 -- What was held at first was stored by no item. Let an item send such a response: no item before it invalidates it.
 abbrev pub NothingInvalidatedSinceTheStartIsSent : Table → StoreAtStart → List Item → Type 0
 NothingInvalidatedSinceTheStartIsSent table start trace =
     (later before : List Item) (sending : Item) (s : ℕ) (response : Stored) →
     later ++ sending ∷ before ≡ trace → serial_used_by_outcome sending.outcome ≡ Some s →
-    find_entry s start.entries ≡ Some response → NoItemInvalidates table start s response.key before []
+    find_entry s start.entries ≡ Some response → NoItemInvalidatesResponse table start s response.key before []

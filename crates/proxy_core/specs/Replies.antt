@@ -1,8 +1,8 @@
 -- The bytes of each answer (RFC 9110, section 6; RFC 9111, section 5.1; RFC 9211).
 --
--- stored_text: a stored response, whole, in part or as a 304
+-- stored_reply_text: a stored response, whole, in part or as a 304
 -- passed_answer_text: an answer of the origin, whole, in part or as a 304
--- refusal_reply_text: the proxy's own          without_tags: what is left where tags are hidden
+-- refusal_reply_text: the proxy's own          fields_without_hidden_tags: what is left where tags are hidden
 use Rattle.std.specs.Prelude.{ℕ, ℤ, ◌+◌, ◌==◌, ◌&&◌, ◌||◌, List, [], ◌∷◌, ◌++◌, length, slice_range, codes, bytes_eq}
 use Rattle.std.specs.Prelude.{decimal, Bool, true}
 use Rattle.std.specs.Prelude.{false, Option}
@@ -12,20 +12,21 @@ use Rattle.hx_fields.specs.Line.{Field}
 use Rattle.hx_fields.specs.FieldLines.{without_named}
 use Rattle.hx_framing.specs.Text.{response_text}
 use Rattle.hx_framing.specs.declared.messages.Response.{Response}
-use Rattle.hx_age.specs.Age.{times_of, age_of, ttl_of}
+use Rattle.hx_age.specs.Age.{times_of_message, age_of, ttl_of}
 use Rattle.hx_hop.specs.Answering.{answered_of}
 use Rattle.hx_hop.specs.declared.request_view.Asked.{Asked}
 use Rattle.hx_policy.specs.declared.words.Policy.{Policy}
-use Rattle.hx_allow.specs.declared.verdicts.Route.{Route}
+use Rattle.hx_allow.specs.declared.verdicts.RequestRoute.{RequestRoute}
 use Rattle.hx_store.specs.Stored.{Stored}
-use Rattle.hx_reuse.specs.Conditions.{keeps_conditions}
-use Rattle.hx_reuse.specs.Lifetimes.{lifetime_of_held, lifetime_under}
-use Rattle.hx_reuse.specs.FilledRanges.{fills_range}
-use Rattle.hx_validate.specs.Ranges.{fields_of_416_to_answer, fields_of_part, range_answer_of, response_in_range}
+use Rattle.hx_reuse.specs.Conditions.{withholds_conditions}
+use Rattle.hx_reuse.specs.Lifetimes.{lifetime_of_stored_response, lifetime_under_policy}
+use Rattle.hx_reuse.specs.FilledRanges.{fetches_whole_for_range}
+use Rattle.hx_validate.specs.Ranges.{fields_of_416_to_answer, fields_of_206, range_answer_of}
+use Rattle.hx_validate.specs.Ranges.{response_as_range_or_whole}
 use Rattle.hx_validate.specs.Room.{head_leaves_room}
 use Rattle.hx_validate.specs.declared.ranges.RangeAnswer.{RangeAnswer}
 use Rattle.hx_validate.specs.declared.ranges.RangeAnswer.TheVariants.{Whole, Part, Unsatisfiable}
-use Rattle.hx_validate.specs.NotModified.{gets_304, fields_of_304, answer_gets_304, fields_of_304_to_answer}
+use Rattle.hx_validate.specs.NotModified.{stored_gets_304, fields_of_304, answer_gets_304, fields_of_304_to_answer}
 use Rattle.hx_storable.specs.declared.rule.StoreRule.{StoreRule}
 use Rattle.hx_status.specs.Member.{member_text}
 use Rattle.hx_status.specs.Refusals.{refusal_status, refusal_text}
@@ -51,7 +52,7 @@ content_unless_head head content = cond head [] content
 -- the seconds of freshness that are left of a stored response, by the line of the request that it is sent to; none of
 -- one that a purge expired
 abbrev pub ttl_of_stored : Policy → Stored → ℕ → ℤ
-ttl_of_stored policy e now = ttl_of (lifetime_of_held policy e) (age_of e.times now)
+ttl_of_stored policy e now = ttl_of (lifetime_of_stored_response policy e) (age_of e.times now)
 
 -- the status of the origin's answer, where another one is sent (RFC 9211, section 2.3)
 abbrev pub fwd_status_of : Option ℕ → ℕ → Option ℕ
@@ -70,8 +71,8 @@ cache_status_of_sent status e now info = record {
 }
 
 -- own: over a line of a table of version 4 the tags of an answer stay with the proxy ("Tags stay with the proxy")
-abbrev pub without_tags : Bool → List Field → List Field
-without_tags hides fields = cond hides (without_named fields (codes "Cache-Tag")) fields
+abbrev pub fields_without_hidden_tags : Bool → List Field → List Field
+fields_without_hidden_tags hides fields = cond hides (without_named fields (codes "Cache-Tag")) fields
 
 -- with this status: these lines, then Age (RFC 9111, section 5.1) and Cache-Status
 abbrev pub fields_with_age_and_status : List ℕ → ℕ → List Field → Stored → ℕ → CacheStatusInfo → List Field
@@ -82,7 +83,7 @@ fields_with_age_and_status name status fields e now info =
 -- these of the stored lines, without tags where those are hidden, and both
 abbrev pub fields_of_sent_response : List ℕ → ℕ → List Field → Stored → ℕ → CacheStatusInfo → List Field
 fields_of_sent_response name status fields e now info =
-    fields_with_age_and_status name status (without_tags info.policy.hides_tags fields) e now info
+    fields_with_age_and_status name status (fields_without_hidden_tags info.policy.hides_tags fields) e now info
 
 -- no length where the status has none (RFC 9110, section 8.6)
 abbrev pub length_unless_forbidden : ℕ → Option ℕ → Option ℕ
@@ -106,23 +107,23 @@ not_modified_text name e now info asked =
 -- the form in which a stored response is sent: over a line that doesn't forward ranges the part of it that the request
 -- asks for, or that none is there (RFC 9110, sections 14.2, 15.3.7 and 15.5.17)
 abbrev pub stored_response_as_sent : Policy → Asked → Stored → Stored
-stored_response_as_sent policy asked e = cond policy.forwards_ranges e (response_in_range asked e)
+stored_response_as_sent policy asked e = cond policy.forwards_ranges e (response_as_range_or_whole asked e)
 
 -- a stored response is sent in a form: of that are the status, the lines and the content
 -- own: over a line that removes cookies without those, whatever line it was stored over ("A cookie stays with the one
 -- whom it was set for")
-abbrev pub text_in_form : List ℕ → Stored → Stored → ℕ → CacheStatusInfo → Asked → List ℕ
-text_in_form name form e now info asked =
+abbrev pub text_of_stored_in_form : List ℕ → Stored → Stored → ℕ → CacheStatusInfo → Asked → List ℕ
+text_of_stored_in_form name form e now info asked =
     response_text form.status
     (fields_of_sent_response name form.status (without_cookies info.policy.removes_cookies form.fields) e now info)
     (length_unless_forbidden form.status (Some (length form.content))) asked.close
     (content_unless_head (is_head asked) form.content)
 
 -- A stored response is sent: the client's own conditions come first, then its range (RFC 9110, section 13.2.2).
-abbrev pub stored_text : List ℕ → Stored → ℕ → CacheStatusInfo → Asked → List ℕ
-stored_text name e now info asked =
-    cond (gets_304 asked e) (not_modified_text name e now info asked)
-    (text_in_form name (stored_response_as_sent info.policy asked e) e now info asked)
+abbrev pub stored_reply_text : List ℕ → Stored → ℕ → CacheStatusInfo → Asked → List ℕ
+stored_reply_text name e now info asked =
+    cond (stored_gets_304 asked e) (not_modified_text name e now info asked)
+    (text_of_stored_in_form name (stored_response_as_sent info.policy asked e) e now info asked)
 
 -- to HEAD an answer of the origin has the length that it announced
 abbrev pub length_of_passed_answer : Bool → Response → Option ℕ
@@ -131,11 +132,11 @@ length_of_passed_answer head r = length_unless_forbidden r.status (cond head r.a
 abbrev pub ttl_of_passed_answer : Policy → Exchange → ℕ → List Field → ℕ → Bool → Option ℤ
 ttl_of_passed_answer policy x status fields now false = None
 ttl_of_passed_answer policy x status fields now true =
-    Some (ttl_of (lifetime_under policy status fields) (age_of (times_of fields x.request_time now) now))
+    Some (ttl_of (lifetime_under_policy policy status fields) (age_of (times_of_message fields x.request_time now) now))
 
 -- past the store the word of the operator's rule is that of the cookies (RFC 9211, section 2.8)
-abbrev pub detail_past_store : Route → Option Detail
-detail_past_store route = cond route.past_store (Some SessionCookie) None
+abbrev pub detail_of_bypassed_store : RequestRoute → Option Detail
+detail_of_bypassed_store route = cond route.past_store (Some SessionCookie) None
 
 -- and where the line tells it the first storing rule against the answer
 abbrev pub cache_status_of_passed_answer : Policy → Exchange → ℕ → List Field → ℕ → Bool → Option StoreRule → Status
@@ -145,7 +146,7 @@ cache_status_of_passed_answer policy x status fields now stored rule = record {
   ttl = ttl_of_passed_answer policy x status fields now stored;
   stored = stored;
   collapsed = false;
-  detail = detail_past_store x.line;
+  detail = detail_of_bypassed_store x.line;
   not_stored = rule;
 }
 
@@ -153,7 +154,7 @@ cache_status_of_passed_answer policy x status fields now stored rule = record {
 abbrev pub fields_of_passed_answer : Policy → List ℕ → Exchange → ℕ → List Field → ℕ → Bool → Option StoreRule
     → List Field
 fields_of_passed_answer policy name x status fields now stored rule =
-    without_tags policy.hides_tags fields ++ line (codes "Cache-Status")
+    fields_without_hidden_tags policy.hides_tags fields ++ line (codes "Cache-Status")
     (member_text name (cache_status_of_passed_answer policy x status fields now stored rule)) ∷ []
 
 -- an answer of the origin, whole: it says whether it was stored, and perhaps why not
@@ -164,9 +165,9 @@ whole_answer_text policy name x r now stored rule =
 
 -- the client has it already: the condition that it set stayed with the proxy, and is false of the answer (RFC 9110,
 -- section 13.1)
-abbrev pub client_has_answer : Policy → Exchange → Response → ℕ → Bool
-client_has_answer policy x r now =
-    keeps_conditions policy x.asked && answer_gets_304 x.asked r.status (answered_of r now).fields
+abbrev pub client_wants_304_for_answer : Policy → Exchange → Response → ℕ → Bool
+client_wants_304_for_answer policy x r now =
+    withholds_conditions policy x.asked && answer_gets_304 x.asked r.status (answered_of r now).fields
 
 -- what is sent in its place tells the status that came (RFC 9211, section 2.3)
 abbrev pub cache_status_in_place_of_answer : Policy → Exchange → ℕ → List Field → ℕ → Bool → Option StoreRule → Status
@@ -177,7 +178,7 @@ cache_status_in_place_of_answer policy x status fields now stored rule =
 abbrev pub fields_in_place_of_answer : Policy → List ℕ → Exchange → ℕ → List Field → ℕ → Bool → Option StoreRule
     → List Field → List Field
 fields_in_place_of_answer policy name x status fields now stored rule own =
-    without_tags policy.hides_tags own ++ line (codes "Cache-Status")
+    fields_without_hidden_tags policy.hides_tags own ++ line (codes "Cache-Status")
     (member_text name (cache_status_in_place_of_answer policy x status fields now stored rule)) ∷ []
 
 -- so a 304 is sent (RFC 9110, section 15.4.5)
@@ -195,13 +196,13 @@ not_modified_answer_text policy name x r now stored rule =
 -- request is sent the whole.
 abbrev pub range_of_answer : Policy → Exchange → Response → ℕ → RangeAnswer
 range_of_answer policy x r now =
-    cond (fills_range policy x.asked)
-    (range_answer_of x.asked r.status (times_of (answered_of r now).fields x.request_time now).date
+    cond (fetches_whole_for_range policy x.asked)
+    (range_answer_of x.asked r.status (times_of_message (answered_of r now).fields x.request_time now).date
     (answered_of r now).fields (length r.content)) Whole
 
 -- the lines of that part, and of the 416 where there is none (RFC 9110, sections 15.3.7 and 15.5.17)
-abbrev pub fields_of_answer_part : Response → ℕ → ℕ → ℕ → List Field
-fields_of_answer_part r now first last = fields_of_part (answered_of r now).fields first last (length r.content)
+abbrev pub fields_of_partial_answer : Response → ℕ → ℕ → ℕ → List Field
+fields_of_partial_answer r now first last = fields_of_206 (answered_of r now).fields first last (length r.content)
 
 abbrev pub fields_of_answer_416 : Response → ℕ → List Field
 fields_of_answer_416 r now = fields_of_416_to_answer (answered_of r now).fields (length r.content)
@@ -219,8 +220,8 @@ abbrev pub answer_in_range_text : Policy → List ℕ → Exchange → Response 
     → List ℕ
 answer_in_range_text policy name x r now stored rule Whole = whole_answer_text policy name x r now stored rule
 answer_in_range_text policy name x r now stored rule (Part first last) =
-    cond (head_leaves_room (fields_of_answer_part r now first last))
-    (text_in_place_of_answer policy name x r now stored rule 206 (fields_of_answer_part r now first last)
+    cond (head_leaves_room (fields_of_partial_answer r now first last))
+    (text_in_place_of_answer policy name x r now stored rule 206 (fields_of_partial_answer r now first last)
     (slice_range r.content first (last + 1))) (whole_answer_text policy name x r now stored rule)
 answer_in_range_text policy name x r now stored rule Unsatisfiable =
     cond (head_leaves_room (fields_of_answer_416 r now))
@@ -231,7 +232,7 @@ answer_in_range_text policy name x r now stored rule Unsatisfiable =
 -- its range (RFC 9110, section 13.2.2). The policy is that of its exchange's line.
 abbrev pub passed_answer_text : Policy → List ℕ → Exchange → Response → ℕ → Bool → Option StoreRule → List ℕ
 passed_answer_text policy name x r now stored rule =
-    cond (client_has_answer policy x r now) (not_modified_answer_text policy name x r now stored rule)
+    cond (client_wants_304_for_answer policy x r now) (not_modified_answer_text policy name x r now stored rule)
     (answer_in_range_text policy name x r now stored rule (range_of_answer policy x r now))
 
 abbrev pub fields_of_refusal : List ℕ → List ℕ → List Field

@@ -3,7 +3,7 @@
 --
 -- may_be_sent_at_serial: the held response of a serial may be sent so
 -- sent_while_awaited: that one, where it is what is awaited
--- sent_beside: that one, where one leads
+-- sent_while_revalidating: that one, where one leads
 use Rattle.std.specs.Prelude.{ℕ, Bool, List, Option, Some, None, cond}
 use Rattle.hx_policy.specs.declared.words.Policy.{Policy}
 use Rattle.hx_directives.specs.Occurrences.{occurrences_of}
@@ -29,6 +29,6 @@ sent_while_awaited policy es asked now (Some (Expired serial)) =
     cond (may_be_sent_at_serial policy es asked now serial) (Some serial) None
 
 -- own: just where the request would wait, so no request goes forward for which no client waits
-abbrev pub sent_beside : Policy → List Stored → Asked → ℕ → Option Awaited → Option ℕ → Option ℕ
-sent_beside policy es asked now awaited None = None
-sent_beside policy es asked now awaited (Some leader) = sent_while_awaited policy es asked now awaited
+abbrev pub sent_while_revalidating : Policy → List Stored → Asked → ℕ → Option Awaited → Option ℕ → Option ℕ
+sent_while_revalidating policy es asked now awaited None = None
+sent_while_revalidating policy es asked now awaited (Some leader) = sent_while_awaited policy es asked now awaited

@@ -1,15 +1,16 @@
 -- What a proxy begins with: the responses that its store holds at first.
 --
 -- StoreAtStart: how many the store holds at most, and which it holds        empty_store: none
--- StartStands: what may be held at first
--- changes_at_start: what is held at first counts as stored one after another      EachHeldAtFirst: what is so of it
+-- StartIsValid: what may be held at first
+-- changes_at_start: what is held at first counts as stored one after another      HoldsForEachResponseAtStart: what is
+-- so of it
 use Rattle.std.specs.Prelude.{◌≡◌, ℕ, Option, None, Some, List, [], ◌∷◌}
 use Rattle.hx_store.specs.Stored.{Stored}
-use Rattle.hx_store.specs.Serials.{Distinct}
+use Rattle.hx_store.specs.Serials.{SerialsAreDistinct}
 use Rattle.hx_store.specs.Shelf.{serials, find_entry}
 use Rattle.hx_store.specs.Recency.{StoreChange}
 use Rattle.hx_store.specs.WeightedRecency.{WeighedChange}
-use Rattle.hx_store.specs.Weights.{StoreBounds, IsWithin, weight_of}
+use Rattle.hx_store.specs.Weights.{StoreBounds, IsWithinBounds, weight_of_entry}
 use Rattle.proxy_core.specs.State.{NoSerialIsHeldFrom}
 
 -- how many responses the store holds at most, and those that it holds at first, the latest stored or used first
@@ -22,15 +23,15 @@ abbrev pub empty_store : ℕ → StoreAtStart
 empty_store limit = record { limit = limit; entries = [] }
 
 -- No serial stands twice, none is the first that will be given or above it, and the bounds of the store hold.
-pub record StartStands (bounds : StoreBounds) (next : Option ℕ) (entries : List Stored) : Type 0 where
-  pub distinct : Distinct (serials entries)
+pub record StartIsValid (bounds : StoreBounds) (next : Option ℕ) (entries : List Stored) : Type 0 where
+  pub distinct : SerialsAreDistinct (serials entries)
   pub below_next : NoSerialIsHeldFrom next entries
-  pub within : IsWithin bounds weight_of entries
+  pub within : IsWithinBounds bounds weight_of_entry entries
 
 -- what a response weighs in the store; where there is none, nothing
-abbrev pub weight_if_any : Option Stored → ℕ
-weight_if_any None = 0
-weight_if_any (Some e) = weight_of e
+abbrev pub weight_of_stored_if_any : Option Stored → ℕ
+weight_of_stored_if_any None = 0
+weight_of_stored_if_any (Some e) = weight_of_entry e
 
 -- a response is stored, and nothing is used or removed
 abbrev pub change_that_stores : Stored → StoreChange
@@ -41,9 +42,9 @@ abbrev pub changes_at_start : List Stored → List WeighedChange
 changes_at_start [] = []
 changes_at_start (e ∷ entries) = record {
   change = change_that_stores e;
-  weights = λ s. weight_if_any (find_entry s (e ∷ entries));
+  weights = λ s. weight_of_stored_if_any (find_entry s (e ∷ entries));
 } ∷ changes_at_start entries
 
 -- something is so of each response that is held at first, under its serial
-abbrev pub EachHeldAtFirst : (ℕ → Stored → Type 0) → StoreAtStart → Type 0
-EachHeldAtFirst P start = (serial : ℕ) (e : Stored) → find_entry serial start.entries ≡ Some e → P serial e
+abbrev pub HoldsForEachResponseAtStart : (ℕ → Stored → Type 0) → StoreAtStart → Type 0
+HoldsForEachResponseAtStart P start = (serial : ℕ) (e : Stored) → find_entry serial start.entries ≡ Some e → P serial e

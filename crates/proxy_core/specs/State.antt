@@ -3,21 +3,21 @@
 -- State: what contracts see of a core
 -- exchanges_after_end: the exchanges that an end leaves
 -- bounds_of: what the store is bounded by
--- state_after: what a step leaves
+-- state_after_event: what a step leaves
 -- StepIsAccepted: a step that was done             StepIsRefusedWith: one that wasn't
 use Rattle.std.specs.Prelude.{◌≡◌, ◌⊎◌, ℕ, ◌+◌, ◌^◌, ◌≤◌, ◌==◌, nat_lt, not, Bool, true, false, List, [], ◌∷◌, ◌++◌}
 use Rattle.std.specs.Prelude.{filter, map, Option, Some, None, option_map, cond, ◌&&◌, unwrap_or}
 use Rattle.hx_framing.specs.declared.messages.Response.{Response}
 use Rattle.hx_hop.specs.declared.request_view.Asked.{Asked}
 use Rattle.hx_allow.specs.TableLines.{Table}
-use Rattle.hx_allow.specs.Matching.{policy_of, over_line, vary_of}
+use Rattle.hx_allow.specs.Matching.{policy_of, route_over, vary_names_of_line}
 use Rattle.proxy_core.specs.Allowing.{verdict_of_asked}
-use Rattle.hx_allow.specs.declared.verdicts.Route.{Route}
+use Rattle.hx_allow.specs.declared.verdicts.RequestRoute.{RequestRoute}
 use Rattle.hx_allow.specs.declared.verdicts.Verdict.{Verdict}
 use Rattle.hx_allow.specs.declared.verdicts.Verdict.TheVariants as verdict
 use Rattle.hx_store.specs.Stored.{Stored}
 use Rattle.hx_store.specs.Shelf.{holds_serial, find_entry, without_serials}
-use Rattle.hx_store.specs.Shelf.{with_first_if_any, expired_entry, with_expired}
+use Rattle.hx_store.specs.Shelf.{entries_with_first_if_any, expired_entry, entries_with_expired}
 use Rattle.hx_store.specs.Weights.{StoreBounds, cut_to_bounds}
 use Rattle.hx_reuse.specs.Rules.{decision_of}
 use Rattle.hx_reuse.specs.declared.decision.Decision.{Decision}
@@ -37,10 +37,11 @@ use Rattle.proxy_core.specs.Leading.{waits_for, is_waiting, has_no_store}
 use Rattle.proxy_core.specs.LeadingOn.{exchanges_after_abandon}
 use Rattle.proxy_core.specs.Outcomes.{find_exchange, exchange_id_of_event, outcome_of_event, step_fault}
 use Rattle.proxy_core.specs.Storing.{stored_response_made, key_invalidated}
-use Rattle.hx_allow.specs.PurgeModes.{mode_to_purge}
+use Rattle.hx_allow.specs.PurgeModes.{purge_mode_or_remove}
 use Rattle.hx_allow.specs.declared.purge_modes.PurgeMode.{PurgeMode}
 use Rattle.hx_allow.specs.declared.purge_modes.PurgeMode.TheVariants.{Remove, Stale}
-use Rattle.proxy_core.specs.Scopes.{Scope, is_in_scope, target_alone, scope_of_purge, serials_purged}
+use Rattle.proxy_core.specs.Scopes.{Scope, key_is_in_scope, scope_of_target_alone, scope_of_purge}
+use Rattle.proxy_core.specs.Scopes.{serials_purged_by_request}
 use Rattle.proxy_core.specs.Validating.{condition_about_serial, stored_response_is_answered, freshened_by_304}
 
 -- the operator's table, the most responses that are held, those held, the latest stored or used first, the open
@@ -107,7 +108,7 @@ stored_response_as_used None event e = e
 abbrev pub entries_after_use : Option Exchange → Event → Option ℕ → List Stored → List Stored
 entries_after_use x event None es = es
 entries_after_use x event (Some serial) es =
-    with_first_if_any (option_map (stored_response_as_used x event) (find_entry serial es))
+    entries_with_first_if_any (option_map (stored_response_as_used x event) (find_entry serial es))
     (without_serials (serial ∷ []) es)
 
 -- the response that an answer makes
@@ -128,17 +129,17 @@ entries_without_serials (s ∷ gone) es = without_serials (s ∷ gone) es
 abbrev pub entries_after_storing : Option Exchange → Event → Option ℕ → List ℕ → List Stored → List Stored
 entries_after_storing x event None removed es = entries_without_serials removed es
 entries_after_storing x event (Some serial) removed es =
-    with_first_if_any (stored_response_by_answer x event serial) (without_serials removed es)
+    entries_with_first_if_any (stored_response_by_answer x event serial) (without_serials removed es)
 
 -- the most responses that are held, and the most bytes that they weigh together, where the table bounds those
 abbrev pub bounds_of : Table → ℕ → StoreBounds
 bounds_of table limit = record { entries = limit; bytes = table.max_store }
 
 -- where a response was stored or used the last ones go until both bounds hold
-abbrev pub cut_where_touched : StoreBounds → Option ℕ → Option ℕ → List Stored → List Stored
-cut_where_touched bounds None None es = es
-cut_where_touched bounds None (Some used) es = cut_to_bounds bounds es
-cut_where_touched bounds (Some stored) used es = cut_to_bounds bounds es
+abbrev pub evicted_if_stored_or_used : StoreBounds → Option ℕ → Option ℕ → List Stored → List Stored
+evicted_if_stored_or_used bounds None None es = es
+evicted_if_stored_or_used bounds None (Some used) es = cut_to_bounds bounds es
+evicted_if_stored_or_used bounds (Some stored) used es = cut_to_bounds bounds es
 
 -- What an event makes of a held response where it expires these serials: from the moment of the request that purges on
 -- it is stale (RFC 9111, section 4.2). No other event expires any.
@@ -156,33 +157,34 @@ abbrev pub entries_after_expiring : Event → List ℕ → List Stored → List 
 entries_after_expiring event [] es = es
 entries_after_expiring event (s ∷ expired) es = map (response_after_expiring event (s ∷ expired)) es
 
-abbrev pub entries_after : StoreBounds → List Stored → Option Exchange → Event → Outcome → List Stored
-entries_after bounds es x event o =
+abbrev pub entries_after_event : StoreBounds → List Stored → Option Exchange → Event → Outcome → List Stored
+entries_after_event bounds es x event o =
     entries_after_expiring event (serials_expired_by_outcome o)
-    (cut_where_touched bounds (serial_stored_by_outcome o) (serial_used_by_outcome o)
+    (evicted_if_stored_or_used bounds (serial_stored_by_outcome o) (serial_used_by_outcome o)
     (entries_after_storing x event (serial_stored_by_outcome o) (serials_removed_by_outcome o)
     (entries_after_use x event (serial_used_by_outcome o) es)))
 
 -- what is held once a purge took these serials at a moment, and once a request purged
-abbrev pub entries_after_taking : PurgeMode → List ℕ → ℕ → List Stored → List Stored
-entries_after_taking Remove taken now es = entries_without_serials taken es
-entries_after_taking Stale taken now es = with_expired taken now es
+abbrev pub entries_after_purging_serials : PurgeMode → List ℕ → ℕ → List Stored → List Stored
+entries_after_purging_serials Remove taken now es = entries_without_serials taken es
+entries_after_purging_serials Stale taken now es = entries_with_expired taken now es
 
 abbrev pub entries_after_purge : Asked → ℕ → List Stored → List Stored
-entries_after_purge asked now es = entries_after_taking (mode_to_purge asked.fields) (serials_purged asked es) now es
+entries_after_purge asked now es =
+    entries_after_purging_serials (purge_mode_or_remove asked.fields) (serials_purged_by_request asked es) now es
 
 -- an exchange that waits for the one of this id waits no longer
 abbrev pub released_exchange : ℕ → Exchange → Exchange
 released_exchange id x = cond (waits_for id x.stage) (record x { stage = Released }) x
 
 -- one whose time to wait is over
-abbrev pub exchange_past_its_wait : Exchange → Exchange
-exchange_past_its_wait x = record x { stage = Released }
+abbrev pub exchange_released_by_timeout : Exchange → Exchange
+exchange_released_by_timeout x = record x { stage = Released }
 
 -- own: the exchange of this id waits no longer, if it waits; whatever it waits for, others wait for that still ("Who
 -- has waited long goes by itself")
 abbrev pub overdue_exchange : ℕ → Exchange → Exchange
-overdue_exchange id x = cond (x.id == id && is_waiting x.stage) (exchange_past_its_wait x) x
+overdue_exchange id x = cond (x.id == id && is_waiting x.stage) (exchange_released_by_timeout x) x
 
 -- an exchange ends, and releases those that wait for it
 abbrev pub exchanges_after_close : ℕ → List Exchange → List Exchange
@@ -192,7 +194,7 @@ exchanges_after_close id xs = map (released_exchange id) (filter (λ x. not (x.i
 -- own: so it isn't stored. RFC 9111, section 4.4 drops what is held, and says nothing of answers that
 -- are still on their way ("An overtaken answer is not stored")
 abbrev pub overtaken_exchange : Scope → Exchange → Exchange
-overtaken_exchange scope x = cond (is_in_scope scope x.asked.target.key) (record x { overtaken = true }) x
+overtaken_exchange scope x = cond (key_is_in_scope scope x.asked.target.key) (record x { overtaken = true }) x
 
 -- an exchange ends, by an answer that invalidates what is held for a key, or by one that doesn't
 abbrev pub exchanges_after_end : Option Scope → ℕ → List Exchange → List Exchange
@@ -212,7 +214,7 @@ exchanges_after_purge (Some scope) xs = map (overtaken_exchange scope) xs
 -- the target that an answer to an exchange invalidates
 abbrev pub scope_invalidated_by_response : Option Exchange → Response → Option Scope
 scope_invalidated_by_response None r = None
-scope_invalidated_by_response (Some x) r = option_map target_alone (key_invalidated x r)
+scope_invalidated_by_response (Some x) r = option_map scope_of_target_alone (key_invalidated x r)
 
 -- the rule that is kept of a decision
 abbrev pub rule_of_decision : Decision → ReuseRule
@@ -224,12 +226,12 @@ abbrev pub serial_named_by_decision : Decision → Option ℕ
 serial_named_by_decision (decision.Hit serial) = None
 serial_named_by_decision (decision.Forward rule against) = against
 
-abbrev pub forwarded_exchange : Table → List Stored → ℕ → ℕ → Asked → Route → Exchange
+abbrev pub forwarded_exchange : Table → List Stored → ℕ → ℕ → Asked → RequestRoute → Exchange
 forwarded_exchange table es now id asked line = record {
   id = id;
   asked = asked;
   line = line;
-  vary = vary_of table.lines line.number;
+  vary = vary_names_of_line table.lines line.number;
   removes_cookies = (policy_of table.lines line).removes_cookies;
   rule = rule_of_decision (decision_of (policy_of table.lines line) es asked now);
   named = serial_named_by_decision (decision_of (policy_of table.lines line) es asked now);
@@ -242,15 +244,15 @@ forwarded_exchange table es now id asked line = record {
 }
 
 -- the line by which the table allows a request
-abbrev pub line_of_verdict : Verdict → Route
+abbrev pub line_of_verdict : Verdict → RequestRoute
 line_of_verdict (verdict.Allowed line) = line
-line_of_verdict (verdict.DeniedBy line) = over_line line
-line_of_verdict verdict.NoLine = over_line 0
-line_of_verdict (verdict.Looped line) = over_line line
-line_of_verdict (verdict.Purged line) = over_line line
+line_of_verdict (verdict.DeniedBy line) = route_over line
+line_of_verdict verdict.NoLine = route_over 0
+line_of_verdict (verdict.Looped line) = route_over line
+line_of_verdict (verdict.Purged line) = route_over line
 
 -- the same of a request that waits for another's answer
-abbrev pub waiting_exchange : Table → List Stored → ℕ → ℕ → Asked → Route → ℕ → Exchange
+abbrev pub waiting_exchange : Table → List Stored → ℕ → ℕ → Asked → RequestRoute → ℕ → Exchange
 waiting_exchange table es now id asked line leader =
     record (forwarded_exchange table es now id asked line) { stage = Waiting leader }
 
@@ -329,11 +331,11 @@ abbrev pub next_serial_after : Option ℕ → Option ℕ → Option ℕ
 next_serial_after next None = next
 next_serial_after next (Some serial) = serial_after_this serial
 
-abbrev pub state_after : State → Event → Outcome → State
-state_after s event outcome = record {
+abbrev pub state_after_event : State → Event → Outcome → State
+state_after_event s event outcome = record {
   table = s.table;
   limit = s.limit;
-  entries = entries_after (bounds_of s.table s.limit) s.entries
+  entries = entries_after_event (bounds_of s.table s.limit) s.entries
       (find_exchange (exchange_id_of_event event) s.exchanges) event outcome;
   exchanges = open_exchanges_after s.table s.entries s.exchanges event outcome;
   next = next_serial_after s.next (serial_stored_by_outcome outcome);
@@ -348,7 +350,7 @@ NoSerialIsHeldFrom (Some next) es = (serial : ℕ) → next ≤ serial → holds
 pub record StepIsAccepted (s : State) (event : Event) (outcome : Outcome) (t : State) : Type 0 where
   pub allowed : step_fault s.exchanges event ≡ None
   pub outcome_is : outcome ≡ outcome_of_event s.table s.entries s.exchanges s.next event
-  pub leaves : t ≡ state_after s event outcome
+  pub leaves : t ≡ state_after_event s event outcome
 
 -- a step is refused by the least fault that stands, or where none does because memory ran out
 abbrev pub StepIsRefusedWith : State → Event → CoreFault → Type 0

@@ -2,11 +2,11 @@
 -- that is open and the answer that came for it. So the facts that the storing rules are handed are
 -- said here in the field's terms. And what is then held no longer.
 --
--- VaryNamesFields, ConnectionTookNoCacheField, ResponseCanBeReused: what the answer's fields have to say
--- KeyStaysValidSinceItWent: nothing that was asked for under its key was overtaken meanwhile
+-- VaryNamesFields, ConnectionRemovedNoCachingField, ResponseCanBeReused: what the answer's fields have to say
+-- KeyIsNotOvertakenSinceForward: nothing that was asked for under its key was overtaken meanwhile
 -- AnswerMayBeStored: all that is asked             IsAnswerThatMayBeStored: an item that stores it
 -- FreshenedMayBeKept: what is asked of a response that a 304 freshens
--- ThoseAreRemoved, ThoseAreExpired: what an item takes away, and what it expires
+-- OutcomeRemovesExactlyWhatItMust, OutcomeExpiresExactlyWhatItMust: what an item takes away, and what it expires
 use Rattle.std.specs.Prelude.{◌≡◌, ◌⊎◌, ℕ, ◌≤◌, Bool, true, false, cond, bytes_eq, List, [], ◌∷◌, ◌++◌, length, codes}
 use Rattle.std.specs.Prelude.{is_some, All, Option, Some, None, IfSome}
 use Rattle.hx_fields.specs.Line.{Field}
@@ -17,30 +17,30 @@ use Rattle.hx_directives.specs.Occurrences.{occurrences_of}
 use Rattle.hx_directives.specs.Answers.{directive_occurs}
 use Rattle.hx_directives.specs.declared.names.Directive.TheVariants.{MaxAge, SMaxage, Private, NoStore}
 use Rattle.hx_target.specs.declared.keys.Key.{Key}
-use Rattle.hx_vary.specs.declared.limits.TheConstants.{MOST_NAMES}
+use Rattle.hx_vary.specs.declared.limits.TheConstants.{MOST_VARY_NAMES}
 use Rattle.hx_vary.specs.Vary.{vary_names}
 use Rattle.hx_hop.specs.Answering.{answered_of}
 use Rattle.hx_hop.specs.Bypass.{request_has_content, has_precondition}
-use Rattle.hx_hop.specs.Stripping.{cache_names, connection_names}
-use Rattle.hx_policy.specs.Policies.{given_lifetime}
+use Rattle.hx_hop.specs.Stripping.{caching_field_names, connection_names}
+use Rattle.hx_policy.specs.Policies.{lifetime_given_by_policy}
 use Rattle.hx_policy.specs.declared.words.Policy.{Policy}
 use Rattle.hx_allow.specs.TableLines.{Table}
 use Rattle.hx_allow.specs.Matching.{policy_of}
 use Rattle.hx_store.specs.Stored.{Stored}
-use Rattle.hx_store.specs.Shelf.{serials_of}
-use Rattle.hx_store.specs.Weights.{weight_of}
-use Rattle.hx_storable.specs.Storable.{StatusIsFinal, RequestIsForTheStore, IsNotForItsRange}
-use Rattle.hx_storable.specs.Storable.{ResponseIsWithinTheWords}
-use Rattle.hx_storable.specs.Storable.{ResponseIsStorable, NeedsUnderstanding, NoStoreIsAbsentOrLifted}
-use Rattle.hx_storable.specs.Storable.{ResponseAllowsShared, ResponseAllowsStoring}
-use Rattle.hx_storable.specs.Rules.{is_understood_status, request_has, response_has}
-use Rattle.hx_validate.specs.Validators.{modified_value, tag_value}
+use Rattle.hx_store.specs.Shelf.{serials_of_key}
+use Rattle.hx_store.specs.Weights.{weight_of_entry}
+use Rattle.hx_storable.specs.Storable.{StatusIsFinal, RequestIsForTheStore, AnswerIsNotToItsRangeAlone}
+use Rattle.hx_storable.specs.Storable.{PolicyAllowsStoring}
+use Rattle.hx_storable.specs.Storable.{ResponseIsStorable, StatusNeedsToBeUnderstood, NoStoreIsAbsentOrLifted}
+use Rattle.hx_storable.specs.Storable.{ResponseAllowsSharedWithAuthorization, ResponseAllowsStoring}
+use Rattle.hx_storable.specs.Rules.{is_understood_status, request_has_directive, response_has}
+use Rattle.hx_validate.specs.Validators.{date_validator, etag_validator}
 use Rattle.hx_validate.specs.Room.{head_leaves_room}
 use Rattle.proxy_core.specs.declared.open.exchange.Exchange.{Exchange}
 use Rattle.proxy_core.specs.declared.outcome.Outcome.{Outcome}
 use Rattle.proxy_core.specs.declared.event.Event.{Event}
 use Rattle.proxy_core.specs.declared.event.Event.TheVariants.{Arrive, Answer, Fail, Wake, Abandon, Overdue}
-use Rattle.proxy_core.specs.Storing.{replaced_by, weight_of_answer}
+use Rattle.proxy_core.specs.Storing.{serials_replaced_by_storing, weight_of_answer}
 use Rattle.proxy_core.specs.Validating.{stored_response_validated, freshened_by_304, freshened_may_be_kept}
 use Rattle.proxy_core.specs.Validating.{head_of_stored}
 use Rattle.proxy_core.specs.Outcomes.{find_exchange, exchange_id_of_event}
@@ -52,7 +52,7 @@ use Rattle.proxy_core.specs.Starts.{StoreAtStart}
 use Rattle.proxy_core.specs.Traces.{Item}
 use Rattle.proxy_core.specs.Histories.{IsGoodHistory, held_entries, next_serial, open_exchanges}
 use Rattle.proxy_core.specs.Promises.{key_invalidated_by_answer, outcome_goes_forward, count_of_outcomes}
-use Rattle.proxy_core.specs.Promises.{NoItemOvertakes}
+use Rattle.proxy_core.specs.Promises.{NoItemOvertakesKey}
 
 -- each member of Vary is a field name: none is a star, by which no later request would ever match
 -- (RFC 9111, section 4.1)
@@ -60,13 +60,13 @@ use Rattle.proxy_core.specs.Promises.{NoItemOvertakes}
 -- a cache compares ("A Vary of many names counts as a star")
 abbrev pub VaryNamesFields : List Field → Type 0
 VaryNamesFields fields =
-    (length (vary_names fields) ≤ MOST_NAMES)
+    (length (vary_names fields) ≤ MOST_VARY_NAMES)
     × All (λ name. (bytes_eq name (codes "*") ≡ false) × (is_token name ≡ true)) (vary_names fields)
 
 -- Connection took away no field by which a cache decides (RFC 9110, section 7.6.1)
 -- own: without it the response says less than its origin said ("Less is stored than the standard allows")
-abbrev pub ConnectionTookNoCacheField : List Field → Type 0
-ConnectionTookNoCacheField received = All (λ name. connection_names received name ≡ false) cache_names
+abbrev pub ConnectionRemovedNoCachingField : List Field → Type 0
+ConnectionRemovedNoCachingField received = All (λ name. connection_names received name ≡ false) caching_field_names
 
 -- it says how long it is fresh (RFC 9111, section 4.2.1), or has a validator, by which it can be
 -- asked about (section 4.3.1), or the operator gives it a lifetime (section 4.2.2)
@@ -76,16 +76,16 @@ ResponseCanBeReused policy status fields =
     (directive_occurs (occurrences_of fields) SMaxage ≡ true)
     ⊎ ((directive_occurs (occurrences_of fields) MaxAge ≡ true)
     ⊎ ((has_line fields (codes "Expires") ≡ true)
-    ⊎ ((is_some (tag_value fields) ≡ true)
-    ⊎ ((is_some (modified_value fields) ≡ true)
-    ⊎ (is_some (given_lifetime policy status) ≡ true)))))
+    ⊎ ((is_some (etag_validator fields) ≡ true)
+    ⊎ ((is_some (date_validator fields) ≡ true)
+    ⊎ (is_some (lifetime_given_by_policy policy status) ≡ true)))))
 
 -- No item since the request of an exchange last went forward overtakes its key; went is the item
 -- by which it did, and since are those that came after.
 -- own: RFC 9111, section 4.4 drops what is held, and says nothing of an answer that is still on its
 -- way; one that was asked for before may be what was to be dropped. So may one within the scope of a purge with a
 -- tag, whatever its lines will name ("An overtaken answer is not stored")
-pub record KeyStaysValidSinceItWent (past : List Item) (x : Exchange) : Type 0 where
+pub record KeyIsNotOvertakenSinceForward (past : List Item) (x : Exchange) : Type 0 where
   pub since : List Item
   pub before : List Item
   pub went : Item
@@ -93,7 +93,7 @@ pub record KeyStaysValidSinceItWent (past : List Item) (x : Exchange) : Type 0 w
   pub is_of_exchange : exchange_id_of_event went.event ≡ x.id
   pub goes_forward : outcome_goes_forward went.outcome ≡ true
   pub is_the_last : count_of_outcomes outcome_goes_forward x.id since ≡ 0
-  pub nothing_overtakes : NoItemOvertakes x.asked.target.key since (went ∷ before)
+  pub nothing_overtakes : NoItemOvertakesKey x.asked.target.key since (went ∷ before)
 
 -- The answer to an exchange may be stored: by the standard's list.
 -- own: and by what this cache asks besides. The operator's line lets it, a GET of the whole asked for
@@ -104,11 +104,11 @@ pub record AnswerMayBeStored (table : Table) (next : Option ℕ) (past : List It
   pub operator_allows : (policy_of table.lines x.line).caches ≡ true
   pub is_storable : ResponseIsStorable x.asked (answered_of r now)
   pub is_for_the_store : RequestIsForTheStore x.asked (answered_of r now) (policy_of table.lines x.line)
-  pub is_within_the_words : ResponseIsWithinTheWords x.asked (answered_of r now) (policy_of table.lines x.line)
+  pub policy_allows_it : PolicyAllowsStoring x.asked (answered_of r now) (policy_of table.lines x.line)
   pub names_fields : VaryNamesFields (answered_of r now).fields
-  pub keeps_its_fields : ConnectionTookNoCacheField r.fields
+  pub connection_lists_no_cache_field : ConnectionRemovedNoCachingField r.fields
   pub can_be_reused : ResponseCanBeReused (policy_of table.lines x.line) r.status (answered_of r now).fields
-  pub key_stays_valid : KeyStaysValidSinceItWent past x
+  pub key_is_not_overtaken : KeyIsNotOvertakenSinceForward past x
   pub fits : length r.content ≤ table.max_stored
   pub fits_the_store : IfSome table.max_store (λ most. weight_of_answer x r now ≤ most)
   pub serial_is_left : is_some next ≡ true
@@ -122,7 +122,7 @@ pub record IsAnswerThatMayBeStored (table : Table) (start : StoreAtStart) (first
   pub exchange : Exchange
   pub event_is : item.event ≡ Answer now id response
   pub is_open : find_exchange id (open_exchanges table start past) ≡ Some exchange
-  pub nothing_is_sent_instead : serial_used_by_outcome item.outcome ≡ None
+  pub no_stored_response_is_sent_instead : serial_used_by_outcome item.outcome ≡ None
   pub may_be_stored : StatusIsFinal (answered_of response now)
       → AnswerMayBeStored table (next_serial first past) past exchange response now
 
@@ -137,67 +137,69 @@ pub record IsAnswerThatMayBeStored (table : Table) (start : StoreAtStart) (first
 -- the response is sent ("What a 304 brings has a bound")
 pub record FreshenedMayBeKept (table : Table) (x : Exchange) (r : Response) (e : Stored) : Type 0 where
   pub line_has_cache : (policy_of table.lines x.line).caches ≡ true
-  pub status_is_understood : NeedsUnderstanding (head_of_stored e) → is_understood_status e.status ≡ true
+  pub status_is_understood : StatusNeedsToBeUnderstood (head_of_stored e) → is_understood_status e.status ≡ true
   pub no_no_store : NoStoreIsAbsentOrLifted (head_of_stored e)
   pub not_private : response_has (head_of_stored e) Private ≡ false
   pub not_authorized : (has_line x.asked.fields (codes "Authorization") ≡ false)
-      ⊎ ResponseAllowsShared (head_of_stored e)
+      ⊎ ResponseAllowsSharedWithAuthorization (head_of_stored e)
   pub allowed : ResponseAllowsStoring (head_of_stored e)
-  pub not_asked_not_to : request_has x.asked NoStore ≡ false
+  pub request_has_no_no_store : request_has_directive x.asked NoStore ≡ false
   pub no_content : request_has_content x.asked ≡ false
-  pub is_not_for_its_range : IsNotForItsRange x.asked (head_of_stored e) (policy_of table.lines x.line)
+  pub is_not_for_its_range : AnswerIsNotToItsRangeAlone x.asked (head_of_stored e) (policy_of table.lines x.line)
   pub no_precondition : has_precondition x.asked ≡ false
-  pub is_within_the_words : ResponseIsWithinTheWords x.asked (head_of_stored e) (policy_of table.lines x.line)
+  pub policy_allows_it : PolicyAllowsStoring x.asked (head_of_stored e) (policy_of table.lines x.line)
   pub names_fields : VaryNamesFields e.fields
-  pub the_304_keeps_its_fields : ConnectionTookNoCacheField r.fields
+  pub connection_of_304_removed_no_caching_field : ConnectionRemovedNoCachingField r.fields
   pub can_be_reused : ResponseCanBeReused (policy_of table.lines x.line) e.status e.fields
   pub fits : length e.content ≤ table.max_stored
-  pub fits_the_store : IfSome table.max_store (λ most. weight_of e ≤ most)
+  pub fits_the_store : IfSome table.max_store (λ most. weight_of_entry e ≤ most)
   pub leaves_room : head_leaves_room e.fields ≡ true
 
 -- ---- what is taken away
 
 -- a response that a 304 answers and freshens goes, unless it may be kept (RFC 9111, sections 3 and 4.3.4)
-abbrev pub RemovedAfter304 : Table → Exchange → ℕ → Response → Option Stored → List ℕ → Type 0
-RemovedAfter304 table x now r None gone = gone ≡ []
-RemovedAfter304 table x now r (Some e) gone =
+abbrev pub SerialsAreRemovedAfter304 : Table → Exchange → ℕ → Response → Option Stored → List ℕ → Type 0
+SerialsAreRemovedAfter304 table x now r None gone = gone ≡ []
+SerialsAreRemovedAfter304 table x now r (Some e) gone =
     (FreshenedMayBeKept table x r (freshened_by_304 x r now e) → gone ≡ [])
     × ((FreshenedMayBeKept table x r (freshened_by_304 x r now e) → ⊥) → gone ≡ e.serial ∷ [])
 
 -- all that is held for a key goes, where one is invalidated (section 4.4)
-abbrev pub RemovedByStatus : Table → List Stored → Exchange → ℕ → Response → Option Key → List ℕ → Type 0
-RemovedByStatus table held x now r (Some key) gone = gone ≡ serials_of key held
-RemovedByStatus table held x now r None gone = RemovedAfter304 table x now r
+abbrev pub SerialsAreRemovedByAnswerStatus : Table → List Stored → Exchange → ℕ → Response → Option Key → List ℕ
+    → Type 0
+SerialsAreRemovedByAnswerStatus table held x now r (Some key) gone = gone ≡ serials_of_key key held
+SerialsAreRemovedByAnswerStatus table held x now r None gone = SerialsAreRemovedAfter304 table x now r
     (stored_response_validated held x r now) gone
 
 -- By an answer: where it is stored, those go that would answer the same request (section 4.1).
-abbrev pub RemovedByAnswer : Table → List Stored → Exchange → ℕ → Response → Option ℕ → List ℕ → Type 0
-RemovedByAnswer table held x now r (Some stored) gone = gone ≡ replaced_by held x.asked
-RemovedByAnswer table held x now r None gone = RemovedByStatus table held x now r
+abbrev pub SerialsAreRemovedByAnswer : Table → List Stored → Exchange → ℕ → Response → Option ℕ → List ℕ → Type 0
+SerialsAreRemovedByAnswer table held x now r (Some stored) gone = gone ≡ serials_replaced_by_storing held x.asked
+SerialsAreRemovedByAnswer table held x now r None gone = SerialsAreRemovedByAnswerStatus table held x now r
     (key_invalidated_by_answer x.asked r) gone
 
 -- a request that purges takes away all that is held within its scope, unless it says that it stays; no other event
 -- takes anything away
-abbrev pub ThoseAreRemoved : Table → List Stored → Option Exchange → Event → Outcome → Type 0
-ThoseAreRemoved table held (Some x) (Answer now id r) outcome = RemovedByAnswer table held x now r
+abbrev pub OutcomeRemovesExactlyWhatItMust : Table → List Stored → Option Exchange → Event → Outcome → Type 0
+OutcomeRemovesExactlyWhatItMust table held (Some x) (Answer now id r) outcome =
+    SerialsAreRemovedByAnswer table held x now r
     (serial_stored_by_outcome outcome) (serials_removed_by_outcome outcome)
-ThoseAreRemoved table held None (Answer now id r) outcome = serials_removed_by_outcome outcome ≡ []
-ThoseAreRemoved table held x (Arrive now id asked) outcome = serials_removed_by_outcome outcome
+OutcomeRemovesExactlyWhatItMust table held None (Answer now id r) outcome = serials_removed_by_outcome outcome ≡ []
+OutcomeRemovesExactlyWhatItMust table held x (Arrive now id asked) outcome = serials_removed_by_outcome outcome
     ≡ cond (request_purges table asked) (serials_to_remove asked held) []
-ThoseAreRemoved table held x (Fail now id kind) outcome = serials_removed_by_outcome outcome ≡ []
-ThoseAreRemoved table held x (Wake now id) outcome = serials_removed_by_outcome outcome ≡ []
-ThoseAreRemoved table held x (Abandon id) outcome = serials_removed_by_outcome outcome ≡ []
-ThoseAreRemoved table held x (Overdue id) outcome = serials_removed_by_outcome outcome ≡ []
+OutcomeRemovesExactlyWhatItMust table held x (Fail now id kind) outcome = serials_removed_by_outcome outcome ≡ []
+OutcomeRemovesExactlyWhatItMust table held x (Wake now id) outcome = serials_removed_by_outcome outcome ≡ []
+OutcomeRemovesExactlyWhatItMust table held x (Abandon id) outcome = serials_removed_by_outcome outcome ≡ []
+OutcomeRemovesExactlyWhatItMust table held x (Overdue id) outcome = serials_removed_by_outcome outcome ≡ []
 
 -- own: where it says so, that stays, and is expired; no other event expires anything ("A purge that expires")
-abbrev pub ThoseAreExpired : Table → List Stored → Event → Outcome → Type 0
-ThoseAreExpired table held (Arrive now id asked) outcome = expired_by_outcome outcome
+abbrev pub OutcomeExpiresExactlyWhatItMust : Table → List Stored → Event → Outcome → Type 0
+OutcomeExpiresExactlyWhatItMust table held (Arrive now id asked) outcome = expired_by_outcome outcome
     ≡ cond (request_purges table asked) (serials_to_expire asked held) None
-ThoseAreExpired table held (Answer now id r) outcome = expired_by_outcome outcome ≡ None
-ThoseAreExpired table held (Fail now id kind) outcome = expired_by_outcome outcome ≡ None
-ThoseAreExpired table held (Wake now id) outcome = expired_by_outcome outcome ≡ None
-ThoseAreExpired table held (Abandon id) outcome = expired_by_outcome outcome ≡ None
-ThoseAreExpired table held (Overdue id) outcome = expired_by_outcome outcome ≡ None
+OutcomeExpiresExactlyWhatItMust table held (Answer now id r) outcome = expired_by_outcome outcome ≡ None
+OutcomeExpiresExactlyWhatItMust table held (Fail now id kind) outcome = expired_by_outcome outcome ≡ None
+OutcomeExpiresExactlyWhatItMust table held (Wake now id) outcome = expired_by_outcome outcome ≡ None
+OutcomeExpiresExactlyWhatItMust table held (Abandon id) outcome = expired_by_outcome outcome ≡ None
+OutcomeExpiresExactlyWhatItMust table held (Overdue id) outcome = expired_by_outcome outcome ≡ None
 
 -- by the table an event purges
 abbrev pub event_purges : Table → Event → Bool
@@ -221,39 +223,39 @@ AnswerIsStoredWhereItMayBe =
     serial_stored_by_outcome item.outcome ≡ next_serial first past
 
 -- Nothing else is stored. That its status is final is known of each response that was read (law
--- `what_is_read_is_final`).
+-- `responses_read_are_final`).
 abbrev pub NothingElseIsStored : Type 0
 NothingElseIsStored = (table : Table) (start : StoreAtStart) (first s : ℕ) (item : Item) (past : List Item) →
     IsGoodHistory table start first (item ∷ past) → serial_stored_by_outcome item.outcome ≡ Some s
     → IsAnswerThatMayBeStored table start first item past
 
 -- what an item takes away
-abbrev pub ItemRemovesExactlyThese : Type 0
-ItemRemovesExactlyThese =
+abbrev pub ItemRemovesExactlyWhatItMust : Type 0
+ItemRemovesExactlyWhatItMust =
     (table : Table) (start : StoreAtStart) (first : ℕ) (item : Item) (past : List Item)
     → IsGoodHistory table start first (item ∷ past) →
-    ThoseAreRemoved table (held_entries table start past)
+    OutcomeRemovesExactlyWhatItMust table (held_entries table start past)
     (find_exchange (exchange_id_of_event item.event) (open_exchanges table start past)) item.event item.outcome
 
 -- an outcome is that of a purge exactly where the request purges
-abbrev pub ItemPurgesWhereItsLineSaysSo : Type 0
-ItemPurgesWhereItsLineSaysSo =
+abbrev pub ItemPurgesWhereItsRequestPurges : Type 0
+ItemPurgesWhereItsRequestPurges =
     (table : Table) (start : StoreAtStart) (first : ℕ) (item : Item) (past : List Item)
     → IsGoodHistory table start first (item ∷ past) →
     outcome_purges item.outcome ≡ event_purges table item.event
 
 -- what an item expires
-abbrev pub ItemExpiresExactlyThese : Type 0
-ItemExpiresExactlyThese =
+abbrev pub ItemExpiresExactlyWhatItMust : Type 0
+ItemExpiresExactlyWhatItMust =
     (table : Table) (start : StoreAtStart) (first : ℕ) (item : Item) (past : List Item)
     → IsGoodHistory table start first (item ∷ past) →
-    ThoseAreExpired table (held_entries table start past) item.event item.outcome
+    OutcomeExpiresExactlyWhatItMust table (held_entries table start past) item.event item.outcome
 
 -- what the storing rules and the room of a head let be kept is what may be
-abbrev pub FreshenedIsKeptWhereItMayBe : Type 0
-FreshenedIsKeptWhereItMayBe = (table : Table) (x : Exchange) (r : Response) (e : Stored) →
+abbrev pub FreshenedIsKeptWhereAllowed : Type 0
+FreshenedIsKeptWhereAllowed = (table : Table) (x : Exchange) (r : Response) (e : Stored) →
     FreshenedMayBeKept table x r e → freshened_may_be_kept table x r e ≡ true
 
-abbrev pub NothingElseIsKept : Type 0
-NothingElseIsKept = (table : Table) (x : Exchange) (r : Response) (e : Stored) →
+abbrev pub NothingElseFreshenedIsKept : Type 0
+NothingElseFreshenedIsKept = (table : Table) (x : Exchange) (r : Response) (e : Stored) →
     freshened_may_be_kept table x r e ≡ true → FreshenedMayBeKept table x r e

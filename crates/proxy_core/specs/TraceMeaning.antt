@@ -2,7 +2,7 @@
 -- has its latest item first.
 --
 -- exchange_has_ended: an exchange was ended     count_of_stored: how many responses were stored
--- events_of: the events of a trace
+-- events_of_trace: the events of a trace
 -- Below them are the statements that the laws of `src/laws.rt` prove.
 use Rattle.std.specs.Prelude.{◌≡◌, ℕ, ◌+◌, ◌^◌, ◌==◌, nat_lt, ◌&&◌, ◌||◌, not, Bool, true, false, List, [], ◌∷◌, ◌++◌}
 use Rattle.std.specs.Prelude.{map, Some, None, is_some, cond}
@@ -18,12 +18,12 @@ use Rattle.proxy_core.specs.State.{serial_stored_by_outcome, rule_of_decision}
 use Rattle.proxy_core.specs.Starts.{StoreAtStart}
 use Rattle.proxy_core.specs.Traces.{Item, initial_state, state_after_trace, IsGood}
 use Rattle.proxy_core.specs.Histories.{held_entries, open_exchanges, next_serial, IsGoodHistory}
-use Rattle.proxy_core.specs.Carrying.{NoRequestIsJudged}
+use Rattle.proxy_core.specs.Carrying.{NoItemJudgesTheRequest}
 use Rattle.proxy_core.specs.declared.open.stage.Stage.TheVariants.{Forwarded}
 use Rattle.proxy_core.specs.declared.outcome.Outcome.{Outcome}
 use Rattle.proxy_core.specs.declared.outcome.Outcome.TheVariants.{Reply, Forward, Waits, Ended, WaitsNoMore}
 use Rattle.proxy_core.specs.Promises.{outcome_goes_forward, outcome_ends_exchange, is_arrival_event, count_of_outcomes}
-use Rattle.proxy_core.specs.Promises.{NoRequestArrives, latest_request_of, some_item_overtakes}
+use Rattle.proxy_core.specs.Promises.{NoRequestArrives, latest_request_of, some_item_overtakes_key}
 
 -- some item of this id is a reply, or the client went away
 abbrev pub exchange_has_ended : ℕ → List Item → Bool
@@ -44,8 +44,8 @@ count_of_stored [] = 0
 count_of_stored
     (i ∷ past) = cond (is_some (serial_stored_by_outcome i.outcome)) (count_of_stored past + 1) (count_of_stored past)
 
-abbrev pub events_of : List Item → List Event
-events_of trace = map (λ (i : Item). i.event) trace
+abbrev pub events_of_trace : List Item → List Event
+events_of_trace trace = map (λ (i : Item). i.event) trace
 
 -- ---- the statements
 
@@ -80,7 +80,7 @@ OpenExchangeKeepsItsRule = (table : Table) (start : StoreAtStart) (first now id 
     (x : Exchange) →
     IsGoodHistory table start first (items ++ arrival ∷ before) →
     arrival.event ≡ Arrive now id asked →
-    NoRequestIsJudged id items →
+    NoItemJudgesTheRequest id items →
     find_exchange id (open_exchanges table start (items ++ arrival ∷ before)) ≡ Some x →
     x.rule ≡ rule_of_decision (decision_of (policy_of table.lines x.line) (held_entries table start before) asked now)
 
@@ -95,11 +95,11 @@ ExchangeIsOvertakenWhereInvalidated = (table : Table) (start : StoreAtStart) (fi
     count_of_outcomes outcome_goes_forward (exchange_id_of_event f.event) items ≡ 0 →
     find_exchange (exchange_id_of_event f.event) (open_exchanges table start (items ++ f ∷ before)) ≡ Some x →
     x.stage ≡ Forwarded →
-    x.overtaken ≡ some_item_overtakes x.asked.target.key items (f ∷ before)
+    x.overtaken ≡ some_item_overtakes_key x.asked.target.key items (f ∷ before)
 
 -- The next serial is the first plus the number stored, while there is such a serial.
-abbrev pub NextSerialIsCounted : Type 0
-NextSerialIsCounted = (table : Table) (start : StoreAtStart) (first : ℕ) (trace : List Item) →
+abbrev pub NextSerialIsFirstPlusStoredCount : Type 0
+NextSerialIsFirstPlusStoredCount = (table : Table) (start : StoreAtStart) (first : ℕ) (trace : List Item) →
     IsGoodHistory table start first trace → nat_lt first (2 ^ 64) ≡ true →
     next_serial first trace
     ≡ cond (nat_lt (first + count_of_stored trace) (2 ^ 64)) (Some (first + count_of_stored trace)) None
@@ -115,16 +115,16 @@ StoredResponseHasTheNextSerial = (table : Table) (start : StoreAtStart) (first s
 abbrev pub EventsDetermineTheTrace : Type 0
 EventsDetermineTheTrace = (table : Table) (start : StoreAtStart) (first : ℕ) (trace other : List Item) →
     IsGoodHistory table start first trace → IsGoodHistory table start first other
-    → events_of trace ≡ events_of other → trace ≡ other
+    → events_of_trace trace ≡ events_of_trace other → trace ≡ other
 
 -- What is good over the list that a core keeps is good over what is held, and the other way round.
-abbrev pub IsGoodOverHeldAndOverList : Type 0
-IsGoodOverHeldAndOverList = (table : Table) (start : StoreAtStart) (first : ℕ) (trace : List Item) → IsGood
+abbrev pub GoodOverSerialsIffGoodOverStoreList : Type 0
+GoodOverSerialsIffGoodOverStoreList = (table : Table) (start : StoreAtStart) (first : ℕ) (trace : List Item) → IsGood
     (initial_state table start first) trace
     → IsGoodHistory table start first trace
 
-abbrev pub IsGoodOverTheCoresList : Type 0
-IsGoodOverTheCoresList = (table : Table) (start : StoreAtStart) (first : ℕ) (trace : List Item)
+abbrev pub TraceIsGoodOverStoreList : Type 0
+TraceIsGoodOverStoreList = (table : Table) (start : StoreAtStart) (first : ℕ) (trace : List Item)
     → IsGoodHistory table start first trace
     → IsGood (initial_state table start first) trace
 

@@ -1,14 +1,15 @@
 -- Whole runs: what happened and what it gave, the latest first.
 --
--- Item: an accepted step       trace_of: the items of events and their outcomes
+-- Item: an accepted step       trace_of_events: the items of events and their outcomes
 -- state_after_trace: what a trace leaves    IsGood: each item is what its case gives, over the list that a core keeps
--- RunStopsAt: why a run stopped     ArrivalIsDenied, OutcomeLeavesNoTrace: requests that the operator's table denies
+-- RunStopsWithFault: why a run stopped     ArrivalIsDenied, OutcomeLeavesNoTrace: requests that the operator's table
+-- denies
 use Rattle.std.specs.Prelude.{◌≡◌, ◌≢◌, ℕ, false, Option, None, Some, List, [], ◌∷◌}
 use Rattle.std.specs.List.{AllByRecursion}
 use Rattle.hx_allow.specs.TableLines.{Table}
 use Rattle.proxy_core.specs.Allowing.{verdict_of_asked, request_purges}
 use Rattle.hx_allow.specs.declared.verdicts.Verdict.TheVariants.{Allowed}
-use Rattle.hx_allow.specs.declared.verdicts.Route.{Route}
+use Rattle.hx_allow.specs.declared.verdicts.RequestRoute.{RequestRoute}
 use Rattle.proxy_core.specs.declared.outcome.Outcome.{Outcome}
 use Rattle.proxy_core.specs.declared.outcome.Outcome.TheVariants.{Reply, Forward, Waits, Ended, WaitsNoMore}
 use Rattle.proxy_core.specs.declared.event.Event.{Event}
@@ -17,8 +18,8 @@ use Rattle.proxy_core.specs.declared.core_fault.CoreFault.{CoreFault}
 use Rattle.proxy_core.specs.declared.open.exchange.Exchange.{Exchange}
 use Rattle.hx_store.specs.Stored.{Stored}
 use Rattle.proxy_core.specs.Outcomes.{outcome_of_event, step_fault}
-use Rattle.proxy_core.specs.State.{State, StepIsRefusedWith, bounds_of, state_after}
-use Rattle.proxy_core.specs.Starts.{StoreAtStart, StartStands}
+use Rattle.proxy_core.specs.State.{State, StepIsRefusedWith, bounds_of, state_after_event}
+use Rattle.proxy_core.specs.Starts.{StoreAtStart, StartIsValid}
 
 pub record Item : Type 0 where
   pub event : Event
@@ -31,8 +32,8 @@ trace_in_front_of past (o ∷ outcomes) [] = past
 trace_in_front_of past (o ∷ outcomes) (e ∷ events) = trace_in_front_of (record { event = e; outcome = o }
     ∷ past) outcomes events
 
-abbrev pub trace_of : List Event → List Outcome → List Item
-trace_of events outcomes = trace_in_front_of [] outcomes events
+abbrev pub trace_of_events : List Event → List Outcome → List Item
+trace_of_events events outcomes = trace_in_front_of [] outcomes events
 
 -- a core to which nothing has happened, with what its store holds at first
 abbrev pub initial_state : Table → StoreAtStart → ℕ → State
@@ -48,7 +49,7 @@ initial_state table start first = record {
 -- what the items leave of it, one after another
 abbrev pub state_after_trace : State → List Item → State
 state_after_trace start [] = start
-state_after_trace start (item ∷ past) = state_after (state_after_trace start past) item.event item.outcome
+state_after_trace start (item ∷ past) = state_after_event (state_after_trace start past) item.event item.outcome
 
 -- An item is what its case gives, over the responses that are held, the exchanges that are open and the next serial:
 -- no fault stood at the event, and its outcome is that of its case.
@@ -60,21 +61,21 @@ pub record ItemIsAccepted (table : Table) (held : List Stored) (exchanges : List
 -- What is held at first may be, and each item is what its case gives, over what the items before it leave of a core;
 -- `Histories.antt` says the same with no list of the program in it.
 abbrev pub IsGood : State → List Item → Type 0
-IsGood start [] = StartStands (bounds_of start.table start.limit) start.next start.entries
+IsGood start [] = StartIsValid (bounds_of start.table start.limit) start.next start.entries
 IsGood start (item ∷ past) =
     ItemIsAccepted start.table (state_after_trace start past).entries (state_after_trace start past).exchanges
     (state_after_trace start past).next item
     × IsGood start past
 
 -- the next event is refused: by the least fault that stands at it, or where none does because memory ran out
-abbrev pub RunStopsAt : State → Option Event → CoreFault → Type 0
-RunStopsAt s None fault = ⊥
-RunStopsAt s (Some event) fault = StepIsRefusedWith s event fault
+abbrev pub RunStopsWithFault : State → Option Event → CoreFault → Type 0
+RunStopsWithFault s None fault = ⊥
+RunStopsWithFault s (Some event) fault = StepIsRefusedWith s event fault
 
 -- no line of the table allows the request that arrives, nor purges for it
 abbrev pub ArrivalIsDenied : Table → Event → Type 0
 ArrivalIsDenied table (Arrive now id asked) =
-    ((line : Route) → verdict_of_asked table asked ≢ Allowed line) × (request_purges table asked ≡ false)
+    ((line : RequestRoute) → verdict_of_asked table asked ≢ Allowed line) × (request_purges table asked ≡ false)
 ArrivalIsDenied table (Answer now id r) = ⊥
 ArrivalIsDenied table (Fail now id kind) = ⊥
 ArrivalIsDenied table (Wake now id) = ⊥

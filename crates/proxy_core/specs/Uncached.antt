@@ -9,7 +9,7 @@ use Rattle.hx_allow.specs.TableLines.{Table}
 use Rattle.hx_allow.specs.Matching.{policy_of}
 use Rattle.proxy_core.specs.Allowing.{verdict_of_asked}
 use Rattle.hx_allow.specs.declared.verdicts.Verdict.TheVariants.{Allowed}
-use Rattle.hx_allow.specs.declared.verdicts.Route.{Route}
+use Rattle.hx_allow.specs.declared.verdicts.RequestRoute.{RequestRoute}
 use Rattle.hx_reuse.specs.declared.rule.ReuseRule.TheVariants.{Operator}
 use Rattle.hx_status.specs.declared.cause.Cause.TheVariants.{OnlyIfCached}
 use Rattle.proxy_core.specs.declared.open.exchange.Exchange.{Exchange}
@@ -25,7 +25,7 @@ use Rattle.proxy_core.specs.Traces.{Item}
 use Rattle.proxy_core.specs.Histories.{open_exchanges, IsGoodHistory}
 
 -- the event is of a request that goes over this line: the table allows it by that line, or its exchange is open
-abbrev pub EventGoesOverLine : Table → Option Exchange → Event → Route → Type 0
+abbrev pub EventGoesOverLine : Table → Option Exchange → Event → RequestRoute → Type 0
 EventGoesOverLine table x (Arrive now id asked) line = verdict_of_asked table asked ≡ Allowed line
 EventGoesOverLine table (Some x) (Answer now id r) line = x.line ≡ line
 EventGoesOverLine table (Some x) (Fail now id kind) line = x.line ≡ line
@@ -40,7 +40,7 @@ EventGoesOverLine table None (Overdue id) line = ⊥
 
 -- a request goes forward as the client's own, or where it takes no response but a stored one it is
 -- told the operator's rule
-abbrev pub RequestIsAnsweredByTheOperator : Table → ℕ → Asked → Route → Outcome → Type 0
+abbrev pub RequestIsAnsweredByTheOperator : Table → ℕ → Asked → RequestRoute → Outcome → Type 0
 RequestIsAnsweredByTheOperator table now asked line outcome =
     ((is_only_if_cached asked ≡ false) × (outcome ≡ Forward line (forward_text table line asked None)))
     ⊎ ((is_only_if_cached asked ≡ true) × (outcome ≡ outcome_of_refusal now (OnlyIfCached Operator) asked))
@@ -49,7 +49,7 @@ RequestIsAnsweredByTheOperator table now asked line outcome =
 
 -- an item over a line without cache stores nothing
 abbrev pub NothingIsStoredOverUncachedLine : Type 0
-NothingIsStoredOverUncachedLine = (table : Table) (start : StoreAtStart) (first : ℕ) (line : Route) (item : Item)
+NothingIsStoredOverUncachedLine = (table : Table) (start : StoreAtStart) (first : ℕ) (line : RequestRoute) (item : Item)
     (past : List Item)
     → IsGoodHistory table start first (item ∷ past) →
     EventGoesOverLine table (find_exchange (exchange_id_of_event item.event)
@@ -59,7 +59,8 @@ NothingIsStoredOverUncachedLine = (table : Table) (start : StoreAtStart) (first 
 
 -- and sends nothing that is held
 abbrev pub NothingStoredIsSentOverUncachedLine : Type 0
-NothingStoredIsSentOverUncachedLine = (table : Table) (start : StoreAtStart) (first : ℕ) (line : Route) (item : Item)
+NothingStoredIsSentOverUncachedLine =
+    (table : Table) (start : StoreAtStart) (first : ℕ) (line : RequestRoute) (item : Item)
     (past : List Item)
     → IsGoodHistory table start first (item ∷ past) →
     EventGoesOverLine table (find_exchange (exchange_id_of_event item.event)
@@ -69,7 +70,7 @@ NothingStoredIsSentOverUncachedLine = (table : Table) (start : StoreAtStart) (fi
 
 -- each request that arrives over it goes forward, whatever is held
 abbrev pub RequestGoesForwardOverUncachedLine : Type 0
-RequestGoesForwardOverUncachedLine = (table : Table) (start : StoreAtStart) (first now id : ℕ) (line : Route)
+RequestGoesForwardOverUncachedLine = (table : Table) (start : StoreAtStart) (first now id : ℕ) (line : RequestRoute)
     (asked : Asked)
     (item : Item)
     (past : List Item)

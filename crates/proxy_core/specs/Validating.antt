@@ -12,9 +12,9 @@ use Rattle.std.specs.Option.{option_and_then}
 use Rattle.hx_fields.specs.Line.{Field}
 use Rattle.hx_fields.specs.FieldLines.{without_named}
 use Rattle.hx_framing.specs.declared.messages.Response.{Response}
-use Rattle.hx_age.specs.Age.{times_of}
+use Rattle.hx_age.specs.Age.{times_of_message}
 use Rattle.hx_age.specs.declared.moments.Times.{Times}
-use Rattle.hx_vary.specs.Vary.{is_star}
+use Rattle.hx_vary.specs.Vary.{vary_is_star}
 use Rattle.hx_hop.specs.Answering.{answered_of}
 use Rattle.hx_hop.specs.Stripping.{lists_cache_field}
 use Rattle.hx_hop.specs.declared.response_view.Answered.{Answered}
@@ -24,8 +24,8 @@ use Rattle.hx_allow.specs.TableLines.{Table}
 use Rattle.hx_allow.specs.Matching.{policy_of}
 use Rattle.hx_store.specs.Stored.{Stored}
 use Rattle.hx_store.specs.Shelf.{find_entry}
-use Rattle.hx_store.specs.Weights.{weight_of}
-use Rattle.hx_reuse.specs.Lifetimes.{lifetime_under}
+use Rattle.hx_store.specs.Weights.{weight_of_entry}
+use Rattle.hx_reuse.specs.Lifetimes.{lifetime_under_policy}
 use Rattle.hx_storable.specs.Rules.{storage_rule_of}
 use Rattle.hx_storable.specs.declared.known_facts.StoringFacts.{StoringFacts}
 use Rattle.hx_validate.specs.Validators.{has_validator, conditions_of}
@@ -92,7 +92,7 @@ stored_without_cookies x e = record e { fields = without_cookies x.removes_cooki
 -- own: to a request that was overtaken it says nothing of what was expired since, so that stays expired ("A purge that
 -- expires")
 abbrev pub times_after_304 : Exchange → Response → ℕ → Stored → Times
-times_after_304 x r now e = record (times_of (answered_of r now).fields x.request_time now) {
+times_after_304 x r now e = record (times_of_message (answered_of r now).fields x.request_time now) {
   expired = cond x.overtaken e.times.expired None;
 }
 
@@ -111,22 +111,23 @@ abbrev pub head_of_stored : Stored → Answered
 head_of_stored e = record { status = e.status; fields = e.fields }
 
 -- a weight is above a bound, if there is one
-abbrev pub is_above : Option ℕ → ℕ → Bool
-is_above None weight = false
-is_above (Some most) weight = nat_lt most weight
+abbrev pub weight_exceeds_optional_bound : Option ℕ → ℕ → Bool
+weight_exceeds_optional_bound None weight = false
+weight_exceeds_optional_bound (Some most) weight = nat_lt most weight
 
 -- the content is above the operator's limit, or the response alone is above the bound of the whole store
 abbrev pub stored_is_too_large : Table → Stored → Bool
-stored_is_too_large table e = nat_lt table.max_stored (length e.content) || is_above table.max_store (weight_of e)
+stored_is_too_large table e = nat_lt table.max_stored (length e.content)
+    || weight_exceeds_optional_bound table.max_store (weight_of_entry e)
 
 -- what the storing rules ask of a freshened response
 -- own: it is held already, under its serial, so neither a serial is asked for nor whether it is overtaken
 abbrev pub storing_facts_of_freshened : Table → Exchange → Response → Stored → StoringFacts
 storing_facts_of_freshened table x r e = record {
   policy = policy_of table.lines x.line;
-  vary_star = is_star e.fields;
+  vary_star = vary_is_star e.fields;
   listed = lists_cache_field r.fields;
-  explicit = (lifetime_under (policy_of table.lines x.line) e.status e.fields).explicit;
+  explicit = (lifetime_under_policy (policy_of table.lines x.line) e.status e.fields).explicit;
   validator = has_validator e.fields;
   too_large = stored_is_too_large table e;
   overtaken = false;

@@ -19,29 +19,30 @@ is_in_wait_index index id n = set_contains (get nat_cmp index.arrivals id) n
 abbrev pub IsEmptyWaitIndex : WaitIndex → Type 0
 IsEmptyWaitIndex index = (id m : ℕ) → is_in_wait_index index id m ≡ false
 
-abbrev pub IsSameWaitIndex : WaitIndex → WaitIndex → Type 0
-IsSameWaitIndex old new = (id m : ℕ) → is_in_wait_index new id m ≡ is_in_wait_index old id m
+abbrev pub WaitIndexesHaveSameMembers : WaitIndex → WaitIndex → Type 0
+WaitIndexesHaveSameMembers old new = (id m : ℕ) → is_in_wait_index new id m ≡ is_in_wait_index old id m
 
 -- an arrival was entered whose exchange stands so, and one was taken out
 abbrev pub WaiterIsEntered : Stage → ℕ → WaitIndex → WaitIndex → Type 0
 WaiterIsEntered stage n old new = (id m : ℕ) → is_in_wait_index new id m ≡
     ((waits_for id stage && n == m) || is_in_wait_index old id m)
 
-abbrev pub WaiterHasLeft : Stage → ℕ → WaitIndex → WaitIndex → Type 0
-WaiterHasLeft stage n old new = (id m : ℕ) → is_in_wait_index new id m ≡ (not (waits_for id stage && n == m)
+abbrev pub WaiterIsRemoved : Stage → ℕ → WaitIndex → WaitIndex → Type 0
+WaiterIsRemoved stage n old new = (id m : ℕ) → is_in_wait_index new id m ≡ (not (waits_for id stage && n == m)
     && is_in_wait_index old id m)
 
 -- it was entered where others wait for that exchange, and else nothing was done
 abbrev pub WaiterIsEnteredIf : Bool → ℕ → ℕ → WaitIndex → WaitIndex → Type 0
 WaiterIsEnteredIf true id n old new = WaiterIsEntered (Waiting id) n old new
-WaiterIsEnteredIf false id n old new = IsSameWaitIndex old new × ((m : ℕ) → is_in_wait_index old id m ≡ false)
+WaiterIsEnteredIf false id n old new = WaitIndexesHaveSameMembers old new
+    × ((m : ℕ) → is_in_wait_index old id m ≡ false)
 
 -- those that wait for the exchange of this id, and the index without them
 abbrev pub SetHoldsAllWaiters : Option (BTreeSet ℕ) → ℕ → WaitIndex → Type 0
 SetHoldsAllWaiters set id index = (m : ℕ) → set_contains set m ≡ is_in_wait_index index id m
 
-abbrev pub WaitersAreTakenOut : ℕ → WaitIndex → WaitIndex → Type 0
-WaitersAreTakenOut id old new = (q m : ℕ) → is_in_wait_index new q m ≡ (not (id == q) && is_in_wait_index old q m)
+abbrev pub WaitersAreRemoved : ℕ → WaitIndex → WaitIndex → Type 0
+WaitersAreRemoved id old new = (q m : ℕ) → is_in_wait_index new q m ≡ (not (id == q) && is_in_wait_index old q m)
 
 -- these arrivals were entered as of those that wait for the exchange of this id
 abbrev pub WaitersAreEntered : ℕ → BTreeSet ℕ → WaitIndex → WaitIndex → Type 0
@@ -49,15 +50,16 @@ WaitersAreEntered id set old new = (q m : ℕ) → is_in_wait_index new q m ≡ 
     || is_in_wait_index old q m)
 
 -- the arrival isn't in the index
-abbrev pub IsNotInWaitIndex : ℕ → WaitIndex → Type 0
-IsNotInWaitIndex n index = (id : ℕ) → is_in_wait_index index id n ≡ false
+abbrev pub ArrivalIsNotInWaitIndex : ℕ → WaitIndex → Type 0
+ArrivalIsNotInWaitIndex n index = (id : ℕ) → is_in_wait_index index id n ≡ false
 
 -- no id is in the index for nothing, and the same of each id but this one
-abbrev pub SetHasMembers : BTreeSet ℕ → Type 0
-SetHasMembers set = IsEmpty set → ⊥
+abbrev pub SetIsNotEmpty : BTreeSet ℕ → Type 0
+SetIsNotEmpty set = IsEmpty set → ⊥
 
-abbrev pub HasNoEmptyWaiterSets : WaitIndex → Type 0
-HasNoEmptyWaiterSets index = (id : ℕ) → ForSome (get nat_cmp index.arrivals id) SetHasMembers
+abbrev pub WaitIndexHasNoEmptySet : WaitIndex → Type 0
+WaitIndexHasNoEmptySet index = (id : ℕ) → ForSome (get nat_cmp index.arrivals id) SetIsNotEmpty
 
-abbrev pub HasNoOtherEmptyWaiterSets : ℕ → WaitIndex → Type 0
-HasNoOtherEmptyWaiterSets id index = (q : ℕ) → (id == q) ≡ false → ForSome (get nat_cmp index.arrivals q) SetHasMembers
+abbrev pub OtherIdsHaveNoEmptyWaiterSet : ℕ → WaitIndex → Type 0
+OtherIdsHaveNoEmptyWaiterSet id index = (q : ℕ) → (id == q) ≡ false
+    → ForSome (get nat_cmp index.arrivals q) SetIsNotEmpty

@@ -1,14 +1,14 @@
 -- Requests that could be sent the answer to another wait for it. A trace has its latest item first.
 --
 -- RequestCouldWait: a request that could be sent one (`Awaiting.antt`), for the first that leads (`Leading.antt`)
--- RequestWaitsWhereOneLeads, RequestWaitsNowhereElse, OnlyOneGoesForwardForKey: who waits, and what for
+-- RequestWaitsWhereALeaderIsOpen, RequestWaitsNowhereElse, OnlyOneGetPerKeyGoesForward: who waits, and what for
 -- ExchangeMayBeWoken: an exchange that may be woken
 -- leader_of_waiter: for whom a request waits, of those that lead one behind the other
--- RequestWaitsUntilItsLeaderEndsOrItsTime, RequestIsWokenOnceBehindItsLeaderOrItsTime, ReleasedAreInOrderOfArrival,
--- TimeIsOverExactlyOfWhoWaits, OverdueRequestMayBeWoken, WakeIsAcceptedExactlyWhereReady, WokenRequestIsJudgedAnew:
+-- RequestWaitsUntilLeaderEndsOrTimeout, RequestIsWokenOnceAfterLeaderOrTimeout, ReleasedAreInOrderOfArrival,
+-- TimeoutHappensExactlyToWaiters, OverdueRequestMayBeWoken, WakeIsAcceptedExactlyWhereReady, WokenRequestIsJudgedAnew:
 -- how it ends
--- FirstThatWaitsLeadsOn, NobodyLeadsOnWhereNoneMay: what the end of a leader's client leaves
--- OneLeadsAloneWhereWaitsHaveNoEnd: the same over a table of an earlier version
+-- FirstWaiterBecomesLeader, NoWaiterLeadsWhereNoneMay: what the end of a leader's client leaves
+-- NoWaiterLeadsWhereWaitsAreUnlimited: the same over a table of an earlier version
 --
 -- The laws of `src/laws.rt` prove the statements.
 use Rattle.std.specs.Prelude.{◌≡◌, ◌⊎◌, ℕ, ◌==◌, ◌&&◌, ◌||◌, not, Bool, true, false, List, [], ◌∷◌, ◌++◌, Option, Some}
@@ -22,10 +22,10 @@ use Rattle.hx_allow.specs.TableLines.{Table}
 use Rattle.hx_allow.specs.Matching.{policy_of, wait_timeout_of}
 use Rattle.proxy_core.specs.Allowing.{verdict_of_asked, came_back, exchanges_to_wait_for}
 use Rattle.hx_allow.specs.declared.verdicts.Verdict.TheVariants.{Allowed}
-use Rattle.hx_allow.specs.declared.verdicts.Route.{Route}
+use Rattle.hx_allow.specs.declared.verdicts.RequestRoute.{RequestRoute}
 use Rattle.hx_store.specs.Serials.{serial_is_in}
 use Rattle.hx_store.specs.Stored.{Stored}
-use Rattle.hx_reuse.specs.ChosenAndNamed.{IsLeastReuseRule, RuleNamesTheResponse}
+use Rattle.hx_reuse.specs.ChosenAndNamed.{IsLeastReuseRule, RuleOnChosenNamesItsSerial}
 use Rattle.hx_reuse.specs.FilledRanges.{forwards_range}
 use Rattle.hx_reuse.specs.declared.rule.ReuseRule.{ReuseRule}
 use Rattle.hx_reuse.specs.declared.rule.ReuseRule.TheVariants.{UriMiss}
@@ -39,11 +39,12 @@ use Rattle.proxy_core.specs.declared.event.Event.{Event}
 use Rattle.proxy_core.specs.declared.event.Event.TheVariants.{Arrive, Answer, Fail, Wake, Abandon, Overdue}
 use Rattle.proxy_core.specs.Moments.{moment_too_late_fault}
 use Rattle.hx_policy.specs.declared.words.Policy.{Policy}
-use Rattle.proxy_core.specs.Leading.{is_forwarded, is_released, is_get, is_uri_miss, names_serial, may_serve}
-use Rattle.proxy_core.specs.Leading.{is_waiting, waits_for, leads_waiters, ready_ids, IsFirstLeader}
+use Rattle.proxy_core.specs.Leading.{is_forwarded, is_released, is_get, is_uri_miss, option_names_serial}
+use Rattle.proxy_core.specs.Leading.{answer_may_be_shared_with}
+use Rattle.proxy_core.specs.Leading.{is_waiting, waits_for, is_leader_for_request, wakeable_ids, IsFirstLeader}
 use Rattle.proxy_core.specs.LeadingOn.{stage_after_leader, next_leader, exchanges_without, exchanges_after_abandon}
-use Rattle.proxy_core.specs.LeadingOn.{IsNextLeader, CouldBeSentItsAnswer}
-use Rattle.proxy_core.specs.Awaiting.{RequestAwaits}
+use Rattle.proxy_core.specs.LeadingOn.{IsNextLeader, CouldBeSentAnswerOfNextLeader}
+use Rattle.proxy_core.specs.Awaiting.{RequestMayAwaitAnother}
 use Rattle.proxy_core.specs.Outcomes.{find_exchange, exchange_id_of_event, step_fault, is_only_if_cached}
 use Rattle.proxy_core.specs.State.{serial_used_by_outcome, exchanges_after_close}
 use Rattle.proxy_core.specs.Starts.{StoreAtStart}
@@ -51,21 +52,22 @@ use Rattle.proxy_core.specs.Traces.{Item}
 use Rattle.proxy_core.specs.Histories.{held_entries, open_exchanges, IsGoodHistory}
 use Rattle.proxy_core.specs.Promises.{outcome_ends_exchange, is_arrival_event, NoRequestArrives}
 use Rattle.proxy_core.specs.Carrying.{IdsAreInOrderOfArrival}
-use Rattle.proxy_core.specs.Sending.{StoredResponseIsReusable, MayBeSentBesideLeader}
+use Rattle.proxy_core.specs.Sending.{StoredResponseIsReusable, MayBeSentWhileLeaderRevalidates}
 
 -- ---- who waits
 
 -- A GET that the table allows, that takes an answer of the origin, and that could be sent the answer
 -- to another.
-pub record RequestCouldWait (table : Table) (start : StoreAtStart) (past : List Item) (now : ℕ) (line : Route)
+pub record RequestCouldWait (table : Table) (start : StoreAtStart) (past : List Item) (now : ℕ) (line : RequestRoute)
     (asked : Asked) (awaited : Awaited) : Type 0 where
   pub line_allows : verdict_of_asked table asked ≡ Allowed line
-  pub takes_others : is_only_if_cached asked ≡ false
-  pub awaits : RequestAwaits (policy_of table.lines line) (held_entries table start past) asked now awaited
+  pub is_not_only_if_cached : is_only_if_cached asked ≡ false
+  pub awaits : RequestMayAwaitAnother (policy_of table.lines line) (held_entries table start past) asked now awaited
 
 -- whoever could wait does, where one leads, unless he is sent what is stale meanwhile
-abbrev pub RequestWaitsWhereOneLeads : Type 0
-RequestWaitsWhereOneLeads = (table : Table) (start : StoreAtStart) (first now id : ℕ) (line : Route) (leader : ℕ)
+abbrev pub RequestWaitsWhereALeaderIsOpen : Type 0
+RequestWaitsWhereALeaderIsOpen =
+    (table : Table) (start : StoreAtStart) (first now id : ℕ) (line : RequestRoute) (leader : ℕ)
     (asked : Asked)
     (awaited : Awaited)
     (item : Item) (past : List Item) →
@@ -73,17 +75,17 @@ RequestWaitsWhereOneLeads = (table : Table) (start : StoreAtStart) (first now id
     → RequestCouldWait table start past now line asked awaited →
     IsFirstLeader (policy_of table.lines line) awaited asked
     (exchanges_to_wait_for table line asked (open_exchanges table start past)) leader
-    → ((s : ℕ) → MayBeSentBesideLeader (policy_of table.lines line) (held_entries table start past)
+    → ((s : ℕ) → MayBeSentWhileLeaderRevalidates (policy_of table.lines line) (held_entries table start past)
     (exchanges_to_wait_for table line asked (open_exchanges table start past)) asked now s → ⊥)
     → item.outcome ≡ Waits leader
 
 -- Whoever waits has just arrived, could wait, and waits for the first that leads.
-pub record RequestIsToWait (table : Table) (start : StoreAtStart) (leader : ℕ) (item : Item)
+pub record ArrivingRequestWaitsForLeader (table : Table) (start : StoreAtStart) (leader : ℕ) (item : Item)
     (past : List Item) : Type 0 where
   pub now : ℕ
   pub id : ℕ
   pub asked : Asked
-  pub line : Route
+  pub line : RequestRoute
   pub arrives : item.event ≡ Arrive now id asked
   pub awaited : Awaited
   pub could : RequestCouldWait table start past now line asked awaited
@@ -93,7 +95,7 @@ pub record RequestIsToWait (table : Table) (start : StoreAtStart) (leader : ℕ)
 abbrev pub RequestWaitsNowhereElse : Type 0
 RequestWaitsNowhereElse = (table : Table) (start : StoreAtStart) (first leader : ℕ) (item : Item) (past : List Item)
     → IsGoodHistory table start first (item ∷ past) →
-    item.outcome ≡ Waits leader → RequestIsToWait table start leader item past
+    item.outcome ≡ Waits leader → ArrivingRequestWaitsForLeader table start leader item past
 
 -- an open exchange of this id ends: by a reply that isn't given at an arrival, or since the client went away
 abbrev pub exchange_has_closed : ℕ → List Item → Bool
@@ -103,61 +105,64 @@ exchange_has_closed id (i ∷ items) =
     || exchange_has_closed id items
 
 -- a request arrives and goes forward by this rule, which names this held response or none
-pub record RequestGoesOutBy (table : Table) (start : StoreAtStart) (rule : ReuseRule) (named : Option ℕ) (item : Item)
+pub record RequestGoesForwardByRule (table : Table) (start : StoreAtStart) (rule : ReuseRule) (named : Option ℕ)
+    (item : Item)
     (past : List Item) : Type 0 where
   pub now : ℕ
   pub id : ℕ
   pub asked : Asked
-  pub line : Route
+  pub line : RequestRoute
   pub bytes : List ℕ
   pub arrives : item.event ≡ Arrive now id asked
   pub forward : item.outcome ≡ Forward line bytes
   pub is_least : IsLeastReuseRule (policy_of table.lines line) (held_entries table start past) asked now rule
-  pub names : RuleNamesTheResponse (held_entries table start past) asked rule named
+  pub names : RuleOnChosenNamesItsSerial (held_entries table start past) asked rule named
 
 -- What it went forward for is what a request could be sent: nothing was held for its key, or the rule
 -- names that held response.
 abbrev pub went_forward_for : Awaited → ReuseRule → Option ℕ → Bool
 went_forward_for Missing rule named = is_uri_miss rule
-went_forward_for (Expired serial) rule named = names_serial named serial
+went_forward_for (Expired serial) rule named = option_names_serial named serial
 
 -- The answer to the exchange of this id may be one for a request over a line of this policy: nothing
 -- that is known of it, should it be open still, says otherwise.
-abbrev pub AnswerMayServe : Policy → Asked → Option Exchange → Type 0
-AnswerMayServe policy asked x =
-    policy.waits_for_stale ≡ true → IfSome x (λ (x : Exchange). may_serve policy asked x ≡ true)
+abbrev pub AnswerMayServeAnotherRequest : Policy → Asked → Option Exchange → Type 0
+AnswerMayServeAnotherRequest policy asked x =
+    policy.waits_for_stale ≡ true → IfSome x (λ (x : Exchange). answer_may_be_shared_with policy asked x ≡ true)
 
 -- Of the GETs that arrive for a key while one of them is at the origin none goes there too for what
 -- that one's answer could bring it, unless it came back: before a later one does the earlier has
 -- ended. Over a line with the word this is so while that answer may be for the later one.
-abbrev pub OnlyOneGoesForwardForKey : Type 0
-OnlyOneGoesForwardForKey = (table : Table) (start : StoreAtStart) (first : ℕ) (line : Route) (awaited : Awaited)
+abbrev pub OnlyOneGetPerKeyGoesForward : Type 0
+OnlyOneGetPerKeyGoesForward =
+    (table : Table) (start : StoreAtStart) (first : ℕ) (line : RequestRoute) (awaited : Awaited)
     (rule : ReuseRule)
     (named : Option ℕ) (bytes : List ℕ) (now id : ℕ) (asked : Asked) (later earlier : Item)
     (between before : List Item) →
     IsGoodHistory table start first (later ∷ (between ++ earlier ∷ before))
     → later.event ≡ Arrive now id asked → later.outcome ≡ Forward line bytes → came_back table line asked ≡ false
-    → RequestAwaits (policy_of table.lines line) (held_entries table start (between ++ earlier ∷ before)) asked now
+    → RequestMayAwaitAnother (policy_of table.lines line) (held_entries table start (between ++ earlier
+    ∷ before)) asked now
     awaited
-    → (went : RequestGoesOutBy table start rule named earlier before)
+    → (went : RequestGoesForwardByRule table start rule named earlier before)
     → is_get went.asked ≡ true → forwards_range (policy_of table.lines line) went.asked ≡ false
     → same_key went.asked.target.key asked.target.key ≡ true
     → went_forward_for awaited rule named ≡ true
-    → AnswerMayServe (policy_of table.lines line) asked
+    → AnswerMayServeAnotherRequest (policy_of table.lines line) asked
     (find_exchange went.id (open_exchanges table start (between ++ earlier ∷ before))) →
     exchange_has_closed (exchange_id_of_event earlier.event) between ≡ true
 
 -- A line without the word lets a GET wait where nothing is held for its key, and nowhere else; and
 -- for any that went for that, but for a range that goes to the origin. Where the line forwards ranges none went for
 -- that with one.
-abbrev pub PlainLinesWaitForMisses : Type 0
-PlainLinesWaitForMisses = (policy : Policy) (held : List Stored) (asked : Asked) (now : ℕ) (awaited : Awaited)
+abbrev pub LineWithoutWaitWaitsForMissesOnly : Type 0
+LineWithoutWaitWaitsForMissesOnly = (policy : Policy) (held : List Stored) (asked : Asked) (now : ℕ) (awaited : Awaited)
     (x : Exchange) → policy.waits_for_stale ≡ false →
-    (RequestAwaits policy held asked now awaited
+    (RequestMayAwaitAnother policy held asked now awaited
     → (awaited ≡ Missing) × IsLeastReuseRule policy held asked now UriMiss)
     × (is_get asked ≡ true → IsLeastReuseRule policy held asked now UriMiss
-    → RequestAwaits policy held asked now Missing)
-    × (leads_waiters policy Missing asked x
+    → RequestMayAwaitAnother policy held asked now Missing)
+    × (is_leader_for_request policy Missing asked x
     ≡ (same_key x.asked.target.key asked.target.key
     && (is_get x.asked && (is_forwarded x.stage && (is_uri_miss x.rule && not (forwards_range policy x.asked))))))
     × (policy.forwards_ranges ≡ true → IsLeastReuseRule policy held asked now UriMiss → asks_for_range asked ≡ false)
@@ -173,9 +178,10 @@ is_wake_event (Abandon id) = false
 is_wake_event (Overdue id) = false
 
 -- the request of this id is woken
-abbrev pub was_woken : ℕ → List Item → Bool
-was_woken id [] = false
-was_woken id (i ∷ items) = cond (exchange_id_of_event i.event == id && is_wake_event i.event) true (was_woken id items)
+abbrev pub request_was_woken : ℕ → List Item → Bool
+request_was_woken id [] = false
+request_was_woken id (i ∷ items) =
+    cond (exchange_id_of_event i.event == id && is_wake_event i.event) true (request_was_woken id items)
 
 abbrev pub is_overdue_event : Event → Bool
 is_overdue_event (Arrive now id asked) = false
@@ -186,14 +192,14 @@ is_overdue_event (Abandon id) = false
 is_overdue_event (Overdue id) = true
 
 -- the request of this id has waited as long as it is to wait
-abbrev pub was_overdue : ℕ → List Item → Bool
-was_overdue id [] = false
-was_overdue id (i ∷ items) =
-    cond (exchange_id_of_event i.event == id && is_overdue_event i.event) true (was_overdue id items)
+abbrev pub request_wait_timed_out : ℕ → List Item → Bool
+request_wait_timed_out id [] = false
+request_wait_timed_out id (i ∷ items) =
+    cond (exchange_id_of_event i.event == id && is_overdue_event i.event) true (request_wait_timed_out id items)
 
 -- nothing has happened to the exchange of this id, but that its time to wait may be over
-abbrev pub NothingButItsTimeHappened : ℕ → List Item → Type 0
-NothingButItsTimeHappened id items =
+abbrev pub NothingButItsTimeoutHappened : ℕ → List Item → Type 0
+NothingButItsTimeoutHappened id items =
     AllByRecursion (λ (i : Item). (exchange_id_of_event i.event == id && not (is_overdue_event i.event)) ≡ false) items
 
 abbrev pub stage_of_exchange : Option Exchange → Option Stage
@@ -223,8 +229,8 @@ stage_of_waiter None = Released
 stage_of_waiter (Some leader) = Waiting leader
 
 -- for whom the exchange of an id waits once the client of its leader has gone away
-abbrev pub leader_followed : Table → List Exchange → ℕ → ℕ → Option ℕ
-leader_followed table xs id leader =
+abbrev pub leader_after_abandon : Table → List Exchange → ℕ → ℕ → Option ℕ
+leader_after_abandon table xs id leader =
     option_and_then (λ (x : Exchange). leader_of_stage
     (stage_after_leader table (next_leader table leader xs) x))
     (find_exchange id (exchanges_without leader xs))
@@ -234,7 +240,7 @@ leader_after_end table xs id leader (Arrive now i asked) = None
 leader_after_end table xs id leader (Answer now i r) = None
 leader_after_end table xs id leader (Fail now i kind) = None
 leader_after_end table xs id leader (Wake now i) = None
-leader_after_end table xs id leader (Abandon i) = leader_followed table xs id leader
+leader_after_end table xs id leader (Abandon i) = leader_after_abandon table xs id leader
 leader_after_end table xs id leader (Overdue i) = None
 
 -- One that waits for a leader does so until that has ended, by a reply or since the client went away, or until its own
@@ -255,50 +261,50 @@ leader_of_waiter table start id leader (i ∷ items) past =
     (leader_of_waiter table start id leader items past)
 
 -- Who waits does so for one leader behind the other, each for as long as said above, and may be woken from then on.
-abbrev pub RequestWaitsUntilItsLeaderEndsOrItsTime : Type 0
-RequestWaitsUntilItsLeaderEndsOrItsTime =
+abbrev pub RequestWaitsUntilLeaderEndsOrTimeout : Type 0
+RequestWaitsUntilLeaderEndsOrTimeout =
     (table : Table) (start : StoreAtStart) (first leader : ℕ) (items before : List Item) (arrival : Item) →
     IsGoodHistory table start first (items ++ arrival ∷ before) → arrival.outcome ≡ Waits leader
-    → NothingButItsTimeHappened (exchange_id_of_event arrival.event) items →
+    → NothingButItsTimeoutHappened (exchange_id_of_event arrival.event) items →
     stage_of_exchange (find_exchange (exchange_id_of_event arrival.event)
     (open_exchanges table start (items ++ arrival ∷ before)))
     ≡ Some (stage_of_waiter
     (leader_of_waiter table start (exchange_id_of_event arrival.event) leader items (arrival ∷ before)))
 
 -- It is woken where it waits for nobody any more, behind the end of its last leader or of its time, and once.
-abbrev pub RequestIsWokenOnceBehindItsLeaderOrItsTime : Type 0
-RequestIsWokenOnceBehindItsLeaderOrItsTime =
+abbrev pub RequestIsWokenOnceAfterLeaderOrTimeout : Type 0
+RequestIsWokenOnceAfterLeaderOrTimeout =
     (table : Table) (start : StoreAtStart) (first now leader : ℕ) (items before : List Item) (wake arrival : Item) →
     IsGoodHistory table start first (wake ∷ (items ++ arrival ∷ before)) → arrival.outcome ≡ Waits leader →
     wake.event ≡ Wake now (exchange_id_of_event arrival.event) → NoRequestArrives
     (exchange_id_of_event arrival.event) items →
     (leader_of_waiter table start (exchange_id_of_event arrival.event) leader items (arrival ∷ before) ≡ None)
-    × (was_woken (exchange_id_of_event arrival.event) items ≡ false)
+    × (request_was_woken (exchange_id_of_event arrival.event) items ≡ false)
 
 -- The client of an exchange goes away, and another leads on. What becomes of the one of this id that waited for the
 -- exchange that ends: it waits for the next leader exactly where it could be sent the answer to that. All others may be
 -- woken, and so may the next leader.
-pub record FollowsTheNextLeader (table : Table) (start : StoreAtStart) (next : Exchange) (id : ℕ) (x : Exchange)
+pub record WaiterFollowsTheNextLeader (table : Table) (start : StoreAtStart) (next : Exchange) (id : ℕ) (x : Exchange)
     (items : List Item) : Type 0 where
   pub it_leads : (x.id == next.id) ≡ true
       → stage_of_exchange (find_exchange id (open_exchanges table start items)) ≡ Some Released
-  pub follows : CouldBeSentItsAnswer table next x
+  pub follows : CouldBeSentAnswerOfNextLeader table next x
       → stage_of_exchange (find_exchange id (open_exchanges table start items)) ≡ Some (Waiting next.id)
-  pub goes_by_itself : (CouldBeSentItsAnswer table next x → ⊥)
+  pub is_released_otherwise : (CouldBeSentAnswerOfNextLeader table next x → ⊥)
       → stage_of_exchange (find_exchange id (open_exchanges table start items)) ≡ Some Released
 
 -- the first of those that wait leads on, whose answer others could be sent
-abbrev pub FirstThatWaitsLeadsOn : Type 0
-FirstThatWaitsLeadsOn = (table : Table) (start : StoreAtStart) (first leader id : ℕ) (item : Item) (past : List Item)
+abbrev pub FirstWaiterBecomesLeader : Type 0
+FirstWaiterBecomesLeader = (table : Table) (start : StoreAtStart) (first leader id : ℕ) (item : Item) (past : List Item)
     (next x : Exchange) →
     IsGoodHistory table start first (item ∷ past) → item.event ≡ Abandon leader
     → IsNextLeader table leader (open_exchanges table start past) next
     → find_exchange id (open_exchanges table start past) ≡ Some x → (leader == id) ≡ false
-    → waits_for leader x.stage ≡ true → FollowsTheNextLeader table start next id x (item ∷ past)
+    → waits_for leader x.stage ≡ true → WaiterFollowsTheNextLeader table start next id x (item ∷ past)
 
 -- where none may, all may be woken; and who doesn't wait for the exchange that ends stays as it is
-abbrev pub NobodyLeadsOnWhereNoneMay : Type 0
-NobodyLeadsOnWhereNoneMay = (table : Table) (start : StoreAtStart) (first leader id : ℕ) (item : Item)
+abbrev pub NoWaiterLeadsWhereNoneMay : Type 0
+NoWaiterLeadsWhereNoneMay = (table : Table) (start : StoreAtStart) (first leader id : ℕ) (item : Item)
     (past : List Item) (x : Exchange) →
     IsGoodHistory table start first (item ∷ past) → item.event ≡ Abandon leader
     → find_exchange id (open_exchanges table start past) ≡ Some x → (leader == id) ≡ false →
@@ -309,17 +315,17 @@ NobodyLeadsOnWhereNoneMay = (table : Table) (start : StoreAtStart) (first leader
 
 -- Over a table whose waits have no end, as those of the versions before the fourth, nobody leads on: who waits does so
 -- for one leader, until that has ended or, if it comes, its time.
-abbrev pub OneLeadsAloneWhereWaitsHaveNoEnd : Type 0
-OneLeadsAloneWhereWaitsHaveNoEnd = (table : Table) →
+abbrev pub NoWaiterLeadsWhereWaitsAreUnlimited : Type 0
+NoWaiterLeadsWhereWaitsAreUnlimited = (table : Table) →
     ((line : ℕ) → is_some (wait_timeout_of table.lines line) ≡ false) →
     ((id : ℕ) (xs : List Exchange) → exchanges_after_abandon table id xs ≡ exchanges_after_close id xs)
     × ((start : StoreAtStart) (id leader : ℕ) (items past : List Item) →
     leader_of_waiter table start id leader items past
-    ≡ cond (exchange_has_closed leader items || was_overdue id items) None (Some leader))
+    ≡ cond (exchange_has_closed leader items || request_wait_timed_out id items) None (Some leader))
 
 -- the time is over of one that waits for the answer to another, and of no other
-abbrev pub TimeIsOverExactlyOfWhoWaits : Type 0
-TimeIsOverExactlyOfWhoWaits = (table : Table) (start : StoreAtStart) (first id : ℕ) (trace : List Item)
+abbrev pub TimeoutHappensExactlyToWaiters : Type 0
+TimeoutHappensExactlyToWaiters = (table : Table) (start : StoreAtStart) (first id : ℕ) (trace : List Item)
     → IsGoodHistory table start first trace →
     (step_fault (open_exchanges table start trace) (Overdue id) ≡ None
     → ExchangeIsWaiting id (open_exchanges table start trace))
@@ -328,35 +334,35 @@ TimeIsOverExactlyOfWhoWaits = (table : Table) (start : StoreAtStart) (first id :
 
 -- Then it may be woken, and nothing else has changed: no other exchange, whether it waits or leads, and nothing that is
 -- held. Nothing is sent yet.
-pub record OnlyThatOneWaitsNoMore (table : Table) (start : StoreAtStart) (id : ℕ) (item : Item)
+pub record TimeoutReleasesOnlyThatWaiter (table : Table) (start : StoreAtStart) (id : ℕ) (item : Item)
     (past : List Item) : Type 0 where
   pub outcome_is : item.outcome ≡ WaitsNoMore
   pub may_be_woken : ExchangeMayBeWoken id (open_exchanges table start (item ∷ past))
   pub others_stay : (other : ℕ) → (id == other) ≡ false →
       find_exchange other (open_exchanges table start (item ∷ past))
       ≡ find_exchange other (open_exchanges table start past)
-  pub held_stays : held_entries table start (item ∷ past) ≡ held_entries table start past
+  pub held_responses_are_unchanged : held_entries table start (item ∷ past) ≡ held_entries table start past
 
 abbrev pub OverdueRequestMayBeWoken : Type 0
 OverdueRequestMayBeWoken = (table : Table) (start : StoreAtStart) (first id : ℕ) (item : Item) (past : List Item)
     → IsGoodHistory table start first (item ∷ past) →
-    item.event ≡ Overdue id → OnlyThatOneWaitsNoMore table start id item past
+    item.event ≡ Overdue id → TimeoutReleasesOnlyThatWaiter table start id item past
 
 -- those that may be woken stand in the order of arrival, so the first of them arrived first
 abbrev pub ReleasedAreInOrderOfArrival : Type 0
 ReleasedAreInOrderOfArrival = (table : Table) (start : StoreAtStart) (first : ℕ) (trace : List Item)
     → IsGoodHistory table start first trace →
-    IdsAreInOrderOfArrival (ready_ids (open_exchanges table start trace)) trace
+    IdsAreInOrderOfArrival (wakeable_ids (open_exchanges table start trace)) trace
 
 -- a wake is accepted exactly of those, at a moment that can be told
 abbrev pub WakeIsAcceptedExactlyWhereReady : Type 0
 WakeIsAcceptedExactlyWhereReady =
     (table : Table) (start : StoreAtStart) (first now id : ℕ) (trace : List Item)
     → IsGoodHistory table start first trace →
-    ((serial_is_in id (ready_ids (open_exchanges table start trace)) ≡ true)
+    ((serial_is_in id (wakeable_ids (open_exchanges table start trace)) ≡ true)
     → step_fault (open_exchanges table start trace) (Wake now id) ≡ moment_too_late_fault now)
     × (step_fault (open_exchanges table start trace) (Wake now id) ≡ None
-    → serial_is_in id (ready_ids (open_exchanges table start trace)) ≡ true)
+    → serial_is_in id (wakeable_ids (open_exchanges table start trace)) ≡ true)
 
 -- What it gets is decided anew over what is held then: a stored response that may be reused, or it
 -- goes forward by the least rule against that. It doesn't wait again.

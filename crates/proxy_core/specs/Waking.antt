@@ -13,11 +13,11 @@ use Rattle.proxy_core.specs.Pending.{outcome_of_pending_reply, ChangeStoresNothi
 
 -- a reply that sends what is held, or the rule, what it names, the conditions and the bytes with which the request goes
 -- forward
-abbrev pub IsPreparedForWake : Table → List Stored → ℕ → Exchange → Decision → AfterWake → Type 0
-IsPreparedForWake table es now x (decision.Hit serial) (Ends p) =
+abbrev pub AfterWakeMatchesDecision : Table → List Stored → ℕ → Exchange → Decision → AfterWake → Type 0
+AfterWakeMatchesDecision table es now x (decision.Hit serial) (Ends p) =
     (outcome_of_pending_reply p ≡ outcome_of_wake table es now x (decision.Hit serial)) × ChangeStoresNothing p.change
-IsPreparedForWake table es now x (decision.Forward rule against) (GoesOut q named condition bytes) =
+AfterWakeMatchesDecision table es now x (decision.Forward rule against) (GoesOut q named condition bytes) =
     (q ≡ rule) × (named ≡ against) × (condition ≡ condition_about_serial es against)
     × (bytes ≡ forward_text table x.line x.asked (condition_about_serial es against))
-IsPreparedForWake table es now x (decision.Hit serial) (GoesOut q named condition bytes) = ⊥
-IsPreparedForWake table es now x (decision.Forward rule against) (Ends p) = ⊥
+AfterWakeMatchesDecision table es now x (decision.Hit serial) (GoesOut q named condition bytes) = ⊥
+AfterWakeMatchesDecision table es now x (decision.Forward rule against) (Ends p) = ⊥

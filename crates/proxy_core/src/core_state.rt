@@ -6,12 +6,12 @@ ghost use Rattle.hx_framing.specs.declared.messages.Response.{Response};
 ghost use Rattle.hx_status.specs.declared.cause.FailKind.{FailKind};
 ghost use Rattle.proxy_core.specs.Moments.{moment_too_late_fault};
 ghost use Rattle.proxy_core.specs.Waiting.{ExchangeMayBeWoken};
-ghost use Rattle.proxy_core.specs.Leading.{ready_ids};
+ghost use Rattle.proxy_core.specs.Leading.{wakeable_ids};
 ghost use Rattle.proxy_core.specs.Outcomes.{find_exchange, step_fault, fault_if_not_forwarded, fault_if_not_released};
 ghost use Rattle.proxy_core.specs.Outcomes.{fault_at_moment, fault_if_not_waiting};
 ghost use Rattle.proxy_core.specs.declared.event.Event.TheVariants.{Abandon, Answer, Fail, Overdue, Wake};
 ghost use Rattle.proxy_core.specs.State.{State, StepIsAccepted, StepIsRefusedWith, bounds_of};
-ghost use Rattle.proxy_core.specs.Starts.{StartStands};
+ghost use Rattle.proxy_core.specs.Starts.{StartIsValid};
 ghost use Rattle.proxy_core.specs.Traces.{initial_state};
 
 use crate::core_fault::CoreFault;
@@ -111,7 +111,7 @@ impl<S: Shelf> Core<S> {
     /// A core over a shelf of the configured capacity that holds what a store held before: no serial twice, each below
     /// `first_serial`, from which the serials go on, and within the bounds of the shelf and of the table's `max_store`.
     pub fn with_store(alloc: Global, config: Config, shelf: S, first_serial: u64) -> Self
-        requires { StartStands (bounds_of config (S.limit shelf)) (Some first_serial) (S.entries shelf) }
+        requires { StartIsValid (bounds_of config (S.limit shelf)) (Some first_serial) (S.entries shelf) }
         ensures { result
             ≡ initial_state config (record { limit = S.limit shelf; entries = S.entries shelf }) first_serial }
     {
@@ -162,17 +162,17 @@ impl<S: Shelf> Core<S> {
 
     /// The exchanges that waited and may be woken, in the order of arrival. Fails only where memory runs out.
     pub fn ready(&self, alloc: Global) -> Result<Ids, AllocError>
-        ensures { IfOk result (λ ids. ids ≡ ready_ids self.now.exchanges) }
+        ensures { IfOk result (λ ids. ids ≡ wakeable_ids self.now.exchanges) }
     {
         self.exchanges.ready(alloc)
     }
 
     /// The first exchange that waited and may be woken. Nothing is allocated.
-    pub fn first_ready(&self) -> Option<u64>
-        ensures value { result ≡ slice_get (ready_ids self.now.exchanges) 0 }
+    pub fn first_wakeable(&self) -> Option<u64>
+        ensures value { result ≡ slice_get (wakeable_ids self.now.exchanges) 0 }
         ensures ready { IfSome result (λ id. ExchangeMayBeWoken id self.now.exchanges) }
     {
-        self.exchanges.first_ready()
+        self.exchanges.first_wakeable()
     }
 
     /// The open exchange of an id, for an event at a moment; else the first fault against any.

@@ -2,46 +2,51 @@
 
 ghost use Rattle.proxy_core.specs.TraceMeaning.{ExchangeIsOpenFromArrivalToEnd, ExchangeOpensByArrivalAlone};
 ghost use Rattle.proxy_core.specs.TraceMeaning.{OpenExchangeHasItsRequest, OpenExchangeKeepsItsRule};
-ghost use Rattle.proxy_core.specs.TraceMeaning.{ExchangeIsOvertakenWhereInvalidated, NextSerialIsCounted};
+ghost use Rattle.proxy_core.specs.TraceMeaning.{ExchangeIsOvertakenWhereInvalidated, NextSerialIsFirstPlusStoredCount};
 ghost use Rattle.proxy_core.specs.TraceMeaning.{StoredResponseHasTheNextSerial, EventsDetermineTheTrace};
-ghost use Rattle.proxy_core.specs.TraceMeaning.{IsGoodOverHeldAndOverList, IsGoodOverTheCoresList};
+ghost use Rattle.proxy_core.specs.TraceMeaning.{GoodOverSerialsIffGoodOverStoreList, TraceIsGoodOverStoreList};
 ghost use Rattle.proxy_core.specs.TraceMeaning.{CoreKeepsTheHeldResponses, CoreKeepsTheOpenExchanges};
 ghost use Rattle.proxy_core.specs.TraceMeaning.{CoreKeepsTheNextSerial};
-ghost use Rattle.proxy_core.specs.Bounds.{HeldByNumberAlone, HeldIsWithinTheBounds, StoreChangesAreThose};
-ghost use Rattle.proxy_core.specs.Bounds.{StoredIsHeld, StoredWeighsNoMoreThanTheStore};
-ghost use Rattle.proxy_core.specs.Carrying.{OpenExchangeCarriesItsArrival, ExchangesAreOpenInOrderOfArrival};
-ghost use Rattle.proxy_core.specs.Driving.{PromisesOfADrivenCore};
+ghost use Rattle.proxy_core.specs.Bounds.{WithoutByteBoundHeldIsByNumber, HeldResponsesAreWithinTheBounds};
+ghost use Rattle.proxy_core.specs.Bounds.{StoreChangesFollowFromOutcomes};
+ghost use Rattle.proxy_core.specs.Bounds.{StoredResponseIsHeldIfRoom, StoredWeighsNoMoreThanTheStore};
+ghost use Rattle.proxy_core.specs.Carrying.{OpenExchangeRecordsHowItWasJudged, ExchangesAreOpenInOrderOfArrival};
+ghost use Rattle.proxy_core.specs.Driving.{EachDrivenCoreKeepsThePromises};
 ghost use Rattle.proxy_core.specs.Headline.{EveryGoodTraceHasTheHeadline, NoOtherTraceHasTheHeadline};
-ghost use Rattle.proxy_core.specs.FilledRanges.{RangeGoesForwardAsTheWhole, NoRangeGoesForward};
-ghost use Rattle.proxy_core.specs.FilledRanges.{FilledRangeLeadsAsTheWhole, AnswerIsCutAsWhatIsHeld, PartOfAnswerIsCut};
-ghost use Rattle.proxy_core.specs.FilledRanges.{UnsatisfiableAnswerIsTold, OnlyA200IsCut, AnotherIfRangeGetsTheWhole};
-ghost use Rattle.proxy_core.specs.FilledRanges.{AnswerIsSentWholeUnlessFilled, TheWholeIsStored};
-ghost use Rattle.proxy_core.specs.KeptConditions.{FalseConditionIsAnswered304, OtherConditionIsAnswered};
-ghost use Rattle.proxy_core.specs.KeptConditions.{NoClientsConditionGoesForward, LeadsAsOneWithoutConditions};
-ghost use Rattle.proxy_core.specs.KeptConditions.{EachUnasked304IsAFailure};
-ghost use Rattle.proxy_core.specs.Naming.{EachOtherAnswerNamesTheFirstRule};
-ghost use Rattle.proxy_core.specs.RangeReplies.{ConditionsComeFirst, ForwardedRangesChangeNothing};
-ghost use Rattle.proxy_core.specs.RangeReplies.{WithoutARangeAllIsSent, PartIsCutFromTheWhole, UnsatisfiableIsTold};
-ghost use Rattle.proxy_core.specs.Restarts.{OneTraceIsThose, ThatIsWhatIsLeft, ThoseAreOneTrace};
+ghost use Rattle.proxy_core.specs.FilledRanges.{FilledRangeIsForwardedAsTheWhole, FilledRangeForwardsNoRangeField};
+ghost use Rattle.proxy_core.specs.FilledRanges.{FilledRangeLeadsLikeTheWhole, AnswerIsCutLikeAStoredResponse};
+ghost use Rattle.proxy_core.specs.FilledRanges.{PartialAnswerHasRangeBytes};
+ghost use Rattle.proxy_core.specs.FilledRanges.{UnsatisfiableRangeOfAnswerGets416, OnlyA200AnswerIsCutToTheRange};
+ghost use Rattle.proxy_core.specs.FilledRanges.{IfRangeMismatchGetsWholeAnswer};
+ghost use Rattle.proxy_core.specs.FilledRanges.{AnswerIsWholeUnlessRangeIsFilled, WholeAnswerIsStored};
+ghost use Rattle.proxy_core.specs.KeptConditions.{FalseConditionGetsA304, TrueOrNoConditionGetsTheAnswer};
+ghost use Rattle.proxy_core.specs.KeptConditions.{NoClientsConditionGoesForward, WithheldConditionLeadsLikeNone};
+ghost use Rattle.proxy_core.specs.KeptConditions.{Unrequested304IsAnOriginFailure};
+ghost use Rattle.proxy_core.specs.Naming.{EachAnswerNotFromStoreNamesFirstRule};
+ghost use Rattle.proxy_core.specs.RangeReplies.{ConditionIsJudgedBeforeRange, LineForwardingRangesSendsWhole};
+ghost use Rattle.proxy_core.specs.RangeReplies.{RequestWithoutSingleRangeGetsWhole, StoredPartialReplyHasRangeBytes};
+ghost use Rattle.proxy_core.specs.RangeReplies.{UnsatisfiableRangeOfStoredGets416};
+ghost use Rattle.proxy_core.specs.Restarts.{TraceSplitsAtARestart, RestartedTraceLeavesSameState};
+ghost use Rattle.proxy_core.specs.Restarts.{TracesAroundARestartJoin};
 ghost use Rattle.proxy_core.specs.Sending.{StoredResponseIsSentWhereItMayBe, StoredResponseIsSentNowhereElse};
-ghost use Rattle.proxy_core.specs.Sending.{SendsWhatIsHeld};
+ghost use Rattle.proxy_core.specs.Sending.{SentReplyIsTheHeldResponse};
 ghost use Rattle.proxy_core.specs.Sending.{RequestIsForwardedWhereAllowed, RequestIsForwardedNowhereElse};
 ghost use Rattle.proxy_core.specs.Sending.{AllowedRequestReachesCacheOrOrigin};
-ghost use Rattle.proxy_core.specs.Sending.{OtherRequestIsRefused, PurgeTakesItsScopeAway};
-ghost use Rattle.proxy_core.specs.Waiting.{RequestWaitsWhereOneLeads, RequestWaitsNowhereElse};
-ghost use Rattle.proxy_core.specs.Waiting.{OnlyOneGoesForwardForKey};
-ghost use Rattle.proxy_core.specs.Waiting.{RequestWaitsUntilItsLeaderEndsOrItsTime};
-ghost use Rattle.proxy_core.specs.Waiting.{RequestIsWokenOnceBehindItsLeaderOrItsTime, TimeIsOverExactlyOfWhoWaits};
-ghost use Rattle.proxy_core.specs.Waiting.{OverdueRequestMayBeWoken, FirstThatWaitsLeadsOn};
-ghost use Rattle.proxy_core.specs.Waiting.{NobodyLeadsOnWhereNoneMay, OneLeadsAloneWhereWaitsHaveNoEnd};
+ghost use Rattle.proxy_core.specs.Sending.{RequestNotAllowedIsRefused, PurgeRemovesOrExpiresItsScope};
+ghost use Rattle.proxy_core.specs.Waiting.{RequestWaitsWhereALeaderIsOpen, RequestWaitsNowhereElse};
+ghost use Rattle.proxy_core.specs.Waiting.{OnlyOneGetPerKeyGoesForward};
+ghost use Rattle.proxy_core.specs.Waiting.{RequestWaitsUntilLeaderEndsOrTimeout};
+ghost use Rattle.proxy_core.specs.Waiting.{RequestIsWokenOnceAfterLeaderOrTimeout, TimeoutHappensExactlyToWaiters};
+ghost use Rattle.proxy_core.specs.Waiting.{OverdueRequestMayBeWoken, FirstWaiterBecomesLeader};
+ghost use Rattle.proxy_core.specs.Waiting.{NoWaiterLeadsWhereNoneMay, NoWaiterLeadsWhereWaitsAreUnlimited};
 ghost use Rattle.proxy_core.specs.Waiting.{ReleasedAreInOrderOfArrival};
 ghost use Rattle.proxy_core.specs.Waiting.{WakeIsAcceptedExactlyWhereReady, WokenRequestIsJudgedAnew};
-ghost use Rattle.proxy_core.specs.Waiting.{PlainLinesWaitForMisses};
-ghost use Rattle.proxy_core.specs.Awaiting.{WhoWaitedIsKeptBackByTheAnswerAlone};
-ghost use Rattle.proxy_core.specs.StoredAnswers.{ItemRemovesExactlyThese, ItemPurgesWhereItsLineSaysSo};
-ghost use Rattle.proxy_core.specs.StoredAnswers.{ItemExpiresExactlyThese, NothingElseIsStored};
-ghost use Rattle.proxy_core.specs.StoredAnswers.{AnswerIsStoredWhereItMayBe, FreshenedIsKeptWhereItMayBe};
-ghost use Rattle.proxy_core.specs.StoredAnswers.{NothingElseIsKept};
+ghost use Rattle.proxy_core.specs.Waiting.{LineWithoutWaitWaitsForMissesOnly};
+ghost use Rattle.proxy_core.specs.Awaiting.{WaiterIsServedUnlessTheResponseForbids};
+ghost use Rattle.proxy_core.specs.StoredAnswers.{ItemRemovesExactlyWhatItMust, ItemPurgesWhereItsRequestPurges};
+ghost use Rattle.proxy_core.specs.StoredAnswers.{ItemExpiresExactlyWhatItMust, NothingElseIsStored};
+ghost use Rattle.proxy_core.specs.StoredAnswers.{AnswerIsStoredWhereItMayBe, FreshenedIsKeptWhereAllowed};
+ghost use Rattle.proxy_core.specs.StoredAnswers.{NothingElseFreshenedIsKept};
 ghost use Rattle.proxy_core.specs.Uncached.{NothingIsStoredOverUncachedLine, NothingStoredIsSentOverUncachedLine};
 ghost use Rattle.proxy_core.specs.Uncached.{RequestGoesForwardOverUncachedLine};
 
@@ -59,7 +64,7 @@ mod range_cases;
 mod tag_cases;
 mod worked_cases;
 
-pub use about_cases::a_reply_says_what_it_is;
+pub use about_cases::a_reply_shows_its_status_and_cache_status;
 pub use bound_cases::{
     worked_answers_too_large_for_the_store, worked_store_at_the_start,
     worked_store_bounded_by_bytes, worked_weights_of_answers,
@@ -67,11 +72,11 @@ pub use bound_cases::{
 pub use cookie_cases::{worked_cookies_that_are_sent, worked_cookies_that_are_stored};
 pub use event_cases::{worked_counts_of_traces, worked_kinds_of_events, worked_kinds_of_outcomes};
 pub use headline_cases::{
-    the_headline_refuses_no_answer, the_headline_refuses_other_names,
-    the_headline_refuses_other_requests, the_headline_refuses_other_waits,
-    the_headline_refuses_what_is_told_otherwise, the_headline_refuses_what_may_not_be_sent,
-    the_headline_refuses_what_never_comes, the_headline_refuses_what_the_table_forbids,
-    the_headline_refuses_wrong_purges, the_headline_refuses_wrong_storing,
+    the_headline_refuses_altered_requests, the_headline_refuses_impossible_events,
+    the_headline_refuses_missing_answers, the_headline_refuses_what_may_not_be_sent,
+    the_headline_refuses_what_the_table_forbids, the_headline_refuses_wrong_purges,
+    the_headline_refuses_wrong_reports, the_headline_refuses_wrong_rule_names,
+    the_headline_refuses_wrong_storing, the_headline_refuses_wrong_waits,
 };
 pub use leader_cases::{
     at_most_512_follow_the_next_leader, worked_followers_of_the_next_leader, worked_next_leaders,
@@ -79,26 +84,28 @@ pub use leader_cases::{
 pub use promise_cases::{
     a_denied_request_leaves_no_trace, an_exchange_goes_twice_and_replies_once,
     no_run_stops_without_a_fault, sending_what_is_invalidated_is_refused,
-    what_a_purge_with_a_tag_invalidates, what_goes_forward_is_the_request,
+    worked_invalidations_by_tag, worked_requests_that_go_forward,
 };
 pub use purge_cases::{
-    a_purge_takes_what_is_within_its_scope, what_a_purge_takes, what_a_purge_with_a_tag_takes,
+    a_purge_takes_what_is_within_its_scope, worked_purge_scopes, worked_purges_with_a_tag,
 };
 pub use purged_cases::worked_ttl_after_a_purge;
 pub use range_cases::{worked_parts_of_answers, worked_ranges_that_lead};
-pub use tag_cases::{tags_stay_with_the_proxy, worked_tags_of_parts, worked_tags_that_are_hidden};
+pub use tag_cases::{
+    hidden_tags_are_never_sent, worked_tags_of_parts, worked_tags_that_are_hidden,
+};
 pub use worked_cases::{
-    statuses_of_errors, what_is_sent_after_a_failure, which_304_was_asked_for,
-    which_answers_are_stored, worked_invalidating_answers, worked_leaders_for_stale_responses,
-    worked_leaders_of_requests, worked_open_exchanges_after_a_step, worked_outcomes_of_answers,
-    worked_outcomes_of_arrivals, worked_passed_answers, worked_requests_that_do_not_wait,
-    worked_step_faults_and_serials, worked_stored_replies, worked_stored_responses,
+    worked_304_asked_for, worked_error_statuses, worked_fallbacks_after_failure,
+    worked_invalidating_answers, worked_leaders_for_stale_responses, worked_leaders_of_requests,
+    worked_open_exchanges_after_a_step, worked_outcomes_of_answers, worked_outcomes_of_arrivals,
+    worked_passed_answers, worked_requests_that_do_not_wait, worked_step_faults_and_serials,
+    worked_storable_answers, worked_stored_replies, worked_stored_responses,
     worked_stored_responses_after_a_304, worked_stored_responses_after_a_step,
 };
 
 /// After a good trace an exchange is open from its arrival to its end and not else, with the
 /// request and the rule of its arrival.
-pub fn open_from_arrival_to_end()
+pub fn exchanges_are_open_from_arrival_to_end()
     ensures ends { ExchangeIsOpenFromArrivalToEnd }
     ensures alone { ExchangeOpensByArrivalAlone }
     ensures request { OpenExchangeHasItsRequest }
@@ -108,32 +115,32 @@ pub fn open_from_arrival_to_end()
 /// After a good trace an open exchange goes to the line that allows its request, names the least
 /// rule that stood at its arrival, or when it was woken, and has the conditions and the moment with
 /// which it went forward last. Open exchanges stand in the order of arrival.
-pub fn an_open_exchange_carries_its_arrival()
-    ensures carries { OpenExchangeCarriesItsArrival }
+pub fn an_open_exchange_records_how_it_was_judged()
+    ensures carries { OpenExchangeRecordsHowItWasJudged }
     ensures order { ExchangesAreOpenInOrderOfArrival }
 {}
 
 /// After a good trace an open exchange is overtaken exactly where its key was invalidated since it last went forward.
-pub fn overtaken_where_invalidated()
+pub fn exchanges_are_overtaken_where_invalidated()
     ensures { ExchangeIsOvertakenWhereInvalidated }
 {}
 
 /// After a good trace the next serial is the first plus the number stored, and what is stored has it.
 pub fn serials_are_counted()
-    ensures next { NextSerialIsCounted }
+    ensures next { NextSerialIsFirstPlusStoredCount }
     ensures stored { StoredResponseHasTheNextSerial }
 {}
 
 /// Two good traces of the same events have the same outcomes.
-pub fn a_good_trace_leaves_no_choice()
+pub fn events_determine_the_good_trace()
     ensures { EventsDetermineTheTrace }
 {}
 
 /// The list that a core keeps has exactly what is held by the count over its history, so a trace is good over the one
 /// where it is good over the other.
-pub fn a_core_keeps_what_is_held()
-    ensures held { IsGoodOverHeldAndOverList }
-    ensures listed { IsGoodOverTheCoresList }
+pub fn a_cores_entries_are_the_held_responses()
+    ensures held { GoodOverSerialsIffGoodOverStoreList }
+    ensures listed { TraceIsGoodOverStoreList }
     ensures entries { CoreKeepsTheHeldResponses }
     ensures exchanges { CoreKeepsTheOpenExchanges }
     ensures next { CoreKeepsTheNextSerial }
@@ -141,12 +148,12 @@ pub fn a_core_keeps_what_is_held()
 
 /// What is held is within both bounds of the store at each moment. What is stored weighs no more than the store may,
 /// and is held after the item that stores it. Where the table bounds no bytes, what is held is what is held by number.
-pub fn what_is_held_is_within_the_bounds()
-    ensures within { HeldIsWithinTheBounds }
-    ensures stored { StoredIsHeld }
+pub fn held_responses_are_within_the_bounds()
+    ensures within { HeldResponsesAreWithinTheBounds }
+    ensures stored { StoredResponseIsHeldIfRoom }
     ensures weighs { StoredWeighsNoMoreThanTheStore }
-    ensures by_number { HeldByNumberAlone }
-    ensures changes { StoreChangesAreThose }
+    ensures by_number { WithoutByteBoundHeldIsByNumber }
+    ensures changes { StoreChangesFollowFromOutcomes }
 {}
 
 /// In a good trace a request goes to the origin of a line exactly where the table allows it by that line, a rule stands
@@ -160,8 +167,8 @@ pub fn a_request_goes_forward_where_it_is_allowed()
 /// purges: then what is held within its scope goes. Any other is refused.
 pub fn a_request_reaches_cache_or_origin_where_it_is_allowed()
     ensures allowed { AllowedRequestReachesCacheOrOrigin }
-    ensures refused { OtherRequestIsRefused }
-    ensures purged { PurgeTakesItsScopeAway }
+    ensures refused { RequestNotAllowedIsRefused }
+    ensures purged { PurgeRemovesOrExpiresItsScope }
 {}
 
 /// In a good trace a stored response is sent exactly where one is held that RFC 9111, section 4
@@ -170,7 +177,7 @@ pub fn a_request_reaches_cache_or_origin_where_it_is_allowed()
 pub fn a_stored_response_is_sent_where_one_may_be()
     ensures every { StoredResponseIsSentWhereItMayBe }
     ensures only { StoredResponseIsSentNowhereElse }
-    ensures itself { SendsWhatIsHeld }
+    ensures itself { SentReplyIsTheHeldResponse }
 {}
 
 /// Where a stored response is sent to a request for a range, over a line that doesn't forward ranges, its part has just
@@ -178,18 +185,18 @@ pub fn a_stored_response_is_sent_where_one_may_be()
 /// A condition that is false comes first. Over another line, and without a range, the whole is sent (RFC 9110, sections
 /// 13.2.2 and 14.2).
 pub fn a_part_is_cut_from_the_whole()
-    ensures conditions { ConditionsComeFirst }
-    ensures forwarded { ForwardedRangesChangeNothing }
-    ensures whole { WithoutARangeAllIsSent }
-    ensures part { PartIsCutFromTheWhole }
-    ensures unsatisfiable { UnsatisfiableIsTold }
+    ensures conditions { ConditionIsJudgedBeforeRange }
+    ensures forwarded { LineForwardingRangesSendsWhole }
+    ensures whole { RequestWithoutSingleRangeGetsWhole }
+    ensures part { StoredPartialReplyHasRangeBytes }
+    ensures unsatisfiable { UnsatisfiableRangeOfStoredGets416 }
 {}
 
 /// In a good trace each answer that isn't a stored response names the first rule against one: the
 /// line of the table, the least reuse rule that stands now with the least error rule, or where the
 /// answer is passed on the least that stood at the arrival, or when the request was woken.
 pub fn each_answer_names_its_first_rule()
-    ensures { EachOtherAnswerNamesTheFirstRule }
+    ensures { EachAnswerNotFromStoreNamesFirstRule }
 {}
 
 /// In a good trace nothing that goes over a line without cache is stored, and no request over it is
@@ -207,23 +214,23 @@ pub fn a_line_without_cache_touches_no_stored_response()
 /// arrived is at the origin, none that could be sent its answer goes there too. One that another rule
 /// sends forward, as a GET with Range, doesn't wait.
 pub fn requests_for_one_target_wait_for_the_first()
-    ensures waits { RequestWaitsWhereOneLeads }
+    ensures waits { RequestWaitsWhereALeaderIsOpen }
     ensures only { RequestWaitsNowhereElse }
-    ensures one { OnlyOneGoesForwardForKey }
+    ensures one { OnlyOneGetPerKeyGoesForward }
 {}
 
 /// Over a line that doesn't let them wait for what is stale, GETs wait where nothing is held for
 /// their key, and nowhere else; for any that went forward for that.
-pub fn a_plain_line_waits_for_what_is_missing_alone()
-    ensures { PlainLinesWaitForMisses }
+pub fn a_line_without_wait_waits_for_misses()
+    ensures { LineWithoutWaitWaitsForMissesOnly }
 {}
 
 /// Over a line that lets requests wait for what is stale, one that could be sent the answer to
 /// another is sent a response that is held for its key, or a rule keeps it back that looks at the
 /// response: whatever is held by then, and whenever that is. Nothing of its own keeps it back, so
 /// nobody waits for what could not be sent to it.
-pub fn who_waited_is_kept_back_by_the_answer_alone()
-    ensures { WhoWaitedIsKeptBackByTheAnswerAlone }
+pub fn a_waiter_is_served_unless_the_response_forbids()
+    ensures { WaiterIsServedUnlessTheResponseForbids }
 {}
 
 /// In a good trace a request that waits does so for one exchange that leads, and where the client of that one goes away
@@ -231,8 +238,8 @@ pub fn who_waited_is_kept_back_by_the_answer_alone()
 /// to wait is over. From then on it may be woken, once; those that may be woken stand in the order of arrival. What a
 /// woken one gets is decided anew, and it doesn't wait again.
 pub fn a_waiting_request_is_woken_once_after_its_leader()
-    ensures waits { RequestWaitsUntilItsLeaderEndsOrItsTime }
-    ensures once { RequestIsWokenOnceBehindItsLeaderOrItsTime }
+    ensures waits { RequestWaitsUntilLeaderEndsOrTimeout }
+    ensures once { RequestIsWokenOnceAfterLeaderOrTimeout }
     ensures order { ReleasedAreInOrderOfArrival }
     ensures ready { WakeIsAcceptedExactlyWhereReady }
     ensures anew { WokenRequestIsJudgedAnew }
@@ -243,15 +250,15 @@ pub fn a_waiting_request_is_woken_once_after_its_leader()
 /// exactly where it could be sent its answer, and else may be woken, too. Where none may lead on all may be woken, and
 /// who waited for another exchange, or for none, stays as it was. Over a table whose waits have no end nobody leads on.
 pub fn the_first_that_waits_leads_on()
-    ensures leads { FirstThatWaitsLeadsOn }
-    ensures nobody { NobodyLeadsOnWhereNoneMay }
-    ensures alone { OneLeadsAloneWhereWaitsHaveNoEnd }
+    ensures leads { FirstWaiterBecomesLeader }
+    ensures nobody { NoWaiterLeadsWhereNoneMay }
+    ensures alone { NoWaiterLeadsWhereWaitsAreUnlimited }
 {}
 
 /// In a good trace the time to wait is over of a request that waits for the answer to another, and of no other. Then it
 /// may be woken, and nothing else has changed: who waits beside it waits on, and nothing is sent yet.
 pub fn an_overdue_request_may_be_woken()
-    ensures waits { TimeIsOverExactlyOfWhoWaits }
+    ensures waits { TimeoutHappensExactlyToWaiters }
     ensures released { OverdueRequestMayBeWoken }
 {}
 
@@ -263,16 +270,16 @@ pub fn an_overdue_request_may_be_woken()
 pub fn an_answer_is_stored_where_it_may_be()
     ensures every { AnswerIsStoredWhereItMayBe }
     ensures only { NothingElseIsStored }
-    ensures removed { ItemRemovesExactlyThese }
-    ensures purges { ItemPurgesWhereItsLineSaysSo }
-    ensures expired { ItemExpiresExactlyThese }
+    ensures removed { ItemRemovesExactlyWhatItMust }
+    ensures purges { ItemPurgesWhereItsRequestPurges }
+    ensures expired { ItemExpiresExactlyWhatItMust }
 {}
 
 /// What a 304 makes of a held response is kept exactly where a response with its lines could be
 /// stored (RFC 9111, sections 3 and 4.3.4), with the choices that the definition marks *own*.
-pub fn what_a_304_freshens_is_kept_where_it_may_be()
-    ensures every { FreshenedIsKeptWhereItMayBe }
-    ensures only { NothingElseIsKept }
+pub fn a_freshened_response_is_kept_where_allowed()
+    ensures every { FreshenedIsKeptWhereAllowed }
+    ensures only { NothingElseFreshenedIsKept }
 {}
 
 /// No trace but a good one has the headline, where each answer of an origin has a final status: the
@@ -288,45 +295,45 @@ pub fn every_good_trace_has_the_headline()
 
 /// A restart is no event: what went before it and left nothing open, and what came after it over what was held then,
 /// are together one trace with the headline. The other way round a trace is two where nothing is open.
-pub fn a_restart_is_no_event()
-    ensures one { ThoseAreOneTrace }
-    ensures two { OneTraceIsThose }
-    ensures left { ThatIsWhatIsLeft }
+pub fn a_restart_changes_no_outcome()
+    ensures one { TracesAroundARestartJoin }
+    ensures two { TraceSplitsAtARestart }
+    ensures left { RestartedTraceLeavesSameState }
 {}
 
 /// A client's own condition that stays with the proxy doesn't go forward, and in a good trace who set it is sent a 304
 /// in place of the answer exactly where the condition is false of it. Such a request leads others as one without
 /// conditions, and a 304 that comes to it unasked is a failure of its origin.
 pub fn a_kept_condition_is_judged_on_the_answer()
-    ensures is_false { FalseConditionIsAnswered304 }
-    ensures other { OtherConditionIsAnswered }
+    ensures is_false { FalseConditionGetsA304 }
+    ensures other { TrueOrNoConditionGetsTheAnswer }
     ensures forward { NoClientsConditionGoesForward }
-    ensures leads { LeadsAsOneWithoutConditions }
-    ensures unasked { EachUnasked304IsAFailure }
+    ensures leads { WithheldConditionLeadsLikeNone }
+    ensures unasked { Unrequested304IsAnOriginFailure }
 {}
 
 /// Over a line that fills ranges what goes to the origin for a range is, to the byte, what would go there for the
 /// whole, without Range and If-Range, and its answer may serve others as that to the whole.
 pub fn a_filled_range_goes_forward_as_the_whole()
-    ensures whole { RangeGoesForwardAsTheWhole }
-    ensures no_range { NoRangeGoesForward }
-    ensures leads { FilledRangeLeadsAsTheWhole }
+    ensures whole { FilledRangeIsForwardedAsTheWhole }
+    ensures no_range { FilledRangeForwardsNoRangeField }
+    ensures leads { FilledRangeLeadsLikeTheWhole }
 {}
 
 /// Of an answer to such a request its client is sent what it would be sent of a held response that is like the answer:
 /// the part that it asks for, or a 416; the whole where the answer isn't a 200, or where If-Range names another one.
 /// What is stored is the whole. To any other request an answer is passed on as it came.
 pub fn a_filled_range_is_cut_from_the_answer()
-    ensures as_held { AnswerIsCutAsWhatIsHeld }
-    ensures part { PartOfAnswerIsCut }
-    ensures unsatisfiable { UnsatisfiableAnswerIsTold }
-    ensures status { OnlyA200IsCut }
-    ensures if_range { AnotherIfRangeGetsTheWhole }
-    ensures others { AnswerIsSentWholeUnlessFilled }
-    ensures stored { TheWholeIsStored }
+    ensures as_held { AnswerIsCutLikeAStoredResponse }
+    ensures part { PartialAnswerHasRangeBytes }
+    ensures unsatisfiable { UnsatisfiableRangeOfAnswerGets416 }
+    ensures status { OnlyA200AnswerIsCutToTheRange }
+    ensures if_range { IfRangeMismatchGetsWholeAnswer }
+    ensures others { AnswerIsWholeUnlessRangeIsFilled }
+    ensures stored { WholeAnswerIsStored }
 {}
 
 /// Whoever drives a core by its public calls has gone through a good trace, with all that each good trace keeps.
 pub fn a_driven_core_keeps_the_promises()
-    ensures { PromisesOfADrivenCore }
+    ensures { EachDrivenCoreKeepsThePromises }
 {}

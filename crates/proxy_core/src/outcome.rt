@@ -1,10 +1,10 @@
 //! What a step gives.
 
 use crate::core_fault::CoreFault;
-use hx_allow::Route;
+use hx_allow::RequestRoute;
 use hx_fields::Bytes;
 use hx_hop::Asked;
-use hx_status::About;
+use hx_status::StatusAndReason;
 use hx_store::Serials;
 
 /// An answer to the client, with what the step did to the store.
@@ -15,7 +15,7 @@ pub struct Reply {
     /// Whether the connection closes behind it.
     pub close: bool,
     /// What it is: who counts or logs replies reads none of its bytes.
-    pub about: About,
+    pub about: StatusAndReason,
     /// The serial that was stored.
     pub stored: Option<u64>,
     /// The serial that was sent.
@@ -33,7 +33,7 @@ pub struct Reply {
 pub enum Outcome {
     Reply(Reply),
     /// A request for the origin of this line of the table.
-    Forward(Route, Bytes),
+    Forward(RequestRoute, Bytes),
     /// The request waits for the answer to the exchange of this id.
     Waits(u64),
     /// The exchange was abandoned.

@@ -2,8 +2,8 @@
 ghost use Rattle.std.specs.Prelude.{◌≡◌, ◌≤◌, [], length, MatchOption, slice_get, IfOk, IfErr, OnErr};
 ghost use Rattle.proxy_core.specs.State.{StepIsAccepted, StepIsRefusedWith};
 ghost use Rattle.proxy_core.specs.Starts.{empty_store};
-ghost use Rattle.proxy_core.specs.Traces.{trace_of};
-ghost use Rattle.proxy_core.specs.Histories.{IsGoodHistory, HistoryStopsAt, open_exchanges};
+ghost use Rattle.proxy_core.specs.Traces.{trace_of_events};
+ghost use Rattle.proxy_core.specs.Histories.{IsGoodHistory, HistoryStopsWithFault, open_exchanges};
 ghost use Rattle.proxy_core.specs.Headline.{Headline};
 
 use crate::core_fault::CoreFault;
@@ -46,13 +46,13 @@ pub fn run<S: Shelf + Drop>(
     requires { S.entries shelf ≡ [] }
     ensures within { length result.outcomes.items ≤ length events.now }
     ensures good { IsGoodHistory config (empty_store (S.limit shelf)) first_serial
-        (trace_of events.now result.outcomes.items) }
+        (trace_of_events events.now result.outcomes.items) }
     ensures stopped { MatchOption result.stopped (length result.outcomes.items ≡ length events.now)
-        (λ fault. HistoryStopsAt
-        (open_exchanges config (empty_store (S.limit shelf)) (trace_of events.now result.outcomes.items))
+        (λ fault. HistoryStopsWithFault
+        (open_exchanges config (empty_store (S.limit shelf)) (trace_of_events events.now result.outcomes.items))
         (slice_get events.now (length result.outcomes.items)) fault) }
     ensures headline { Headline config (empty_store (S.limit shelf)) first_serial
-        (trace_of events.now result.outcomes.items) }
+        (trace_of_events events.now result.outcomes.items) }
 {
     let mut core = Core::new(alloc, config, shelf, first_serial);
     let mut outcomes = Vec::new(alloc);

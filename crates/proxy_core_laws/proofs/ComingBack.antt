@@ -11,10 +11,10 @@ use Rattle.hx_fields.specs.Names.{is_same_name, is_nonempty}
 use Rattle.hx_policy.specs.declared.words.Policy.{Policy}
 use Rattle.hx_validate.proofs.Lines.{bytes_eq-refl}
 use Rattle.hx_hop.specs.declared.request_view.Asked.{Asked}
-use Rattle.hx_hop.specs.Forwarding.{client_lines, condition_lines, forwarded_of, host_text, line, via_text}
+use Rattle.hx_hop.specs.Forwarding.{forwarded_client_lines, condition_lines, forwarded_of, host_text, line, via_text}
 use Rattle.hx_allow.specs.Matching.{policy_of}
 use Rattle.hx_allow.specs.Tables.{is_name, is_name_byte}
-use Rattle.hx_allow.specs.Via.{times_named, times_named_in, is_via_byte, is_via_word, is_via_member, ViaMember}
+use Rattle.hx_allow.specs.Via.{times_in_via, times_in_via_line, is_via_byte, is_via_word, is_via_member, ViaMember}
 use Rattle.hx_allow.specs.declared.verdicts.Verdict.TheVariants as verdict
 use Rattle.hx_allow.proofs.Loops.{times_together}
 use Rattle.hx_allow.proofs.ViaWritten.{times_written}
@@ -25,7 +25,7 @@ use Rattle.proxy_core.specs.Allowing.{verdict_of_asked, came_back, exchanges_to_
 use Rattle.proxy_core.specs.Leading.{IsFirstLeader}
 use Rattle.proxy_core.specs.Histories.{open_exchanges}
 use Rattle.proxy_core.proofs.Waits.{waits_nowhere_else}
-use Rattle.proxy_core_laws.specs.ComingBack.{WhoCameBackWaitsForNobody, EachPassIsNamed}
+use Rattle.proxy_core_laws.specs.ComingBack.{LoopedRequestWaitsForNobody, EachForwardAddsOneVia}
 
 -- ---- waiting
 
@@ -34,9 +34,9 @@ none_of_none [] x behind e = cc
 none_of_none (y ∷ before) x behind e = cc
 
 nobody_leads : (policy : Policy) (awaited : Awaited) (asked : Asked) (l : ℕ) → IsFirstLeader policy awaited asked [] l → ⊥
-nobody_leads policy awaited asked l first = none_of_none first.before first.x first.behind first.open_are
+nobody_leads policy awaited asked l first = none_of_none first.before first.x first.behind first.open_exchanges_are
 
-pub who_came_back_waits_for_nobody : WhoCameBackWaitsForNobody
+pub who_came_back_waits_for_nobody : LoopedRequestWaitsForNobody
 who_came_back_waits_for_nobody table start first now id line l asked item past g arrives allowed back waits =
     let w = waits_nowhere_else table start first l item past g waits in
     let same : Arrive now id asked ≡ Arrive w.now w.id w.asked = sym arrives ∙ w.arrives in
@@ -87,29 +87,29 @@ module _ (name : List ℕ) (is : is_name name ≡ true) where
   own_member : List ℕ → ViaMember
   own_member protocol = record { before = []; protocol = protocol; between = codes " "; by = name; comment = None; after = [] }
 
-  named_once : (protocol : List ℕ) → is_via_member (own_member protocol) ≡ true → times_named_in name (protocol ++ (codes " " ++ name)) ≡ 1
+  named_once : (protocol : List ℕ) → is_via_member (own_member protocol) ≡ true → times_in_via_line name (protocol ++ (codes " " ++ name)) ≡ 1
   unfolding own_member
   named_once protocol valid =
       let same : is_same_name name name ≡ true = bytes_eq-refl (str_to_ascii_lowercase name) in
-      ap (λ by. times_named_in name (protocol ++ (codes " " ++ by))) (sym (append-nil name))
+      ap (λ by. times_in_via_line name (protocol ++ (codes " " ++ by))) (sym (append-nil name))
       ∙ times_written name (own_member protocol) [] (ap (λ b. b && true) valid)
       ∙ sum_by-cons (λ (m : ViaMember). cond (is_same_name m.by name) 1 0) (own_member protocol) []
       ∙ ap (λ b. cond b 1 0 + 0) same
 
-  own_via_names_it : (minor : ℕ) → times_named_in name (via_text minor name) ≡ 1
+  own_via_names_it : (minor : ℕ) → times_in_via_line name (via_text minor name) ≡ 1
   unfolding own_member
   own_via_names_it minor = by_version (minor == 0)
     where
-      by_version : (old : Bool) → times_named_in name (cond old (codes "1.0 ") (codes "1.1 ") ++ name) ≡ 1
+      by_version : (old : Bool) → times_in_via_line name (cond old (codes "1.0 ") (codes "1.1 ") ++ name) ≡ 1
       by_version true = named_once (codes "1.0") (and_two (is_via_word name) (name_is_word name is))
       by_version false = named_once (codes "1.1") (and_two (is_via_word name) (name_is_word name is))
 
-pub each_pass_is_named : EachPassIsNamed
+pub each_pass_is_named : EachForwardAddsOneVia
 unfolding forwarded_of
 each_pass_is_named keeps asked name conditions is =
-    let front = line (codes "Host") (host_text asked.target.key) ∷ (client_lines (keeps || is_some conditions) asked.fields ++ condition_lines conditions) in (
+    let front = line (codes "Host") (host_text asked.target.key) ∷ (forwarded_client_lines (keeps || is_some conditions) asked.fields ++ condition_lines conditions) in (
       front,
       refl,
       times_together name front (line (codes "Via") (via_text asked.minor name) ∷ [])
-          ∙ ap (λ n. times_named name front + (0 + n)) (own_via_names_it name is asked.minor),
+          ∙ ap (λ n. times_in_via name front + (0 + n)) (own_via_names_it name is asked.minor),
     )

@@ -15,7 +15,7 @@ use Rattle.hx_age.specs.declared.moments.Times.{Times}
 use Rattle.hx_store.specs.Stored.{Stored}
 use Rattle.hx_store.specs.Serials.{serial_is_in}
 use Rattle.hx_store.specs.Shelf.{find_entry, holds_serial, serials}
-use Rattle.hx_store.specs.Recency.{is_that_serial, stores_or_uses}
+use Rattle.hx_store.specs.Recency.{option_is_serial, stores_or_uses}
 use Rattle.hx_store.proofs.Recency.{is_in-after}
 use Rattle.hx_store.proofs.EntryLists.{find-serial, find_holds}
 use Rattle.hx_storable.specs.Rules.{storage_rule_of}
@@ -29,10 +29,10 @@ use Rattle.proxy_core.specs.declared.event.Event.TheVariants.{Arrive, Answer, Fa
 use Rattle.hx_status.specs.declared.cause.FailKind.TheVariants.{BadAnswer}
 use Rattle.proxy_core.specs.Histories.{IsGoodHistory, store_change_of, held_entries, held_entry, held_serials, next_serial, open_exchanges}
 use Rattle.proxy_core.specs.Moments.{moment_too_late_fault}
-use Rattle.proxy_core.specs.Outcomes.{outcome_of_failure, fallback_for, fault_at_exchange, find_exchange, exchange_id_of_event, is_error_status, fault_if_not_forwarded, outcome_of, outcome_of_passing_on_or_stale, outcome_of_304}
+use Rattle.proxy_core.specs.Outcomes.{outcome_of_failure, fallback_for_failed_answer, fault_at_exchange, find_exchange, exchange_id_of_event, is_error_status, fault_if_not_forwarded, outcome_for_exchange, outcome_of_passing_on_or_stale, outcome_of_304}
 use Rattle.proxy_core.specs.ReadAnswers.{EventIsReadFromAStream}
 use Rattle.proxy_core.specs.State.{serials_expired_by_outcome, serials_removed_by_outcome, stored_response_by_answer, serial_stored_by_outcome, stored_response_as_used, serial_used_by_outcome}
-use Rattle.proxy_core.specs.Starts.{StoreAtStart, EachHeldAtFirst}
+use Rattle.proxy_core.specs.Starts.{StoreAtStart, HoldsForEachResponseAtStart}
 use Rattle.proxy_core.specs.Storing.{is_304_without_condition, stored_response_made}
 use Rattle.proxy_core.specs.Traces.{Item, initial_state, state_after_trace}
 use Rattle.proxy_core.specs.Validating.{as_get_request, head_of_stored, stored_response_if_answered, stored_response_is_answered, condition_is_answered, freshened_may_be_kept, is_304_to_own_conditions, storing_facts_of_freshened, freshened_by_304, serial_asked_about, stored_response_validated}
@@ -41,13 +41,13 @@ use Rattle.proxy_core.proofs.HeldEntries.{EachIs-find, held_found}
 use Rattle.proxy_core.proofs.HeldLaw.{held_before_cut, entries_are_held, good_plain, stands_for}
 use Rattle.proxy_core.proofs.Leaving.{serial_stays, unanswered, validated_is}
 use Rattle.proxy_core.proofs.SentResponses.{sends_what_is_held}
-use Rattle.proxy_core_laws.specs.HeldHeads.{FreshenedHeadLeavesRoom, HeldHeadIsBounded, HeldHeadLeavesRoom, LeavesRoomOrIsAsStored, HeadIsBounded, FreshenedHeadIsBounded}
+use Rattle.proxy_core_laws.specs.HeldHeads.{FreshenedHeadLeavesRoom, HeldHeadIsBounded, HeldHeadLeavesRoom, LeavesRoomOrIsAsStored, StoredHeadSizeIsBounded, FreshenedHeadIsBounded}
 use Rattle.proxy_core_laws.proofs.HeldReplies.{first_none, in_time}
 use Rattle.proxy_core_laws.proofs.ReadHeads.{stores_bounded}
 
 -- ---- what leaves room
 
-roomy : (e : Stored) → head_leaves_room e.fields ≡ true → HeadIsBounded e
+roomy : (e : Stored) → head_leaves_room e.fields ≡ true → StoredHeadSizeIsBounded e
 roomy e room =
     let parts = and_parts (nat_le (length e.fields + 4) 100) (nat_le (length (field_lines_text e.fields) + 256) 32768) room in
     let lines = leb-true (length e.fields + 4) 100 parts.0 in
@@ -116,19 +116,19 @@ module _ (table : Table) (es : List Stored) (xs : List Exchange) (next : Option 
 
   -- it is kept, or its serial is among those that go
   pub kept_so : (x : Exchange) (now id : ℕ) (r : Response) (s : ℕ) (e : Stored) → stored_response_is_answered x r now e ≡ true → find_entry s es ≡ Some e
-      → serial_is_in s (serials_removed_by_outcome (outcome_of table es xs (Some x) next (Answer now id r))) ≡ false → freshened_may_be_kept table x r (freshened_by_304 x r now e) ≡ true
+      → serial_is_in s (serials_removed_by_outcome (outcome_for_exchange table es xs (Some x) next (Answer now id r))) ≡ false → freshened_may_be_kept table x r (freshened_by_304 x r now e) ≡ true
   kept_so x now id r s e h found out =
       let serial = find-serial s es e found in
       let d : Decision = decision_of (policy_of table.lines x.line) es x.asked now in
-      let other : Outcome = cond (is_304_without_condition (policy_of table.lines x.line) x.asked r) (outcome_of_failure table es now x BadAnswer (Some r.status) (fallback_for (policy_of table.lines x.line) es x.asked now d)) (outcome_of_passing_on_or_stale table es now x r next (is_error_status r.status) (fallback_for (policy_of table.lines x.line) es x.asked now d)) in
-      let outcome : outcome_of table es xs (Some x) next (Answer now id r) ≡ outcome_of_304 table es now x r (Some e) d =
+      let other : Outcome = cond (is_304_without_condition (policy_of table.lines x.line) x.asked r) (outcome_of_failure table es now x BadAnswer (Some r.status) (fallback_for_failed_answer (policy_of table.lines x.line) es x.asked now d)) (outcome_of_passing_on_or_stale table es now x r next (is_error_status r.status) (fallback_for_failed_answer (policy_of table.lines x.line) es x.asked now d)) in
+      let outcome : outcome_for_exchange table es xs (Some x) next (Answer now id r) ≡ outcome_of_304 table es now x r (Some e) d =
       ap (λ b. cond b (outcome_of_304 table es now x r (stored_response_validated es x r now) d) other) (validation_so x r now e h)
       ∙ ap (λ o. outcome_of_304 table es now x r o d) (validated_so x r now e h (ap (λ n. find_entry n es) serial ∙ found))
       in
       stays (freshened_may_be_kept table x r (freshened_by_304 x r now e)) s (freshened_by_304 x r now e).serial (serial_stays x r now e ∙ serial) (ap (λ o. serial_is_in s (serials_removed_by_outcome o)) (sym outcome) ∙ out)
 
   used_so : (x : Option Exchange) (event : Event) (s : ℕ) (e : Stored) → find_entry s es ≡ Some e → LeavesRoomOrIsAsStored s e
-      → serial_is_in s (serials_removed_by_outcome (outcome_of table es xs x next event)) ≡ false → LeavesRoomOrIsAsStored s (stored_response_as_used x event e)
+      → serial_is_in s (serials_removed_by_outcome (outcome_for_exchange table es xs x next event)) ≡ false → LeavesRoomOrIsAsStored s (stored_response_as_used x event e)
   used_so (Some x) (Answer now id r) s e found is out = by_test (stored_response_is_answered x r now e) refl
     where
       by_test : (t : Bool) → stored_response_is_answered x r now e ≡ t → LeavesRoomOrIsAsStored s (cond t (freshened_by_304 x r now e) e)
@@ -188,7 +188,7 @@ both_false : (a b : Bool) → a ≡ false → b ≡ false → (a || b) ≡ false
 both_false true b h k = absurd cc
 both_false false b h k = k
 
-the_serial : (o : Option ℕ) (s : ℕ) → is_that_serial o s ≡ true → o ≡ Some s
+the_serial : (o : Option ℕ) (s : ℕ) → option_is_serial o s ≡ true → o ≡ Some s
 the_serial None s h = absurd cc
 the_serial (Some x) s h = ap (λ (n : ℕ). Some n) (eqb-true x s h)
 
@@ -212,11 +212,11 @@ module _ (table : Table) (start : StoreAtStart) (first : ℕ) where
   -- before a purge may have ended its lifetime
   held_after : (item : Item) (past : List Item) → IsGoodHistory table start first (item ∷ past) → AllByRecursion (λ item. EventIsReadFromAStream item.event) (item ∷ past) → (s : ℕ) (e : Stored)
       → serial_is_in s (held_serials table start (item ∷ past)) ≡ true → Earlier s past
-      → cond (is_that_serial (serial_stored_by_outcome item.outcome) s) (stored_response_by_answer (find_exchange (exchange_id_of_event item.event) (open_exchanges table start past)) item.event s)
-      (cond (is_that_serial (serial_used_by_outcome item.outcome) s) (option_map (stored_response_as_used (find_exchange (exchange_id_of_event item.event) (open_exchanges table start past)) item.event) (held_entry table start past s)) (held_entry table start past s)) ≡ Some e
+      → cond (option_is_serial (serial_stored_by_outcome item.outcome) s) (stored_response_by_answer (find_exchange (exchange_id_of_event item.event) (open_exchanges table start past)) item.event s)
+      (cond (option_is_serial (serial_used_by_outcome item.outcome) s) (option_map (stored_response_as_used (find_exchange (exchange_id_of_event item.event) (open_exchanges table start past)) item.event) (held_entry table start past s)) (held_entry table start past s)) ≡ Some e
       → LeavesRoomOrIsAsStored s e
   held_after item past good read s e inside earlier h =
-      by_tests earlier (is_that_serial (serial_stored_by_outcome item.outcome) s) refl (is_that_serial (serial_used_by_outcome item.outcome) s) refl h
+      by_tests earlier (option_is_serial (serial_stored_by_outcome item.outcome) s) refl (option_is_serial (serial_used_by_outcome item.outcome) s) refl h
     where
       x : Option Exchange
       x = find_exchange (exchange_id_of_event item.event) (open_exchanges table start past)
@@ -233,13 +233,13 @@ module _ (table : Table) (start : StoreAtStart) (first : ℕ) where
           subst (LeavesRoomOrIsAsStored s) same (used_so table before (open_exchanges table start past) (next_serial first past) x item.event s is.response is.is_held either
           (ap (λ o. serial_is_in s (serials_removed_by_outcome o)) (sym good.0.outcome_is) ∙ not_removed table start item past s inside))
 
-      by_tests : Earlier s past → (t : Bool) → is_that_serial (serial_stored_by_outcome item.outcome) s ≡ t → (u : Bool) → is_that_serial (serial_used_by_outcome item.outcome) s ≡ u
+      by_tests : Earlier s past → (t : Bool) → option_is_serial (serial_stored_by_outcome item.outcome) s ≡ t → (u : Bool) → option_is_serial (serial_used_by_outcome item.outcome) s ≡ u
           → cond t (stored_response_by_answer x item.event s) (cond u (option_map (stored_response_as_used x item.event) (held_entry table start past s)) (held_entry table start past s)) ≡ Some e → LeavesRoomOrIsAsStored s e
       by_tests earlier true is u using k = made_so x item.event s e good.0.allowed read.0 k
       by_tests earlier false is true using k = by_used earlier (the_serial (serial_used_by_outcome item.outcome) s using) k
-      by_tests earlier false is false using k = earlier e ((stays_in table start item past s inside).1 (both_false (is_that_serial (serial_stored_by_outcome item.outcome) s) (is_that_serial (serial_used_by_outcome item.outcome) s) is using)) k
+      by_tests earlier false is false using k = earlier e ((stays_in table start item past s inside).1 (both_false (option_is_serial (serial_stored_by_outcome item.outcome) s) (option_is_serial (serial_used_by_outcome item.outcome) s) is using)) k
 
-  held_either : EachHeldAtFirst LeavesRoomOrIsAsStored start → (trace : List Item) → IsGoodHistory table start first trace → AllByRecursion (λ item. EventIsReadFromAStream item.event) trace → (s : ℕ) (e : Stored)
+  held_either : HoldsForEachResponseAtStart LeavesRoomOrIsAsStored start → (trace : List Item) → IsGoodHistory table start first trace → AllByRecursion (λ item. EventIsReadFromAStream item.event) trace → (s : ℕ) (e : Stored)
       → serial_is_in s (held_serials table start trace) ≡ true → held_entry table start trace s ≡ Some e → LeavesRoomOrIsAsStored s e
   held_either begins [] good read s e inside h = begins s e h
   held_either begins (item ∷ past) good read s e inside h =
@@ -250,17 +250,17 @@ module _ (table : Table) (start : StoreAtStart) (first : ℕ) where
 pub holds_with_room : HeldHeadLeavesRoom
 holds_with_room table start first trace good begins read s e inside h = held_either table start first begins trace good read s e inside h
 
-bounded_with_times : (e : Stored) (t : Times) → HeadIsBounded e → HeadIsBounded (record e { times = t })
+bounded_with_times : (e : Stored) (t : Times) → StoredHeadSizeIsBounded e → StoredHeadSizeIsBounded (record e { times = t })
 bounded_with_times e t h = record { lines = h.lines; bytes = h.bytes }
 
 pub holds_bounded : HeldHeadIsBounded
 holds_bounded table start first trace good begins read s e inside h = by_case (held_either table start first begins trace good read s e inside h)
   where
-    by_case : LeavesRoomOrIsAsStored s e → HeadIsBounded e
+    by_case : LeavesRoomOrIsAsStored s e → StoredHeadSizeIsBounded e
     by_case (inl room) = roomy e room
     by_case (inr as_stored) =
         let read = as_stored.was_read in
-        subst HeadIsBounded (sym as_stored.is) (bounded_with_times (stored_response_made s as_stored.exchange as_stored.response as_stored.now) e.times
+        subst StoredHeadSizeIsBounded (sym as_stored.is) (bounded_with_times (stored_response_made s as_stored.exchange as_stored.response as_stored.now) e.times
         (stores_bounded read.max_body s as_stored.now read.to_head read.ended read.bytes read.rest as_stored.exchange as_stored.response read.reads as_stored.early))
 
 -- ---- what was freshened
@@ -269,9 +269,9 @@ pub freshens_with_room : FreshenedHeadLeavesRoom
 freshens_with_room table start first now id x r e item past good event_is open_is valid inside =
     let es : List Stored = held_entries table start past in
     let is = validated_is es x r now e valid in
-    let from : outcome_of table es (open_exchanges table start past) (Some x) (next_serial first past) (Answer now id r) ≡ item.outcome =
-    ap (λ o. outcome_of table es (open_exchanges table start past) o (next_serial first past) (Answer now id r)) (sym open_is)
-    ∙ ap (λ (v : Event). outcome_of table es (open_exchanges table start past) (find_exchange (exchange_id_of_event v) (open_exchanges table start past)) (next_serial first past) v) (sym event_is)
+    let from : outcome_for_exchange table es (open_exchanges table start past) (Some x) (next_serial first past) (Answer now id r) ≡ item.outcome =
+    ap (λ o. outcome_for_exchange table es (open_exchanges table start past) o (next_serial first past) (Answer now id r)) (sym open_is)
+    ∙ ap (λ (v : Event). outcome_for_exchange table es (open_exchanges table start past) (find_exchange (exchange_id_of_event v) (open_exchanges table start past)) (next_serial first past) v) (sym event_is)
     ∙ sym good.0.outcome_is
     in
     let out = not_removed table start item past e.serial inside in

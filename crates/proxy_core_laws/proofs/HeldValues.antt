@@ -5,16 +5,16 @@ use Rattle.std.specs.List.{AllByRecursion, cons_option, filter_map}
 use Rattle.std.proofs.lemmas.Bool.{eqb-true}
 use Rattle.std.proofs.lemmas.List.Elements.{All-filter, All-head, All-map, All-weaker}
 use Rattle.hx_fields.specs.Line.{Field}
-use Rattle.hx_fields.specs.FieldLines.{is_named, only_one, only_value, values_of}
+use Rattle.hx_fields.specs.FieldLines.{is_named, value_if_only_one, only_value, values_of}
 use Rattle.hx_framing.specs.Written.{FieldIsWritable}
 use Rattle.hx_framing.specs.declared.messages.Response.{Response}
 use Rattle.hx_framing.proofs.ReadResponses.{final_status}
 use Rattle.hx_allow.specs.TableLines.{Table}
 use Rattle.hx_store.specs.Stored.{Stored}
-use Rattle.hx_store.specs.Recency.{is_that_serial}
+use Rattle.hx_store.specs.Recency.{option_is_serial}
 use Rattle.hx_store.specs.Shelf.{find_entry}
 use Rattle.hx_validate.specs.Answering.{freshened_of}
-use Rattle.hx_validate.specs.Validators.{conditions_of, is_date, is_entity_tag, value_if_passes}
+use Rattle.hx_validate.specs.Validators.{conditions_of, value_is_http_date, is_entity_tag, value_if_it_passes_test}
 use Rattle.hx_hop_laws.specs.OneMessage.{ConditionsAreFieldValues, IsFieldValue}
 use Rattle.proxy_core.specs.declared.open.exchange.Exchange.{Exchange}
 use Rattle.proxy_core.specs.declared.event.Event.{Event}
@@ -23,12 +23,12 @@ use Rattle.proxy_core.specs.Histories.{IsGoodHistory, held_entry, open_exchanges
 use Rattle.proxy_core.specs.Outcomes.{find_exchange, exchange_id_of_event}
 use Rattle.proxy_core.specs.ReadAnswers.{EventIsReadFromAStream}
 use Rattle.proxy_core.specs.State.{serials_expired_by_outcome, stored_response_by_answer, serial_stored_by_outcome, stored_response_as_used, serial_used_by_outcome}
-use Rattle.proxy_core.specs.Starts.{StoreAtStart, EachHeldAtFirst}
+use Rattle.proxy_core.specs.Starts.{StoreAtStart, HoldsForEachResponseAtStart}
 use Rattle.proxy_core.specs.Storing.{stored_response_made}
 use Rattle.proxy_core.specs.Traces.{Item}
 use Rattle.proxy_core.specs.Validating.{stored_response_is_answered, freshened_by_304}
 use Rattle.hx_allow.specs.Tables.{TableWasRead}
-use Rattle.proxy_core_laws.specs.SentMessages.{CanBeSent, ConditionsOfHistoryAreFieldValues, HeldContentFits}
+use Rattle.proxy_core_laws.specs.SentMessages.{CanBeSent, ConditionsOfHistoryAreFieldValues, HeldContentIsAtMostMaxStored}
 use Rattle.proxy_core_laws.proofs.HeldReplies.{holds_sendable}
 use Rattle.proxy_core_laws.proofs.ReadTables.{stores_none_too_long}
 use Rattle.proxy_core.proofs.ExpiredEntries.{was_there}
@@ -36,12 +36,12 @@ use Rattle.proxy_core.proofs.StoredAnswers.{stores_nowhere_else}
 
 -- ---- validators
 
-only_fits : (values : List (List ℕ)) → All IsFieldValue values → IfSome (only_one values) IsFieldValue
+only_fits : (values : List (List ℕ)) → All IsFieldValue values → IfSome (value_if_only_one values) IsFieldValue
 only_fits [] all = tt
 only_fits (value ∷ []) all = All-head IsFieldValue value [] all
 only_fits (value ∷ other ∷ more) all = tt
 
-passing_fits : (test : List ℕ → Bool) (o : Option (List ℕ)) → IfSome o IsFieldValue → IfSome (value_if_passes test o) IsFieldValue
+passing_fits : (test : List ℕ → Bool) (o : Option (List ℕ)) → IfSome o IsFieldValue → IfSome (value_if_it_passes_test test o) IsFieldValue
 passing_fits test None is = tt
 passing_fits test (Some value) is = by_test (test value)
   where
@@ -57,7 +57,7 @@ value_fits fields name all =
 pub conditions_fit : (fields : List Field) → All FieldIsWritable fields → ConditionsAreFieldValues (conditions_of fields)
 conditions_fit fields all = record {
   etag = passing_fits is_entity_tag (only_value fields (codes "ETag")) (value_fits fields (codes "ETag") all);
-  modified = passing_fits is_date (only_value fields (codes "Last-Modified")) (value_fits fields (codes "Last-Modified") all);
+  modified = passing_fits value_is_http_date (only_value fields (codes "Last-Modified")) (value_fits fields (codes "Last-Modified") all);
 }
 
 pub asks_by_field_values : ConditionsOfHistoryAreFieldValues
@@ -81,7 +81,7 @@ used_content (Some x) (Abandon id) e = refl
 used_content (Some x) (Overdue id) e = refl
 used_content None event e = refl
 
-the_serial : (o : Option ℕ) (s : ℕ) → is_that_serial o s ≡ true → o ≡ Some s
+the_serial : (o : Option ℕ) (s : ℕ) → option_is_serial o s ≡ true → o ≡ Some s
 the_serial None s h = absurd cc
 the_serial (Some x) s h = ap (λ (n : ℕ). Some n) (eqb-true x s h)
 
@@ -106,23 +106,23 @@ module _ (table : Table) (start : StoreAtStart) (first : ℕ) where
   -- the same before a purge may have ended its lifetime
   fits_before : (most : ℕ) → table.max_stored ≤ most → (item : Item) (past : List Item) → IsGoodHistory table start first (item ∷ past) → AllByRecursion (λ item. EventIsReadFromAStream item.event) (item ∷ past) → (s : ℕ) (e : Stored)
       → ((f : Stored) → held_entry table start past s ≡ Some f → length f.content ≤ most)
-      → cond (is_that_serial (serial_stored_by_outcome item.outcome) s) (stored_response_by_answer (find_exchange (exchange_id_of_event item.event) (open_exchanges table start past)) item.event s)
-      (cond (is_that_serial (serial_used_by_outcome item.outcome) s) (option_map (stored_response_as_used (find_exchange (exchange_id_of_event item.event) (open_exchanges table start past)) item.event) (held_entry table start past s)) (held_entry table start past s)) ≡ Some e
+      → cond (option_is_serial (serial_stored_by_outcome item.outcome) s) (stored_response_by_answer (find_exchange (exchange_id_of_event item.event) (open_exchanges table start past)) item.event s)
+      (cond (option_is_serial (serial_used_by_outcome item.outcome) s) (option_map (stored_response_as_used (find_exchange (exchange_id_of_event item.event) (open_exchanges table start past)) item.event) (held_entry table start past s)) (held_entry table start past s)) ≡ Some e
       → length e.content ≤ most
   fits_before most larger item past good read s e earlier h =
-      by_tests (is_that_serial (serial_stored_by_outcome item.outcome) s) refl (is_that_serial (serial_used_by_outcome item.outcome) s) earlier h
+      by_tests (option_is_serial (serial_stored_by_outcome item.outcome) s) refl (option_is_serial (serial_used_by_outcome item.outcome) s) earlier h
     where
       x : Option Exchange
       x = find_exchange (exchange_id_of_event item.event) (open_exchanges table start past)
 
-      by_tests : (t : Bool) → is_that_serial (serial_stored_by_outcome item.outcome) s ≡ t → (u : Bool) → ((f : Stored) → held_entry table start past s ≡ Some f → length f.content ≤ most)
+      by_tests : (t : Bool) → option_is_serial (serial_stored_by_outcome item.outcome) s ≡ t → (u : Bool) → ((f : Stored) → held_entry table start past s ≡ Some f → length f.content ≤ most)
           → cond t (stored_response_by_answer x item.event s) (cond u (option_map (stored_response_as_used x item.event) (held_entry table start past s)) (held_entry table start past s)) ≡ Some e → length e.content ≤ most
       by_tests true is u before k = omega (arith, larger, made_fits item past s e good read.0 (the_serial (serial_stored_by_outcome item.outcome) s is) k)
       by_tests false is true before k = used_fits most x item.event (held_entry table start past s) e before k
       by_tests false is false before k = before e k
 
   -- within any bound that is no smaller than the table's, and that each keeps to that was held at first
-  pub fits_after : (most : ℕ) → table.max_stored ≤ most → EachHeldAtFirst (λ s e. length e.content ≤ most) start
+  pub fits_after : (most : ℕ) → table.max_stored ≤ most → HoldsForEachResponseAtStart (λ s e. length e.content ≤ most) start
       → (trace : List Item) → IsGoodHistory table start first trace → AllByRecursion (λ item. EventIsReadFromAStream item.event) trace → (s : ℕ) (e : Stored)
       → held_entry table start trace s ≡ Some e → length e.content ≤ most
   fits_after most larger begins [] good read s e h = begins s e h
@@ -131,14 +131,14 @@ module _ (table : Table) (start : StoreAtStart) (first : ℕ) where
       subst (λ (f : Stored). length f.content ≤ most) (sym there.is)
       (fits_before most larger item past good read s there.response (λ f k. fits_after most larger begins past good.1 read.1 s f k) there.was)
 
-pub holds_what_fits : HeldContentFits
+pub holds_what_fits : HeldContentIsAtMostMaxStored
 holds_what_fits table start first trace good begins read serial e h = fits_after table start first table.max_stored (omega arith) begins trace good read serial e h
 
 -- and so it is in memory, where the table was read
-pub fits_in_memory : (table : Table) (start : StoreAtStart) (first : ℕ) (trace : List Item) → TableWasRead table → EachHeldAtFirst CanBeSent start → IsGoodHistory table start first trace
+pub fits_in_memory : (table : Table) (start : StoreAtStart) (first : ℕ) (trace : List Item) → TableWasRead table → HoldsForEachResponseAtStart CanBeSent start → IsGoodHistory table start first trace
     → AllByRecursion (λ item. EventIsReadFromAStream item.event) trace → (s : ℕ) (e : Stored) → held_entry table start trace s ≡ Some e → length e.content < 2 ^ 64
-fits_in_memory table start first trace table_read begins good read s e h =
-    let small = stores_none_too_long table table_read in
+fits_in_memory table start first trace table_of_members begins good read s e h =
+    let small = stores_none_too_long table table_of_members in
     let larger : table.max_stored ≤ 18446744073709551615 = omega (arith, small) in
     let fits = fits_after table start first 18446744073709551615 larger (λ t f k. let short = (begins t f k).fits in omega (arith, short)) trace good read s e h in
     omega (arith, fits)

@@ -15,12 +15,12 @@ use Rattle.proxy_core.specs.declared.outcome.Outcome.{Outcome}
 use Rattle.proxy_core.specs.declared.outcome.Outcome.TheVariants.{Reply, Forward, Waits, Ended, WaitsNoMore}
 use Rattle.proxy_core.specs.Histories.{held_entries, open_exchanges}
 use Rattle.proxy_core.specs.Outcomes.{find_exchange}
-use Rattle.proxy_core.specs.Scopes.{Scope, is_in_scope}
-use Rattle.proxy_core.specs.LeadingOn.{next_leader, stage_after_leader, led_on_exchange, exchanges_without, exchanges_after_abandon}
-use Rattle.proxy_core.specs.State.{exchanges_after_close, exchanges_after_end, exchanges_after_purge, scope_purged, exchange_forwarded_again, open_exchanges_after, forwarded_exchange, overtaken_exchange, waiting_exchange, released_exchange, exchange_gone_forward, exchange_sent_forward, exchanges_after_wake, scope_invalidated_by_response, overdue_exchange, exchange_past_its_wait}
+use Rattle.proxy_core.specs.Scopes.{Scope, key_is_in_scope}
+use Rattle.proxy_core.specs.LeadingOn.{next_leader, stage_after_leader, after_abandon, exchanges_without, exchanges_after_abandon}
+use Rattle.proxy_core.specs.State.{exchanges_after_close, exchanges_after_end, exchanges_after_purge, scope_purged, exchange_forwarded_again, open_exchanges_after, forwarded_exchange, overtaken_exchange, waiting_exchange, released_exchange, exchange_gone_forward, exchange_sent_forward, exchanges_after_wake, scope_invalidated_by_response, overdue_exchange, exchange_released_by_timeout}
 use Rattle.proxy_core.specs.Starts.{StoreAtStart}
 use Rattle.proxy_core.specs.Traces.{Item}
-use Rattle.proxy_core_laws.specs.SentMessages.{EventsWereRead, EventWasRead, RequestWasRead, OpenRequestsWereRead}
+use Rattle.proxy_core_laws.specs.SentMessages.{MessagesOfTraceWereRead, MessageOfEventWasRead, RequestWasRead, OpenRequestsWereRead}
 
 -- no change of an open exchange is one of what it asks for
 sent_out-asked : (id now : ℕ) (rule : ReuseRule) (named : Option ℕ) (condition : Option Condition) (x : Exchange) → (exchange_sent_forward id now rule named condition x).asked ≡ x.asked
@@ -33,10 +33,10 @@ release-asked : (q : ℕ) (x : Exchange) → (released_exchange q x).asked ≡ x
 release-asked q x = elim (waits_for q x.stage) as (λ b. (cond b (record x { stage = Released }) x).asked ≡ x.asked) [ true ↦ refl | false ↦ refl ]
 
 overdue-asked : (q : ℕ) (x : Exchange) → (overdue_exchange q x).asked ≡ x.asked
-overdue-asked q x = elim (x.id == q && is_waiting x.stage) as (λ b. (cond b (exchange_past_its_wait x) x).asked ≡ x.asked) [ true ↦ refl | false ↦ refl ]
+overdue-asked q x = elim (x.id == q && is_waiting x.stage) as (λ b. (cond b (exchange_released_by_timeout x) x).asked ≡ x.asked) [ true ↦ refl | false ↦ refl ]
 
 overtake-asked : (key : Scope) (x : Exchange) → (overtaken_exchange key x).asked ≡ x.asked
-overtake-asked key x = elim (is_in_scope key x.asked.target.key) as (λ b. (cond b (record x { overtaken = true }) x).asked ≡ x.asked) [ true ↦ refl | false ↦ refl ]
+overtake-asked key x = elim (key_is_in_scope key x.asked.target.key) as (λ b. (cond b (record x { overtaken = true }) x).asked ≡ x.asked) [ true ↦ refl | false ↦ refl ]
 
 -- (a record, so that what it is of can be read off it)
 record HasReadRequest (x : Exchange) : Type 0 where
@@ -49,12 +49,12 @@ mapped f same xs all =
 closed_so : (id : ℕ) (xs : List Exchange) → All HasReadRequest xs → All HasReadRequest (exchanges_after_close id xs)
 closed_so id xs all = mapped (released_exchange id) (release-asked id) (filter (λ (x : Exchange). not (x.id == id)) xs) (All-filter (λ (x : Exchange). not (x.id == id)) HasReadRequest xs all)
 
-led_on-asked : (table : Table) (ys : List Exchange) (q : ℕ) (x : Exchange) → (led_on_exchange table (next_leader table q ys) q x).asked ≡ x.asked
+led_on-asked : (table : Table) (ys : List Exchange) (q : ℕ) (x : Exchange) → (after_abandon table (next_leader table q ys) q x).asked ≡ x.asked
 led_on-asked table ys q x = elim (waits_for q x.stage) as (λ b. (cond b (record x { stage = stage_after_leader table (next_leader table q ys) x }) x).asked ≡ x.asked) [ true ↦ refl | false ↦ refl ]
 
 abandoned_so : (table : Table) (id : ℕ) (xs : List Exchange) → All HasReadRequest xs → All HasReadRequest (exchanges_after_abandon table id xs)
 abandoned_so table id xs all =
-    mapped (led_on_exchange table (next_leader table id xs) id) (led_on-asked table xs id) (exchanges_without id xs)
+    mapped (after_abandon table (next_leader table id xs) id) (led_on-asked table xs id) (exchanges_without id xs)
     (All-filter (λ (x : Exchange). not (x.id == id)) HasReadRequest xs all)
 
 left_so : (key : Option Scope) (id : ℕ) (xs : List Exchange) → All HasReadRequest xs → All HasReadRequest (exchanges_after_end key id xs)
@@ -72,7 +72,7 @@ woken_so table es id now (Some x) xs all = mapped (exchange_sent_forward id now 
 added : (xs : List Exchange) (x : Exchange) → All HasReadRequest xs → RequestWasRead x.asked → All HasReadRequest (xs ++ x ∷ [])
 added xs x all is = All-append HasReadRequest xs (x ∷ []) all (All-cons HasReadRequest x [] (record { is = is }) (All-nil HasReadRequest))
 
-after_so : (table : Table) (es : List Stored) (xs : List Exchange) (event : Event) (outcome : Outcome) → EventWasRead event → All HasReadRequest xs → All HasReadRequest (open_exchanges_after table es xs event outcome)
+after_so : (table : Table) (es : List Stored) (xs : List Exchange) (event : Event) (outcome : Outcome) → MessageOfEventWasRead event → All HasReadRequest xs → All HasReadRequest (open_exchanges_after table es xs event outcome)
 after_so table es xs (Arrive now id asked) (Forward line bytes) is all = added xs (forwarded_exchange table es now id asked line) all is
 after_so table es xs (Arrive now id asked) (Waits leader) is all = added xs (waiting_exchange table es now id asked _ leader) all is
 after_so table es xs (Arrive now id asked) (Reply r) is all = purged_so (scope_purged asked (Reply r)) xs all
@@ -92,7 +92,7 @@ after_so table es xs (Wake now id) WaitsNoMore is all = closed_so id xs all
 after_so table es xs (Abandon id) outcome is all = abandoned_so table id xs all
 after_so table es xs (Overdue id) outcome is all = mapped (overdue_exchange id) (overdue-asked id) xs all
 
-open_so : (table : Table) (start : StoreAtStart) (trace : List Item) → EventsWereRead trace → All HasReadRequest (open_exchanges table start trace)
+open_so : (table : Table) (start : StoreAtStart) (trace : List Item) → MessagesOfTraceWereRead trace → All HasReadRequest (open_exchanges table start trace)
 open_so table start [] is = All-nil HasReadRequest
 open_so table start (item ∷ past) is =
     after_so table (held_entries table start past) (open_exchanges table start past) item.event item.outcome is.0 (open_so table start past is.1)

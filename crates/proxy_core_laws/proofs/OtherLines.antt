@@ -7,7 +7,7 @@ use Rattle.hx_fields.specs.Line.{Field}
 use Rattle.hx_fields.specs.FieldLines.{is_named, values_of}
 use Rattle.hx_fields.specs.Names.{is_same_name, joined_lists, members_of_value}
 use Rattle.hx_hop.proofs.Lines.{filter_keeps, same_lower}
-use Rattle.hx_vary.specs.Vary.{are_many, is_star, is_star_member}
+use Rattle.hx_vary.specs.Vary.{exceeds_most_vary_names, vary_is_star, is_star_member}
 use Rattle.proxy_core.specs.Validating.{without_cookies}
 
 abbrev pub cookie : List ℕ
@@ -27,6 +27,6 @@ values_stay : (removes : Bool) (fields : List Field) → values_of (without_cook
 values_stay true fields = ap (map (λ (f : Field). f.value)) (filter_keeps (λ f. not (is_named cookie f)) (is_named (codes "Vary")) (λ f is. stays_there (codes "Vary") f refl is) fields)
 values_stay false fields = refl
 
-pub star_stays : (removes : Bool) (fields : List Field) → is_star (without_cookies removes fields) ≡ is_star fields
+pub star_stays : (removes : Bool) (fields : List Field) → vary_is_star (without_cookies removes fields) ≡ vary_is_star fields
 star_stays removes fields =
-    ap (λ (values : List (List ℕ)). are_many (joined_lists (map members_of_value values)) || list_any is_star_member (joined_lists (map members_of_value values))) (values_stay removes fields)
+    ap (λ (values : List (List ℕ)). exceeds_most_vary_names (joined_lists (map members_of_value values)) || list_any is_star_member (joined_lists (map members_of_value values))) (values_stay removes fields)

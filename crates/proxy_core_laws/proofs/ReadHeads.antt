@@ -14,20 +14,20 @@ use Rattle.hx_fields.specs.FieldLines.{is_named, without_named}
 use Rattle.hx_framing.specs.declared.frame_fault.FrameFault.TheVariants as fault
 use Rattle.hx_framing.specs.declared.heads.status_head.StatusHead.{StatusHead}
 use Rattle.hx_framing.specs.declared.messages.Response.{Response}
-use Rattle.hx_framing.specs.Body.{ContentFound, Short, Bad, Whole}
-use Rattle.hx_framing.specs.Contents.{content_at}
-use Rattle.hx_framing.specs.Head.{field_of_grammar}
-use Rattle.hx_framing.specs.Lengths.{framing_of_response, without_lengths}
+use Rattle.hx_framing.specs.Body.{ContentParseResult, Short, Bad, Whole}
+use Rattle.hx_framing.specs.Contents.{content_by_framing}
+use Rattle.hx_framing.specs.Head.{field_of_parsed_line}
+use Rattle.hx_framing.specs.Lengths.{framing_of_response, without_length_fields}
 use Rattle.hx_framing.specs.HeadEnd.{head_length, most_head_bytes}
-use Rattle.hx_framing.specs.Reading.{Faulty, Spelled, reading_cut_off, reading_with_content}
-use Rattle.hx_framing.specs.ResponseReading.{FrontReadsByLength, Reads, response_of_head, reading_with_framing, reading_without_response_head}
+use Rattle.hx_framing.specs.Reading.{Faulty, Spelled, truncated_or_incomplete, reading_of_content}
+use Rattle.hx_framing.specs.ResponseReading.{FinalReadsByHeadLength, ReadsAs, response_of_head, reading_with_framing, reading_without_response_head}
 use Rattle.hx_framing.specs.StatusHead.{ResponseHeadIsJudged}
 use Rattle.hx_framing.specs.Text.{field_line_text, field_lines_text}
 use Rattle.hx_framing.proofs.HeadEnds.{head_within_bytes}
-use Rattle.hx_hop.specs.Answering.{dated_of, has_one_date}
+use Rattle.hx_hop.specs.Answering.{fields_with_valid_date, has_one_date}
 use Rattle.hx_hop.specs.Forwarding.{line}
 use Rattle.hx_hop.specs.Moments.{date_parts_of, date_text_of}
-use Rattle.hx_hop.specs.Stripping.{is_hop_line, stripped}
+use Rattle.hx_hop.specs.Stripping.{is_hop_by_hop_line, stripped}
 use Rattle.proxy_core.specs.declared.open.exchange.Exchange.{Exchange}
 use Rattle.proxy_core.specs.Storing.{stored_response_made}
 use Rattle.proxy_core.specs.Validating.{without_cookies}
@@ -41,9 +41,9 @@ record IsReadHead (r : Response) : Type 0 where
   text : List ℕ
   judged : ResponseHeadIsJudged text (Ok head)
   short : length text ≤ 32768
-  fields_are : r.fields ≡ without_lengths head.fields
+  fields_are : r.fields ≡ without_length_fields head.fields
 
-of_body : (e h : Bool) (head : StatusHead) (body : ContentFound) (r : Response) (rest : List ℕ) → Spelled r rest ≡ reading_with_content e (response_of_head h head) body → r.fields ≡ without_lengths head.fields
+of_body : (e h : Bool) (head : StatusHead) (body : ContentParseResult) (r : Response) (rest : List ℕ) → Spelled r rest ≡ reading_of_content e (response_of_head h head) body → r.fields ≡ without_length_fields head.fields
 of_body true h head Short r rest is = absurd cc
 of_body false h head Short r rest is = absurd cc
 of_body e h head (Bad f) r rest is = absurd cc
@@ -51,10 +51,10 @@ of_body e h head (Whole content behind) r rest is =
     let same : r ≡ response_of_head h head content = cc in ap (λ (q : Response). q.fields) same
 
 of_framing : (max : ℕ) (h e : Bool) (head : StatusHead) (bytes : List ℕ) (r : Response) (rest : List ℕ)
-    → Spelled r rest ≡ reading_with_framing max h e head bytes (framing_of_response max h head) → r.fields ≡ without_lengths head.fields
+    → Spelled r rest ≡ reading_with_framing max h e head bytes (framing_of_response max h head) → r.fields ≡ without_length_fields head.fields
 of_framing max h e head bytes r rest is =
-    (elim (framing_of_response max h head) as (λ j. Spelled r rest ≡ reading_with_framing max h e head bytes j → r.fields ≡ without_lengths head.fields) [
-      | Ok framing ↦ λ k. of_body e h head (content_at max framing e bytes) r rest k
+    (elim (framing_of_response max h head) as (λ j. Spelled r rest ≡ reading_with_framing max h e head bytes j → r.fields ≡ without_length_fields head.fields) [
+      | Ok framing ↦ λ k. of_body e h head (content_by_framing max framing e bytes) r rest k
       | Err f ↦ λ k. absurd cc
     ]) is
 
@@ -66,13 +66,13 @@ take_few (suc n) (b ∷ bytes) = let fewer = take_few n bytes in omega (arith, f
 no_head : (e : Bool) (bytes : List ℕ) (r : Response) (rest : List ℕ) → Spelled r rest ≡ reading_without_response_head e bytes → ⊥
 no_head e bytes r rest is = by_tests (nat_lt most_head_bytes (length bytes)) e is
   where
-    by_tests : (t u : Bool) → Spelled r rest ≡ cond t (Faulty fault.Head) (reading_cut_off u) → ⊥
+    by_tests : (t u : Bool) → Spelled r rest ≡ cond t (Faulty fault.Head) (truncated_or_incomplete u) → ⊥
     by_tests true u h = cc
     by_tests false true h = cc
     by_tests false false h = cc
 
 of_head : (max : ℕ) (h e : Bool) (bytes : List ℕ) (o : Option ℕ) (r : Response) (rest : List ℕ) → head_length (take most_head_bytes bytes) ≡ o
-    → FrontReadsByLength max h e bytes o (Spelled r rest) → IsReadHead r
+    → FinalReadsByHeadLength max h e bytes o (Spelled r rest) → IsReadHead r
 of_head max h e bytes None r rest place is = absurd (no_head e bytes r rest is)
 of_head max h e bytes (Some n) r rest place (Err f, judges, final, is) = absurd cc
 of_head max h e bytes (Some n) r rest place (Ok head, judges, final, is) =
@@ -87,7 +87,7 @@ of_head max h e bytes (Some n) r rest place (Ok head, judges, final, is) =
       fields_are = of_framing max h e head (drop n bytes) r rest is;
     }
 
-read_head : (max : ℕ) (h e : Bool) (bytes : List ℕ) (r : Response) (rest : List ℕ) → Reads max h e bytes (Spelled r rest) → IsReadHead r
+read_head : (max : ℕ) (h e : Bool) (bytes : List ℕ) (r : Response) (rest : List ℕ) → ReadsAs max h e bytes (Spelled r rest) → IsReadHead r
 read_head max h e bytes r rest (sizes, front, passes, reads) = of_head max h e front (head_length (take most_head_bytes front)) r rest refl reads
 
 -- ---- its lines, as they are sent
@@ -114,7 +114,7 @@ some_end crlf = omega arith
 some_end lf = omega arith
 
 -- at most a blank and a CR are added to a line
-line_longer : (f : grammar.Field) (n m : ℕ) → length (field_line_text (field_of_grammar f)) ≡ n → length (print_field f) ≡ m → n ≤ m + 2
+line_longer : (f : grammar.Field) (n m : ℕ) → length (field_line_text (field_of_parsed_line f)) ≡ n → length (print_field f) ≡ m → n ≤ m + 2
 line_longer f n m sent came =
     let value = trim_short f.raw in
     let end = some_end f.end in
@@ -122,12 +122,12 @@ line_longer f n m sent came =
     let theirs = simp length-append at came in
     omega (arith, value, end, ours, theirs)
 
-lines_longer : (fs : List grammar.Field) → length (field_lines_text (map field_of_grammar fs)) ≤ length (flat_map print_field fs) + 2 * length fs
+lines_longer : (fs : List grammar.Field) → length (field_lines_text (map field_of_parsed_line fs)) ≤ length (flat_map print_field fs) + 2 * length fs
 lines_longer [] = omega arith
 lines_longer (f ∷ fs) =
-    let one = line_longer f (length (field_line_text (field_of_grammar f))) (length (print_field f)) refl refl in
+    let one = line_longer f (length (field_line_text (field_of_parsed_line f))) (length (print_field f)) refl refl in
     let more = lines_longer fs in
-    let sent = length-append (field_line_text (field_of_grammar f)) (field_lines_text (map field_of_grammar fs)) in
+    let sent = length-append (field_line_text (field_of_parsed_line f)) (field_lines_text (map field_of_parsed_line fs)) in
     let came = length-append (print_field f) (flat_map print_field fs) in
     omega (arith, one, more, sent, came)
 
@@ -174,15 +174,15 @@ within_fewer lines bytes p fields are =
 read_within : (r : Response) → IsReadHead r → AreWithin 100 32968 r.fields
 read_within r is = subst (AreWithin 100 32968) (sym is.fields_are) (lengths_within is.head is.text is.judged is.short)
   where
-    lengths_within : (head : StatusHead) (text : List ℕ) → ResponseHeadIsJudged text (Ok head) → length text ≤ 32768 → AreWithin 100 32968 (without_lengths head.fields)
+    lengths_within : (head : StatusHead) (text : List ℕ) → ResponseHeadIsJudged text (Ok head) → length text ≤ 32768 → AreWithin 100 32968 (without_length_fields head.fields)
     lengths_within head text (g, is, same) short =
         within_fewer 100 32968 (λ f. not (is_named (codes "transfer-encoding") f)) (without_named head.fields (codes "content-length"))
         (within_fewer 100 32968 (λ f. not (is_named (codes "content-length") f)) head.fields
         (subst (AreWithin 100 32968) (sym (ap (λ (s : StatusHead). s.fields) same)) (head_within g text is.0.1 is.1 short)))
       where
-        head_within : (g : ResponseHead) (text : List ℕ) → text ≡ print_response g ++ [] → length g.fields ≤ 100 → length text ≤ 32768 → AreWithin 100 32968 (map field_of_grammar g.fields)
+        head_within : (g : ResponseHead) (text : List ℕ) → text ≡ print_response g ++ [] → length g.fields ≤ 100 → length text ≤ 32768 → AreWithin 100 32968 (map field_of_parsed_line g.fields)
         head_within g text is few short =
-            let count = length-map g.fields field_of_grammar in
+            let count = length-map g.fields field_of_parsed_line in
             let longer = lines_longer g.fields in
             let section = section_within g (length (print_response g ++ [])) refl in
             let whole = ap length is in
@@ -219,7 +219,7 @@ date_line_short now =
     let parts = one_line (codes "Date") (date_text_of now) (length (field_lines_text (line (codes "Date") (date_text_of now) ∷ []))) refl in
     omega (arith, date, parts)
 
-dated_within : (lines bytes : ℕ) (fields : List Field) (now : ℕ) → AreWithin lines bytes fields → AreWithin (lines + 1) (bytes + 37) (dated_of fields now)
+dated_within : (lines bytes : ℕ) (fields : List Field) (now : ℕ) → AreWithin lines bytes fields → AreWithin (lines + 1) (bytes + 37) (fields_with_valid_date fields now)
 dated_within most longest fields now are = by_test (has_one_date fields)
   where
     date : List Field
@@ -245,12 +245,12 @@ dated_within most longest fields now are = by_test (has_one_date fields)
 -- what is stored of an answer within so many lines and bytes
 stored_within : (lines bytes serial now : ℕ) (x : Exchange) (r : Response) → AreWithin lines bytes r.fields → AreWithin (lines + 1) (bytes + 37) (stored_response_made serial x r now).fields
 stored_within lines bytes serial now x r are =
-    let own = within_fewer lines bytes (λ f. not (is_hop_line r.fields f)) r.fields are in
+    let own = within_fewer lines bytes (λ f. not (is_hop_by_hop_line r.fields f)) r.fields are in
     let dated = dated_within lines bytes (stripped r.fields) now own in
-    within_fewer (lines + 1) (bytes + 37) (λ f. not (is_named (codes "Age") f)) (without_cookies x.removes_cookies (dated_of (stripped r.fields) now)) (others_within x.removes_cookies dated)
+    within_fewer (lines + 1) (bytes + 37) (λ f. not (is_named (codes "Age") f)) (without_cookies x.removes_cookies (fields_with_valid_date (stripped r.fields) now)) (others_within x.removes_cookies dated)
   where
-    others_within : (removes : Bool) → AreWithin (lines + 1) (bytes + 37) (dated_of (stripped r.fields) now) → AreWithin (lines + 1) (bytes + 37) (without_cookies removes (dated_of (stripped r.fields) now))
-    others_within true dated = within_fewer (lines + 1) (bytes + 37) (λ f. not (is_named (codes "Set-Cookie") f)) (dated_of (stripped r.fields) now) dated
+    others_within : (removes : Bool) → AreWithin (lines + 1) (bytes + 37) (fields_with_valid_date (stripped r.fields) now) → AreWithin (lines + 1) (bytes + 37) (without_cookies removes (fields_with_valid_date (stripped r.fields) now))
+    others_within true dated = within_fewer (lines + 1) (bytes + 37) (λ f. not (is_named (codes "Set-Cookie") f)) (fields_with_valid_date (stripped r.fields) now) dated
     others_within false dated = dated
 
 pub stores_bounded : StoredHeadIsBounded

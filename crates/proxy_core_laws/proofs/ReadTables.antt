@@ -12,8 +12,8 @@ use Rattle.httparse.specs.Grammar.{IsToken, is_token_byte}
 use Rattle.toml.specs.Data.{Members, get_member, as_integer}
 use Rattle.hx_allow.specs.Keys.{key_text}
 use Rattle.hx_allow.specs.TableLines.{Table}
-use Rattle.hx_allow.specs.Tables.{fault_or_table_read, is_name, is_name_byte, judge_table, number_at, table_fault, table_read, TableWasRead, version_of}
-use Rattle.hx_allow.specs.Values.{first_unknown, is_some_and, text_at, within}
+use Rattle.hx_allow.specs.Tables.{fault_or_table_read, is_name, is_name_byte, judge_table, number_of_key, table_fault, table_of_members, TableWasRead, table_version_of}
+use Rattle.hx_allow.specs.Values.{first_unknown, is_some_and, text_of_key, within}
 use Rattle.hx_allow.specs.declared.config_faults.ConfigFault.{ConfigFault}
 use Rattle.hx_allow.specs.declared.config_faults.ConfigFault.TheVariants.{UnknownKey, BadName}
 use Rattle.hx_allow.specs.declared.config_faults.NumberKey.TheVariants.{MaxStored}
@@ -57,19 +57,19 @@ text_is_token (Some text) h = name_is_token text h
 
 -- ---- what stands in a table without a fault
 
-name_is_present : (t : Members) → table_fault t ≡ None → is_some_and is_name (text_at (codes "name") t) ≡ true
+name_is_present : (t : Members) → table_fault t ≡ None → is_some_and is_name (text_of_key (codes "name") t) ≡ true
 unfolding table_fault
-name_is_present t none = by_keys (first_unknown (Top (version_of t)) t) refl
+name_is_present t none = by_keys (first_unknown (Top (table_version_of t)) t) refl
   where
     so : (b : Bool) → not b ≡ false → b ≡ true
     so true e = refl
     so false e = cc
 
-    by_keys : (o : Option (List ℕ)) → first_unknown (Top (version_of t)) t ≡ o → is_some_and is_name (text_at (codes "name") t) ≡ true
+    by_keys : (o : Option (List ℕ)) → first_unknown (Top (table_version_of t)) t ≡ o → is_some_and is_name (text_of_key (codes "name") t) ≡ true
     by_keys (Some key) e = let bad : table_fault t ≡ Some (UnknownKey key) = rw e refl in absurd cc
-    by_keys None e = so (is_some_and is_name (text_at (codes "name") t)) (by_name (is_some_and is_name (text_at (codes "name") t)) refl)
+    by_keys None e = so (is_some_and is_name (text_of_key (codes "name") t)) (by_name (is_some_and is_name (text_of_key (codes "name") t)) refl)
       where
-        by_name : (b : Bool) → is_some_and is_name (text_at (codes "name") t) ≡ b → not b ≡ false
+        by_name : (b : Bool) → is_some_and is_name (text_of_key (codes "name") t) ≡ b → not b ≡ false
         by_name true n = refl
         by_name false n = let bad : table_fault t ≡ Some BadName = rw e (rw n refl) in absurd cc
 
@@ -86,34 +86,34 @@ within_high low high (Some (pos n)) = by_test (nat_le low n) (nat_le n high) ref
 -- ---- a table that was read
 
 module _ (t : Members) (table : Table) where
-  by_fault : (o : Option ConfigFault) → table_fault t ≡ o → Ok table ≡ fault_or_table_read o t → (table_read t ≡ table) × (table_fault t ≡ None)
+  by_fault : (o : Option ConfigFault) → table_fault t ≡ o → Ok table ≡ fault_or_table_read o t → (table_of_members t ≡ table) × (table_fault t ≡ None)
   by_fault (Some fault) is e = absurd cc
   by_fault None is e = (cc, is)
 
-  said : Ok table ≡ judge_table t → (table_read t ≡ table) × (table_fault t ≡ None)
+  said : Ok table ≡ judge_table t → (table_of_members t ≡ table) × (table_fault t ≡ None)
   unfolding judge_table
   said e = by_fault (table_fault t) refl e
 
-read_as : (table : Table) → TableWasRead table → (t : Members) × (table_read t ≡ table) × (table_fault t ≡ None)
+read_as : (table : Table) → TableWasRead table → (t : Members) × (table_of_members t ≡ table) × (table_fault t ≡ None)
 read_as table (text, inl (t, is, same)) = let says = said t table same in (t, says.0, says.1)
 read_as table (text, inr (none, same)) = absurd cc
 
 pub names_a_token : TableNameIsAToken
-unfolding table_read
+unfolding table_of_members
 names_a_token table read =
     let is = read_as table read in
-    subst (λ (u : Table). IsToken u.name) is.1 (text_is_token (text_at (codes "name") is.0) (name_is_present is.0 is.2))
+    subst (λ (u : Table). IsToken u.name) is.1 (text_is_token (text_of_key (codes "name") is.0) (name_is_present is.0 is.2))
 
 pub names_are_short : (table : Table) → TableWasRead table → length table.name ≤ 32
-unfolding table_read
+unfolding table_of_members
 names_are_short table read =
     let is = read_as table read in
-    subst (λ (u : Table). length u.name ≤ 32) is.1 (text_is_short (text_at (codes "name") is.0) (name_is_present is.0 is.2))
+    subst (λ (u : Table). length u.name ≤ 32) is.1 (text_is_short (text_of_key (codes "name") is.0) (name_is_present is.0 is.2))
 
 pub stores_none_too_long : StoredContentFits64Bits
-unfolding table_read
+unfolding table_of_members
 stores_none_too_long table read =
     let is = read_as table read in
-    let high : unwrap_or (number_at MaxStored is.0) 0 ≤ 16777216 = within_high 0 16777216 (option_and_then as_integer (get_member (key_text MaxStored) is.0)) in
-    let small : unwrap_or (number_at MaxStored is.0) 0 < 2 ^ 64 = omega arith in
+    let high : unwrap_or (number_of_key MaxStored is.0) 0 ≤ 16777216 = within_high 0 16777216 (option_and_then as_integer (get_member (key_text MaxStored) is.0)) in
+    let small : unwrap_or (number_of_key MaxStored is.0) 0 < 2 ^ 64 = omega arith in
     subst (λ (u : Table). u.max_stored < 2 ^ 64) is.1 small

@@ -11,28 +11,28 @@ use Rattle.hx_hop.specs.Answering.{answered_of}
 use Rattle.hx_hop.proofs.Lines.{filter_keeps, list_any_none_left, not_true}
 use Rattle.hx_allow.specs.Matching.{policy_of}
 use Rattle.hx_allow.specs.TableLines.{Table}
-use Rattle.hx_allow.specs.declared.verdicts.Route.{Route}
+use Rattle.hx_allow.specs.declared.verdicts.RequestRoute.{RequestRoute}
 use Rattle.hx_allow.specs.declared.verdicts.Verdict.TheVariants as verdict
 use Rattle.hx_storable.specs.declared.rule.StoreRule.{StoreRule}
 use Rattle.hx_store.specs.Stored.{Stored}
-use Rattle.hx_store.specs.Recency.{is_that_serial}
+use Rattle.hx_store.specs.Recency.{option_is_serial}
 use Rattle.hx_status.specs.declared.status.Status.{Status}
 use Rattle.hx_validate.specs.Answering.{freshened_of}
-use Rattle.hx_validate.specs.Ranges.{fields_of_416_to_answer, fields_of_part, is_carried_by_416, is_carried_by_416_to_asker}
+use Rattle.hx_validate.specs.Ranges.{fields_of_416_to_answer, fields_of_206, is_field_of_416, is_field_of_416_to_answer}
 use Rattle.hx_validate.specs.Room.{head_leaves_room}
 use Rattle.hx_validate.specs.declared.ranges.RangeAnswer.{RangeAnswer}
 use Rattle.hx_validate.specs.declared.ranges.RangeAnswer.TheVariants.{Whole, Part, Unsatisfiable}
-use Rattle.hx_validate.specs.NotModified.{fields_of_304, gets_304, is_carried_by_304, is_carried_to_asker}
+use Rattle.hx_validate.specs.NotModified.{fields_of_304, stored_gets_304, is_field_of_304, is_field_of_304_to_answer}
 use Rattle.proxy_core.specs.declared.open.exchange.Exchange.{Exchange}
 use Rattle.proxy_core.specs.declared.event.Event.{Event}
 use Rattle.proxy_core.specs.declared.event.Event.TheVariants.{Arrive, Answer, Fail, Wake, Abandon, Overdue}
 use Rattle.proxy_core.specs.declared.outcome.Outcome.{Outcome}
-use Rattle.proxy_core.specs.declared.outcome.Outcome.TheVariants.{Reply as Replied}
+use Rattle.proxy_core.specs.declared.outcome.Outcome.TheVariants.{Reply as ReplyData}
 use Rattle.proxy_core.specs.declared.outcome.Reply.{Reply}
 use Rattle.proxy_core.specs.Histories.{held_entries, held_entry, open_exchanges}
 use Rattle.proxy_core.specs.Outcomes.{find_exchange, exchange_id_of_event}
-use Rattle.proxy_core.specs.Replies.{fields_of_answer_416, fields_of_answer_part, range_of_answer, cache_status_of_sent, client_has_answer, stored_response_as_sent, not_modified_text, stored_text, text_in_form, without_tags}
-use Rattle.proxy_core.specs.Sending.{ReplyIsThatStoredResponse}
+use Rattle.proxy_core.specs.Replies.{fields_of_answer_416, fields_of_partial_answer, range_of_answer, cache_status_of_sent, client_wants_304_for_answer, stored_response_as_sent, not_modified_text, stored_reply_text, text_of_stored_in_form, fields_without_hidden_tags}
+use Rattle.proxy_core.specs.Sending.{ReplyIsTheStoredResponse}
 use Rattle.proxy_core.specs.Starts.{StoreAtStart}
 use Rattle.proxy_core.specs.State.{serials_expired_by_outcome, serial_stored_by_outcome, serial_used_by_outcome, stored_response_as_used, stored_response_by_answer}
 use Rattle.proxy_core.specs.Storing.{stored_response_made}
@@ -42,10 +42,10 @@ use Rattle.proxy_core.specs.Validating.{times_after_304, freshened_by_304, store
 use Rattle.proxy_core.proofs.ExpiredEntries.{was_there}
 use Rattle.proxy_core.proofs.SentResponses.{sends_what_is_held}
 use Rattle.hx_hop.proofs.Lines.{list_any_fewer}
-use Rattle.proxy_core_laws.specs.OneResponse.{answer_in_range_sent, in_place_of_answer_sent, not_modified_answer_sent, passed_answer_sent, whole_answer_sent}
-use Rattle.proxy_core_laws.specs.RemovedCookies.{IsTextWithoutSetCookie, NoCookieIsLeftInTheStore, NoCookieIsSentOutOfTheStore, WhoAskedGetsTheCookies}
-use Rattle.proxy_core_laws.specs.StoredReplies.{fields_seen, stored_sent_as_304, stored_sent_whole}
-use Rattle.proxy_core_laws.specs.Varied.{maker_after_event, latest_maker_of, is_answered_by}
+use Rattle.proxy_core_laws.specs.OneResponse.{partial_answer_as_sent, response_sent_in_place_of_answer, not_modified_answer_as_sent, passed_answer_in_form_as_sent, whole_answer_as_sent}
+use Rattle.proxy_core_laws.specs.RemovedCookies.{IsTextWithoutSetCookie, NoCookieIsLeftInTheStore, NoCookieIsSentOutOfTheStore, RequesterGetsTheCookies}
+use Rattle.proxy_core_laws.specs.StoredReplies.{fields_shown_by_line, stored_sent_as_304, stored_sent_whole}
+use Rattle.proxy_core_laws.specs.Varied.{storing_exchange_after_event, latest_storing_exchange_of, stored_if_any_is_answered_by_304}
 use Rattle.proxy_core_laws.proofs.HiddenTags.{hidden_without}
 use Rattle.proxy_core_laws.proofs.RangeForms.{text_of_form}
 use Rattle.proxy_core_laws.proofs.OtherLines.{cookie, other_name}
@@ -67,12 +67,12 @@ none_of a b c d e f l true ha hb hc hd he hf hl = rw ha (rw hb (rw hc (rw hd (rw
 none_of a b c d e f l false ha hb hc hd he hf hl = rw ha (rw hb (rw hc (rw hd (rw he (rw hf (rw hl refl))))))
 
 carries_none : (fields : List Field) → HasNone (fields_of_304 fields)
-carries_none fields = list_any_none_left (is_carried_by_304 tagged) (is_named cookie) not_carried fields
+carries_none fields = list_any_none_left (is_field_of_304 tagged) (is_named cookie) not_carried fields
   where
     tagged : Bool
     tagged = has_field fields (codes "ETag")
 
-    not_carried : (f : Field) → is_carried_by_304 tagged f ≡ true → is_named cookie f ≡ false
+    not_carried : (f : Field) → is_field_of_304 tagged f ≡ true → is_named cookie f ≡ false
     not_carried f carried = by_name (is_named cookie f) refl
       where
         by_name : (t : Bool) → is_named cookie f ≡ t → t ≡ false
@@ -83,27 +83,27 @@ carries_none fields = list_any_none_left (is_carried_by_304 tagged) (is_named co
 
 -- ---- what is sent
 
-same_line : (m n : Route) → verdict.Allowed m ≡ verdict.Allowed n → m ≡ n
+same_line : (m n : RequestRoute) → verdict.Allowed m ≡ verdict.Allowed n → m ≡ n
 same_line m n h = cc
 
-pub same_reply : (a b : Reply) → Replied a ≡ Replied b → a ≡ b
+pub same_reply : (a b : Reply) → ReplyData a ≡ ReplyData b → a ≡ b
 same_reply a b h = cc
 
 -- what is told is told by the policy of the line
-pub policy_shown : (table : Table) (held : List Stored) (x : Option Exchange) (event : Event) (outcome : Outcome) (s : ℕ) (line : Route) (is : ReplyIsThatStoredResponse table held x event outcome s)
+pub policy_shown : (table : Table) (held : List Stored) (x : Option Exchange) (event : Event) (outcome : Outcome) (s : ℕ) (line : RequestRoute) (is : ReplyIsTheStoredResponse table held x event outcome s)
     → EventGoesOverLine table x event line → is.info.policy ≡ policy_of table.lines line
 policy_shown table held x (Arrive now id asked) outcome s line is over =
-    rw is.shows_how.2.1 (ap (policy_of table.lines) (same_line is.shows_how.0 line (sym is.shows_how.1 ∙ over)))
-policy_shown table held (Some x) (Answer now id r) outcome s line is over = rw is.shows_how.1 (ap (policy_of table.lines) over)
-policy_shown table held (Some x) (Fail now id kind) outcome s line is over = rw is.shows_how.1 (ap (policy_of table.lines) over)
-policy_shown table held (Some x) (Wake now id) outcome s line is over = rw is.shows_how (ap (policy_of table.lines) over)
+    rw is.cache_status_matches.2.1 (ap (policy_of table.lines) (same_line is.cache_status_matches.0 line (sym is.cache_status_matches.1 ∙ over)))
+policy_shown table held (Some x) (Answer now id r) outcome s line is over = rw is.cache_status_matches.1 (ap (policy_of table.lines) over)
+policy_shown table held (Some x) (Fail now id kind) outcome s line is over = rw is.cache_status_matches.1 (ap (policy_of table.lines) over)
+policy_shown table held (Some x) (Wake now id) outcome s line is over = rw is.cache_status_matches (ap (policy_of table.lines) over)
 policy_shown table held None (Answer now id r) outcome s line is over = absurd over
 policy_shown table held None (Fail now id kind) outcome s line is over = absurd over
 policy_shown table held None (Wake now id) outcome s line is over = absurd over
-policy_shown table held x (Abandon id) outcome s line is over = absurd is.shows_how
-policy_shown table held x (Overdue id) outcome s line is over = absurd is.shows_how
+policy_shown table held x (Abandon id) outcome s line is over = absurd is.cache_status_matches
+policy_shown table held x (Overdue id) outcome s line is over = absurd is.cache_status_matches
 
-module _ (table : Table) (held : List Stored) (x : Option Exchange) (event : Event) (outcome : Outcome) (s : ℕ) (is : ReplyIsThatStoredResponse table held x event outcome s) (removes : is.info.policy.removes_cookies ≡ true) where
+module _ (table : Table) (held : List Stored) (x : Option Exchange) (event : Event) (outcome : Outcome) (s : ℕ) (is : ReplyIsTheStoredResponse table held x event outcome s) (removes : is.info.policy.removes_cookies ≡ true) where
   abbrev form : Stored
   form = stored_response_as_used x event is.response
 
@@ -111,19 +111,19 @@ module _ (table : Table) (held : List Stored) (x : Option Exchange) (event : Eve
   abbrev as_sent : Stored
   as_sent = stored_response_as_sent is.info.policy is.asked form
 
-  none_sent : IsTextWithoutSetCookie (stored_text table.name form is.now is.info is.asked)
-  none_sent = by_test (gets_304 is.asked form)
+  none_sent : IsTextWithoutSetCookie (stored_reply_text table.name form is.now is.info is.asked)
+  none_sent = by_test (stored_gets_304 is.asked form)
     where
-      by_test : (t : Bool) → IsTextWithoutSetCookie (cond t (not_modified_text table.name form is.now is.info is.asked) (text_in_form table.name as_sent form is.now is.info is.asked))
+      by_test : (t : Bool) → IsTextWithoutSetCookie (cond t (not_modified_text table.name form is.now is.info is.asked) (text_of_stored_in_form table.name as_sent form is.now is.info is.asked))
       by_test true = record {
         sent = stored_sent_as_304 table.name form is.now (cache_status_of_sent 304 form is.now is.info) is.asked;
         text_is = refl;
-        has_none = lines_without table.name (fields_of_304 form.fields) form is.now (cache_status_of_sent 304 form is.now is.info) cookie (carries_none form.fields) refl refl;
+        has_no_such_field = lines_without table.name (fields_of_304 form.fields) form is.now (cache_status_of_sent 304 form is.now is.info) cookie (carries_none form.fields) refl refl;
       }
       by_test false = record {
         sent = stored_sent_whole is.info.policy table.name as_sent is.now (cache_status_of_sent as_sent.status form is.now is.info) is.asked;
         text_is = text_of_form table.name form is.now is.info is.asked;
-        has_none = lines_without table.name (fields_seen is.info.policy as_sent.fields) as_sent is.now (cache_status_of_sent as_sent.status form is.now is.info) cookie
+        has_no_such_field = lines_without table.name (fields_shown_by_line is.info.policy as_sent.fields) as_sent is.now (cache_status_of_sent as_sent.status form is.now is.info) cookie
             (hidden_without is.info.policy.hides_tags (without_cookies is.info.policy.removes_cookies as_sent.fields) cookie (removed_none is.info.policy.removes_cookies as_sent.fields removes)) refl refl;
       }
 
@@ -159,30 +159,30 @@ freshened_none x r now e removes = removed_none x.removes_cookies (freshened_of 
 
 -- before a purge may have ended its lifetime
 leaves_none_before : (table : Table) (start : StoreAtStart) (item : Item) (past : List Item) (s : ℕ) (x : Exchange) (e : Stored) → (policy_of table.lines x.line).removes_cookies ≡ true
-    → ((f : Stored) → latest_maker_of table start past s ≡ Some x → held_entry table start past s ≡ Some f → HasNone f.fields)
-    → latest_maker_of table start (item ∷ past) s ≡ Some x
-    → cond (is_that_serial (serial_stored_by_outcome item.outcome) s) (stored_response_by_answer (find_exchange (exchange_id_of_event item.event) (open_exchanges table start past)) item.event s)
-    (cond (is_that_serial (serial_used_by_outcome item.outcome) s) (option_map (stored_response_as_used (find_exchange (exchange_id_of_event item.event) (open_exchanges table start past)) item.event) (held_entry table start past s)) (held_entry table start past s)) ≡ Some e
+    → ((f : Stored) → latest_storing_exchange_of table start past s ≡ Some x → held_entry table start past s ≡ Some f → HasNone f.fields)
+    → latest_storing_exchange_of table start (item ∷ past) s ≡ Some x
+    → cond (option_is_serial (serial_stored_by_outcome item.outcome) s) (stored_response_by_answer (find_exchange (exchange_id_of_event item.event) (open_exchanges table start past)) item.event s)
+    (cond (option_is_serial (serial_used_by_outcome item.outcome) s) (option_map (stored_response_as_used (find_exchange (exchange_id_of_event item.event) (open_exchanges table start past)) item.event) (held_entry table start past s)) (held_entry table start past s)) ≡ Some e
     → HasNone e.fields
 leaves_none_before table start item past s x e removes rest left held =
     by_event (find_exchange (exchange_id_of_event item.event) (open_exchanges table start past)) item.event
     (λ y h. removes_so table start (exchange_id_of_event item.event) past y h) (held_entry table start past s) rest left held
   where
     before : Option Exchange
-    before = latest_maker_of table start past s
+    before = latest_storing_exchange_of table start past s
 
     stored : Bool
-    stored = is_that_serial (serial_stored_by_outcome item.outcome) s
+    stored = option_is_serial (serial_stored_by_outcome item.outcome) s
 
     used : Bool
-    used = is_that_serial (serial_used_by_outcome item.outcome) s
+    used = option_is_serial (serial_used_by_outcome item.outcome) s
 
     Removes : Exchange → Type 0
     Removes y = y.removes_cookies ≡ (policy_of table.lines y.line).removes_cookies
 
     by_event : (o : Option Exchange) (event : Event) → ((y : Exchange) → o ≡ Some y → Removes y) → (look : Option Stored)
         → ((f : Stored) → before ≡ Some x → look ≡ Some f → HasNone f.fields)
-        → maker_after_event o event item.outcome look before s ≡ Some x
+        → storing_exchange_after_event o event item.outcome look before s ≡ Some x
         → cond stored (stored_response_by_answer o event s) (cond used (option_map (stored_response_as_used o event) look) look) ≡ Some e → HasNone e.fields
     by_event (Some y) (Answer now id r) own look earlier k h = by_tests stored used look k h refl
       where
@@ -196,13 +196,13 @@ leaves_none_before table start item past s x e removes rest left held =
         by_answer f rest true same j = subst (λ (g : Stored). HasNone g.fields) (some_same j) (freshened_none y r now f (own_removes same))
         by_answer f rest false same j = rest e same j
 
-        by_used : (u : Bool) (o : Option Stored) → ((f : Stored) → before ≡ Some x → o ≡ Some f → HasNone f.fields) → cond (u && is_answered_by y r now o) (Some y) before ≡ Some x
+        by_used : (u : Bool) (o : Option Stored) → ((f : Stored) → before ≡ Some x → o ≡ Some f → HasNone f.fields) → cond (u && stored_if_any_is_answered_by_304 y r now o) (Some y) before ≡ Some x
             → cond u (option_map (stored_response_as_used (Some y) (Answer now id r)) o) o ≡ Some e → HasNone e.fields
         by_used true None rest same j = absurd cc
         by_used true (Some f) rest same j = by_answer f rest (stored_response_is_answered y r now f) same j
         by_used false o rest same j = rest e same j
 
-        by_tests : (t u : Bool) (o : Option Stored) → cond (t || (u && is_answered_by y r now o)) (Some y) before ≡ Some x
+        by_tests : (t u : Bool) (o : Option Stored) → cond (t || (u && stored_if_any_is_answered_by_304 y r now o)) (Some y) before ≡ Some x
             → cond t (Some (stored_response_made s y r now)) (cond u (option_map (stored_response_as_used (Some y) (Answer now id r)) o) o) ≡ Some e → o ≡ look → HasNone e.fields
         by_tests true u o same j at = made same j
         by_tests false u o same j at = by_used u o (λ f b found. earlier f b (sym at ∙ found)) same j
@@ -227,8 +227,8 @@ named_after fields line other =
     ap (map (λ (f : Field). f.value))
     (filter-append (is_named cookie) fields (line ∷ []) ∙ (ap (λ t. filter (is_named cookie) fields ++ cond t (line ∷ []) []) other ∙ append-nil (filter (is_named cookie) fields)))
 
-kept_for_asker : (fields : List Field) → values_of (filter (is_carried_to_asker (has_field fields (codes "ETag"))) fields) cookie ≡ values_of fields cookie
-kept_for_asker fields = ap (map (λ (f : Field). f.value)) (filter_keeps (is_carried_to_asker tagged) (is_named cookie) carried fields)
+kept_for_asker : (fields : List Field) → values_of (filter (is_field_of_304_to_answer (has_field fields (codes "ETag"))) fields) cookie ≡ values_of fields cookie
+kept_for_asker fields = ap (map (λ (f : Field). f.value)) (filter_keeps (is_field_of_304_to_answer tagged) (is_named cookie) carried fields)
   where
     tagged : Bool
     tagged = has_field fields (codes "ETag")
@@ -238,54 +238,54 @@ kept_for_asker fields = ap (map (λ (f : Field). f.value)) (filter_keeps (is_car
     last false true = refl
     last false false = refl
 
-    carried : (f : Field) → is_named cookie f ≡ true → is_carried_to_asker tagged f ≡ true
-    carried f is = ap (λ t. is_carried_by_304 tagged f || (is_named (codes "Age") f || t)) is ∙ last (is_carried_by_304 tagged f) (is_named (codes "Age") f)
+    carried : (f : Field) → is_named cookie f ≡ true → is_field_of_304_to_answer tagged f ≡ true
+    carried f is = ap (λ t. is_field_of_304 tagged f || (is_named (codes "Age") f || t)) is ∙ last (is_field_of_304 tagged f) (is_named (codes "Age") f)
 
 -- the line that tells the part is no cookie, nor is the one that it takes the place of
-kept_in_a_part : (fields : List Field) (first last total : ℕ) → values_of (fields_of_part fields first last total) cookie ≡ values_of fields cookie
+kept_in_a_part : (fields : List Field) (first last total : ℕ) → values_of (fields_of_206 fields first last total) cookie ≡ values_of fields cookie
 kept_in_a_part fields first last total =
     named_after (without_named fields (codes "Content-Range")) _ refl
     ∙ ap (map (λ (f : Field). f.value)) (filter_keeps (λ f. not (is_named (codes "Content-Range") f)) (is_named cookie) (λ f is. ap not (other_name (codes "Content-Range") f refl is)) fields)
 
 kept_in_a_416 : (fields : List Field) (total : ℕ) → values_of (fields_of_416_to_answer fields total) cookie ≡ values_of fields cookie
 kept_in_a_416 fields total =
-    named_after (filter is_carried_by_416_to_asker fields) _ refl
-    ∙ ap (map (λ (f : Field). f.value)) (filter_keeps is_carried_by_416_to_asker (is_named cookie) carried fields)
+    named_after (filter is_field_of_416_to_answer fields) _ refl
+    ∙ ap (map (λ (f : Field). f.value)) (filter_keeps is_field_of_416_to_answer (is_named cookie) carried fields)
   where
     last : (a b : Bool) → (a || (b || true)) ≡ true
     last true b = refl
     last false true = refl
     last false false = refl
 
-    carried : (f : Field) → is_named cookie f ≡ true → is_carried_by_416_to_asker f ≡ true
-    carried f is = ap (λ t. is_carried_by_416 f || (is_named (codes "Age") f || t)) is ∙ last (is_carried_by_416 f) (is_named (codes "Age") f)
+    carried : (f : Field) → is_named cookie f ≡ true → is_field_of_416_to_answer f ≡ true
+    carried f is = ap (λ t. is_field_of_416 f || (is_named (codes "Age") f || t)) is ∙ last (is_field_of_416 f) (is_named (codes "Age") f)
 
 -- a tag is no cookie
-kept_where_hidden : (hides : Bool) (fields : List Field) → values_of (without_tags hides fields) cookie ≡ values_of fields cookie
+kept_where_hidden : (hides : Bool) (fields : List Field) → values_of (fields_without_hidden_tags hides fields) cookie ≡ values_of fields cookie
 kept_where_hidden true fields = ap (map (λ (f : Field). f.value)) (filter_keeps (λ f. not (is_named (codes "Cache-Tag") f)) (is_named cookie) (λ f is. ap not (other_name (codes "Cache-Tag") f refl is)) fields)
 kept_where_hidden false fields = refl
 
-pub asker_gets_them : WhoAskedGetsTheCookies
-asker_gets_them policy name x r now stored rule = by_test (client_has_answer policy x r now)
+pub asker_gets_them : RequesterGetsTheCookies
+asker_gets_them policy name x r now stored rule = by_test (client_wants_304_for_answer policy x r now)
   where
     fields : List Field
     fields = (answered_of r now).fields
 
-    whole : values_of (whole_answer_sent policy name x r now stored rule).fields cookie ≡ values_of fields cookie
-    whole = named_after (without_tags policy.hides_tags fields) _ refl ∙ kept_where_hidden policy.hides_tags fields
+    whole : values_of (whole_answer_as_sent policy name x r now stored rule).fields cookie ≡ values_of fields cookie
+    whole = named_after (fields_without_hidden_tags policy.hides_tags fields) _ refl ∙ kept_where_hidden policy.hides_tags fields
 
     by_room : (t : Bool) (status : ℕ) (own : List Field) (content : List ℕ) → values_of own cookie ≡ values_of fields cookie
-        → values_of (cond t (in_place_of_answer_sent policy name x r now stored rule status own content) (whole_answer_sent policy name x r now stored rule)).fields cookie ≡ values_of fields cookie
-    by_room true status own content kept = named_after (without_tags policy.hides_tags own) _ refl ∙ (kept_where_hidden policy.hides_tags own ∙ kept)
+        → values_of (cond t (response_sent_in_place_of_answer policy name x r now stored rule status own content) (whole_answer_as_sent policy name x r now stored rule)).fields cookie ≡ values_of fields cookie
+    by_room true status own content kept = named_after (fields_without_hidden_tags policy.hides_tags own) _ refl ∙ (kept_where_hidden policy.hides_tags own ∙ kept)
     by_room false status own content kept = whole
 
-    by_answer : (answer : RangeAnswer) → values_of (answer_in_range_sent policy name x r now stored rule answer).fields cookie ≡ values_of fields cookie
+    by_answer : (answer : RangeAnswer) → values_of (partial_answer_as_sent policy name x r now stored rule answer).fields cookie ≡ values_of fields cookie
     by_answer Whole = whole
-    by_answer (Part first last) = by_room (head_leaves_room (fields_of_answer_part r now first last)) 206 (fields_of_answer_part r now first last) (slice_range r.content first (last + 1)) (kept_in_a_part fields first last (length r.content))
+    by_answer (Part first last) = by_room (head_leaves_room (fields_of_partial_answer r now first last)) 206 (fields_of_partial_answer r now first last) (slice_range r.content first (last + 1)) (kept_in_a_part fields first last (length r.content))
     by_answer Unsatisfiable = by_room (head_leaves_room (fields_of_answer_416 r now)) 416 (fields_of_answer_416 r now) [] (kept_in_a_416 fields (length r.content))
 
-    by_test : (has : Bool) → values_of (cond has (not_modified_answer_sent policy name x r now stored rule) (answer_in_range_sent policy name x r now stored rule (range_of_answer policy x r now))).fields cookie ≡ values_of fields cookie
+    by_test : (has : Bool) → values_of (cond has (not_modified_answer_as_sent policy name x r now stored rule) (partial_answer_as_sent policy name x r now stored rule (range_of_answer policy x r now))).fields cookie ≡ values_of fields cookie
     by_test true =
-        named_after (without_tags policy.hides_tags (filter (is_carried_to_asker (has_field fields (codes "ETag"))) fields)) _ refl
-        ∙ (kept_where_hidden policy.hides_tags (filter (is_carried_to_asker (has_field fields (codes "ETag"))) fields) ∙ kept_for_asker fields)
+        named_after (fields_without_hidden_tags policy.hides_tags (filter (is_field_of_304_to_answer (has_field fields (codes "ETag"))) fields)) _ refl
+        ∙ (kept_where_hidden policy.hides_tags (filter (is_field_of_304_to_answer (has_field fields (codes "ETag"))) fields) ∙ kept_for_asker fields)
     by_test false = by_answer (range_of_answer policy x r now)

@@ -27,8 +27,8 @@ use Rattle.hx_status.specs.declared.status.How.TheVariants.{Hit, Fwd}
 use Rattle.hx_status.specs.declared.status.Status.{Status}
 use Rattle.hx_storable.specs.declared.rule.StoreRule.{StoreRule}
 use Rattle.hx_storable.specs.declared.rule.StoreRule.TheVariants.{Operator}
-use Rattle.hx_status.specs.Member.{detail_of_step_or_rule, flag_text, fwd_status_text, hit_or_forward_text, member_text, not_stored_word, ttl_text, detail_word, word_or_not_stored, detail_word_text}
-use Rattle.hx_status.specs.Refusals.{error_rule_text, frame_word, fail_kind_word, origin_text, fwd_parameters_of_rule, target_word, refusal_text}
+use Rattle.hx_status.specs.Member.{detail_of_step_or_rule, text_if_flag, fwd_status_text, hit_or_forward_text, member_text, not_stored_word, ttl_text, detail_word, detail_word_or_not_stored, detail_word_text}
+use Rattle.hx_status.specs.Refusals.{error_rule_text, frame_fault_word, fail_kind_word, origin_failure_text, fwd_parameters_of_rule, target_fault_word, refusal_text}
 use Rattle.hx_validate.specs.Ranges.{part_text, unsatisfied_text}
 use Rattle.hx_hop_laws.specs.OneMessage.{IsFieldValue}
 use Rattle.hx_hop_laws.proofs.ReadTargets.{IsVisible, pass_visible}
@@ -109,11 +109,11 @@ kind_visible : (kind : FailKind) → list_all seen (fail_kind_word kind) ≡ tru
 kind_visible Refused = refl
 kind_visible _ = refl
 
-frame_visible : (fault : FrameFault) → list_all seen (frame_word fault) ≡ true
+frame_visible : (fault : FrameFault) → list_all seen (frame_fault_word fault) ≡ true
 frame_visible frame.Head = refl
 frame_visible _ = refl
 
-target_visible : (fault : TargetFault) → list_all seen (target_word fault) ≡ true
+target_visible : (fault : TargetFault) → list_all seen (target_fault_word fault) ≡ true
 target_visible target.Form = refl
 target_visible _ = refl
 
@@ -135,7 +135,7 @@ ttl_visible : (ttl : Option ℤ) → AreVisible (ttl_text ttl)
 ttl_visible None = word [] refl
 ttl_visible (Some seconds) = joined (codes ";ttl=") (signed_decimal seconds) (word (codes ";ttl=") refl) (signed_visible seconds)
 
-flag_visible : (flag : Bool) (text : List ℕ) → AreVisible text → AreVisible (flag_text flag text)
+flag_visible : (flag : Bool) (text : List ℕ) → AreVisible text → AreVisible (text_if_flag flag text)
 flag_visible true text all = all
 flag_visible false text all = word [] refl
 
@@ -148,7 +148,7 @@ not_stored_visible : (rule : StoreRule) → list_all seen (detail_word_text (Som
 not_stored_visible Operator = refl
 not_stored_visible _ = refl
 
-visible_or : (o : Option (List ℕ)) (rule : Option StoreRule) → AreVisible (detail_word_text o) → AreVisible (detail_word_text (word_or_not_stored o rule))
+visible_or : (o : Option (List ℕ)) (rule : Option StoreRule) → AreVisible (detail_word_text o) → AreVisible (detail_word_text (detail_word_or_not_stored o rule))
 visible_or (Some text) rule are = are
 visible_or None None are = are
 visible_or None (Some rule) are = word (detail_word_text (Some (not_stored_word rule))) (not_stored_visible rule)
@@ -161,9 +161,9 @@ member_value name status token =
     let how = joined name (hit_or_forward_text status.how) (name_visible name token) (how_visible status.how) in
     let came = joined _ (fwd_status_text status.fwd_status) how (came_visible status.fwd_status) in
     let ttl = joined _ (ttl_text status.ttl) came (ttl_visible status.ttl) in
-    let stored = joined _ (flag_text status.stored (codes ";stored")) ttl (flag_visible status.stored (codes ";stored") (word (codes ";stored") refl)) in
-    let collapsed = joined _ (flag_text status.collapsed (codes ";collapsed")) stored (flag_visible status.collapsed (codes ";collapsed") (word (codes ";collapsed") refl)) in
-    visible_field_value (member_text name status) (joined _ (detail_word_text (word_or_not_stored (detail_of_step_or_rule status.detail status.how) status.not_stored)) collapsed
+    let stored = joined _ (text_if_flag status.stored (codes ";stored")) ttl (flag_visible status.stored (codes ";stored") (word (codes ";stored") refl)) in
+    let collapsed = joined _ (text_if_flag status.collapsed (codes ";collapsed")) stored (flag_visible status.collapsed (codes ";collapsed") (word (codes ";collapsed") refl)) in
+    visible_field_value (member_text name status) (joined _ (detail_word_text (detail_word_or_not_stored (detail_of_step_or_rule status.detail status.how) status.not_stored)) collapsed
     (visible_or (detail_of_step_or_rule status.detail status.how) status.not_stored (named_visible status.detail status.how)))
 
 -- ---- the proxy's own texts
@@ -211,18 +211,18 @@ some_kind : (kind : FailKind) → nat_lt 0 (length (fail_kind_word kind)) ≡ tr
 some_kind Refused = refl
 some_kind _ = refl
 
-some_frame : (fault : FrameFault) → nat_lt 0 (length (frame_word fault)) ≡ true
+some_frame : (fault : FrameFault) → nat_lt 0 (length (frame_fault_word fault)) ≡ true
 some_frame frame.Head = refl
 some_frame _ = refl
 
-some_target : (fault : TargetFault) → nat_lt 0 (length (target_word fault)) ≡ true
+some_target : (fault : TargetFault) → nat_lt 0 (length (target_fault_word fault)) ≡ true
 some_target target.Form = refl
 some_target _ = refl
 
 some_by : (text : List ℕ) → nat_lt 0 (length text) ≡ true → 0 < length text
 some_by text h = grind (arith, nat_tests)
 
-origin_value : (kind : FailKind) (rule : ReuseRule) (error : Option ErrorRule) → IsFieldValue (origin_text kind rule error)
+origin_value : (kind : FailKind) (rule : ReuseRule) (error : Option ErrorRule) → IsFieldValue (origin_failure_text kind rule error)
 origin_value kind rule error =
     let last : List ℕ = fail_kind_word kind ++ fwd_parameters_of_rule rule ++ error_rule_text error in
     let are : AreVisible last = joined (fail_kind_word kind ++ fwd_parameters_of_rule rule) (error_rule_text error) (joined (fail_kind_word kind) (fwd_parameters_of_rule rule) (word (fail_kind_word kind) (kind_visible kind)) (rule_visible rule)) (errors_visible error) in
@@ -239,8 +239,8 @@ text_value (Looped line) = fronted 108 (codes "oop refused by line ") (decimal l
 text_value NoLine = fronted 110 (codes "o line allows ") (codes "it") refl refl (omega arith) (word (codes "it") refl)
 text_value (OnlyIfCached rule) = visible_field_value (codes "only-if-cached" ++ fwd_parameters_of_rule rule) (joined (codes "only-if-cached") (fwd_parameters_of_rule rule) (word (codes "only-if-cached") refl) (rule_visible rule))
 text_value (Origin kind rule error) = origin_value kind rule error
-text_value (Frame fault) = fronted 114 (codes "efused: ") (frame_word fault) refl refl (some_by (frame_word fault) (some_frame fault)) (word (frame_word fault) (frame_visible fault))
-text_value (Target fault) = fronted 114 (codes "efused: ") (target_word fault) refl refl (some_by (target_word fault) (some_target fault)) (word (target_word fault) (target_visible fault))
+text_value (Frame fault) = fronted 114 (codes "efused: ") (frame_fault_word fault) refl refl (some_by (frame_fault_word fault) (some_frame fault)) (word (frame_fault_word fault) (frame_visible fault))
+text_value (Target fault) = fronted 114 (codes "efused: ") (target_fault_word fault) refl refl (some_by (target_fault_word fault) (some_target fault)) (word (target_fault_word fault) (target_visible fault))
 
 -- what Content-Range tells
 pub part_value : (first last total : ℕ) → IsFieldValue (part_text first last total)

@@ -20,15 +20,15 @@ use Rattle.hx_status.specs.declared.status.How.{How}
 use Rattle.hx_status.specs.declared.status.How.TheVariants.{Hit, Fwd}
 use Rattle.hx_status.specs.declared.status.Status.{Status}
 use Rattle.hx_storable.specs.declared.rule.StoreRule.{StoreRule}
-use Rattle.hx_status.specs.Member.{detail_of_step_or_rule, detail_parameter_text, flag_text, fwd_status_text, hit_or_forward_text, member_text, ttl_text, detail_word, word_or_not_stored, detail_word_text}
+use Rattle.hx_status.specs.Member.{detail_of_step_or_rule, detail_parameter_text, text_if_flag, fwd_status_text, hit_or_forward_text, member_text, ttl_text, detail_word, detail_word_or_not_stored, detail_word_text}
 use Rattle.hx_store.specs.Stored.{Stored}
-use Rattle.hx_validate.specs.NotModified.{is_carried_by_304, fields_of_304}
+use Rattle.hx_validate.specs.NotModified.{is_field_of_304, fields_of_304}
 use Rattle.hx_validate.specs.Room.{head_leaves_room}
 use Rattle.hx_policy.specs.declared.words.Policy.{Policy}
-use Rattle.proxy_core.specs.Replies.{line, without_tags}
+use Rattle.proxy_core.specs.Replies.{line, fields_without_hidden_tags}
 use Rattle.proxy_core.specs.Validating.{without_cookies}
-use Rattle.proxy_core_laws.specs.HeldHeads.{FitsAReaderAs304WithRoom, FitsAReaderWithRoom, SecondsAreInRange, StatusIsInRange}
-use Rattle.proxy_core_laws.specs.StoredReplies.{fields_as_sent, fields_seen}
+use Rattle.proxy_core_laws.specs.HeldHeads.{HeadWithRoomAs304IsWithinReaderLimits, HeadWithRoomIsWithinReaderLimits, SecondsAreInRange, StatusIsInRange}
+use Rattle.proxy_core_laws.specs.StoredReplies.{stored_fields_as_sent, fields_shown_by_line}
 use Rattle.proxy_core_laws.proofs.ReadHeads.{AreWithin, within_fewer}
 
 -- ---- the member of Cache-Status
@@ -76,7 +76,7 @@ ttl_short (Some z) is =
     let parts = length-append (codes ";ttl=") (signed_decimal z) in
     omega (arith, digits, parts)
 
-flag_short : (flag : Bool) (text : List ℕ) (n : ℕ) → length text ≤ n → length (flag_text flag text) ≤ n
+flag_short : (flag : Bool) (text : List ℕ) (n : ℕ) → length text ≤ n → length (text_if_flag flag text) ≤ n
 flag_short true text n is = is
 flag_short false text n is = omega arith
 
@@ -86,7 +86,7 @@ named_short None Hit = omega arith
 named_short None (Fwd rule) = leb-true _ 30 (detail_short rule)
 
 -- so where no storing rule is told
-short_or : (o : Option (List ℕ)) (rule : Option StoreRule) → rule ≡ None → length (detail_word_text o) ≤ 30 → length (detail_word_text (word_or_not_stored o rule)) ≤ 30
+short_or : (o : Option (List ℕ)) (rule : Option StoreRule) → rule ≡ None → length (detail_word_text o) ≤ 30 → length (detail_word_text (detail_word_or_not_stored o rule)) ≤ 30
 short_or (Some text) rule none h = h
 short_or None None none h = h
 short_or None (Some rule) none h = absurd cc
@@ -102,7 +102,7 @@ member_short name shown named is =
     let stored = flag_short shown.stored (codes ";stored") 7 (omega arith) in
     let collapsed = flag_short shown.collapsed (codes ";collapsed") 10 (omega arith) in
     let word = short_or (detail_of_step_or_rule shown.detail shown.how) shown.not_stored is.is_held (named_short shown.detail shown.how) in
-    let all = seven name (hit_or_forward_text shown.how) (fwd_status_text shown.fwd_status) (ttl_text shown.ttl) (flag_text shown.stored (codes ";stored")) (flag_text shown.collapsed (codes ";collapsed")) (detail_parameter_text shown)
+    let all = seven name (hit_or_forward_text shown.how) (fwd_status_text shown.fwd_status) (ttl_text shown.ttl) (text_if_flag shown.stored (codes ";stored")) (text_if_flag shown.collapsed (codes ";collapsed")) (detail_parameter_text shown)
     (length (member_text name shown)) refl in
     omega (arith, named, how, came, left, stored, collapsed, word, all)
 
@@ -124,13 +124,13 @@ module _ (name : List ℕ) (fields : List Field) (e : Stored) (now : ℕ) (shown
   abbrev status : List Field
   status = line (codes "Cache-Status") (member_text name shown) ∷ []
 
-  shown_lines : length (fields_as_sent name fields e now shown) ≡ length fields + 2
+  shown_lines : length (stored_fields_as_sent name fields e now shown) ≡ length fields + 2
   shown_lines =
       let outer = length-append (fields ++ age) status in
       let inner = length-append fields age in
       omega (arith, outer, inner)
 
-  shown_bytes : length (field_lines_text (fields_as_sent name fields e now shown)) ≤ length (field_lines_text fields) + 157
+  shown_bytes : length (field_lines_text (stored_fields_as_sent name fields e now shown)) ≤ length (field_lines_text fields) + 157
   shown_bytes =
       let outer = ap length (flat_map-append field_line_text (fields ++ age) status) ∙ length-append (field_lines_text (fields ++ age)) (field_lines_text status) in
       let inner = ap length (flat_map-append field_line_text fields age) ∙ length-append (field_lines_text fields) (field_lines_text age) in
@@ -184,9 +184,9 @@ room_left fields room =
     record { few = omega (arith, lines); short = omega (arith, bytes) }
 
 module _ (name : List ℕ) (fields : List Field) (e : Stored) (now : ℕ) (shown : Status) (named : length name ≤ 32) (is : StatusIsInRange shown) (are : AreWithin 96 32512 fields) (length_is : Option ℕ) (close : Bool) where
-  lines_fit : length (fields_as_sent name fields e now shown ++ content_length_fields length_is ++ connection_close_fields close) ≤ 100
+  lines_fit : length (stored_fields_as_sent name fields e now shown ++ content_length_fields length_is ++ connection_close_fields close) ≤ 100
   lines_fit =
-      let all = three (fields_as_sent name fields e now shown) (content_length_fields length_is) (connection_close_fields close) (length (fields_as_sent name fields e now shown ++ content_length_fields length_is ++ connection_close_fields close)) refl in
+      let all = three (stored_fields_as_sent name fields e now shown) (content_length_fields length_is) (connection_close_fields close) (length (stored_fields_as_sent name fields e now shown ++ content_length_fields length_is ++ connection_close_fields close)) refl in
       let lines = shown_lines name fields e now shown named is in
       let one = length_few length_is in
       let other = close_few close in
@@ -194,10 +194,10 @@ module _ (name : List ℕ) (fields : List Field) (e : Stored) (now : ℕ) (shown
       omega (arith, all, lines, one, other, few)
 
   bytes_fit : (status : ℕ) → status ≤ 999 → IfSome length_is (λ k. k < 2 ^ 64)
-      → length (status_line_text status ++ field_lines_text (fields_as_sent name fields e now shown) ++ content_length_line length_is ++ connection_close_line close ++ codes "\r\n") ≤ 32768
+      → length (status_line_text status ++ field_lines_text (stored_fields_as_sent name fields e now shown) ++ content_length_line length_is ++ connection_close_line close ++ codes "\r\n") ≤ 32768
   bytes_fit status low small =
-      let all = five (status_line_text status) (field_lines_text (fields_as_sent name fields e now shown)) (content_length_line length_is) (connection_close_line close) (codes "\r\n")
-      (length (status_line_text status ++ field_lines_text (fields_as_sent name fields e now shown) ++ content_length_line length_is ++ connection_close_line close ++ codes "\r\n")) refl in
+      let all = five (status_line_text status) (field_lines_text (stored_fields_as_sent name fields e now shown)) (content_length_line length_is) (connection_close_line close) (codes "\r\n")
+      (length (status_line_text status ++ field_lines_text (stored_fields_as_sent name fields e now shown) ++ content_length_line length_is ++ connection_close_line close ++ codes "\r\n")) refl in
       let first = status_short status low in
       let lines = shown_bytes name fields e now shown named is in
       let one = length_short length_is small in
@@ -211,17 +211,17 @@ others_within true fields are = within_fewer 96 32512 (λ f. not (is_named (code
 others_within false fields are = are
 
 -- and so may tags
-seen_within : (policy : Policy) (fields : List Field) → AreWithin 96 32512 fields → AreWithin 96 32512 (fields_seen policy fields)
+seen_within : (policy : Policy) (fields : List Field) → AreWithin 96 32512 fields → AreWithin 96 32512 (fields_shown_by_line policy fields)
 seen_within policy fields are = by_test policy.hides_tags (others_within policy.removes_cookies fields are)
   where
-    by_test : (hides : Bool) → AreWithin 96 32512 (without_cookies policy.removes_cookies fields) → AreWithin 96 32512 (without_tags hides (without_cookies policy.removes_cookies fields))
+    by_test : (hides : Bool) → AreWithin 96 32512 (without_cookies policy.removes_cookies fields) → AreWithin 96 32512 (fields_without_hidden_tags hides (without_cookies policy.removes_cookies fields))
     by_test true left = within_fewer 96 32512 (λ f. not (is_named (codes "Cache-Tag") f)) (without_cookies policy.removes_cookies fields) left
     by_test false left = left
 
-pub fits_where_room_is_left : FitsAReaderWithRoom
+pub fits_where_room_is_left : HeadWithRoomIsWithinReaderLimits
 fits_where_room_is_left policy most now name e shown asked room named is final small within = record {
-  few = lines_fit name (fields_seen policy e.fields) e now shown named is (seen_within policy e.fields (room_left e.fields room)) (cond ((e.status == 204) || (e.status == 304)) None (Some (length e.content))) asked.close;
-  short = bytes_fit name (fields_seen policy e.fields) e now shown named is (seen_within policy e.fields (room_left e.fields room)) (cond ((e.status == 204) || (e.status == 304)) None (Some (length e.content))) asked.close e.status (omega (arith, final)) (shown_small ((e.status == 204) || (e.status == 304)));
+  few = lines_fit name (fields_shown_by_line policy e.fields) e now shown named is (seen_within policy e.fields (room_left e.fields room)) (cond ((e.status == 204) || (e.status == 304)) None (Some (length e.content))) asked.close;
+  short = bytes_fit name (fields_shown_by_line policy e.fields) e now shown named is (seen_within policy e.fields (room_left e.fields room)) (cond ((e.status == 204) || (e.status == 304)) None (Some (length e.content))) asked.close e.status (omega (arith, final)) (shown_small ((e.status == 204) || (e.status == 304)));
   content = within;
 }
   where
@@ -229,9 +229,9 @@ fits_where_room_is_left policy most now name e shown asked room named is final s
     shown_small true = tt
     shown_small false = small
 
-pub fits_as_304_where_room_is_left : FitsAReaderAs304WithRoom
+pub fits_as_304_where_room_is_left : HeadWithRoomAs304IsWithinReaderLimits
 fits_as_304_where_room_is_left most now name e shown asked room named is =
-    let carried = within_fewer 96 32512 (is_carried_by_304 (has_field e.fields (codes "ETag"))) e.fields (room_left e.fields room) in record {
+    let carried = within_fewer 96 32512 (is_field_of_304 (has_field e.fields (codes "ETag"))) e.fields (room_left e.fields room) in record {
       few = lines_fit name (fields_of_304 e.fields) e now shown named is carried None asked.close;
       short = bytes_fit name (fields_of_304 e.fields) e now shown named is carried None asked.close 304 (omega arith) tt;
       content = omega arith;

@@ -10,7 +10,7 @@ use Rattle.hx_hop.proofs.Lines.{list_any_none_left}
 use Rattle.hx_allow.specs.TableLines.{Table}
 use Rattle.hx_store.specs.Stored.{Stored}
 use Rattle.hx_status.specs.Member.{member_text}
-use Rattle.hx_validate.specs.NotModified.{fields_of_304, fields_of_304_to_answer, gets_304, is_carried_by_304}
+use Rattle.hx_validate.specs.NotModified.{fields_of_304, fields_of_304_to_answer, stored_gets_304, is_field_of_304}
 use Rattle.hx_validate.specs.Room.{head_leaves_room}
 use Rattle.hx_validate.specs.declared.ranges.RangeAnswer.{RangeAnswer}
 use Rattle.hx_validate.specs.declared.ranges.RangeAnswer.TheVariants.{Whole, Part, Unsatisfiable}
@@ -20,15 +20,15 @@ use Rattle.proxy_core.specs.declared.outcome.Outcome.{Outcome}
 use Rattle.proxy_core.specs.declared.outcome.Reply.{Reply}
 use Rattle.proxy_core.specs.Histories.{held_entries, open_exchanges}
 use Rattle.proxy_core.specs.Outcomes.{find_exchange, exchange_id_of_event}
-use Rattle.proxy_core.specs.Replies.{cache_status_in_place_of_answer, cache_status_of_passed_answer, cache_status_of_sent, client_has_answer, fields_of_answer_416, fields_of_answer_part, stored_response_as_sent, line, not_modified_text, range_of_answer, stored_text, text_in_form, without_tags}
-use Rattle.proxy_core.specs.Sending.{ReplyIsThatStoredResponse}
+use Rattle.proxy_core.specs.Replies.{cache_status_in_place_of_answer, cache_status_of_passed_answer, cache_status_of_sent, client_wants_304_for_answer, fields_of_answer_416, fields_of_partial_answer, stored_response_as_sent, line, not_modified_text, range_of_answer, stored_reply_text, text_of_stored_in_form, fields_without_hidden_tags}
+use Rattle.proxy_core.specs.Sending.{ReplyIsTheStoredResponse}
 use Rattle.proxy_core.specs.State.{stored_response_as_used}
 use Rattle.proxy_core.specs.Validating.{without_cookies}
 use Rattle.proxy_core.proofs.HiddenTags.{none_behind, none_shown}
 use Rattle.proxy_core.proofs.SentResponses.{sends_what_is_held}
 use Rattle.proxy_core_laws.specs.HiddenTags.{IsResponseWithoutTags, NoTagIsPassedOn, NoTagIsSentOutOfTheStore}
-use Rattle.proxy_core_laws.specs.OneResponse.{answer_in_range_sent, in_place_of_answer_sent, not_modified_answer_sent, whole_answer_sent}
-use Rattle.proxy_core_laws.specs.StoredReplies.{fields_seen, stored_sent_as_304, stored_sent_whole}
+use Rattle.proxy_core_laws.specs.OneResponse.{partial_answer_as_sent, response_sent_in_place_of_answer, not_modified_answer_as_sent, whole_answer_as_sent}
+use Rattle.proxy_core_laws.specs.StoredReplies.{fields_shown_by_line, stored_sent_as_304, stored_sent_whole}
 use Rattle.proxy_core_laws.proofs.OtherLines.{other_than}
 use Rattle.proxy_core_laws.proofs.RangeForms.{text_of_form}
 use Rattle.proxy_core_laws.proofs.RemovedCookies.{none_of, policy_shown, same_reply}
@@ -40,12 +40,12 @@ tag = codes "Cache-Tag"
 -- ---- a 304 out of the store carries none
 
 carries_none : (fields : List Field) → has_field (fields_of_304 fields) tag ≡ false
-carries_none fields = list_any_none_left (is_carried_by_304 tagged) (is_named tag) not_carried fields
+carries_none fields = list_any_none_left (is_field_of_304 tagged) (is_named tag) not_carried fields
   where
     tagged : Bool
     tagged = has_field fields (codes "ETag")
 
-    not_carried : (f : Field) → is_carried_by_304 tagged f ≡ true → is_named tag f ≡ false
+    not_carried : (f : Field) → is_field_of_304 tagged f ≡ true → is_named tag f ≡ false
     not_carried f carried = by_name (is_named tag f) refl
       where
         by_name : (t : Bool) → is_named tag f ≡ t → t ≡ false
@@ -56,7 +56,7 @@ carries_none fields = list_any_none_left (is_carried_by_304 tagged) (is_named ta
 
 -- ---- what is sent out of the store
 
-module _ (table : Table) (held : List Stored) (x : Option Exchange) (event : Event) (outcome : Outcome) (s : ℕ) (is : ReplyIsThatStoredResponse table held x event outcome s) (hides : is.info.policy.hides_tags ≡ true) where
+module _ (table : Table) (held : List Stored) (x : Option Exchange) (event : Event) (outcome : Outcome) (s : ℕ) (is : ReplyIsTheStoredResponse table held x event outcome s) (hides : is.info.policy.hides_tags ≡ true) where
   abbrev form : Stored
   form = stored_response_as_used x event is.response
 
@@ -64,19 +64,19 @@ module _ (table : Table) (held : List Stored) (x : Option Exchange) (event : Eve
   abbrev as_sent : Stored
   as_sent = stored_response_as_sent is.info.policy is.asked form
 
-  none_sent : IsResponseWithoutTags (stored_text table.name form is.now is.info is.asked)
-  none_sent = by_test (gets_304 is.asked form)
+  none_sent : IsResponseWithoutTags (stored_reply_text table.name form is.now is.info is.asked)
+  none_sent = by_test (stored_gets_304 is.asked form)
     where
-      by_test : (t : Bool) → IsResponseWithoutTags (cond t (not_modified_text table.name form is.now is.info is.asked) (text_in_form table.name as_sent form is.now is.info is.asked))
+      by_test : (t : Bool) → IsResponseWithoutTags (cond t (not_modified_text table.name form is.now is.info is.asked) (text_of_stored_in_form table.name as_sent form is.now is.info is.asked))
       by_test true = record {
         sent = stored_sent_as_304 table.name form is.now (cache_status_of_sent 304 form is.now is.info) is.asked;
         text_is = refl;
-        has_none = lines_without table.name (fields_of_304 form.fields) form is.now (cache_status_of_sent 304 form is.now is.info) tag (carries_none form.fields) refl refl;
+        has_no_such_field = lines_without table.name (fields_of_304 form.fields) form is.now (cache_status_of_sent 304 form is.now is.info) tag (carries_none form.fields) refl refl;
       }
       by_test false = record {
         sent = stored_sent_whole is.info.policy table.name as_sent is.now (cache_status_of_sent as_sent.status form is.now is.info) is.asked;
         text_is = text_of_form table.name form is.now is.info is.asked;
-        has_none = lines_without table.name (fields_seen is.info.policy as_sent.fields) as_sent is.now (cache_status_of_sent as_sent.status form is.now is.info) tag
+        has_no_such_field = lines_without table.name (fields_shown_by_line is.info.policy as_sent.fields) as_sent is.now (cache_status_of_sent as_sent.status form is.now is.info) tag
             (none_shown is.info.policy.hides_tags (without_cookies is.info.policy.removes_cookies as_sent.fields) hides) refl refl;
       }
 
@@ -92,7 +92,7 @@ sends_no_tag table start first s line item past reply good over hides used repli
 -- ---- what is passed on
 
 pub passes_no_tag : NoTagIsPassedOn
-passes_no_tag policy name x r now stored rule hides = by_test (client_has_answer policy x r now)
+passes_no_tag policy name x r now stored rule hides = by_test (client_wants_304_for_answer policy x r now)
   where
     fields : List Field
     fields = (answered_of r now).fields
@@ -103,22 +103,22 @@ passes_no_tag policy name x r now stored rule hides = by_test (client_has_answer
     shown : Field
     shown = line (codes "Cache-Status") (member_text name (cache_status_in_place_of_answer policy x r.status fields now stored rule))
 
-    whole : has_field (whole_answer_sent policy name x r now stored rule).fields tag ≡ false
-    whole = none_behind (without_tags policy.hides_tags fields) shown_whole (none_shown policy.hides_tags fields hides) refl
+    whole : has_field (whole_answer_as_sent policy name x r now stored rule).fields tag ≡ false
+    whole = none_behind (fields_without_hidden_tags policy.hides_tags fields) shown_whole (none_shown policy.hides_tags fields hides) refl
 
-    in_place : (own : List Field) → has_field (without_tags policy.hides_tags own ++ shown ∷ []) tag ≡ false
-    in_place own = none_behind (without_tags policy.hides_tags own) shown (none_shown policy.hides_tags own hides) refl
+    in_place : (own : List Field) → has_field (fields_without_hidden_tags policy.hides_tags own ++ shown ∷ []) tag ≡ false
+    in_place own = none_behind (fields_without_hidden_tags policy.hides_tags own) shown (none_shown policy.hides_tags own hides) refl
 
     by_room : (t : Bool) (status : ℕ) (own : List Field) (content : List ℕ)
-        → has_field (cond t (in_place_of_answer_sent policy name x r now stored rule status own content) (whole_answer_sent policy name x r now stored rule)).fields tag ≡ false
+        → has_field (cond t (response_sent_in_place_of_answer policy name x r now stored rule status own content) (whole_answer_as_sent policy name x r now stored rule)).fields tag ≡ false
     by_room true status own content = in_place own
     by_room false status own content = whole
 
-    by_answer : (answer : RangeAnswer) → has_field (answer_in_range_sent policy name x r now stored rule answer).fields tag ≡ false
+    by_answer : (answer : RangeAnswer) → has_field (partial_answer_as_sent policy name x r now stored rule answer).fields tag ≡ false
     by_answer Whole = whole
-    by_answer (Part first last) = by_room (head_leaves_room (fields_of_answer_part r now first last)) 206 (fields_of_answer_part r now first last) (slice_range r.content first (last + 1))
+    by_answer (Part first last) = by_room (head_leaves_room (fields_of_partial_answer r now first last)) 206 (fields_of_partial_answer r now first last) (slice_range r.content first (last + 1))
     by_answer Unsatisfiable = by_room (head_leaves_room (fields_of_answer_416 r now)) 416 (fields_of_answer_416 r now) []
 
-    by_test : (has : Bool) → has_field (cond has (not_modified_answer_sent policy name x r now stored rule) (answer_in_range_sent policy name x r now stored rule (range_of_answer policy x r now))).fields tag ≡ false
+    by_test : (has : Bool) → has_field (cond has (not_modified_answer_as_sent policy name x r now stored rule) (partial_answer_as_sent policy name x r now stored rule (range_of_answer policy x r now))).fields tag ≡ false
     by_test true = in_place (fields_of_304_to_answer fields)
     by_test false = by_answer (range_of_answer policy x r now)

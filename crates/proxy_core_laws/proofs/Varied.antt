@@ -8,19 +8,19 @@ use Rattle.hx_fields.specs.FieldLines.{combined_of}
 use Rattle.hx_framing.specs.declared.messages.Response.{Response}
 use Rattle.hx_hop.specs.Answering.{answered_of}
 use Rattle.hx_hop.specs.declared.request_view.Asked.{Asked}
-use Rattle.hx_allow.specs.Matching.{policy_of, vary_of}
+use Rattle.hx_allow.specs.Matching.{policy_of, vary_names_of_line}
 use Rattle.hx_allow.specs.TableLines.{Table}
-use Rattle.hx_allow.specs.declared.verdicts.Route.{Route}
+use Rattle.hx_allow.specs.declared.verdicts.RequestRoute.{RequestRoute}
 use Rattle.hx_policy.specs.declared.words.Policy.{Policy}
 use Rattle.hx_store.specs.Stored.{Stored}
-use Rattle.hx_store.specs.Recency.{is_that_serial}
-use Rattle.hx_store.specs.Serials.{Distinct, serial_is_in}
+use Rattle.hx_store.specs.Recency.{option_is_serial}
+use Rattle.hx_store.specs.Serials.{SerialsAreDistinct, serial_is_in}
 use Rattle.hx_store.specs.Shelf.{find_entry, serials}
 use Rattle.hx_reuse.specs.ChosenAndNamed.{ResponseIsChosen}
 use Rattle.hx_reuse.specs.declared.rule.ReuseRule.{ReuseRule}
 use Rattle.hx_reuse.proofs.Choice.{found_by_serial}
-use Rattle.hx_validate.specs.Answering.{freshened_of, nominated_or_none}
-use Rattle.hx_vary.specs.Vary.{both_have_same, both_select_alike, is_same_value, is_star, kept_values_with, vary_matches}
+use Rattle.hx_validate.specs.Answering.{freshened_of, nominated_values_unless_star}
+use Rattle.hx_vary.specs.Vary.{requests_have_same_values, requests_have_same_nominated_values, is_same_value, vary_is_star, nominated_values_with, vary_matches}
 use Rattle.hx_vary.specs.declared.nominated_values.NominatedValue.{NominatedValue}
 use Rattle.hx_vary.specs.declared.nominations.Nomination.TheVariants.{Star, Names}
 use Rattle.hx_vary.proofs.FurtherLemmas.{compared_too}
@@ -33,12 +33,12 @@ use Rattle.proxy_core.specs.declared.outcome.Outcome.{Outcome}
 use Rattle.proxy_core.specs.declared.outcome.Outcome.TheVariants.{Reply, Forward, Waits, Ended, WaitsNoMore}
 use Rattle.proxy_core.specs.Histories.{IsGoodHistory, held_entries, held_entry, held_serials, next_serial, open_exchanges}
 use Rattle.proxy_core.specs.Leading.{is_waiting, waits_for}
-use Rattle.proxy_core.specs.Outcomes.{find_exchange, exchange_id_of_event, outcome_of}
-use Rattle.proxy_core.specs.Sending.{IsStoredFallback, ReplyIsThatStoredResponse, StoredResponseIsReusable, StoredResponseMayBeSent, StoredResponseMayBeSentAt, StoredResponseMayBeSentBeside}
+use Rattle.proxy_core.specs.Outcomes.{find_exchange, exchange_id_of_event, outcome_for_exchange}
+use Rattle.proxy_core.specs.Sending.{MayBeSentAsFallback, ReplyIsTheStoredResponse, StoredResponseIsReusable, StoredResponseMayBeSent, StoredResponseMayBeSentAt, StoredMayBeSentWhileRevalidating}
 use Rattle.proxy_core.specs.Starts.{StoreAtStart}
-use Rattle.proxy_core.specs.Scopes.{Scope, is_in_scope}
-use Rattle.proxy_core.specs.LeadingOn.{next_leader, stage_after_leader, led_on_exchange, exchanges_without, exchanges_after_abandon}
-use Rattle.proxy_core.specs.State.{serials_expired_by_outcome, exchanges_after_close, exchanges_after_end, exchanges_after_purge, scope_purged, exchange_forwarded_again, open_exchanges_after, forwarded_exchange, overtaken_exchange, waiting_exchange, released_exchange, exchange_gone_forward, exchange_sent_forward, exchanges_after_wake, scope_invalidated_by_response, serial_stored_by_outcome, serial_used_by_outcome, serials_removed_by_outcome, stored_response_as_used, stored_response_by_answer, overdue_exchange, exchange_past_its_wait}
+use Rattle.proxy_core.specs.Scopes.{Scope, key_is_in_scope}
+use Rattle.proxy_core.specs.LeadingOn.{next_leader, stage_after_leader, after_abandon, exchanges_without, exchanges_after_abandon}
+use Rattle.proxy_core.specs.State.{serials_expired_by_outcome, exchanges_after_close, exchanges_after_end, exchanges_after_purge, scope_purged, exchange_forwarded_again, open_exchanges_after, forwarded_exchange, overtaken_exchange, waiting_exchange, released_exchange, exchange_gone_forward, exchange_sent_forward, exchanges_after_wake, scope_invalidated_by_response, serial_stored_by_outcome, serial_used_by_outcome, serials_removed_by_outcome, stored_response_as_used, stored_response_by_answer, overdue_exchange, exchange_released_by_timeout}
 use Rattle.proxy_core.specs.Storing.{stored_response_made}
 use Rattle.proxy_core.specs.Traces.{Item}
 use Rattle.proxy_core.specs.Validating.{times_after_304, freshened_by_304, freshened_may_be_kept, stored_response_is_answered}
@@ -50,26 +50,26 @@ use Rattle.proxy_core.proofs.SendLaws.{sends_nothing_else}
 use Rattle.proxy_core.proofs.SentResponses.{sends_what_is_held}
 use Rattle.proxy_core.proofs.StoringWords.{star_absent}
 use Rattle.proxy_core_laws.specs.PastStore.{request_of_event}
-use Rattle.proxy_core_laws.specs.Varied.{NothingOfAnotherValueIsSent, OpenExchangeHasTheNamesOfItsLine, maker_after_event, latest_maker_of, is_answered_by}
+use Rattle.proxy_core_laws.specs.Varied.{SentResponseHasTheRequestsVaryValues, OpenExchangeHasTheNamesOfItsLine, storing_exchange_after_event, latest_storing_exchange_of, stored_if_any_is_answered_by_304}
 use Rattle.proxy_core_laws.proofs.OtherLines.{star_stays}
 use Rattle.proxy_core_laws.proofs.HeldHeads.{entry_of, held_in, kept_so, not_removed, stays_in}
 
 -- ---- an exchange has the names of its line
 
 abbrev Names2 : Type 0
-Names2 = List (List ℕ) × Route × Bool
+Names2 = List (List ℕ) × RequestRoute × Bool
 
 abbrev names_and_line : Exchange → Names2
 names_and_line x = (x.vary, x.line, x.removes_cookies)
 
 -- it has them, and says of cookies what the line says
 record HasNames (table : Table) (x : Exchange) : Type 0 where
-  is : x.vary ≡ vary_of table.lines x.line.number
+  is : x.vary ≡ vary_names_of_line table.lines x.line.number
   removes : x.removes_cookies ≡ (policy_of table.lines x.line).removes_cookies
 
 carried : (table : Table) (x y : Exchange) → names_and_line y ≡ names_and_line x → HasNames table x → HasNames table y
 carried table x y same has = record {
-  is = subst (λ (p : Names2). p.0 ≡ vary_of table.lines p.1.number) (sym same) has.is;
+  is = subst (λ (p : Names2). p.0 ≡ vary_names_of_line table.lines p.1.number) (sym same) has.is;
   removes = subst (λ (p : Names2). p.2 ≡ (policy_of table.lines p.1).removes_cookies) (sym same) has.removes;
 }
 
@@ -82,14 +82,14 @@ gone_out-names id now x = elim (eqb x.id id) as (λ b. names_and_line (cond b (e
 release-names : (q : ℕ) (x : Exchange) → names_and_line (released_exchange q x) ≡ names_and_line x
 release-names q x = elim (waits_for q x.stage) as (λ b. names_and_line (cond b (record x { stage = Released }) x) ≡ names_and_line x) [ true ↦ refl | false ↦ refl ]
 
-led_on-names : (table : Table) (ys : List Exchange) (q : ℕ) (x : Exchange) → names_and_line (led_on_exchange table (next_leader table q ys) q x) ≡ names_and_line x
+led_on-names : (table : Table) (ys : List Exchange) (q : ℕ) (x : Exchange) → names_and_line (after_abandon table (next_leader table q ys) q x) ≡ names_and_line x
 led_on-names table ys q x = elim (waits_for q x.stage) as (λ b. names_and_line (cond b (record x { stage = stage_after_leader table (next_leader table q ys) x }) x) ≡ names_and_line x) [ true ↦ refl | false ↦ refl ]
 
 overdue-names : (q : ℕ) (x : Exchange) → names_and_line (overdue_exchange q x) ≡ names_and_line x
-overdue-names q x = elim (x.id == q && is_waiting x.stage) as (λ b. names_and_line (cond b (exchange_past_its_wait x) x) ≡ names_and_line x) [ true ↦ refl | false ↦ refl ]
+overdue-names q x = elim (x.id == q && is_waiting x.stage) as (λ b. names_and_line (cond b (exchange_released_by_timeout x) x) ≡ names_and_line x) [ true ↦ refl | false ↦ refl ]
 
 overtake-names : (key : Scope) (x : Exchange) → names_and_line (overtaken_exchange key x) ≡ names_and_line x
-overtake-names key x = elim (is_in_scope key x.asked.target.key) as (λ b. names_and_line (cond b (record x { overtaken = true }) x) ≡ names_and_line x) [ true ↦ refl | false ↦ refl ]
+overtake-names key x = elim (key_is_in_scope key x.asked.target.key) as (λ b. names_and_line (cond b (record x { overtaken = true }) x) ≡ names_and_line x) [ true ↦ refl | false ↦ refl ]
 
 module _ (table : Table) where
   mapped : (f : Exchange → Exchange) → ((x : Exchange) → names_and_line (f x) ≡ names_and_line x) → (xs : List Exchange) → All (HasNames table) xs → All (HasNames table) (map f xs)
@@ -101,7 +101,7 @@ module _ (table : Table) where
 
   abandoned_so : (id : ℕ) (xs : List Exchange) → All (HasNames table) xs → All (HasNames table) (exchanges_after_abandon table id xs)
   abandoned_so id xs all =
-      mapped (led_on_exchange table (next_leader table id xs) id) (led_on-names table xs id) (exchanges_without id xs)
+      mapped (after_abandon table (next_leader table id xs) id) (led_on-names table xs id) (exchanges_without id xs)
       (All-filter (λ (x : Exchange). not (x.id == id)) (HasNames table) xs all)
 
   left_so : (key : Option Scope) (id : ℕ) (xs : List Exchange) → All (HasNames table) xs → All (HasNames table) (exchanges_after_end key id xs)
@@ -116,7 +116,7 @@ module _ (table : Table) where
   woken_so es id now None xs all = all
   woken_so es id now (Some x) xs all = mapped (exchange_sent_forward id now _ _ _) (sent_out-names id now _ _ _) xs all
 
-  added : (xs : List Exchange) (x : Exchange) → All (HasNames table) xs → x.vary ≡ vary_of table.lines x.line.number → x.removes_cookies ≡ (policy_of table.lines x.line).removes_cookies → All (HasNames table) (xs ++ x ∷ [])
+  added : (xs : List Exchange) (x : Exchange) → All (HasNames table) xs → x.vary ≡ vary_names_of_line table.lines x.line.number → x.removes_cookies ≡ (policy_of table.lines x.line).removes_cookies → All (HasNames table) (xs ++ x ∷ [])
   added xs x all is removes = All-append (HasNames table) xs (x ∷ []) all (All-cons (HasNames table) x [] (record { is = is; removes = removes }) (All-nil (HasNames table)))
 
   after_so : (es : List Stored) (xs : List Exchange) (event : Event) (outcome : Outcome) → All (HasNames table) xs → All (HasNames table) (open_exchanges_after table es xs event outcome)
@@ -164,17 +164,17 @@ removes_so table start id trace x h = (found_so table id (open_exchanges table s
 -- ---- what is left compares the names of its exchange
 
 abbrev ComparesNames : Exchange → Stored → Type 0
-ComparesNames x e = (asked : Asked) → vary_matches e.nominated asked.fields ≡ true → both_have_same x.vary x.asked.fields asked.fields ≡ true
+ComparesNames x e = (asked : Asked) → vary_matches e.nominated asked.fields ≡ true → requests_have_same_values x.vary x.asked.fields asked.fields ≡ true
 
 made_so : (s : ℕ) (x : Exchange) (r : Response) (now : ℕ) → ComparesNames x (stored_response_made s x r now)
 made_so s x r now asked h =
-    (and_parts (both_select_alike (answered_of r now).fields x.asked.fields asked.fields) (both_have_same x.vary x.asked.fields asked.fields)
+    (and_parts (requests_have_same_nominated_values (answered_of r now).fields x.asked.fields asked.fields) (requests_have_same_values x.vary x.asked.fields asked.fields)
     (sym (compared_too x.vary (answered_of r now).fields x.asked.fields asked.fields) ∙ h)).1
 
-by_names : (x : Exchange) (e : Stored) (star : Bool) → is_star e.fields ≡ star → star ≡ false → e.nominated ≡ nominated_or_none (cond star Star (Names (kept_values_with x.vary e.fields x.asked.fields))) → ComparesNames x e
+by_names : (x : Exchange) (e : Stored) (star : Bool) → vary_is_star e.fields ≡ star → star ≡ false → e.nominated ≡ nominated_values_unless_star (cond star Star (Names (nominated_values_with x.vary e.fields x.asked.fields))) → ComparesNames x e
 by_names x e true is none names asked h = absurd cc
 by_names x e false is none names asked h =
-    (and_parts (both_select_alike e.fields x.asked.fields asked.fields) (both_have_same x.vary x.asked.fields asked.fields)
+    (and_parts (requests_have_same_nominated_values e.fields x.asked.fields asked.fields) (requests_have_same_values x.vary x.asked.fields asked.fields)
     (sym (compared_too x.vary e.fields x.asked.fields asked.fields) ∙ ap (λ (kept : List NominatedValue). vary_matches kept asked.fields) (sym names) ∙ h)).1
 
 freshened_so : (table : Table) (x : Exchange) (r : Response) (now : ℕ) (e : Stored) → freshened_may_be_kept table x r (freshened_by_304 x r now e) ≡ true → ComparesNames x (freshened_by_304 x r now e)
@@ -182,8 +182,8 @@ unfolding freshened_of
 freshened_so table x r now e kept =
     let f : Stored = freshened_by_304 x r now e in
     let g : Stored = freshened_of x.vary e (answered_of r now) x.asked (times_after_304 x r now e) in
-    let none : is_star f.fields ≡ false = star_absent f.fields (may_be_kept table x r f kept).names_fields in
-    by_names x g (is_star g.fields) refl (sym (star_stays x.removes_cookies g.fields) ∙ none) refl
+    let none : vary_is_star f.fields ≡ false = star_absent f.fields (may_be_kept table x r f kept).names_fields in
+    by_names x g (vary_is_star g.fields) refl (sym (star_stays x.removes_cookies g.fields) ∙ none) refl
 
 -- ---- who is sent a response matches it, or has it freshened
 
@@ -193,16 +193,16 @@ some_same h = cc
 abbrev Matches : Asked → Stored → Type 0
 Matches asked f = vary_matches f.nominated asked.fields ≡ true
 
-module _ (table : Table) (es : List Stored) (xs : List Exchange) (distinct : Distinct (serials es)) where
+module _ (table : Table) (es : List Stored) (xs : List Exchange) (distinct : SerialsAreDistinct (serials es)) where
   chosen_so : (asked : Asked) (c : Stored) (s : ℕ) (f : Stored) → ResponseIsChosen es asked c → c.serial ≡ s → find_entry s es ≡ Some f → Matches asked f
   chosen_so asked c s f is serial found =
       let same : c ≡ f = some_same (sym (found_by_serial es distinct c is.is_candidate.is_held) ∙ ap (λ z. find_entry z es) serial ∙ found) in
-      subst (Matches asked) same is.is_candidate.has_the_values
+      subst (Matches asked) same is.is_candidate.matches_nominated_values
 
   reused_so : (policy : Policy) (asked : Asked) (now s : ℕ) (f : Stored) → StoredResponseIsReusable policy es asked now s → find_entry s es ≡ Some f → Matches asked f
   reused_so policy asked now s f may found = chosen_so asked may.0 s f may.1.is_chosen may.2 found
 
-  fallen_so : (policy : Policy) (asked : Asked) (now s : ℕ) (f : Stored) → IsStoredFallback policy es asked now s → find_entry s es ≡ Some f → Matches asked f
+  fallen_so : (policy : Policy) (asked : Asked) (now s : ℕ) (f : Stored) → MayBeSentAsFallback policy es asked now s → find_entry s es ≡ Some f → Matches asked f
   fallen_so policy asked now s f (inl may) found = reused_so policy asked now s f may found
   fallen_so policy asked now s f (inr may) found = chosen_so asked may.0 s f may.1.is_chosen may.2 found
 
@@ -215,7 +215,7 @@ module _ (table : Table) (es : List Stored) (xs : List Exchange) (distinct : Dis
   answered_so x r now id s f (inr (inl (validation, none, may))) found = inr (reused_so _ x.asked now s f may found)
   answered_so x r now id s f (inr (inr (validation, error, may))) found = inr (fallen_so _ x.asked now s f may found)
 
-  beside_so : (asked : Asked) (now id s : ℕ) (f : Stored) → StoredResponseMayBeSentBeside table es xs (Arrive now id asked) s → find_entry s es ≡ Some f → Matches asked f
+  beside_so : (asked : Asked) (now id s : ℕ) (f : Stored) → StoredMayBeSentWhileRevalidating table es xs (Arrive now id asked) s → find_entry s es ≡ Some f → Matches asked f
   beside_so asked now id s f (line, allowed, may) found = chosen_so asked may.response s f may.chosen_is may.serial_is found
 
   abbrev answered_at : Option Exchange → Event → Stored → Bool
@@ -252,15 +252,15 @@ module _ (table : Table) (es : List Stored) (xs : List Exchange) (distinct : Dis
 
   -- the request is that of the exchange that leaves it, or compares with it
   same_or_compared : (o : Option Exchange) (event : Event) (outcome : Outcome) (before : Option Exchange) (s : ℕ) (x : Exchange) (asked : Asked) (f : Stored) →
-      StoredResponseMayBeSent table es xs o event s → find_entry s es ≡ Some f → is_that_serial (serial_used_by_outcome outcome) s ≡ true → request_of_event o event ≡ Some asked →
-      maker_after_event o event outcome (Some f) before s ≡ Some x → (before ≡ Some x → ComparesNames x f) → (x.asked ≡ asked) ⊎ (both_have_same x.vary x.asked.fields asked.fields ≡ true)
+      StoredResponseMayBeSent table es xs o event s → find_entry s es ≡ Some f → option_is_serial (serial_used_by_outcome outcome) s ≡ true → request_of_event o event ≡ Some asked →
+      storing_exchange_after_event o event outcome (Some f) before s ≡ Some x → (before ≡ Some x → ComparesNames x f) → (x.asked ≡ asked) ⊎ (requests_have_same_values x.vary x.asked.fields asked.fields ≡ true)
   same_or_compared (Some y) (Answer now id r) outcome before s x asked f may found used is left earlier =
-      by_tests (is_that_serial (serial_stored_by_outcome outcome) s) (is_that_serial (serial_used_by_outcome outcome) s) used (stored_response_is_answered y r now f) refl left
+      by_tests (option_is_serial (serial_stored_by_outcome outcome) s) (option_is_serial (serial_used_by_outcome outcome) s) used (stored_response_is_answered y r now f) refl left
     where
-      own : Some y ≡ Some x → (x.asked ≡ asked) ⊎ (both_have_same x.vary x.asked.fields asked.fields ≡ true)
+      own : Some y ≡ Some x → (x.asked ≡ asked) ⊎ (requests_have_same_values x.vary x.asked.fields asked.fields ≡ true)
       own same = inl (ap (λ (z : Exchange). z.asked) (sym (some_same same)) ∙ some_same is)
 
-      by_tests : (t u : Bool) → u ≡ true → (b : Bool) → stored_response_is_answered y r now f ≡ b → cond (t || (u && b)) (Some y) before ≡ Some x → (x.asked ≡ asked) ⊎ (both_have_same x.vary x.asked.fields asked.fields ≡ true)
+      by_tests : (t u : Bool) → u ≡ true → (b : Bool) → stored_response_is_answered y r now f ≡ b → cond (t || (u && b)) (Some y) before ≡ Some x → (x.asked ≡ asked) ⊎ (requests_have_same_values x.vary x.asked.fields asked.fields ≡ true)
       by_tests true u us b answered k = own k
       by_tests false true us true answered k = own k
       by_tests false true us false answered k = inr (earlier k asked (sent_so (Some y) (Answer now id r) asked s f may is found answered))
@@ -274,12 +274,12 @@ module _ (table : Table) (es : List Stored) (xs : List Exchange) (distinct : Dis
 
 -- ---- over a history
 
-the_serial : (o : Option ℕ) (s : ℕ) → is_that_serial o s ≡ true → o ≡ Some s
+the_serial : (o : Option ℕ) (s : ℕ) → option_is_serial o s ≡ true → o ≡ Some s
 the_serial None s h = absurd cc
 the_serial (Some x) s h = ap (λ (n : ℕ). Some n) (eqb-true x s h)
 
-its_serial : (o : Option ℕ) (s : ℕ) → o ≡ Some s → is_that_serial o s ≡ true
-its_serial o s h = ap (λ (p : Option ℕ). is_that_serial p s) h ∙ eq-eqb s s refl
+its_serial : (o : Option ℕ) (s : ℕ) → o ≡ Some s → option_is_serial o s ≡ true
+its_serial o s h = ap (λ (p : Option ℕ). option_is_serial p s) h ∙ eq-eqb s s refl
 
 both_false : (a b : Bool) → a ≡ false → b ≡ false → (a || b) ≡ false
 both_false true b h k = absurd cc
@@ -287,7 +287,7 @@ both_false false b h k = k
 
 module _ (table : Table) (start : StoreAtStart) (first : ℕ) where
   abbrev Earlier : ℕ → List Item → Type 0
-  Earlier s past = (x : Exchange) (f : Stored) → serial_is_in s (held_serials table start past) ≡ true → held_entry table start past s ≡ Some f → latest_maker_of table start past s ≡ Some x → ComparesNames x f
+  Earlier s past = (x : Exchange) (f : Stored) → serial_is_in s (held_serials table start past) ≡ true → held_entry table start past s ≡ Some f → latest_storing_exchange_of table start past s ≡ Some x → ComparesNames x f
 
   -- an event that is no answer leaves it as it was
   as_it_was : (o : Option Exchange) (event : Event) (outcome : Outcome) (look : Option Stored) (s : ℕ) (e : Stored) → stored_response_by_answer o event s ≡ None → ((f : Stored) → stored_response_as_used o event f ≡ f) →
@@ -299,43 +299,43 @@ module _ (table : Table) (start : StoreAtStart) (first : ℕ) where
 
   -- what an item leaves of a serial that it stores, uses or doesn't touch
   step_so : (o : Option Exchange) (event : Event) (outcome : Outcome) (look : Option Stored) (before : Option Exchange) (s : ℕ) (x : Exchange) (e : Stored) →
-      ((f : Stored) → is_that_serial (serial_used_by_outcome outcome) s ≡ true → look ≡ Some f → (y : Exchange) (now id : ℕ) (r : Response) → o ≡ Some y → event ≡ Answer now id r → stored_response_is_answered y r now f ≡ true → freshened_may_be_kept table y r (freshened_by_304 y r now f) ≡ true) →
-      ((f : Stored) → is_that_serial (serial_stored_by_outcome outcome) s ≡ false → look ≡ Some f → before ≡ Some x → ComparesNames x f) →
-      cond (is_that_serial (serial_stored_by_outcome outcome) s) (stored_response_by_answer o event s) (cond (is_that_serial (serial_used_by_outcome outcome) s) (option_map (stored_response_as_used o event) look) look) ≡ Some e →
-      maker_after_event o event outcome look before s ≡ Some x → ComparesNames x e
-  step_so (Some y) (Answer now id r) outcome look before s x e kept earlier k left = by_tests (is_that_serial (serial_stored_by_outcome outcome) s) refl (is_that_serial (serial_used_by_outcome outcome) s) refl look refl k left
+      ((f : Stored) → option_is_serial (serial_used_by_outcome outcome) s ≡ true → look ≡ Some f → (y : Exchange) (now id : ℕ) (r : Response) → o ≡ Some y → event ≡ Answer now id r → stored_response_is_answered y r now f ≡ true → freshened_may_be_kept table y r (freshened_by_304 y r now f) ≡ true) →
+      ((f : Stored) → option_is_serial (serial_stored_by_outcome outcome) s ≡ false → look ≡ Some f → before ≡ Some x → ComparesNames x f) →
+      cond (option_is_serial (serial_stored_by_outcome outcome) s) (stored_response_by_answer o event s) (cond (option_is_serial (serial_used_by_outcome outcome) s) (option_map (stored_response_as_used o event) look) look) ≡ Some e →
+      storing_exchange_after_event o event outcome look before s ≡ Some x → ComparesNames x e
+  step_so (Some y) (Answer now id r) outcome look before s x e kept earlier k left = by_tests (option_is_serial (serial_stored_by_outcome outcome) s) refl (option_is_serial (serial_used_by_outcome outcome) s) refl look refl k left
     where
-      by_answered : (f : Stored) → look ≡ Some f → is_that_serial (serial_used_by_outcome outcome) s ≡ true → is_that_serial (serial_stored_by_outcome outcome) s ≡ false → (b : Bool) → stored_response_is_answered y r now f ≡ b →
+      by_answered : (f : Stored) → look ≡ Some f → option_is_serial (serial_used_by_outcome outcome) s ≡ true → option_is_serial (serial_stored_by_outcome outcome) s ≡ false → (b : Bool) → stored_response_is_answered y r now f ≡ b →
           Some (cond b (freshened_by_304 y r now f) f) ≡ Some e → cond b (Some y) before ≡ Some x → ComparesNames x e
       by_answered f look_is used unstored true answered k left =
           subst (λ (z : Exchange). ComparesNames z e) (some_same left) (subst (ComparesNames y) (some_same k) (freshened_so table y r now f (kept f used look_is y now id r refl refl answered)))
       by_answered f look_is used unstored false answered k left = subst (ComparesNames x) (some_same k) (earlier f unstored look_is left)
 
-      by_tests : (t : Bool) → is_that_serial (serial_stored_by_outcome outcome) s ≡ t → (u : Bool) → is_that_serial (serial_used_by_outcome outcome) s ≡ u → (o : Option Stored) → look ≡ o →
+      by_tests : (t : Bool) → option_is_serial (serial_stored_by_outcome outcome) s ≡ t → (u : Bool) → option_is_serial (serial_used_by_outcome outcome) s ≡ u → (o : Option Stored) → look ≡ o →
           cond t (Some (stored_response_made s y r now)) (cond u (option_map (stored_response_as_used (Some y) (Answer now id r)) o) o) ≡ Some e →
-          cond (t || (u && is_answered_by y r now o)) (Some y) before ≡ Some x → ComparesNames x e
+          cond (t || (u && stored_if_any_is_answered_by_304 y r now o)) (Some y) before ≡ Some x → ComparesNames x e
       by_tests true stored u used o look_is k left = subst (λ (z : Exchange). ComparesNames z e) (some_same left) (subst (ComparesNames y) (some_same k) (made_so s y r now))
       by_tests false stored true used None look_is k left = absurd cc
       by_tests false stored true used (Some f) look_is k left = by_answered f look_is used stored (stored_response_is_answered y r now f) refl k left
       by_tests false stored false used None look_is k left = absurd cc
       by_tests false stored false used (Some f) look_is k left = subst (ComparesNames x) (some_same k) (earlier f stored look_is left)
   step_so (Some y) (Arrive now id asked) outcome look before s x e kept earlier k left =
-      let was = as_it_was (Some y) (Arrive now id asked) outcome look s e refl (λ f. refl) (is_that_serial (serial_stored_by_outcome outcome) s) (is_that_serial (serial_used_by_outcome outcome) s) k in
+      let was = as_it_was (Some y) (Arrive now id asked) outcome look s e refl (λ f. refl) (option_is_serial (serial_stored_by_outcome outcome) s) (option_is_serial (serial_used_by_outcome outcome) s) k in
       earlier e was.0 was.1 left
   step_so (Some y) (Fail now id kind) outcome look before s x e kept earlier k left =
-      let was = as_it_was (Some y) (Fail now id kind) outcome look s e refl (λ f. refl) (is_that_serial (serial_stored_by_outcome outcome) s) (is_that_serial (serial_used_by_outcome outcome) s) k in
+      let was = as_it_was (Some y) (Fail now id kind) outcome look s e refl (λ f. refl) (option_is_serial (serial_stored_by_outcome outcome) s) (option_is_serial (serial_used_by_outcome outcome) s) k in
       earlier e was.0 was.1 left
   step_so (Some y) (Wake now id) outcome look before s x e kept earlier k left =
-      let was = as_it_was (Some y) (Wake now id) outcome look s e refl (λ f. refl) (is_that_serial (serial_stored_by_outcome outcome) s) (is_that_serial (serial_used_by_outcome outcome) s) k in
+      let was = as_it_was (Some y) (Wake now id) outcome look s e refl (λ f. refl) (option_is_serial (serial_stored_by_outcome outcome) s) (option_is_serial (serial_used_by_outcome outcome) s) k in
       earlier e was.0 was.1 left
   step_so (Some y) (Abandon id) outcome look before s x e kept earlier k left =
-      let was = as_it_was (Some y) (Abandon id) outcome look s e refl (λ f. refl) (is_that_serial (serial_stored_by_outcome outcome) s) (is_that_serial (serial_used_by_outcome outcome) s) k in
+      let was = as_it_was (Some y) (Abandon id) outcome look s e refl (λ f. refl) (option_is_serial (serial_stored_by_outcome outcome) s) (option_is_serial (serial_used_by_outcome outcome) s) k in
       earlier e was.0 was.1 left
   step_so (Some y) (Overdue id) outcome look before s x e kept earlier k left =
-      let was = as_it_was (Some y) (Overdue id) outcome look s e refl (λ f. refl) (is_that_serial (serial_stored_by_outcome outcome) s) (is_that_serial (serial_used_by_outcome outcome) s) k in
+      let was = as_it_was (Some y) (Overdue id) outcome look s e refl (λ f. refl) (option_is_serial (serial_stored_by_outcome outcome) s) (option_is_serial (serial_used_by_outcome outcome) s) k in
       earlier e was.0 was.1 left
   step_so None event outcome look before s x e kept earlier k left =
-      let was = as_it_was None event outcome look s e refl (λ f. refl) (is_that_serial (serial_stored_by_outcome outcome) s) (is_that_serial (serial_used_by_outcome outcome) s) k in
+      let was = as_it_was None event outcome look s e refl (λ f. refl) (option_is_serial (serial_stored_by_outcome outcome) s) (option_is_serial (serial_used_by_outcome outcome) s) k in
       earlier e was.0 was.1 left
 
   held_so : (trace : List Item) → IsGoodHistory table start first trace → (s : ℕ) → Earlier s trace
@@ -343,7 +343,7 @@ module _ (table : Table) (start : StoreAtStart) (first : ℕ) where
   held_so (item ∷ past) good s x e inside h left =
       let there = was_there item.event (serials_expired_by_outcome item.outcome) _ e h in
       subst (ComparesNames x) (sym there.is)
-      (step_so o item.event item.outcome (held_entry table start past s) (latest_maker_of table start past s) s x there.response kept (earlier (held_so past good.1 s)) there.was left)
+      (step_so o item.event item.outcome (held_entry table start past s) (latest_storing_exchange_of table start past s) s x there.response kept (earlier (held_so past good.1 s)) there.was left)
     where
       o : Option Exchange
       o = find_exchange (exchange_id_of_event item.event) (open_exchanges table start past)
@@ -354,32 +354,32 @@ module _ (table : Table) (start : StoreAtStart) (first : ℕ) where
       xs : List Exchange
       xs = open_exchanges table start past
 
-      found : (f : Stored) → is_that_serial (serial_used_by_outcome item.outcome) s ≡ true → held_entry table start past s ≡ Some f → find_entry s es ≡ Some f
+      found : (f : Stored) → option_is_serial (serial_used_by_outcome item.outcome) s ≡ true → held_entry table start past s ≡ Some f → find_entry s es ≡ Some f
       found f used look =
           let is = sends_what_is_held table start first s item past good (the_serial (serial_used_by_outcome item.outcome) s used) in
           let same : is.response ≡ f = some_same (sym (entry_of table start first past good.1 s is.response is.is_held) ∙ look) in
           subst (λ (g : Stored). find_entry s es ≡ Some g) same is.is_held
 
-      kept : (f : Stored) → is_that_serial (serial_used_by_outcome item.outcome) s ≡ true → held_entry table start past s ≡ Some f → (y : Exchange) (now id : ℕ) (r : Response) → o ≡ Some y → item.event ≡ Answer now id r → stored_response_is_answered y r now f ≡ true →
+      kept : (f : Stored) → option_is_serial (serial_used_by_outcome item.outcome) s ≡ true → held_entry table start past s ≡ Some f → (y : Exchange) (now id : ℕ) (r : Response) → o ≡ Some y → item.event ≡ Answer now id r → stored_response_is_answered y r now f ≡ true →
           freshened_may_be_kept table y r (freshened_by_304 y r now f) ≡ true
       kept f used look y now id r open_is event_is answered =
           kept_so table es xs (next_serial first past) y now id r s f answered (found f used look)
           (ap (λ q. serial_is_in s (serials_removed_by_outcome q))
-          (ap (λ (z : Option Exchange). outcome_of table es xs z (next_serial first past) (Answer now id r)) (sym open_is)
-          ∙ ap (λ (v : Event). outcome_of table es xs o (next_serial first past) v) (sym event_is)
+          (ap (λ (z : Option Exchange). outcome_for_exchange table es xs z (next_serial first past) (Answer now id r)) (sym open_is)
+          ∙ ap (λ (v : Event). outcome_for_exchange table es xs o (next_serial first past) v) (sym event_is)
           ∙ sym good.0.outcome_is)
           ∙ not_removed table start item past s inside)
 
-      earlier : Earlier s past → (f : Stored) → is_that_serial (serial_stored_by_outcome item.outcome) s ≡ false → held_entry table start past s ≡ Some f → latest_maker_of table start past s ≡ Some x → ComparesNames x f
-      earlier rest f unstored look before = by_used (is_that_serial (serial_used_by_outcome item.outcome) s) refl
+      earlier : Earlier s past → (f : Stored) → option_is_serial (serial_stored_by_outcome item.outcome) s ≡ false → held_entry table start past s ≡ Some f → latest_storing_exchange_of table start past s ≡ Some x → ComparesNames x f
+      earlier rest f unstored look before = by_used (option_is_serial (serial_used_by_outcome item.outcome) s) refl
         where
-          by_used : (u : Bool) → is_that_serial (serial_used_by_outcome item.outcome) s ≡ u → ComparesNames x f
+          by_used : (u : Bool) → option_is_serial (serial_used_by_outcome item.outcome) s ≡ u → ComparesNames x f
           by_used true used = rest x f (held_in table start first past good.1 s f (found f used look)) look before
-          by_used false unused = rest x f ((stays_in table start item past s inside).1 (both_false (is_that_serial (serial_stored_by_outcome item.outcome) s) (is_that_serial (serial_used_by_outcome item.outcome) s) unstored unused)) look before
+          by_used false unused = rest x f ((stays_in table start item past s inside).1 (both_false (option_is_serial (serial_stored_by_outcome item.outcome) s) (option_is_serial (serial_used_by_outcome item.outcome) s) unstored unused)) look before
 
 -- ---- the law
 
-left_named : (table : Table) (start : StoreAtStart) (trace : List Item) (s : ℕ) (x : Exchange) → latest_maker_of table start trace s ≡ Some x → x.vary ≡ vary_of table.lines x.line.number
+left_named : (table : Table) (start : StoreAtStart) (trace : List Item) (s : ℕ) (x : Exchange) → latest_storing_exchange_of table start trace s ≡ Some x → x.vary ≡ vary_names_of_line table.lines x.line.number
 left_named table start [] s x left = absurd cc
 left_named table start (item ∷ past) s x left =
     by_event (find_exchange (exchange_id_of_event item.event) (open_exchanges table start past)) item.event (λ y h. named_so table start (exchange_id_of_event item.event) past y h) (λ h. left_named table start past s x h) left
@@ -387,13 +387,13 @@ left_named table start (item ∷ past) s x left =
     look : Option Stored
     look = held_entry table start past s
 
-    by_event : (o : Option Exchange) (event : Event) → ((y : Exchange) → o ≡ Some y → y.vary ≡ vary_of table.lines y.line.number) →
-        (latest_maker_of table start past s ≡ Some x → x.vary ≡ vary_of table.lines x.line.number) →
-        maker_after_event o event item.outcome look (latest_maker_of table start past s) s ≡ Some x → x.vary ≡ vary_of table.lines x.line.number
+    by_event : (o : Option Exchange) (event : Event) → ((y : Exchange) → o ≡ Some y → y.vary ≡ vary_names_of_line table.lines y.line.number) →
+        (latest_storing_exchange_of table start past s ≡ Some x → x.vary ≡ vary_names_of_line table.lines x.line.number) →
+        storing_exchange_after_event o event item.outcome look (latest_storing_exchange_of table start past s) s ≡ Some x → x.vary ≡ vary_names_of_line table.lines x.line.number
     by_event (Some y) (Answer now id r) own earlier k =
-        by_test (is_that_serial (serial_stored_by_outcome item.outcome) s || (is_that_serial (serial_used_by_outcome item.outcome) s && is_answered_by y r now look)) k
+        by_test (option_is_serial (serial_stored_by_outcome item.outcome) s || (option_is_serial (serial_used_by_outcome item.outcome) s && stored_if_any_is_answered_by_304 y r now look)) k
       where
-        by_test : (b : Bool) → cond b (Some y) (latest_maker_of table start past s) ≡ Some x → x.vary ≡ vary_of table.lines x.line.number
+        by_test : (b : Bool) → cond b (Some y) (latest_storing_exchange_of table start past s) ≡ Some x → x.vary ≡ vary_names_of_line table.lines x.line.number
         by_test true h = own x h
         by_test false h = earlier h
     by_event (Some y) (Arrive now id asked) own earlier k = earlier k
@@ -409,17 +409,17 @@ same_value (Some a) (Some b) h = ap Some ((bytes_eq-Decides a b).0 h)
 same_value None (Some b) h = absurd (false≢true h)
 same_value (Some a) None h = absurd (false≢true h)
 
-each_same : (names : List (List ℕ)) (earlier later : Asked) → both_have_same names earlier.fields later.fields ≡ true → All (λ name. combined_of earlier.fields name ≡ combined_of later.fields name) names
+each_same : (names : List (List ℕ)) (earlier later : Asked) → requests_have_same_values names earlier.fields later.fields ≡ true → All (λ name. combined_of earlier.fields name ≡ combined_of later.fields name) names
 each_same [] earlier later h = All-nil (λ name. combined_of earlier.fields name ≡ combined_of later.fields name)
 each_same (name ∷ names) earlier later h =
-    let parts = and_parts (is_same_value (combined_of earlier.fields name) (combined_of later.fields name)) (both_have_same names earlier.fields later.fields) h in
+    let parts = and_parts (is_same_value (combined_of earlier.fields name) (combined_of later.fields name)) (requests_have_same_values names earlier.fields later.fields) h in
     All-cons (λ n. combined_of earlier.fields n ≡ combined_of later.fields n) name names (same_value (combined_of earlier.fields name) (combined_of later.fields name) parts.0) (each_same names earlier later parts.1)
 
-pub sends_the_same_values : NothingOfAnotherValueIsSent
+pub sends_the_same_values : SentResponseHasTheRequestsVaryValues
 sends_the_same_values table start first s item past x asked name good used about left named =
-    by_case (same_or_compared table es xs distinct o item.event item.outcome (latest_maker_of table start past s) s x asked is.response
+    by_case (same_or_compared table es xs distinct o item.event item.outcome (latest_storing_exchange_of table start past s) s x asked is.response
     (sends_nothing_else table start first s item past good used) is.is_held (its_serial (serial_used_by_outcome item.outcome) s used) about
-    (sym (ap (λ (look : Option Stored). maker_after_event o item.event item.outcome look (latest_maker_of table start past s) s) look_is) ∙ left)
+    (sym (ap (λ (look : Option Stored). storing_exchange_after_event o item.event item.outcome look (latest_storing_exchange_of table start past s) s) look_is) ∙ left)
     (λ before. held_so table start first past good.1 s x is.response (held_in table start first past good.1 s is.response is.is_held) look_is before))
   where
     es : List Stored
@@ -431,17 +431,17 @@ sends_the_same_values table start first s item past x asked name good used about
     o : Option Exchange
     o = find_exchange (exchange_id_of_event item.event) xs
 
-    distinct : Distinct (serials es)
+    distinct : SerialsAreDistinct (serials es)
     distinct = held_distinct table start first past good.1
 
-    is : ReplyIsThatStoredResponse table es o item.event item.outcome s
+    is : ReplyIsTheStoredResponse table es o item.event item.outcome s
     is = sends_what_is_held table start first s item past good used
 
     look_is : held_entry table start past s ≡ Some is.response
     look_is = entry_of table start first past good.1 s is.response is.is_held
 
-    by_case : (x.asked ≡ asked) ⊎ (both_have_same x.vary x.asked.fields asked.fields ≡ true) → combined_of x.asked.fields name ≡ combined_of asked.fields name
+    by_case : (x.asked ≡ asked) ⊎ (requests_have_same_values x.vary x.asked.fields asked.fields ≡ true) → combined_of x.asked.fields name ≡ combined_of asked.fields name
     by_case (inl same) = ap (λ (a : Asked). combined_of a.fields name) same
     by_case (inr compared) =
-        All-contains (λ n. combined_of x.asked.fields n ≡ combined_of asked.fields n) (vary_of table.lines x.line.number) name
+        All-contains (λ n. combined_of x.asked.fields n ≡ combined_of asked.fields n) (vary_names_of_line table.lines x.line.number) name
         (subst (λ names. All (λ n. combined_of x.asked.fields n ≡ combined_of asked.fields n) names) (left_named table start (item ∷ past) s x left) (each_same x.vary x.asked asked compared)) named

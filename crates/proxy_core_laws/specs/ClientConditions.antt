@@ -3,12 +3,12 @@
 use Rattle.std.specs.Prelude.{◌≡◌, ◌⊎◌, ℕ, ◌≤◌, true, false, List, codes, Some, None, Any}
 use Rattle.hx_fields.specs.Line.{Field}
 use Rattle.hx_fields.specs.FieldLines.{combined_of, has_field, members_of, values_of}
-use Rattle.hx_age.specs.Dates.{single_date}
+use Rattle.hx_age.specs.Dates.{single_valid_date}
 use Rattle.hx_store.specs.Stored.{Stored}
 use Rattle.hx_hop.specs.declared.request_view.Asked.{Asked}
 use Rattle.hx_validate.specs.EntityTags.{EntityTagParts, entity_tag_of}
-use Rattle.hx_validate.specs.NotModified.{gets_304}
-use Rattle.hx_validate.specs.Validators.{tag_value}
+use Rattle.hx_validate.specs.NotModified.{stored_gets_304}
+use Rattle.hx_validate.specs.Validators.{etag_validator}
 
 -- weak comparison: the opaque parts are equal, whether either is weak or not (RFC 9110, section 8.8.3.2)
 abbrev pub TagIsWeaklyEqual : EntityTagParts → List ℕ → Type 0
@@ -17,7 +17,8 @@ TagIsWeaklyEqual held member = (tag : EntityTagParts) × (entity_tag_of member �
 -- the stored response has one entity tag, and a member of If-None-Match is weakly equal to it
 abbrev pub IfNoneMatchListsTag : List Field → List Field → Type 0
 IfNoneMatchListsTag request stored =
-    (value : List ℕ) × (held : EntityTagParts) × (tag_value stored ≡ Some value) × (entity_tag_of value ≡ Some held)
+    (value : List ℕ) × (held : EntityTagParts) × (etag_validator stored ≡ Some value)
+    × (entity_tag_of value ≡ Some held)
     × Any (TagIsWeaklyEqual held) (members_of request (codes "If-None-Match"))
 
 -- "If the field value is "*", the condition is false if the origin server has a current representation", which a stored
@@ -29,16 +30,16 @@ IfNoneMatchFails request stored =
 
 -- the moment at which the stored response last changed: its Last-Modified where that is one date, else its Date (RFC
 -- 9111, section 4.3.2)
-abbrev pub LastChangedAt : Stored → ℕ → Type 0
-LastChangedAt entry moment =
-    (single_date (values_of entry.fields (codes "Last-Modified")) ≡ Some moment)
-    ⊎ ((single_date (values_of entry.fields (codes "Last-Modified")) ≡ None) × (entry.times.date ≡ moment))
+abbrev pub StoredResponseLastChangedAt : Stored → ℕ → Type 0
+StoredResponseLastChangedAt entry moment =
+    (single_valid_date (values_of entry.fields (codes "Last-Modified")) ≡ Some moment)
+    ⊎ ((single_valid_date (values_of entry.fields (codes "Last-Modified")) ≡ None) × (entry.times.date ≡ moment))
 
 -- one valid date, and the stored response hasn't changed since
 abbrev pub IfModifiedSinceFails : List Field → Stored → Type 0
 IfModifiedSinceFails request entry =
-    (since : ℕ) × (changed : ℕ) × (single_date (values_of request (codes "If-Modified-Since")) ≡ Some since)
-    × LastChangedAt entry changed × (changed ≤ since)
+    (since : ℕ) × (changed : ℕ) × (single_valid_date (values_of request (codes "If-Modified-Since")) ≡ Some since)
+    × StoredResponseLastChangedAt entry changed × (changed ≤ since)
 
 -- "A recipient MUST ignore If-Modified-Since if the request contains an If-None-Match header field"
 -- own: of the responses that are stored those of status 200 alone answer conditions
@@ -51,7 +52,9 @@ ClientGetsA304 asked entry =
 -- ---- the statements
 
 abbrev pub MetConditionGetsA304 : Type 0
-MetConditionGetsA304 = (asked : Asked) (entry : Stored) → ClientGetsA304 asked entry → gets_304 asked entry ≡ true
+MetConditionGetsA304 = (asked : Asked) (entry : Stored) → ClientGetsA304 asked entry → stored_gets_304 asked entry
+    ≡ true
 
-abbrev pub NoOtherConditionGetsA304 : Type 0
-NoOtherConditionGetsA304 = (asked : Asked) (entry : Stored) → gets_304 asked entry ≡ true → ClientGetsA304 asked entry
+abbrev pub OnlyMatchingConditionGetsA304 : Type 0
+OnlyMatchingConditionGetsA304 = (asked : Asked) (entry : Stored) → stored_gets_304 asked entry ≡ true
+    → ClientGetsA304 asked entry

@@ -1,7 +1,7 @@
 -- What becomes of a request that comes back to the proxy, by its Via (RFC 9110, section 7.6.3).
 --
--- WhoCameBackWaitsForNobody: a request that was here before doesn't wait, so not for itself
--- EachPassIsNamed: who goes forward names the proxy once more
+-- LoopedRequestWaitsForNobody: a request that was here before doesn't wait, so not for itself
+-- EachForwardAddsOneVia: who goes forward names the proxy once more
 use Rattle.std.specs.Prelude.{◌≡◌, ℕ, ◌+◌, Bool, true, List, [], ◌∷◌, ◌++◌, codes, Option}
 use Rattle.hx_fields.specs.Line.{Field}
 use Rattle.hx_hop.specs.declared.request_view.Asked.{Asked}
@@ -9,9 +9,9 @@ use Rattle.hx_hop.specs.declared.conditions.Conditions.{Conditions}
 use Rattle.hx_hop.specs.Forwarding.{forwarded_of, line, via_text}
 use Rattle.hx_allow.specs.TableLines.{Table}
 use Rattle.hx_allow.specs.Tables.{is_name}
-use Rattle.hx_allow.specs.Via.{times_named}
+use Rattle.hx_allow.specs.Via.{times_in_via}
 use Rattle.hx_allow.specs.declared.verdicts.Verdict.TheVariants.{Allowed}
-use Rattle.hx_allow.specs.declared.verdicts.Route.{Route}
+use Rattle.hx_allow.specs.declared.verdicts.RequestRoute.{RequestRoute}
 use Rattle.proxy_core.specs.declared.outcome.Outcome.TheVariants.{Waits}
 use Rattle.proxy_core.specs.declared.event.Event.TheVariants.{Arrive}
 use Rattle.proxy_core.specs.Allowing.{verdict_of_asked, came_back}
@@ -20,16 +20,17 @@ use Rattle.proxy_core.specs.Traces.{Item}
 use Rattle.proxy_core.specs.Histories.{IsGoodHistory}
 
 -- over a line that refuses loops a request whose Via names the proxy waits for no answer
-abbrev pub WhoCameBackWaitsForNobody : Type 0
-WhoCameBackWaitsForNobody = (table : Table) (start : StoreAtStart) (first now id : ℕ) (line : Route) (leader : ℕ)
+abbrev pub LoopedRequestWaitsForNobody : Type 0
+LoopedRequestWaitsForNobody =
+    (table : Table) (start : StoreAtStart) (first now id : ℕ) (line : RequestRoute) (leader : ℕ)
     (asked : Asked)
     (item : Item) (past : List Item) → IsGoodHistory table start first (item ∷ past)
     → item.event ≡ Arrive now id asked → verdict_of_asked table asked ≡ Allowed line
     → came_back table line asked ≡ true → item.outcome ≡ Waits leader → ⊥
 
 -- whatever goes forward ends with the proxy's own Via, by which it is named once more
-abbrev pub EachPassIsNamed : Type 0
-EachPassIsNamed = (keeps : Bool) (asked : Asked) (name : List ℕ) (conditions : Option Conditions)
+abbrev pub EachForwardAddsOneVia : Type 0
+EachForwardAddsOneVia = (keeps : Bool) (asked : Asked) (name : List ℕ) (conditions : Option Conditions)
     → is_name name ≡ true → (front : List Field)
     × ((forwarded_of keeps asked name conditions).fields ≡ front ++ line (codes "Via") (via_text asked.minor name) ∷ [])
-    × (times_named name (forwarded_of keeps asked name conditions).fields ≡ times_named name front + 1)
+    × (times_in_via name (forwarded_of keeps asked name conditions).fields ≡ times_in_via name front + 1)

@@ -7,7 +7,7 @@ use Rattle.hx_fields.specs.declared.limits.TheConstants.{END_OF_TIME}
 use Rattle.hx_fields.specs.Line.{Field}
 use Rattle.hx_framing.specs.declared.messages.Response.{Response}
 use Rattle.hx_framing.specs.Reading.{Spelled}
-use Rattle.hx_framing.specs.ResponseReading.{Reads}
+use Rattle.hx_framing.specs.ResponseReading.{ReadsAs}
 use Rattle.hx_framing.specs.WrittenResponse.{SentResponse, response_as_read_back}
 use Rattle.hx_policy.specs.declared.words.Policy.{Policy}
 use Rattle.hx_hop.specs.Answering.{answered_of}
@@ -19,31 +19,32 @@ use Rattle.hx_status.specs.Refusals.{refusal_status, refusal_text}
 use Rattle.hx_validate.specs.Room.{head_leaves_room}
 use Rattle.hx_validate.specs.declared.ranges.RangeAnswer.{RangeAnswer}
 use Rattle.hx_validate.specs.declared.ranges.RangeAnswer.TheVariants.{Whole, Part, Unsatisfiable}
-use Rattle.hx_hop_laws.specs.OneResponse.{ResponseFitsAReader, response_passed_on}
+use Rattle.hx_hop_laws.specs.OneResponse.{ResponseIsWithinReaderLimits, response_passed_on}
 use Rattle.proxy_core.specs.declared.open.exchange.Exchange.{Exchange}
 use Rattle.proxy_core.specs.Replies.{content_unless_head, is_head, line, fields_of_refusal, passed_answer_text}
 use Rattle.proxy_core.specs.Replies.{refusal_reply_text, fields_of_purge, purge_reply_text}
-use Rattle.proxy_core.specs.Replies.{cache_status_of_passed_answer, client_has_answer, fields_of_304_sent}
-use Rattle.proxy_core.specs.Replies.{fields_in_place_of_answer, fields_of_answer_416, fields_of_answer_part}
-use Rattle.proxy_core.specs.Replies.{range_of_answer, without_tags}
+use Rattle.proxy_core.specs.Replies.{cache_status_of_passed_answer, client_wants_304_for_answer, fields_of_304_sent}
+use Rattle.proxy_core.specs.Replies.{fields_in_place_of_answer, fields_of_answer_416, fields_of_partial_answer}
+use Rattle.proxy_core.specs.Replies.{range_of_answer, fields_without_hidden_tags}
 
 -- an answer as it is passed on, to a HEAD or not: its lines, without tags where those are hidden, and these behind them
 abbrev pub answer_passed_on : Bool → Bool → Response → ℕ → List Field → Bool → SentResponse
 answer_passed_on hides head r now added close =
     record (response_passed_on head r now added close) {
-      fields = without_tags hides (answered_of r now).fields ++ added;
+      fields = fields_without_hidden_tags hides (answered_of r now).fields ++ added;
     }
 
 -- an answer whole, with the line of Cache-Status behind its own
-abbrev pub whole_answer_sent : Policy → List ℕ → Exchange → Response → ℕ → Bool → Option StoreRule → SentResponse
-whole_answer_sent policy name x r now stored rule =
+abbrev pub whole_answer_as_sent : Policy → List ℕ → Exchange → Response → ℕ → Bool → Option StoreRule → SentResponse
+whole_answer_as_sent policy name x r now stored rule =
     answer_passed_on policy.hides_tags (is_head x.asked) r now
     (line (codes "Cache-Status") (member_text name
     (cache_status_of_passed_answer policy x r.status (answered_of r now).fields now stored rule)) ∷ []) x.asked.close
 
 -- a 304 in its place
-abbrev pub not_modified_answer_sent : Policy → List ℕ → Exchange → Response → ℕ → Bool → Option StoreRule → SentResponse
-not_modified_answer_sent policy name x r now stored rule = record {
+abbrev pub not_modified_answer_as_sent : Policy → List ℕ → Exchange → Response → ℕ → Bool → Option StoreRule
+    → SentResponse
+not_modified_answer_as_sent policy name x r now stored rule = record {
   status = 304;
   fields = fields_of_304_sent policy name x r.status (answered_of r now).fields now stored rule;
   shown = None;
@@ -52,9 +53,9 @@ not_modified_answer_sent policy name x r now stored rule = record {
 }
 
 -- another response in its place, of a status, lines of its own and a content
-abbrev pub in_place_of_answer_sent : Policy → List ℕ → Exchange → Response → ℕ → Bool → Option StoreRule → ℕ
+abbrev pub response_sent_in_place_of_answer : Policy → List ℕ → Exchange → Response → ℕ → Bool → Option StoreRule → ℕ
     → List Field → List ℕ → SentResponse
-in_place_of_answer_sent policy name x r now stored rule status own content = record {
+response_sent_in_place_of_answer policy name x r now stored rule status own content = record {
   status = status;
   fields = fields_in_place_of_answer policy name x r.status (answered_of r now).fields now stored rule own;
   shown = Some (length content);
@@ -63,26 +64,27 @@ in_place_of_answer_sent policy name x r now stored rule status own content = rec
 }
 
 -- what of it a request asks for whose range stayed with the proxy
-abbrev pub answer_in_range_sent : Policy → List ℕ → Exchange → Response → ℕ → Bool → Option StoreRule → RangeAnswer
+abbrev pub partial_answer_as_sent : Policy → List ℕ → Exchange → Response → ℕ → Bool → Option StoreRule → RangeAnswer
     → SentResponse
-answer_in_range_sent policy name x r now stored rule Whole = whole_answer_sent policy name x r now stored rule
-answer_in_range_sent policy name x r now stored rule (Part first last) =
-    cond (head_leaves_room (fields_of_answer_part r now first last))
-    (in_place_of_answer_sent policy name x r now stored rule 206 (fields_of_answer_part r now first last)
-    (slice_range r.content first (last + 1))) (whole_answer_sent policy name x r now stored rule)
-answer_in_range_sent policy name x r now stored rule Unsatisfiable =
+partial_answer_as_sent policy name x r now stored rule Whole = whole_answer_as_sent policy name x r now stored rule
+partial_answer_as_sent policy name x r now stored rule (Part first last) =
+    cond (head_leaves_room (fields_of_partial_answer r now first last))
+    (response_sent_in_place_of_answer policy name x r now stored rule 206 (fields_of_partial_answer r now first last)
+    (slice_range r.content first (last + 1))) (whole_answer_as_sent policy name x r now stored rule)
+partial_answer_as_sent policy name x r now stored rule Unsatisfiable =
     cond (head_leaves_room (fields_of_answer_416 r now))
-    (in_place_of_answer_sent policy name x r now stored rule 416 (fields_of_answer_416 r now) [])
-    (whole_answer_sent policy name x r now stored rule)
+    (response_sent_in_place_of_answer policy name x r now stored rule 416 (fields_of_answer_416 r now) [])
+    (whole_answer_as_sent policy name x r now stored rule)
 
-abbrev pub passed_answer_sent : Policy → List ℕ → Exchange → Response → ℕ → Bool → Option StoreRule → SentResponse
-passed_answer_sent policy name x r now stored rule =
-    cond (client_has_answer policy x r now) (not_modified_answer_sent policy name x r now stored rule)
-    (answer_in_range_sent policy name x r now stored rule (range_of_answer policy x r now))
+abbrev pub passed_answer_in_form_as_sent : Policy → List ℕ → Exchange → Response → ℕ → Bool → Option StoreRule
+    → SentResponse
+passed_answer_in_form_as_sent policy name x r now stored rule =
+    cond (client_wants_304_for_answer policy x r now) (not_modified_answer_as_sent policy name x r now stored rule)
+    (partial_answer_as_sent policy name x r now stored rule (range_of_answer policy x r now))
 
 -- the proxy's own answer
-abbrev pub proxys_answer_sent : ℕ → Cause → Bool → Bool → SentResponse
-proxys_answer_sent now cause close head = record {
+abbrev pub proxys_refusal_as_sent : ℕ → Cause → Bool → Bool → SentResponse
+proxys_refusal_as_sent now cause close head = record {
   status = refusal_status cause;
   fields = fields_of_refusal (date_text_of now) (refusal_text cause);
   shown = Some (length (refusal_text cause));
@@ -91,8 +93,8 @@ proxys_answer_sent now cause close head = record {
 }
 
 -- the answer to a purge
-abbrev pub purge_answer_sent : ℕ → ℕ → Bool → SentResponse
-purge_answer_sent now count close = record {
+abbrev pub purge_reply_as_sent : ℕ → ℕ → Bool → SentResponse
+purge_reply_as_sent now count close = record {
   status = 204;
   fields = fields_of_purge (date_text_of now) count;
   shown = None;
@@ -108,27 +110,28 @@ abbrev pub PassedAnswerIsOneResponse : Type 0
 PassedAnswerIsOneResponse =
     (max_body most now : ℕ) (to_head ended stored : Bool) (bytes rest name : List ℕ) (policy : Policy)
     (rule : Option StoreRule) (x : Exchange) (r : Response)
-    → Reads max_body to_head ended bytes (Spelled r rest) → now < END_OF_TIME → IsToken name → most < 2 ^ 64
-    → ResponseFitsAReader most (passed_answer_sent policy name x r now stored rule)
+    → ReadsAs max_body to_head ended bytes (Spelled r rest) → now < END_OF_TIME → IsToken name → most < 2 ^ 64
+    → ResponseIsWithinReaderLimits most (passed_answer_in_form_as_sent policy name x r now stored rule)
     → (over : Bool) (behind : List ℕ)
-    → Reads most (is_head x.asked) over (passed_answer_text policy name x r now stored rule ++ behind)
-    (Spelled (response_as_read_back (is_head x.asked) (passed_answer_sent policy name x r now stored rule)) behind)
+    → ReadsAs most (is_head x.asked) over (passed_answer_text policy name x r now stored rule ++ behind)
+    (Spelled (response_as_read_back (is_head x.asked)
+    (passed_answer_in_form_as_sent policy name x r now stored rule)) behind)
 
 -- so is what the proxy answers by itself
 abbrev pub ProxysAnswerIsOneResponse : Type 0
 ProxysAnswerIsOneResponse =
     (most now : ℕ) (cause : Cause) (close head : Bool)
     → now < END_OF_TIME → most < 2 ^ 64 → length (refusal_text cause) < 2 ^ 64
-    → ResponseFitsAReader most (proxys_answer_sent now cause close head)
+    → ResponseIsWithinReaderLimits most (proxys_refusal_as_sent now cause close head)
     → (over : Bool) (behind : List ℕ)
-    → Reads most head over (refusal_reply_text (date_text_of now) cause close head ++ behind)
-    (Spelled (response_as_read_back head (proxys_answer_sent now cause close head)) behind)
+    → ReadsAs most head over (refusal_reply_text (date_text_of now) cause close head ++ behind)
+    (Spelled (response_as_read_back head (proxys_refusal_as_sent now cause close head)) behind)
 
 -- and what it answers to a purge
 abbrev pub PurgeAnswerIsOneResponse : Type 0
 PurgeAnswerIsOneResponse =
     (most now count : ℕ) (close head : Bool)
-    → now < END_OF_TIME → ResponseFitsAReader most (purge_answer_sent now count close)
+    → now < END_OF_TIME → ResponseIsWithinReaderLimits most (purge_reply_as_sent now count close)
     → (over : Bool) (behind : List ℕ)
-    → Reads most head over (purge_reply_text (date_text_of now) count close ++ behind)
-    (Spelled (response_as_read_back head (purge_answer_sent now count close)) behind)
+    → ReadsAs most head over (purge_reply_text (date_text_of now) count close ++ behind)
+    (Spelled (response_as_read_back head (purge_reply_as_sent now count close)) behind)

@@ -1,7 +1,7 @@
 -- What a core gives is one message, each time, where it was handed what was read (RFC 9112, sections 6.3, 11.1 and
 -- 11.2).
 --
--- RequestWasRead, EventWasRead: a request and an event that were read
+-- RequestWasRead, MessageOfEventWasRead: a request and an event that were read
 -- BytesAreOneRequest, BytesAreOneResponse: bytes that are one message, and end where the proxy ended it
 -- OutcomeIsOneMessage: those of an outcome
 -- The statements: the premises first (a name, conditions, a content), then what is sent
@@ -15,8 +15,8 @@ use Rattle.hx_target.specs.Judgement.{TargetIsJudged}
 use Rattle.hx_framing.specs.declared.messages.Request.{Request}
 use Rattle.hx_framing.specs.declared.messages.Response.{Response}
 use Rattle.hx_framing.specs.Reading.{Spelled}
-use Rattle.hx_framing.specs.RequestReading.{Reads as ReadsRequest}
-use Rattle.hx_framing.specs.ResponseReading.{Reads as ReadsResponse}
+use Rattle.hx_framing.specs.RequestReading.{ReadsAs as ReadsRequest}
+use Rattle.hx_framing.specs.ResponseReading.{ReadsAs as ReadsResponse}
 use Rattle.hx_framing.specs.Text.{request_text}
 use Rattle.hx_framing.specs.Written.{request_as_read_back}
 use Rattle.hx_framing.specs.WrittenResponse.{SentResponse, response_as_read_back, sent_response_text}
@@ -28,9 +28,9 @@ use Rattle.hx_allow.specs.TableLines.{Table}
 use Rattle.hx_allow.specs.Tables.{TableWasRead}
 use Rattle.hx_store.specs.Stored.{Stored}
 use Rattle.hx_validate.specs.Validators.{conditions_of}
-use Rattle.hx_reuse.specs.FilledRanges.{without_range}
+use Rattle.hx_reuse.specs.FilledRanges.{request_without_range}
 use Rattle.hx_hop_laws.specs.OneMessage.{ConditionsAreFieldValues, RequestIsWithinLimits}
-use Rattle.hx_hop_laws.specs.OneResponse.{ResponseFitsAReader}
+use Rattle.hx_hop_laws.specs.OneResponse.{ResponseIsWithinReaderLimits}
 use Rattle.proxy_core.specs.declared.open.exchange.Exchange.{Exchange}
 use Rattle.proxy_core.specs.declared.event.Event.{Event}
 use Rattle.proxy_core.specs.declared.event.Event.TheVariants.{Arrive, Answer, Fail, Wake, Abandon, Overdue}
@@ -38,11 +38,11 @@ use Rattle.proxy_core.specs.declared.outcome.Outcome.{Outcome}
 use Rattle.proxy_core.specs.declared.outcome.Outcome.TheVariants.{Reply, Forward, Waits, Ended, WaitsNoMore}
 use Rattle.proxy_core.specs.Histories.{IsGoodHistory, held_entry, open_exchanges}
 use Rattle.proxy_core.specs.Outcomes.{find_exchange, exchange_id_of_event}
-use Rattle.proxy_core.specs.ReadAnswers.{WasReadFromAStream, EventIsReadFromAStream}
+use Rattle.proxy_core.specs.ReadAnswers.{ResponseWasReadFromAStream, EventIsReadFromAStream}
 use Rattle.proxy_core.specs.Replies.{is_head}
 use Rattle.proxy_core.specs.Traces.{Item}
-use Rattle.proxy_core_laws.specs.StoredReplies.{StoredIsSendable}
-use Rattle.proxy_core.specs.Starts.{StoreAtStart, EachHeldAtFirst}
+use Rattle.proxy_core_laws.specs.StoredReplies.{StoredResponseIsSendable}
+use Rattle.proxy_core.specs.Starts.{StoreAtStart, HoldsForEachResponseAtStart}
 
 -- ---- what was read
 
@@ -62,17 +62,17 @@ pub record RequestWasRead (asked : Asked) : Type 0 where
   pub asked_is : asked ≡ record (asked_with_target request target) { close = closes }
 
 -- an event whose request or answer was read
-abbrev pub EventWasRead : Event → Type 0
-EventWasRead (Arrive now id asked) = RequestWasRead asked
-EventWasRead (Answer now id response) = WasReadFromAStream response
-EventWasRead (Fail now id kind) = Unit {0}
-EventWasRead (Wake now id) = Unit {0}
-EventWasRead (Abandon id) = Unit {0}
-EventWasRead (Overdue id) = Unit {0}
+abbrev pub MessageOfEventWasRead : Event → Type 0
+MessageOfEventWasRead (Arrive now id asked) = RequestWasRead asked
+MessageOfEventWasRead (Answer now id response) = ResponseWasReadFromAStream response
+MessageOfEventWasRead (Fail now id kind) = Unit {0}
+MessageOfEventWasRead (Wake now id) = Unit {0}
+MessageOfEventWasRead (Abandon id) = Unit {0}
+MessageOfEventWasRead (Overdue id) = Unit {0}
 
 -- so was each so far
-abbrev pub EventsWereRead : List Item → Type 0
-EventsWereRead trace = AllByRecursion (λ item. EventWasRead item.event) trace
+abbrev pub MessagesOfTraceWereRead : List Item → Type 0
+MessagesOfTraceWereRead trace = AllByRecursion (λ item. MessageOfEventWasRead item.event) trace
 
 -- ---- one message
 
@@ -86,7 +86,7 @@ pub record BytesAreOneRequest (name bytes : List ℕ) : Type 0 where
   pub keeps : Bool
   pub conditions : Option Conditions
   pub was_read : RequestWasRead as_read
-  pub asked_is : asked ≡ cond is_filled (without_range as_read) as_read
+  pub asked_is : asked ≡ cond is_filled (request_without_range as_read) as_read
   pub text_is : bytes ≡ request_text (forwarded_of keeps asked name conditions)
   pub alone : (most : ℕ) → most < 2 ^ 64 → RequestIsWithinLimits most (forwarded_of keeps asked name conditions)
       → (over continued : Bool) (behind : List ℕ)
@@ -98,7 +98,7 @@ pub record BytesAreOneRequest (name bytes : List ℕ) : Type 0 where
 pub record BytesAreOneResponse (to_head : Bool) (bytes : List ℕ) : Type 0 where
   pub sent : SentResponse
   pub text_is : bytes ≡ sent_response_text sent
-  pub alone : (most : ℕ) → most < 2 ^ 64 → ResponseFitsAReader most sent → (over : Bool) (behind : List ℕ)
+  pub alone : (most : ℕ) → most < 2 ^ 64 → ResponseIsWithinReaderLimits most sent → (over : Bool) (behind : List ℕ)
       → ReadsResponse most to_head over (bytes ++ behind) (Spelled (response_as_read_back to_head sent) behind)
 
 -- the request of an event, or of the exchange that it is about, is a HEAD
@@ -127,8 +127,8 @@ OutcomeIsOneMessage name to_head WaitsNoMore = Unit {0}
 
 -- So two messages are no one message, and less than one isn't: whoever reads such bytes within its limits, with
 -- whatever stands behind them, and finds a message, found what was sent, and left just what stands behind.
-abbrev pub OneRequestIsNoMore : Type 0
-OneRequestIsNoMore =
+abbrev pub OneRequestIsNeitherTwoNorAPart : Type 0
+OneRequestIsNeitherTwoNorAPart =
     (name bytes behind : List ℕ) (one : BytesAreOneRequest name bytes) (most : ℕ) (over continued : Bool)
     (request : Request)
     (rest : List ℕ)
@@ -136,11 +136,11 @@ OneRequestIsNoMore =
     → ReadsRequest most over continued (bytes ++ behind) (Spelled request rest)
     → (request ≡ request_as_read_back (forwarded_of one.keeps one.asked name one.conditions)) × (rest ≡ behind)
 
-abbrev pub OneResponseIsNoMore : Type 0
-OneResponseIsNoMore =
+abbrev pub OneResponseIsNeitherTwoNorAPart : Type 0
+OneResponseIsNeitherTwoNorAPart =
     (to_head : Bool) (bytes behind : List ℕ) (one : BytesAreOneResponse to_head bytes) (most : ℕ) (over : Bool)
     (response : Response) (rest : List ℕ)
-    → most < 2 ^ 64 → ResponseFitsAReader most one.sent
+    → most < 2 ^ 64 → ResponseIsWithinReaderLimits most one.sent
     → ReadsResponse most to_head over (bytes ++ behind) (Spelled response rest)
     → (response ≡ response_as_read_back to_head one.sent) × (rest ≡ behind)
 
@@ -156,16 +156,16 @@ StoredContentFits64Bits = (table : Table) → TableWasRead table → table.max_s
 -- line of the next request.
 abbrev pub ConditionsOfHistoryAreFieldValues : Type 0
 ConditionsOfHistoryAreFieldValues = (table : Table) (start : StoreAtStart) (first : ℕ) (trace : List Item)
-    → IsGoodHistory table start first trace → EachHeldAtFirst (λ serial e. StoredIsSendable e) start
+    → IsGoodHistory table start first trace → HoldsForEachResponseAtStart (λ serial e. StoredResponseIsSendable e) start
     → AllByRecursion (λ item. EventIsReadFromAStream item.event) trace → (serial : ℕ) (e : Stored)
     → held_entry table start trace serial ≡ Some e
     → ConditionsAreFieldValues (conditions_of e.fields)
 
 -- and its content is no longer than the table says
-abbrev pub HeldContentFits : Type 0
-HeldContentFits = (table : Table) (start : StoreAtStart) (first : ℕ) (trace : List Item)
+abbrev pub HeldContentIsAtMostMaxStored : Type 0
+HeldContentIsAtMostMaxStored = (table : Table) (start : StoreAtStart) (first : ℕ) (trace : List Item)
     → IsGoodHistory table start first trace
-    → EachHeldAtFirst (λ serial e. length e.content ≤ table.max_stored) start
+    → HoldsForEachResponseAtStart (λ serial e. length e.content ≤ table.max_stored) start
     → AllByRecursion (λ item. EventIsReadFromAStream item.event) trace → (serial : ℕ) (e : Stored)
     → held_entry table start trace serial ≡ Some e
     → length e.content ≤ table.max_stored
@@ -175,11 +175,12 @@ abbrev pub OpenRequestsWereRead : Type 0
 OpenRequestsWereRead =
     (table : Table) (start : StoreAtStart) (first id : ℕ) (trace : List Item) (x : Exchange)
     → IsGoodHistory table start first trace
-    → EventsWereRead trace → find_exchange id (open_exchanges table start trace) ≡ Some x → RequestWasRead x.asked
+    → MessagesOfTraceWereRead trace → find_exchange id (open_exchanges table start trace) ≡ Some x
+    → RequestWasRead x.asked
 
 -- what is asked of a response that is held at first: it can be sent as one, and its content is in memory
 pub record CanBeSent (serial : ℕ) (e : Stored) : Type 0 where
-  pub sendable : StoredIsSendable e
+  pub sendable : StoredResponseIsSendable e
   pub fits : length e.content < 2 ^ 64
 
 -- In a good history over a table that was read, of requests and answers that were read, each step sends one message or
@@ -188,6 +189,7 @@ pub record CanBeSent (serial : ℕ) (e : Stored) : Type 0 where
 abbrev pub EachStepSendsOneMessage : Type 0
 EachStepSendsOneMessage = (table : Table) (start : StoreAtStart) (first : ℕ) (item : Item) (past : List Item)
     → TableWasRead table
-    → IsGoodHistory table start first (item ∷ past) → EachHeldAtFirst CanBeSent start → EventsWereRead (item ∷ past)
+    → IsGoodHistory table start first (item ∷ past) → HoldsForEachResponseAtStart CanBeSent start
+    → MessagesOfTraceWereRead (item ∷ past)
     → OutcomeIsOneMessage table.name (event_is_to_head
     (find_exchange (exchange_id_of_event item.event) (open_exchanges table start past)) item.event) item.outcome

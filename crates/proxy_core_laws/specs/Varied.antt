@@ -1,16 +1,16 @@
 -- What the names do that a line gives for Vary, over a whole history (RFC 9111, section 4.1).
 --
--- latest_maker_of: the exchange whose answer a response is, or by whose 304 it was freshened last
--- NothingOfAnotherValueIsSent, OpenExchangeHasTheNamesOfItsLine: the laws
+-- latest_storing_exchange_of: the exchange whose answer a response is, or by whose 304 it was freshened last
+-- SentResponseHasTheRequestsVaryValues, OpenExchangeHasTheNamesOfItsLine: the laws
 use Rattle.std.specs.Prelude.{◌≡◌, ℕ, ◌||◌, ◌&&◌, Bool, false, List, [], ◌∷◌, Option, Some, None, cond}
 use Rattle.std.specs.List.{Contains}
 use Rattle.hx_fields.specs.FieldLines.{combined_of}
 use Rattle.hx_framing.specs.declared.messages.Response.{Response}
 use Rattle.hx_hop.specs.declared.request_view.Asked.{Asked}
-use Rattle.hx_allow.specs.Matching.{vary_of}
+use Rattle.hx_allow.specs.Matching.{vary_names_of_line}
 use Rattle.hx_allow.specs.TableLines.{Table}
 use Rattle.hx_store.specs.Stored.{Stored}
-use Rattle.hx_store.specs.Recency.{is_that_serial}
+use Rattle.hx_store.specs.Recency.{option_is_serial}
 use Rattle.proxy_core.specs.declared.open.exchange.Exchange.{Exchange}
 use Rattle.proxy_core.specs.declared.outcome.Outcome.{Outcome}
 use Rattle.proxy_core.specs.declared.event.Event.{Event}
@@ -23,43 +23,47 @@ use Rattle.proxy_core.specs.Histories.{held_entry, open_exchanges, IsGoodHistory
 use Rattle.proxy_core.specs.Validating.{stored_response_is_answered}
 use Rattle.proxy_core_laws.specs.PastStore.{request_of_event}
 
-abbrev pub is_answered_by : Exchange → Response → ℕ → Option Stored → Bool
-is_answered_by x r now None = false
-is_answered_by x r now (Some e) = stored_response_is_answered x r now e
+abbrev pub stored_if_any_is_answered_by_304 : Exchange → Response → ℕ → Option Stored → Bool
+stored_if_any_is_answered_by_304 x r now None = false
+stored_if_any_is_answered_by_304 x r now (Some e) = stored_response_is_answered x r now e
 
 -- an answer is stored as the response of this serial, or is the 304 that freshens it; else that is as it was
-abbrev pub maker_after_event : Option Exchange → Event → Outcome → Option Stored → Option Exchange → ℕ → Option Exchange
-maker_after_event (Some x) (Answer now id r) o e before s =
-    cond (is_that_serial (serial_stored_by_outcome o) s
-    || (is_that_serial (serial_used_by_outcome o) s && is_answered_by x r now e)) (Some x) before
-maker_after_event (Some x) (Arrive now id asked) o e before s = before
-maker_after_event (Some x) (Fail now id kind) o e before s = before
-maker_after_event (Some x) (Wake now id) o e before s = before
-maker_after_event (Some x) (Abandon id) o e before s = before
-maker_after_event (Some x) (Overdue id) o e before s = before
-maker_after_event None event o e before s = before
+abbrev pub storing_exchange_after_event : Option Exchange → Event → Outcome → Option Stored → Option Exchange → ℕ
+    → Option Exchange
+storing_exchange_after_event (Some x) (Answer now id r) o e before s =
+    cond (option_is_serial (serial_stored_by_outcome o) s
+    || (option_is_serial (serial_used_by_outcome o) s && stored_if_any_is_answered_by_304 x r now e)) (Some x) before
+storing_exchange_after_event (Some x) (Arrive now id asked) o e before s = before
+storing_exchange_after_event (Some x) (Fail now id kind) o e before s = before
+storing_exchange_after_event (Some x) (Wake now id) o e before s = before
+storing_exchange_after_event (Some x) (Abandon id) o e before s = before
+storing_exchange_after_event (Some x) (Overdue id) o e before s = before
+storing_exchange_after_event None event o e before s = before
 
 -- there is none for what was held at first
-abbrev pub latest_maker_of : Table → StoreAtStart → List Item → ℕ → Option Exchange
-latest_maker_of table start [] s = None
-latest_maker_of table start (item ∷ past) s =
-    maker_after_event (find_exchange (exchange_id_of_event item.event) (open_exchanges table start past)) item.event
-    item.outcome (held_entry table start past s) (latest_maker_of table start past s) s
+abbrev pub latest_storing_exchange_of : Table → StoreAtStart → List Item → ℕ → Option Exchange
+latest_storing_exchange_of table start [] s = None
+latest_storing_exchange_of table start (item ∷ past) s =
+    storing_exchange_after_event
+    (find_exchange (exchange_id_of_event item.event) (open_exchanges table start past)) item.event
+    item.outcome (held_entry table start past s) (latest_storing_exchange_of table start past s) s
 
 -- ---- the statements
 
 -- Whoever is sent a stored response has of each field that its line names the value which the request had that it was
 -- made or freshened for: the line of that request, which the table's line for this one can't change.
-abbrev pub NothingOfAnotherValueIsSent : Type 0
-NothingOfAnotherValueIsSent = (table : Table) (start : StoreAtStart) (first s : ℕ) (item : Item) (past : List Item)
+abbrev pub SentResponseHasTheRequestsVaryValues : Type 0
+SentResponseHasTheRequestsVaryValues =
+    (table : Table) (start : StoreAtStart) (first s : ℕ) (item : Item) (past : List Item)
     (x : Exchange) (asked : Asked) (name : List ℕ) → IsGoodHistory table start first (item ∷ past) →
     serial_used_by_outcome item.outcome ≡ Some s →
     request_of_event (find_exchange (exchange_id_of_event item.event) (open_exchanges table start past)) item.event
     ≡ Some asked →
-    latest_maker_of table start (item ∷ past) s ≡ Some x → Contains (vary_of table.lines x.line.number) name →
+    latest_storing_exchange_of table start (item ∷ past) s ≡ Some x
+    → Contains (vary_names_of_line table.lines x.line.number) name →
     combined_of x.asked.fields name ≡ combined_of asked.fields name
 
 -- an exchange has the names of its line from its arrival to its end
 abbrev pub OpenExchangeHasTheNamesOfItsLine : Type 0
 OpenExchangeHasTheNamesOfItsLine = (table : Table) (start : StoreAtStart) (id : ℕ) (trace : List Item) (x : Exchange) →
-    find_exchange id (open_exchanges table start trace) ≡ Some x → x.vary ≡ vary_of table.lines x.line.number
+    find_exchange id (open_exchanges table start trace) ≡ Some x → x.vary ≡ vary_names_of_line table.lines x.line.number

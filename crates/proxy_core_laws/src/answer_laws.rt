@@ -1,22 +1,24 @@
 //! Laws on what a client gets. Each function's contract is a law, and its body is empty.
-ghost use Rattle.proxy_core_laws.specs.ClientConditions.{NoOtherConditionGetsA304, MetConditionGetsA304};
-ghost use Rattle.proxy_core_laws.specs.HeldHeads.{FitsAReaderAs304WithRoom, FitsAReaderWithRoom};
+ghost use Rattle.proxy_core_laws.specs.ClientConditions.{OnlyMatchingConditionGetsA304, MetConditionGetsA304};
+ghost use Rattle.proxy_core_laws.specs.HeldHeads.{HeadWithRoomAs304IsWithinReaderLimits};
+ghost use Rattle.proxy_core_laws.specs.HeldHeads.{HeadWithRoomIsWithinReaderLimits};
 ghost use Rattle.proxy_core_laws.specs.HeldHeads.{FreshenedHeadLeavesRoom};
 ghost use Rattle.proxy_core_laws.specs.HeldHeads.{HeldHeadIsBounded, HeldHeadLeavesRoom, FreshenedHeadIsBounded};
-ghost use Rattle.proxy_core_laws.specs.HeldHeads.{ResponseWithRoomIsSentAsOne};
+ghost use Rattle.proxy_core_laws.specs.HeldHeads.{HeadWithRoomIsSentAsOneResponse};
 ghost use Rattle.proxy_core_laws.specs.HeldHeads.{StoredHeadIsBounded, StoredHeadLeavesRoom};
-ghost use Rattle.proxy_core_laws.specs.LeftStores.{WhatIsLeftIsSound};
+ghost use Rattle.proxy_core_laws.specs.LeftStores.{HeldResponsesAreSoundForARestart};
 ghost use Rattle.proxy_core_laws.specs.OneResponse.{PassedAnswerIsOneResponse, ProxysAnswerIsOneResponse};
 ghost use Rattle.proxy_core_laws.specs.OneResponse.{PurgeAnswerIsOneResponse};
-ghost use Rattle.proxy_core_laws.specs.StoredReplies.{FreshenedIsSendable, HeldIsSendable, A304IsSentAsOneResponse};
-ghost use Rattle.proxy_core_laws.specs.StoredReplies.{WholeIsSentAsOneResponse};
+ghost use Rattle.proxy_core_laws.specs.StoredReplies.{FreshenedResponseIsSendable, HeldResponseIsSendable};
+ghost use Rattle.proxy_core_laws.specs.StoredReplies.{Stored304IsSentAsOneResponse};
+ghost use Rattle.proxy_core_laws.specs.StoredReplies.{StoredWholeIsSentAsOneResponse};
 ghost use Rattle.proxy_core_laws.specs.StoredReplies.{StoredAnswerIsSendable};
 
 /// A client's If-None-Match, or where that is absent its If-Modified-Since, gets a 304 from a stored response exactly
 /// where the standard says that the condition fails (RFC 9110, sections 13.1.2, 13.1.3 and 13.2.2).
 pub fn a_client_gets_its_304_where_it_may()
     ensures every { MetConditionGetsA304 }
-    ensures only { NoOtherConditionGetsA304 }
+    ensures only { OnlyMatchingConditionGetsA304 }
 {}
 
 /// What a client gets for an answer that is passed on, or by the proxy itself, is one response: read by a client that
@@ -31,10 +33,10 @@ pub fn a_client_gets_one_response()
 /// 304 leaves of it, and whatever is held at any moment of a good history (RFC 9111, sections 3 and 4.3.4).
 pub fn a_stored_response_is_sent_as_one()
     ensures stored { StoredAnswerIsSendable }
-    ensures freshened { FreshenedIsSendable }
-    ensures held { HeldIsSendable }
-    ensures whole { WholeIsSentAsOneResponse }
-    ensures not_modified { A304IsSentAsOneResponse }
+    ensures freshened { FreshenedResponseIsSendable }
+    ensures held { HeldResponseIsSendable }
+    ensures whole { StoredWholeIsSentAsOneResponse }
+    ensures not_modified { Stored304IsSentAsOneResponse }
 {}
 
 /// A head that is held has a bound, however often its origin's 304s name new fields: what is stored has at most a line
@@ -50,14 +52,14 @@ pub fn a_held_head_has_a_bound()
 {}
 
 /// So it is sent within the limits of a reader, and read back as one response, with no premise on its head.
-pub fn what_leaves_room_is_sent_as_one()
-    ensures whole { FitsAReaderWithRoom }
-    ensures not_modified { FitsAReaderAs304WithRoom }
-    ensures sent { ResponseWithRoomIsSentAsOne }
+pub fn a_head_with_room_is_sent_as_one_response()
+    ensures whole { HeadWithRoomIsWithinReaderLimits }
+    ensures not_modified { HeadWithRoomAs304IsWithinReaderLimits }
+    ensures sent { HeadWithRoomIsSentAsOneResponse }
 {}
 
 /// What is held behind messages that were read is as each response has to be that is held at first. So what is said
 /// here of stored responses holds over any number of restarts.
-pub fn what_is_left_can_be_sent_again()
-    ensures { WhatIsLeftIsSound }
+pub fn held_responses_can_be_sent_after_a_restart()
+    ensures { HeldResponsesAreSoundForARestart }
 {}

@@ -10,14 +10,14 @@ mod tag_laws;
 mod vary_laws;
 
 pub use crate::answer_laws::{
-    a_client_gets_its_304_where_it_may, a_client_gets_one_response, a_held_head_has_a_bound,
-    a_stored_response_is_sent_as_one, what_is_left_can_be_sent_again,
-    what_leaves_room_is_sent_as_one,
+    a_client_gets_its_304_where_it_may, a_client_gets_one_response,
+    a_head_with_room_is_sent_as_one_response, a_held_head_has_a_bound,
+    a_stored_response_is_sent_as_one, held_responses_can_be_sent_after_a_restart,
 };
 pub use crate::cookie_laws::{
-    a_cookie_stays_with_the_one_who_asked, who_is_signed_in_goes_past_the_store,
+    a_cookie_is_sent_only_to_its_requester, a_named_cookie_bypasses_the_store,
 };
-pub use crate::loop_laws::a_request_that_comes_back_is_known;
+pub use crate::loop_laws::a_looped_request_is_recognized;
 pub use crate::message_laws::{a_core_sends_one_message_each_time, what_was_read_can_be_sent};
-pub use crate::tag_laws::no_tag_comes_to_a_client;
-pub use crate::vary_laws::nothing_of_another_value_is_sent;
+pub use crate::tag_laws::no_cache_tag_is_sent_to_a_client;
+pub use crate::vary_laws::a_sent_response_has_the_requests_vary_values;

@@ -1,7 +1,8 @@
 //! Laws on what a core sends where it was handed what was read: each time one message, or none.
-ghost use Rattle.proxy_core_laws.specs.SentMessages.{ConditionsOfHistoryAreFieldValues, HeldContentFits};
+ghost use Rattle.proxy_core_laws.specs.SentMessages.{ConditionsOfHistoryAreFieldValues, HeldContentIsAtMostMaxStored};
 ghost use Rattle.proxy_core_laws.specs.SentMessages.{OpenRequestsWereRead, TableNameIsAToken};
-ghost use Rattle.proxy_core_laws.specs.SentMessages.{OneRequestIsNoMore, OneResponseIsNoMore, EachStepSendsOneMessage};
+ghost use Rattle.proxy_core_laws.specs.SentMessages.{OneRequestIsNeitherTwoNorAPart, OneResponseIsNeitherTwoNorAPart};
+ghost use Rattle.proxy_core_laws.specs.SentMessages.{EachStepSendsOneMessage};
 ghost use Rattle.proxy_core_laws.specs.SentMessages.{StoredContentFits64Bits};
 
 /// What the laws on one message take for granted holds of what was read. The name in a table that was read is a token,
@@ -13,7 +14,7 @@ pub fn what_was_read_can_be_sent()
     ensures name { TableNameIsAToken }
     ensures short { StoredContentFits64Bits }
     ensures conditions { ConditionsOfHistoryAreFieldValues }
-    ensures fits { HeldContentFits }
+    ensures fits { HeldContentIsAtMostMaxStored }
     ensures requests { OpenRequestsWereRead }
 {}
 
@@ -23,6 +24,6 @@ pub fn what_was_read_can_be_sent()
 /// `proxy_engine_laws`.
 pub fn a_core_sends_one_message_each_time()
     ensures each { EachStepSendsOneMessage }
-    ensures one_request { OneRequestIsNoMore }
-    ensures one_response { OneResponseIsNoMore }
+    ensures one_request { OneRequestIsNeitherTwoNorAPart }
+    ensures one_response { OneResponseIsNeitherTwoNorAPart }
 {}

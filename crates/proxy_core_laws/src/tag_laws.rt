@@ -3,7 +3,7 @@ ghost use Rattle.proxy_core_laws.specs.HiddenTags.{NoTagIsPassedOn, NoTagIsSentO
 
 /// Over a line that hides tags, as each of a table of version 4 does, no client is sent a Cache-Tag: neither with what
 /// is stored, nor with an answer that is passed on.
-pub fn no_tag_comes_to_a_client()
+pub fn no_cache_tag_is_sent_to_a_client()
     ensures sent { NoTagIsSentOutOfTheStore }
     ensures passed { NoTagIsPassedOn }
 {}

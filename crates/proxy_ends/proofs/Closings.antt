@@ -9,40 +9,40 @@ use Rattle.std.specs.Ordering.{nat_cmp}
 use Rattle.slab.proofs.SlabLemmas.{Updates-with_value}
 use Rattle.slab.specs.Slab as slab
 use Rattle.slab.specs.Slab.{Slab}
-use Rattle.proxy_ends.specs.Closing.{FirstGivesWay, ClosedStreamsAreBounded, AtMostOneOtherStreamGoes, StreamIsClosedByNumber, StandsInQueue, QueuesOrGoes, TakesFirst, LeavesWhereUnsent}
+use Rattle.proxy_ends.specs.Closing.{NoOtherStreamIsDropped, ClosedStreamsAreBounded, AtMostOneOtherStreamIsDropped, StreamIsClosedByNumber, PlaceIsInQueue, ClientIsQueuedOrDropped, HasUnsentBytesOrIsAbsent, IsInLeavingQueueIfUnsent}
 use Rattle.proxy_pacing.specs.Queues.{longest_waiting_in_queue}
-use Rattle.proxy_ends.specs.OtherEntries.{OtherSlabKeysStay}
+use Rattle.proxy_ends.specs.OtherEntries.{StreamsOfOtherKeysStay}
 use Rattle.proxy_ends.specs.Streams.{client_at, stream_at_number}
 use Rattle.proxy_ends.specs.declared.clients.client.Client.{Client}
 use Rattle.proxy_ends.specs.declared.clients.client.Place.{Place}
 use Rattle.proxy_pacing.specs.declared.stream_queues.StreamQueue.{StreamQueue}
 use Rattle.proxy_pacing.specs.declared.stream_queues.StreamQueue.TheVariants.{Leaving}
 
-pub none_goes : {A : Type 0} (key : ℕ) (old new : Slab A) → OtherSlabKeysStay key old new → AtMostOneOtherStreamGoes key old new
+pub none_goes : {A : Type 0} (key : ℕ) (old new : Slab A) → StreamsOfOtherKeysStay key old new → AtMostOneOtherStreamIsDropped key old new
 none_goes key old new stay = record { other = key; gone = λ other. absurd (other refl); others = λ k not_key not_other. stay k not_key }
 
-pub goes_behind : {A : Type 0} (key : ℕ) (old mid new : Slab A) → OtherSlabKeysStay key old mid → AtMostOneOtherStreamGoes key mid new → AtMostOneOtherStreamGoes key old new
+pub goes_behind : {A : Type 0} (key : ℕ) (old mid new : Slab A) → StreamsOfOtherKeysStay key old mid → AtMostOneOtherStreamIsDropped key mid new → AtMostOneOtherStreamIsDropped key old new
 goes_behind key old mid new stay goes = record { other = goes.other; gone = goes.gone; others = λ k not_key not_other. goes.others k not_key not_other ∙ stay k not_key }
 
-pub gives_way : {A : Type 0} (key : ℕ) (first : Option ℕ) (old new : Slab A) → FirstGivesWay first old new → AtMostOneOtherStreamGoes key old new
+pub gives_way : {A : Type 0} (key : ℕ) (first : Option ℕ) (old new : Slab A) → NoOtherStreamIsDropped first old new → AtMostOneOtherStreamIsDropped key old new
 gives_way key None old new same = none_goes key old new (λ k not_key. ap (λ s. slab.get s k) same)
 gives_way key (Some first) old new gives = record { other = first; gone = λ other. gives.0; others = λ k not_key not_other. gives.1 k not_other }
 
-pub bounded_goes : {A : Type 0} (key : ℕ) (closed : BTreeMap ℕ ℕ) (old new : Slab A) → ClosedStreamsAreBounded closed old new → AtMostOneOtherStreamGoes key old new
+pub bounded_goes : {A : Type 0} (key : ℕ) (closed : BTreeMap ℕ ℕ) (old new : Slab A) → ClosedStreamsAreBounded closed old new → AtMostOneOtherStreamIsDropped key old new
 bounded_goes key closed old new bounded =
     elim (leb_tells (btree_map_len closed) 256) [
       | inl few ↦ none_goes key old new (λ k not_key. ap (λ s. slab.get s k) (bounded.0 few.1))
       | inr many ↦ gives_way key (longest_waiting_in_queue closed) old new (bounded.1 many.1)
     ]
 
-pub closes_at : {A : Type 0} (at : Option ℕ) (key : ℕ) (old new : Slab A) → at ≡ Some key → AtMostOneOtherStreamGoes key old new → StreamIsClosedByNumber at old new
+pub closes_at : {A : Type 0} (at : Option ℕ) (key : ℕ) (old new : Slab A) → at ≡ Some key → AtMostOneOtherStreamIsDropped key old new → StreamIsClosedByNumber at old new
 closes_at at key old new is goes = let P : Option ℕ → Type 0 = λ o. StreamIsClosedByNumber o old new in subst P (sym is) goes
 
 pub closes_none : {A : Type 0} (at : Option ℕ) (old new : Slab A) → at ≡ None → new ≡ old → StreamIsClosedByNumber at old new
 closes_none at old new is same = let P : Option ℕ → Type 0 = λ o. StreamIsClosedByNumber o old new in subst P (sym is) same
 
 -- where the stream at the key alone was written to
-pub none_goes_written : {A : Type 0} (key : ℕ) (old : Slab A) (value : A) → AtMostOneOtherStreamGoes key old (slab.with_value old key value)
+pub none_goes_written : {A : Type 0} (key : ℕ) (old : Slab A) (value : A) → AtMostOneOtherStreamIsDropped key old (slab.with_value old key value)
 none_goes_written key old value =
     none_goes key old (slab.with_value old key value) (λ k not_key. get_or-set_other old.slots key k (Some value) None not_key)
 
@@ -51,18 +51,18 @@ written_at : {A : Type 0} (s : Slab A) (key : ℕ) (old new : A) → slab.get s 
 written_at {A} s key old new is = (Updates-with_value s key new (subst (λ (o : Option A). IsSome o) (sym is) refl)).changed
 
 -- a client that comes into a queue, and is left as it stands there, with what it has to take
-joins_and_stays : {S : Type 0} (queue : StreamQueue) (before client : Client S) (mid new : Option (Client S)) → QueuesOrGoes queue (Some client) mid
-    → client.peer.unsent ≡ before.peer.unsent → (0 < length before.peer.unsent.bytes → queue ≡ Leaving) → (TakesFirst mid → new ≡ mid)
-    → LeavesWhereUnsent (Some before) new
+joins_and_stays : {S : Type 0} (queue : StreamQueue) (before client : Client S) (mid new : Option (Client S)) → ClientIsQueuedOrDropped queue (Some client) mid
+    → client.peer.unsent ≡ before.peer.unsent → (0 < length before.peer.unsent.bytes → queue ≡ Leaving) → (HasUnsentBytesOrIsAbsent mid → new ≡ mid)
+    → IsInLeavingQueueIfUnsent (Some before) new
 joins_and_stays {S} queue before client None new stands same leaving stays =
-    subst (λ (o : Option (Client S)). LeavesWhereUnsent (Some before) o) (sym (stays tt)) tt
+    subst (λ (o : Option (Client S)). IsInLeavingQueueIfUnsent (Some before) o) (sym (stays tt)) tt
 joins_and_stays {S} queue before client (Some mid) None stands same leaving stays = tt
 joins_and_stays {S} queue before client (Some mid) (Some new) stands same leaving stays = λ some.
     let held : mid.peer.unsent ≡ before.peer.unsent = ap (λ (c : Client S). c.peer.unsent) stands.0 ∙ same in
     let is : Some new ≡ Some mid = stays (subst (λ u. 0 < length u.bytes) (sym held) some) in
     let it : new ≡ mid = cc in (
-      subst (λ (p : Place). StandsInQueue Leaving p) (ap (λ (c : Client S). c.place) (sym it))
-          (subst (λ (q : StreamQueue). StandsInQueue q mid.place) (leaving some) stands.1),
+      subst (λ (p : Place). PlaceIsInQueue Leaving p) (ap (λ (c : Client S). c.place) (sym it))
+          (subst (λ (q : StreamQueue). PlaceIsInQueue q mid.place) (leaving some) stands.1),
       ap (λ (c : Client S). c.peer.unsent) it ∙ held,
     )
 
@@ -70,15 +70,15 @@ joins_and_stays {S} queue before client (Some mid) (Some new) stands same leavin
 pub closes_leaving : {S : Type 0} (keys : BTreeMap ℕ ℕ) (n key : ℕ) (streams : Slab (Box (Client S))) (old new : Box (Client S)) (queue : StreamQueue)
     (mid last : Slab (Box (Client S))) → get nat_cmp keys n ≡ Some key → slab.get streams key ≡ Some old → new.value.peer.unsent ≡ old.value.peer.unsent
     → (0 < length old.value.peer.unsent.bytes → queue ≡ Leaving)
-    → QueuesOrGoes queue (client_at (slab.with_value streams key new) key) (client_at mid key)
-    → (TakesFirst (client_at mid key) → client_at last key ≡ client_at mid key) → LeavesWhereUnsent (stream_at_number keys streams n) (stream_at_number keys last n)
+    → ClientIsQueuedOrDropped queue (client_at (slab.with_value streams key new) key) (client_at mid key)
+    → (HasUnsentBytesOrIsAbsent (client_at mid key) → client_at last key ≡ client_at mid key) → IsInLeavingQueueIfUnsent (stream_at_number keys streams n) (stream_at_number keys last n)
 closes_leaving {S} keys n key streams old new queue mid last at there same leaving stands stays =
     let value : Box (Client S) → Client S = λ b. b.value in
     let written : client_at (slab.with_value streams key new) key ≡ Some new.value = ap (option_map value) (written_at streams key old new there) in
-    let stands_so : QueuesOrGoes queue (Some new.value) (client_at mid key)
-    = subst (λ (o : Option (Client S)). QueuesOrGoes queue o (client_at mid key)) written stands in
-    let of_client : LeavesWhereUnsent (Some old.value) (client_at last key)
+    let stands_so : ClientIsQueuedOrDropped queue (Some new.value) (client_at mid key)
+    = subst (λ (o : Option (Client S)). ClientIsQueuedOrDropped queue o (client_at mid key)) written stands in
+    let of_client : IsInLeavingQueueIfUnsent (Some old.value) (client_at last key)
     = joins_and_stays queue old.value new.value (client_at mid key) (client_at last key) stands_so same leaving stays in
-    let of_key : LeavesWhereUnsent (client_at streams key) (client_at last key)
-    = subst (λ (o : Option (Client S)). LeavesWhereUnsent o (client_at last key)) (sym (ap (option_map value) there)) of_client in
-    subst (λ (o : Option ℕ). LeavesWhereUnsent (option_and_then (client_at streams) o) (option_and_then (client_at last) o)) (sym at) of_key
+    let of_key : IsInLeavingQueueIfUnsent (client_at streams key) (client_at last key)
+    = subst (λ (o : Option (Client S)). IsInLeavingQueueIfUnsent o (client_at last key)) (sym (ap (option_map value) there)) of_client in
+    subst (λ (o : Option ℕ). IsInLeavingQueueIfUnsent (option_and_then (client_at streams) o) (option_and_then (client_at last) o)) (sym at) of_key

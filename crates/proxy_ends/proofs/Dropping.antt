@@ -4,9 +4,9 @@ use Rattle.std.specs.IoError.{error_kind}
 use Rattle.std.specs.declared.io.Error.{Error}
 use Rattle.proxy_reads.specs.declared.received.Received.{Received}
 use Rattle.proxy_reads.specs.declared.received.Received.TheVariants as received
-use Rattle.proxy_ends.specs.Closing.{still_to_wait, InputIsDropped}
+use Rattle.proxy_ends.specs.Closing.{more_is_awaited_after, InputIsDropped}
 use Rattle.proxy_streams.specs.PeerCalls.{PeerIsRead}
-use Rattle.proxy_streams.specs.Peers.{PeerReadOutcome, Nothing, peer_read_outcome, is_last_read, is_passing_reason, IsFailure}
+use Rattle.proxy_streams.specs.Peers.{PeerReadOutcome, Nothing, peer_read_outcome, is_last_read, is_transient_error, IsLastingError}
 use Rattle.proxy_ends.specs.declared.clients.client.Client.{Client}
 use Rattle.proxy_ends.specs.declared.clients.closing.StillToWait.{StillToWait}
 use Rattle.proxy_ends.specs.declared.clients.closing.StillToWait.TheVariants.{Yes, No}
@@ -16,9 +16,9 @@ by_last : (b : Bool) (w more : StillToWait) (target : StillToWait) → (if b the
 by_last true w more target h rest = absurd (cc)
 by_last false w more target h rest = rest h
 
-wait_behind : (xs ys : List PeerReadOutcome) → still_to_wait xs ≡ Yes → still_to_wait (xs ++ ys) ≡ still_to_wait ys
+wait_behind : (xs ys : List PeerReadOutcome) → more_is_awaited_after xs ≡ Yes → more_is_awaited_after (xs ++ ys) ≡ more_is_awaited_after ys
 wait_behind [] ys h = refl
-wait_behind (x ∷ xs) ys h = by_last (is_last_read x) (still_to_wait xs) (still_to_wait (xs ++ ys)) (still_to_wait ys) h (wait_behind xs ys)
+wait_behind (x ∷ xs) ys h = by_last (is_last_read x) (more_is_awaited_after xs) (more_is_awaited_after (xs ++ ys)) (more_is_awaited_after ys) h (wait_behind xs ys)
 
 -- what the answer of a read leaves to wait for
 abbrev pub wait_of : Result Received Error → StillToWait
@@ -31,16 +31,16 @@ by_failure : (b : Bool) → b ≡ false → (if not b then No else Yes) ≡ No
 by_failure true h = absurd (cc)
 by_failure false h = refl
 
-by_left : (left : Bool) (buf : List ℕ) → still_to_wait (peer_read_outcome left (Ok received.Nothing) buf ∷ []) ≡ Yes
+by_left : (left : Bool) (buf : List ℕ) → more_is_awaited_after (peer_read_outcome left (Ok received.Nothing) buf ∷ []) ≡ Yes
 by_left true buf = refl
 by_left false buf = refl
 
-wait_of_read : (left : Bool) (result : Result Received Error) (buf : List ℕ) → IfErr result IsFailure
-    → still_to_wait (peer_read_outcome left result buf ∷ []) ≡ wait_of result
+wait_of_read : (left : Bool) (result : Result Received Error) (buf : List ℕ) → IfErr result IsLastingError
+    → more_is_awaited_after (peer_read_outcome left result buf ∷ []) ≡ wait_of result
 wait_of_read left (Ok received.Nothing) buf failed = by_left left buf
 wait_of_read left (Ok (received.Bytes n)) buf failed = refl
 wait_of_read left (Ok received.End) buf failed = refl
-wait_of_read left (Err e) buf failed = by_failure (is_passing_reason (error_kind e)) failed
+wait_of_read left (Err e) buf failed = by_failure (is_transient_error (error_kind e)) failed
 
 pub same_but_peer : {S : Type 0} (old mid new : Client S) → mid ≡ record old { peer = mid.peer } → new ≡ record mid { peer = new.peer } → new ≡ record old { peer = new.peer }
 same_but_peer {S} old mid new first second =
@@ -55,7 +55,7 @@ module _
     none_dropped peer = record { gave = []; passed = none peer.stream; answers = refl }
 
     one_more : (old mid new : Peer S) (outcome : PeerReadOutcome) (answer : StillToWait) → InputIsDropped Passed Yes old mid
-        → Passed mid.stream [] (outcome ∷ []) new.stream → answer ≡ still_to_wait (outcome ∷ []) → InputIsDropped Passed answer old new
+        → Passed mid.stream [] (outcome ∷ []) new.stream → answer ≡ more_is_awaited_after (outcome ∷ []) → InputIsDropped Passed answer old new
     one_more old mid new outcome answer before passed is = record {
       gave = before.gave ++ outcome ∷ [];
       passed = joined old.stream mid.stream new.stream [] [] before.gave (outcome ∷ []) before.passed passed;
@@ -70,7 +70,7 @@ module _
         subst P (sym (same.1)) (subst Q (sym (same.0)) before)
 
     by_readable : (readable : Bool) (room : ℕ) (old mid new : Peer S) (result : Result Received Error) (buf : List ℕ) → mid.readable ≡ readable
-        → InputIsDropped Passed Yes old mid → PeerIsRead Passed room result buf mid new → IfErr result IsFailure
+        → InputIsDropped Passed Yes old mid → PeerIsRead Passed room result buf mid new → IfErr result IsLastingError
         → InputIsDropped Passed (wait_of result) old new
     by_readable true room old mid new result buf is before read failed =
         one_more old mid new (peer_read_outcome new.readable result buf) (wait_of result) before (read.passed is) (sym (wait_of_read new.readable result buf failed))
@@ -78,7 +78,7 @@ module _
 
     by_unsent : (unsent : List ℕ) (room : ℕ) (old : Peer S) (mid new : Client S) (result : Result Received Error) (buf : List ℕ) → mid.peer.unsent.bytes ≡ unsent
         → InputIsDropped Passed Yes old mid.peer → (0 < length mid.peer.unsent.bytes → (new ≡ mid) × (result ≡ Ok received.Nothing))
-        → (mid.peer.unsent.bytes ≡ [] → PeerIsRead Passed room result buf mid.peer new.peer) → IfErr result IsFailure
+        → (mid.peer.unsent.bytes ≡ [] → PeerIsRead Passed room result buf mid.peer new.peer) → IfErr result IsLastingError
         → InputIsDropped Passed (wait_of result) old new.peer
     by_unsent [] room old mid new result buf is before first read failed =
         by_readable mid.peer.readable room old mid.peer new.peer result buf refl before (read is) failed
@@ -90,7 +90,7 @@ module _
     -- one read more
     pub read_behind : (room : ℕ) (old : Peer S) (mid new : Client S) (result : Result Received Error) (buf : List ℕ) (answer : StillToWait)
         → InputIsDropped Passed Yes old mid.peer → (0 < length mid.peer.unsent.bytes → (new ≡ mid) × (result ≡ Ok received.Nothing))
-        → (mid.peer.unsent.bytes ≡ [] → PeerIsRead Passed room result buf mid.peer new.peer) → IfErr result IsFailure
+        → (mid.peer.unsent.bytes ≡ [] → PeerIsRead Passed room result buf mid.peer new.peer) → IfErr result IsLastingError
         → wait_of result ≡ answer → InputIsDropped Passed answer old new.peer
     read_behind room old mid new result buf answer before first read failed is =
         let P : StillToWait → Type 0 = λ a. InputIsDropped Passed a old new.peer in

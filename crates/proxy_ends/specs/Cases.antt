@@ -24,19 +24,19 @@ limits = record {
 }
 
 -- a peer from which something came last at 100, of which something may be left to be read, and that hasn't taken this
-abbrev pub peer_heard_at_100 : Bool → List ℕ → Peer ℕ
-peer_heard_at_100 readable unsent =
+abbrev pub example_peer_heard_at_100 : Bool → List ℕ → Peer ℕ
+example_peer_heard_at_100 readable unsent =
     record (new_peer 0 (record { bytes = unsent; held = length unsent; room = 0 }) 100) { readable = readable }
 
 -- a client with that peer, and what of its bytes wasn't handed in yet
-abbrev pub client_heard_at_100 : Global → Bool → List ℕ → Option (List ℕ) → Client ℕ
-client_heard_at_100 alloc readable unsent rest =
-    record (new_client alloc (peer_heard_at_100 readable unsent) 7 100) { rest = rest }
+abbrev pub example_client_heard_at_100 : Global → Bool → List ℕ → Option (List ℕ) → Client ℕ
+example_client_heard_at_100 alloc readable unsent rest =
+    record (new_client alloc (example_peer_heard_at_100 readable unsent) 7 100) { rest = rest }
 
 -- a link that began at 90, while its connection is made or once it is
-abbrev pub link_begun_at_90 : Bool → Link ℕ
-link_begun_at_90 connecting = record {
-  peer = Some (record (peer_heard_at_100 false []) { connecting = connecting });
+abbrev pub example_link_begun_at_90 : Bool → Link ℕ
+example_link_begun_at_90 connecting = record {
+  peer = Some (record (example_peer_heard_at_100 false []) { connecting = connecting });
   began = 90;
   origin = 0;
   admission = admission.Yes;
@@ -46,13 +46,13 @@ link_begun_at_90 connecting = record {
 }
 
 -- the same, where the line of its request gives its origin a second
-abbrev pub link_given_a_second : Bool → Link ℕ
-link_given_a_second connecting = record (link_begun_at_90 connecting) { seconds = Some 1 }
+abbrev pub link_with_origin_timeout_1 : Bool → Link ℕ
+link_with_origin_timeout_1 connecting = record (example_link_begun_at_90 connecting) { seconds = Some 1 }
 
 -- limits that end no exchange before its origin's silence does
-abbrev pub long_limits : Limits
-long_limits = record limits { exchange_timeout = 100000; origin_timeout = 60000 }
+abbrev pub limits_with_origin_timeout_60 : Limits
+limits_with_origin_timeout_60 = record limits { exchange_timeout = 100000; origin_timeout = 60000 }
 
 -- one that had no stream
 abbrev pub link_without_stream : Link ℕ
-link_without_stream = record (link_begun_at_90 false) { peer = None }
+link_without_stream = record (example_link_begun_at_90 false) { peer = None }

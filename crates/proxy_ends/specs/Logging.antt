@@ -1,27 +1,27 @@
 -- What a log keeps of a client, and the line about a reply.
 --
--- words_answered: what a reply answers
+-- words_of_answered_or_read_request: what a reply answers
 -- words_about_reply: what its line says, of a client at this address
 -- logged_address: whose lines these are
 -- LineAboutReplyIsAdded: what becomes of the line about a reply
--- PieceIsKept, NextRequestBegins: what is kept of a request line, until its request is answered
+-- PieceIsKeptForTheLog, LogBeginsNextRequest: what is kept of a request line, until its request is answered
 use Rattle.std.specs.Prelude.{◌≡◌, ◌⊎◌, ℕ, List, [], ◌++◌, Option, None, Some, option_map, string_bytes}
 use Rattle.std.specs.Global.{Box}
 use Rattle.hx_status.specs.Abouts.{reason_text}
 use Rattle.hx_status.specs.declared.question.Question.{Question}
-use Rattle.proxy_log.specs.Asked.{AskedWords, words_of_head, words_of_question}
-use Rattle.proxy_log.specs.KeptLine.{HeadIsKept, LineIsOver}
+use Rattle.proxy_log.specs.Asked.{AskedWords, asked_words_of_head, words_of_question}
+use Rattle.proxy_log.specs.KeptLine.{RequestLineOfHeadIsKept, RequestLineIsDiscarded}
 use Rattle.proxy_log.specs.Line.{LineWords, log_line_text}
 use Rattle.proxy_log.specs.PendingLines.{LineIsAdded, LineIsLost}
 use Rattle.proxy_log.specs.declared.kept_line.RequestLine.{RequestLine}
 use Rattle.proxy_log.specs.declared.pending_lines.Lines.{Lines}
-use Rattle.proxy_ends.specs.declared.clients.client.Logged.{Logged}
+use Rattle.proxy_ends.specs.declared.clients.client.LoggedClient.{LoggedClient}
 use Rattle.proxy_ends.specs.declared.replies.Reply.{Reply}
 
 -- what the reply says that it answers; else what the request line says, where that came whole and has no fault
-abbrev pub words_answered : Option Question → RequestLine → AskedWords
-words_answered None line = words_of_head line.text.items
-words_answered (Some question) line = words_of_question question
+abbrev pub words_of_answered_or_read_request : Option Question → RequestLine → AskedWords
+words_of_answered_or_read_request None line = asked_words_of_head line.text.items
+words_of_answered_or_read_request (Some question) line = words_of_question question
 
 -- its client's address, what was asked, what the reply is, and what was seen of it
 abbrev pub words_about_reply : AskedWords → List ℕ → Reply → LineWords
@@ -37,32 +37,34 @@ words_about_reply asked address reply = record {
   origin = reply.origin.now;
 }
 
-abbrev pub logged_address : Option (Box Logged) → Option (List ℕ)
+abbrev pub logged_address : Option (Box LoggedClient) → Option (List ℕ)
 logged_address logged = option_map (λ one. string_bytes one.value.address) logged
 
 -- the line stands behind the others, or it is lost, and counts as that
-abbrev pub LineOfLoggedIsAdded : Logged → Reply → Lines → Lines → Type 0
+abbrev pub LineOfLoggedIsAdded : LoggedClient → Reply → Lines → Lines → Type 0
 LineOfLoggedIsAdded logged reply old new =
-    LineIsAdded (log_line_text (words_about_reply (words_answered reply.replied.now.question logged.line)
+    LineIsAdded (log_line_text
+    (words_about_reply (words_of_answered_or_read_request reply.replied.now.question logged.line)
     (string_bytes logged.address) reply)) old new
     ⊎ LineIsLost old new
 
 -- of a client of which a log is kept there is one; of any other none
-abbrev pub LineAboutReplyIsAdded : Option (Box Logged) → Reply → Lines → Lines → Type 0
+abbrev pub LineAboutReplyIsAdded : Option (Box LoggedClient) → Reply → Lines → Lines → Type 0
 LineAboutReplyIsAdded None reply old new = new ≡ old
 LineAboutReplyIsAdded (Some logged) reply old new = LineOfLoggedIsAdded logged.value reply old new
 
 -- A piece came. If of a head this was kept, so it is with the piece behind it, or nothing is kept of it.
-abbrev pub PieceIsKept : List ℕ → Option (Box Logged) → Option (Box Logged) → Type 0
-PieceIsKept piece None new = new ≡ None
-PieceIsKept piece (Some old) None = ⊥
-PieceIsKept piece (Some old) (Some new) =
+abbrev pub PieceIsKeptForTheLog : List ℕ → Option (Box LoggedClient) → Option (Box LoggedClient) → Type 0
+PieceIsKeptForTheLog piece None new = new ≡ None
+PieceIsKeptForTheLog piece (Some old) None = ⊥
+PieceIsKeptForTheLog piece (Some old) (Some new) =
     (new.value.address ≡ old.value.address)
-    × ((head : List ℕ) → HeadIsKept head old.value.line
-    → HeadIsKept (head ++ piece) new.value.line ⊎ LineIsOver new.value.line)
+    × ((head : List ℕ) → RequestLineOfHeadIsKept head old.value.line
+    → RequestLineOfHeadIsKept (head ++ piece) new.value.line ⊎ RequestLineIsDiscarded new.value.line)
 
 -- nothing of the next request has come
-abbrev pub NextRequestBegins : Option (Box Logged) → Option (Box Logged) → Type 0
-NextRequestBegins None new = new ≡ None
-NextRequestBegins (Some old) None = ⊥
-NextRequestBegins (Some old) (Some new) = (new.value.address ≡ old.value.address) × HeadIsKept [] new.value.line
+abbrev pub LogBeginsNextRequest : Option (Box LoggedClient) → Option (Box LoggedClient) → Type 0
+LogBeginsNextRequest None new = new ≡ None
+LogBeginsNextRequest (Some old) None = ⊥
+LogBeginsNextRequest (Some old) (Some new) = (new.value.address ≡ old.value.address)
+    × RequestLineOfHeadIsKept [] new.value.line

@@ -4,12 +4,12 @@
 -- IsDoneToLinksPeer: to the stream of a link, where it has one
 -- peer_of_link: of a link
 -- client_at, stream_at_number: who stands at a key, and at that of a number
--- unsent_of_client, handed_of_client, unsent_where_changed: what is held for a client, and for all
+-- unsent_bytes_of_client, handed_in_bytes_of_client, unsent_bytes_after_change: what is held for a client, and for all
 -- client_may_have_input: a read of a client would give something, or may
--- ClientIsReadOn: what a read does of one that was closed
+-- ClosedClientIsReadOn: what a read does of one that was closed
 -- ClientIsRead: what a read of a client hands in
--- number_to_list, link_is_to_be_listed: who is to be put among the ends that are read next
--- listed_client, listed_link: who is to be put there is marked
+-- number_of_client_to_list, link_is_to_be_listed: who is to be put among the ends that are read next
+-- client_marked_if_input, link_marked_if_input: who is to be put there is marked
 -- unlisted_client, unlisted_link: who is taken from there is not
 -- new_client: one with which nothing was done
 -- client_is_idle: a client is between two requests      bytes_held_of_peer: what is held for a peer
@@ -28,9 +28,9 @@ use Rattle.slab.specs.Slab.{Slab}
 use Rattle.proxy_reads.specs.declared.received.Received.{Received}
 use Rattle.proxy_reads.specs.declared.received.Received.TheVariants as received
 use Rattle.proxy_figures.specs.Counts.{count_plus}
-use Rattle.proxy_pacing.specs.RestBytes.{is_nothing}
+use Rattle.proxy_pacing.specs.RestBytes.{has_no_bytes}
 use Rattle.proxy_streams.specs.PeerCalls.{PeerIsRead}
-use Rattle.proxy_streams.specs.Peers.{PeerReadOutcome, Nothing, Bytes, Ended, IsFailure}
+use Rattle.proxy_streams.specs.Peers.{PeerReadOutcome, Nothing, Bytes, Ended, IsLastingError}
 use Rattle.proxy_ends.specs.declared.clients.client.Client.{Client}
 use Rattle.proxy_ends.specs.declared.clients.client.Place.{Place}
 use Rattle.proxy_ends.specs.declared.clients.client.Place.TheVariants as place
@@ -38,12 +38,12 @@ use Rattle.proxy_ends.specs.declared.links.link.Link.{Link}
 use Rattle.proxy_streams.specs.declared.peer.Peer.{Peer}
 
 -- What a read does of a client that was closed: its peer alone is read, unless that still has to take something.
-pub record ClientIsReadOn {S : Type 0} (Passed : S → List ℕ → List PeerReadOutcome → S → Type 0) (room : ℕ)
+pub record ClosedClientIsReadOn {S : Type 0} (Passed : S → List ℕ → List PeerReadOutcome → S → Type 0) (room : ℕ)
     (result : Result Received Error) (buf : List ℕ) (old new : Client S) : Type 0 where
   pub read : old.peer.unsent.bytes ≡ [] → PeerIsRead Passed room result buf old.peer new.peer
   pub peer : new ≡ record old { peer = new.peer }
   pub unsent : new.peer.unsent ≡ old.peer.unsent
-  pub failed : IfErr result IsFailure
+  pub failed : IfErr result IsLastingError
 
 -- the client of a key, each of which stands in memory of its own; and of a number
 abbrev pub client_at : {S : Type 0} → Slab (Box (Client S)) → ℕ → Option (Client S)
@@ -53,18 +53,19 @@ abbrev pub stream_at_number : {S : Type 0} → BTreeMap ℕ ℕ → Slab (Box (C
 stream_at_number keys streams n = option_and_then (client_at streams) (get nat_cmp keys n)
 
 -- bytes that are held for a client, since it hasn't taken them yet, and of its request; of nobody none are
-abbrev pub unsent_of_client : {S : Type 0} → Option (Client S) → ℕ
-unsent_of_client None = 0
-unsent_of_client (Some client) = client.peer.unsent.held
+abbrev pub unsent_bytes_of_client : {S : Type 0} → Option (Client S) → ℕ
+unsent_bytes_of_client None = 0
+unsent_bytes_of_client (Some client) = client.peer.unsent.held
 
-abbrev pub handed_of_client : {S : Type 0} → Option (Client S) → ℕ
-handed_of_client None = 0
-handed_of_client (Some client) = client.handed
+abbrev pub handed_in_bytes_of_client : {S : Type 0} → Option (Client S) → ℕ
+handed_in_bytes_of_client None = 0
+handed_in_bytes_of_client (Some client) = client.handed
 
 -- those that are held for all clients, where one of them has changed to this one
-abbrev pub unsent_where_changed : {S : Type 0} → ℕ → Option (Client S) → Option (Client S) → ℕ
-unsent_where_changed all None new = all
-unsent_where_changed all (Some client) new = min (all - client.peer.unsent.held + unsent_of_client new) (2 ^ 64 - 1)
+abbrev pub unsent_bytes_after_change : {S : Type 0} → ℕ → Option (Client S) → Option (Client S) → ℕ
+unsent_bytes_after_change all None new = all
+unsent_bytes_after_change all (Some client) new =
+    min (all - client.peer.unsent.held + unsent_bytes_of_client new) (2 ^ 64 - 1)
 
 abbrev pub IsDoneToClientsPeer : {S : Type 0} → (Peer S → Peer S → Type 0) → Option (Client S) → Option (Client S)
     → Type 0
@@ -91,24 +92,24 @@ abbrev pub peer_is_broken : {S : Type 0} → Option (Peer S) → Bool
 peer_is_broken None = false
 peer_is_broken (Some peer) = peer.broken
 
-abbrev pub peer_is_lost : {S : Type 0} → Option (Peer S) → Bool
-peer_is_lost None = false
-peer_is_lost (Some peer) = peer.broken && peer.connecting
+abbrev pub peer_failed_to_connect : {S : Type 0} → Option (Peer S) → Bool
+peer_failed_to_connect None = false
+peer_failed_to_connect (Some peer) = peer.broken && peer.connecting
 
 -- nothing more can be written to a client, or there is none
-abbrev pub client_is_cut : {S : Type 0} → Option (Client S) → Bool
-client_is_cut None = true
-client_is_cut (Some client) = client.peer.broken
+abbrev pub client_cannot_be_written : {S : Type 0} → Option (Client S) → Bool
+client_cannot_be_written None = true
+client_cannot_be_written (Some client) = client.peer.broken
 
 -- bytes are left of those that came and weren't handed in
-abbrev pub client_has_rest : Option (List ℕ) → Bool
-client_has_rest None = false
-client_has_rest (Some rest) = not (is_nothing rest)
+abbrev pub client_has_bytes_not_handed_in : Option (List ℕ) → Bool
+client_has_bytes_not_handed_in None = false
+client_has_bytes_not_handed_in (Some rest) = not (has_no_bytes rest)
 
 -- a client that has taken everything has something to be read, or may
 abbrev pub client_may_have_input : {S : Type 0} → Client S → Bool
 client_may_have_input client = not (nat_lt 0 (length client.peer.unsent.bytes)) &&
-    (client.peer.readable || client_has_rest client.rest)
+    (client.peer.readable || client_has_bytes_not_handed_in client.rest)
 
 abbrev pub rest_bytes : Option (List ℕ) → List ℕ
 rest_bytes None = []
@@ -128,16 +129,16 @@ received_bytes (received.Bytes n) buf = take n buf
 received_bytes received.End buf = []
 
 -- an answer tells what a read gave: nothing, bytes, of which some are handed in, or the end
-abbrev pub OutcomeIsTold : PeerReadOutcome → Received → List ℕ → Type 0
-OutcomeIsTold (Nothing reason) answer buf = answer ≡ received.Nothing
-OutcomeIsTold (Bytes bytes) answer buf = 0 < length bytes → 0 < length (received_bytes answer buf)
-OutcomeIsTold Ended answer buf = answer ≡ received.End
+abbrev pub ReadOutcomeIsReported : PeerReadOutcome → Received → List ℕ → Type 0
+ReadOutcomeIsReported (Nothing reason) answer buf = answer ≡ received.Nothing
+ReadOutcomeIsReported (Bytes bytes) answer buf = 0 < length bytes → 0 < length (received_bytes answer buf)
+ReadOutcomeIsReported Ended answer buf = answer ≡ received.End
 
 -- there was one read, and its outcome is told
-abbrev pub OneReadIsTold : List PeerReadOutcome → Received → List ℕ → Type 0
-OneReadIsTold [] answer buf = ⊥
-OneReadIsTold (outcome ∷ []) answer buf = OutcomeIsTold outcome answer buf
-OneReadIsTold (outcome ∷ (further ∷ more)) answer buf = ⊥
+abbrev pub OneReadIsReported : List PeerReadOutcome → Received → List ℕ → Type 0
+OneReadIsReported [] answer buf = ⊥
+OneReadIsReported (outcome ∷ []) answer buf = ReadOutcomeIsReported outcome answer buf
+OneReadIsReported (outcome ∷ (further ∷ more)) answer buf = ⊥
 
 -- What a read of a client hands in, and what is left for later reads behind it, is what was left before, and what its
 -- stream gave since: each byte once, in order, and no other. From a client that has taken everything something is
@@ -149,17 +150,18 @@ pub record ClientIsRead {S : Type 0} (Passed : S → List ℕ → List PeerReadO
   pub bytes : received_bytes received buf ++ rest_bytes new.rest ≡ rest_bytes old.rest ++ bytes_of_outcomes gave
   pub left : old.peer.unsent.bytes ≡ [] → 0 < length (rest_bytes old.rest) → 0 < length (received_bytes received buf)
   pub told : old.peer.unsent.bytes ≡ [] → rest_bytes old.rest ≡ [] → old.peer.readable ≡ true
-      → OneReadIsTold gave received buf
+      → OneReadIsReported gave received buf
 
 -- it was done to the client of a number, or there is none
-abbrev pub IsDoneToClient : {S : Type 0} → (Client S → Client S → Type 0) → Option (Client S) → Option (Client S)
+abbrev pub CallIsDoneToClientOfNumber : {S : Type 0} → (Client S → Client S → Type 0) → Option (Client S)
+    → Option (Client S)
     → Type 0
-IsDoneToClient Done None new = new ≡ None
-IsDoneToClient Done (Some client) new = IsSomeAnd new (Done client)
+CallIsDoneToClientOfNumber Done None new = new ≡ None
+CallIsDoneToClientOfNumber Done (Some client) new = IsSomeAnd new (Done client)
 
-abbrev pub number_of_place : Place → Option ℕ
-number_of_place (place.Open n) = Some n
-number_of_place (place.In queue since) = None
+abbrev pub client_number_of_place : Place → Option ℕ
+client_number_of_place (place.Open n) = Some n
+client_number_of_place (place.In queue since) = None
 
 -- it is between two requests: nothing of one was handed in, nor is to be
 abbrev pub place_is_open : Place → Bool
@@ -167,21 +169,22 @@ place_is_open (place.Open n) = true
 place_is_open (place.In queue since) = false
 
 abbrev pub client_is_idle : {S : Type 0} → Client S → Bool
-client_is_idle client = place_is_open client.place && (not client.is_begun && not (client_has_rest client.rest))
+client_is_idle client = place_is_open client.place
+    && (not client.is_begun && not (client_has_bytes_not_handed_in client.rest))
 
 -- a client that may give something and doesn't stand among the ends that are read next
-abbrev pub number_to_list : {S : Type 0} → Option (Client S) → Option ℕ
-number_to_list None = None
-number_to_list (Some client) =
-    if client.is_listed || not (client_may_have_input client) then None else number_of_place client.place
+abbrev pub number_of_client_to_list : {S : Type 0} → Option (Client S) → Option ℕ
+number_of_client_to_list None = None
+number_of_client_to_list (Some client) =
+    if client.is_listed || not (client_may_have_input client) then None else client_number_of_place client.place
 
 -- who is to be put there is marked
-abbrev pub listed_client : {S : Type 0} → Client S → Client S
-listed_client client = record client { is_listed = client.is_listed || client_may_have_input client }
+abbrev pub client_marked_if_input : {S : Type 0} → Client S → Client S
+client_marked_if_input client = record client { is_listed = client.is_listed || client_may_have_input client }
 
 -- it is looked at next at a moment
-abbrev pub looked_at_next : {S : Type 0} → ℕ → Client S → Client S
-looked_at_next moment client = record client { look = moment }
+abbrev pub client_with_next_check : {S : Type 0} → ℕ → Client S → Client S
+client_with_next_check moment client = record client { look = moment }
 
 abbrev pub unlisted_client : {S : Type 0} → Client S → Client S
 unlisted_client client = record client { is_listed = false }
@@ -194,8 +197,8 @@ abbrev pub link_is_to_be_listed : {S : Type 0} → Option (Link S) → Bool
 link_is_to_be_listed None = false
 link_is_to_be_listed (Some link) = not link.is_listed && peer_may_have_input link.peer
 
-abbrev pub listed_link : {S : Type 0} → Link S → Link S
-listed_link link = record link { is_listed = link.is_listed || peer_may_have_input link.peer }
+abbrev pub link_marked_if_input : {S : Type 0} → Link S → Link S
+link_marked_if_input link = record link { is_listed = link.is_listed || peer_may_have_input link.peer }
 
 abbrev pub unlisted_link : {S : Type 0} → Link S → Link S
 unlisted_link link = record link { is_listed = false }

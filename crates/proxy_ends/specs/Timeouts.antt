@@ -1,29 +1,30 @@
 -- Whose time is over. Times are milliseconds of the clock that never goes back; what lies ahead of now is now.
 --
--- has_lasted_longer: something was so for longer      closed_time_is_over: of who was closed
--- client_has_left: of who has sent its end           incomplete_since: since when a request has been incomplete
+-- has_lasted_longer: something was so for longer      close_timeout_is_over: of who was closed
+-- client_is_half_closed_too_long: of who has sent its end           incomplete_since: since when a request has been
+-- incomplete
 -- milliseconds_since: for how long something is so, if at all
--- client_is_silent, client_has_left_or_gone: of the client of a number; who isn't there is, and has
--- end_of_wait, client_has_waited: until when a request waits for the answer to another
--- age_of_link: of a link, 0 where there is none
--- silence_of_link: for how long the origin of a link may send no byte
--- link_time_may_be_over_at: the first moment of a link at which a time of it may be
+-- client_is_silent, client_is_absent_or_half_closed_too_long: of the client of a number; who isn't there is, and has
+-- end_of_wait_if_limited, client_has_waited_seconds: until when a request waits for the answer to another
+-- milliseconds_open_of_link: of a link, 0 where there is none
+-- silence_limit_of_link: for how long the origin of a link may send no byte
+-- first_overtime_moment_of_link: the first moment of a link at which a time of it may be
 -- link_overtime: which time of a link is over
--- IsIdleClientSince, IsIdleClientWithNumber, IsUnmarkedClient: of who may be let go
+-- IsIdleClientSince, IsIdleClientWithNumber, IsClientNotMarkedHalfClosed: of who may be let go
 use Rattle.std.specs.Prelude.{◌≡◌, ℕ, ◌-◌, ◌*◌, min, max, nat_lt, nat_le, Bool, true, false, not, ◌&&◌, ◌||◌}
 use Rattle.std.specs.Prelude.{Option, None, Some, is_some, cond, if◌then◌else◌, unwrap_or, option_map}
 use Rattle.std.specs.Option.{option_and_then}
 use Rattle.proxy_figures.specs.Counts.{count_plus}
 use Rattle.proxy_streams.specs.Silence.{end_is_silent}
-use Rattle.proxy_ends.specs.Streams.{client_may_have_input, client_is_idle, number_of_place}
+use Rattle.proxy_ends.specs.Streams.{client_may_have_input, client_is_idle, client_number_of_place}
 use Rattle.proxy_ends.specs.declared.clients.client.Client.{Client}
 use Rattle.proxy_ends.specs.declared.limits.Limits.{Limits}
 use Rattle.proxy_ends.specs.declared.limits.TheConstants.{CLOSE_TIMEOUT_MILLISECONDS}
 use Rattle.proxy_ends.specs.declared.limits.TheConstants.{LINGER_MILLISECONDS}
 use Rattle.proxy_ends.specs.declared.links.link.Link.{Link}
 use Rattle.proxy_streams.specs.declared.peer.Peer.{Peer}
-use Rattle.proxy_figures.specs.declared.link_timeouts.Overtime.{Overtime}
-use Rattle.proxy_figures.specs.declared.link_timeouts.Overtime.TheVariants.{Connect, Silence, Exchange}
+use Rattle.proxy_figures.specs.declared.link_timeouts.LinkOvertime.{LinkOvertime}
+use Rattle.proxy_figures.specs.declared.link_timeouts.LinkOvertime.TheVariants.{Connect, Silence, Exchange}
 use Rattle.proxy_pacing.specs.declared.stream_queues.StreamQueue.{StreamQueue}
 use Rattle.proxy_pacing.specs.declared.stream_queues.StreamQueue.TheVariants.{Leaving, Lingering}
 
@@ -33,15 +34,15 @@ has_lasted_longer now None limit = false
 has_lasted_longer now (Some since) limit = nat_lt limit (now - since)
 
 -- It has sent its end, and nothing was written since for more than so many milliseconds.
-abbrev pub client_has_left : ℕ → Option ℕ → ℕ → ℕ → Bool
-client_has_left now None heard limit = false
-client_has_left now (Some left) heard limit = nat_lt limit (now - max left heard)
+abbrev pub client_is_half_closed_too_long : ℕ → Option ℕ → ℕ → ℕ → Bool
+client_is_half_closed_too_long now None heard limit = false
+client_is_half_closed_too_long now (Some left) heard limit = nat_lt limit (now - max left heard)
 
 -- What was closed has something to take and is silent, or has taken all and is quiet, or goes on sending for too long.
-abbrev pub closed_time_is_over : StreamQueue → Limits → ℕ → ℕ → ℕ → Bool
-closed_time_is_over Leaving limits now heard closed =
+abbrev pub close_timeout_is_over : StreamQueue → Limits → ℕ → ℕ → ℕ → Bool
+close_timeout_is_over Leaving limits now heard closed =
     nat_lt (min limits.client_timeout CLOSE_TIMEOUT_MILLISECONDS) (now - heard)
-closed_time_is_over Lingering limits now heard closed =
+close_timeout_is_over Lingering limits now heard closed =
     nat_lt LINGER_MILLISECONDS (now - heard) || nat_lt CLOSE_TIMEOUT_MILLISECONDS (now - closed)
 
 -- a request that comes has been incomplete since it was asked for first
@@ -51,26 +52,27 @@ incomplete_since now (Some since) = Some since
 
 -- For how long its origin may send no byte: so many seconds where the line over which its request went forward says so,
 -- else what is said of all.
-abbrev pub silence_of_link : {S : Type 0} → Limits → Link S → ℕ
-silence_of_link limits link = unwrap_or (option_map (λ seconds. seconds * 1000) link.seconds) limits.origin_timeout
+abbrev pub silence_limit_of_link : {S : Type 0} → Limits → Link S → ℕ
+silence_limit_of_link limits link =
+    unwrap_or (option_map (λ seconds. seconds * 1000) link.seconds) limits.origin_timeout
 
 -- a link whose request went forward over a line that says so many seconds, or nothing of it
-abbrev pub link_with_seconds : {S : Type 0} → Option ℕ → Link S → Link S
-link_with_seconds seconds link = record link { seconds = seconds }
+abbrev pub link_with_origin_timeout : {S : Type 0} → Option ℕ → Link S → Link S
+link_with_origin_timeout seconds link = record link { seconds = seconds }
 
 -- Which time is over: of a link as a whole, else, while its connection isn't made, of that, else of
 -- the origin's silence.
-abbrev pub overtime_by_limits : Limits → ℕ → ℕ → Bool → Bool → Option Overtime
+abbrev pub overtime_by_limits : Limits → ℕ → ℕ → Bool → Bool → Option LinkOvertime
 overtime_by_limits limits now began connecting silent =
     if nat_lt limits.exchange_timeout (now - began) then Some Exchange
     else if connecting then (if nat_lt limits.connect_timeout (now - began) then Some Connect else None)
     else if silent then Some Silence else None
 
 -- none of a link without a stream
-abbrev pub link_overtime : {S : Type 0} → Link S → Limits → ℕ → Option Overtime
+abbrev pub link_overtime : {S : Type 0} → Link S → Limits → ℕ → Option LinkOvertime
 link_overtime link limits now =
     option_and_then (λ peer. overtime_by_limits limits now link.began peer.connecting
-    (end_is_silent peer.readable peer.unsent.bytes now peer.heard (silence_of_link limits link))) link.peer
+    (end_is_silent peer.readable peer.unsent.bytes now peer.heard (silence_limit_of_link limits link))) link.peer
 
 -- The time of a link is over, also where it has no stream, or isn't there.
 abbrev pub link_time_is_over : {S : Type 0} → Option (Link S) → Limits → ℕ → Bool
@@ -86,44 +88,45 @@ abbrev pub client_is_silent : {S : Type 0} → ℕ → ℕ → Option (Client S)
 client_is_silent limit now None = true
 client_is_silent limit now (Some client) = not (client_may_have_input client) && nat_lt limit (now - client.peer.heard)
 
-abbrev pub client_has_left_or_gone : {S : Type 0} → ℕ → ℕ → Option (Client S) → Bool
-client_has_left_or_gone limit now None = true
-client_has_left_or_gone limit now (Some client) = client_has_left now client.left client.peer.heard limit
+abbrev pub client_is_absent_or_half_closed_too_long : {S : Type 0} → ℕ → ℕ → Option (Client S) → Bool
+client_is_absent_or_half_closed_too_long limit now None = true
+client_is_absent_or_half_closed_too_long limit now (Some client) =
+    client_is_half_closed_too_long now client.left client.peer.heard limit
 
-abbrev pub is_over_by : ℕ → Option ℕ → Bool
-is_over_by now None = false
-is_over_by now (Some moment) = nat_le moment now
+abbrev pub moment_has_come : ℕ → Option ℕ → Bool
+moment_has_come now None = false
+moment_has_come now (Some moment) = nat_le moment now
 
 -- when a request that came then has waited for so many seconds
 abbrev pub end_of_wait_since : ℕ → Option ℕ → Option ℕ
 end_of_wait_since seconds None = None
 end_of_wait_since seconds (Some asked) = Some (count_plus asked (seconds * 1000))
 
-abbrev pub end_of_wait : {S : Type 0} → ℕ → Option (Client S) → Option ℕ
-end_of_wait seconds None = None
-end_of_wait seconds (Some client) = end_of_wait_since seconds client.asked
+abbrev pub end_of_wait_if_limited : {S : Type 0} → ℕ → Option (Client S) → Option ℕ
+end_of_wait_if_limited seconds None = None
+end_of_wait_if_limited seconds (Some client) = end_of_wait_since seconds client.asked
 
 -- The request of a client, of which the first byte came then, has waited for the answer to another for so many seconds.
-abbrev pub client_has_waited : {S : Type 0} → ℕ → ℕ → Option (Client S) → Bool
-client_has_waited seconds now client = is_over_by now (end_of_wait seconds client)
+abbrev pub client_has_waited_seconds : {S : Type 0} → ℕ → ℕ → Option (Client S) → Bool
+client_has_waited_seconds seconds now client = moment_has_come now (end_of_wait_if_limited seconds client)
 
-abbrev pub age_of_link : {S : Type 0} → ℕ → Option (Link S) → ℕ
-age_of_link now None = 0
-age_of_link now (Some link) = now - link.began
+abbrev pub milliseconds_open_of_link : {S : Type 0} → ℕ → Option (Link S) → ℕ
+milliseconds_open_of_link now None = 0
+milliseconds_open_of_link now (Some link) = now - link.began
 
 -- the end of the time for its connection, or for its silence
-abbrev pub end_of_time_of_peer : {S : Type 0} → Limits → ℕ → ℕ → Option (Peer S) → ℕ
-end_of_time_of_peer limits silence began None = count_plus began limits.exchange_timeout
-end_of_time_of_peer limits silence began (Some peer) =
+abbrev pub peer_timeout_moment : {S : Type 0} → Limits → ℕ → ℕ → Option (Peer S) → ℕ
+peer_timeout_moment limits silence began None = count_plus began limits.exchange_timeout
+peer_timeout_moment limits silence began (Some peer) =
     if peer.connecting then count_plus began limits.connect_timeout else count_plus peer.heard silence
 
-abbrev pub end_of_time_of_link : {S : Type 0} → Limits → Link S → ℕ
-end_of_time_of_link limits link = end_of_time_of_peer limits (silence_of_link limits link) link.began link.peer
+abbrev pub link_timeout_moment : {S : Type 0} → Limits → Link S → ℕ
+link_timeout_moment limits link = peer_timeout_moment limits (silence_limit_of_link limits link) link.began link.peer
 
 -- the first moment at which that, or all of its time, is over
-abbrev pub link_time_may_be_over_at : {S : Type 0} → Limits → Link S → ℕ
-link_time_may_be_over_at limits link =
-    count_plus (min (count_plus link.began limits.exchange_timeout) (end_of_time_of_link limits link)) 1
+abbrev pub first_overtime_moment_of_link : {S : Type 0} → Limits → Link S → ℕ
+first_overtime_moment_of_link limits link =
+    count_plus (min (count_plus link.began limits.exchange_timeout) (link_timeout_moment limits link)) 1
 
 -- a client is between two requests, since then; or under this number
 abbrev pub IsIdleClientSince : {S : Type 0} → ℕ → Option (Client S) → Type 0
@@ -132,9 +135,10 @@ IsIdleClientSince moment (Some client) = (client_is_idle client ≡ true) × (cl
 
 abbrev pub IsIdleClientWithNumber : {S : Type 0} → ℕ → Option (Client S) → Type 0
 IsIdleClientWithNumber n None = ⊥
-IsIdleClientWithNumber n (Some client) = (client_is_idle client ≡ true) × (number_of_place client.place ≡ Some n)
+IsIdleClientWithNumber n (Some client) = (client_is_idle client ≡ true) × (client_number_of_place client.place ≡ Some n)
 
 -- a client of this number that stands among those that have sent their end no more
-abbrev pub IsUnmarkedClient : {S : Type 0} → ℕ → Option (Client S) → Type 0
-IsUnmarkedClient n None = ⊥
-IsUnmarkedClient n (Some client) = (client.departed_mark ≡ None) × (number_of_place client.place ≡ Some n)
+abbrev pub IsClientNotMarkedHalfClosed : {S : Type 0} → ℕ → Option (Client S) → Type 0
+IsClientNotMarkedHalfClosed n None = ⊥
+IsClientNotMarkedHalfClosed n (Some client) = (client.departed_mark ≡ None)
+    × (client_number_of_place client.place ≡ Some n)

@@ -1,16 +1,16 @@
 -- Whose token a number is.
 use Rattle.std.specs.Prelude.{ℕ, ◌<◌, ◌^◌, ◌/◌, ◌%◌, ◌==◌, if◌then◌else◌}
 use Rattle.mio.specs.declared.token.Token.{Token}
-use Rattle.proxy_ends.specs.declared.socket_tokens.Holder.{Holder}
-use Rattle.proxy_ends.specs.declared.socket_tokens.Holder.TheVariants.{Listener, Client, Link}
+use Rattle.proxy_ends.specs.declared.socket_tokens.TokenHolder.{TokenHolder}
+use Rattle.proxy_ends.specs.declared.socket_tokens.TokenHolder.TheVariants.{Listener, Client, Link}
 
 -- the remainder by 4 tells whether it is a client or a link, the quotient which one
-abbrev pub holder_of_token : Token → Holder
+abbrev pub holder_of_token : Token → TokenHolder
 holder_of_token token =
     if token.0 % 4 == 0 then Client (token.0 / 4) else if token.0 % 4 == 1 then Link (token.0 / 4) else Listener
 
 -- its key or number times 4 is a token
-abbrev pub HolderHasToken : Holder → Type 0
-HolderHasToken Listener = Unit {0}
-HolderHasToken (Client key) = key < 2 ^ 62
-HolderHasToken (Link number) = number < 2 ^ 62
+abbrev pub TokenHolderHasToken : TokenHolder → Type 0
+TokenHolderHasToken Listener = Unit {0}
+TokenHolderHasToken (Client key) = key < 2 ^ 62
+TokenHolderHasToken (Link number) = number < 2 ^ 62

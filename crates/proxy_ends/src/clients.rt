@@ -8,23 +8,26 @@ ghost use Rattle.std.specs.Option.{option_copied_mut, option_and_then};
 ghost use Rattle.std.specs.Bool.{OnTrue, OnFalse};
 ghost use Rattle.std.specs.Ordering.{nat_cmp};
 ghost use Rattle.std.specs.BTreeMap.{get, btree_map_len};
-ghost use Rattle.proxy_pacing.specs.Queues.{first_from};
+ghost use Rattle.proxy_pacing.specs.Queues.{first_entry_from};
 ghost use Rattle.slab.specs.Slab as slab;
 ghost use Rattle.slab.specs.Slab.{slab_len};
-ghost use Rattle.proxy_reads.specs.Received.{FitsTheBuffer};
-ghost use Rattle.proxy_ends.specs.OtherEntries.{OtherEntriesStay, OtherSlabKeysStay, ChangesOnlyAtNumber};
+ghost use Rattle.proxy_reads.specs.Received.{ReceivedBytesAreAtMostRoom};
+ghost use Rattle.proxy_ends.specs.OtherEntries.{EntriesOfOtherNumbersStay, StreamsOfOtherKeysStay, ChangesOnlyAtNumber};
 ghost use Rattle.proxy_streams.specs.PeerCalls.{PeerIsWritten};
-ghost use Rattle.proxy_ends.specs.Streams.{IsDoneToClientsPeer, stream_at_number, client_is_cut};
-ghost use Rattle.proxy_ends.specs.Streams.{client_at, unsent_of_client, handed_of_client, unsent_where_changed};
-ghost use Rattle.proxy_ends.specs.Streams.{ClientIsRead, IsDoneToClient, number_to_list, listed_client};
-ghost use Rattle.proxy_ends.specs.Streams.{unlisted_client, looked_at_next};
-ghost use Rattle.proxy_ends.specs.Closing.{ClientStandsInQueue, ClientLeavesItsPlace, QueuesOrGoes};
-ghost use Rattle.proxy_ends.specs.Closing.{FirstLingeringGoes};
-ghost use Rattle.proxy_ends.specs.Timeouts.{milliseconds_since, IsIdleClientSince, IsUnmarkedClient};
+ghost use Rattle.proxy_ends.specs.Streams.{IsDoneToClientsPeer, stream_at_number, client_cannot_be_written};
+ghost use Rattle.proxy_ends.specs.Streams.{client_at, unsent_bytes_of_client, handed_in_bytes_of_client};
+ghost use Rattle.proxy_ends.specs.Streams.{unsent_bytes_after_change};
+ghost use Rattle.proxy_ends.specs.Streams.{ClientIsRead, CallIsDoneToClientOfNumber, number_of_client_to_list};
+ghost use Rattle.proxy_ends.specs.Streams.{client_marked_if_input};
+ghost use Rattle.proxy_ends.specs.Streams.{unlisted_client, client_with_next_check};
+ghost use Rattle.proxy_ends.specs.Closing.{ClientIsInQueue, NumberOfClientIsRemoved, ClientIsQueuedOrDropped};
+ghost use Rattle.proxy_ends.specs.Closing.{FirstLingeringIsDropped};
+ghost use Rattle.proxy_ends.specs.Timeouts.{milliseconds_since, IsIdleClientSince, IsClientNotMarkedHalfClosed};
 ghost use Rattle.proxy_figures.specs.Counts.{counts_with_one_more};
-ghost use Rattle.proxy_figures.specs.EndingCounts.{endings_with_cut};
+ghost use Rattle.proxy_figures.specs.EndingCounts.{end_counts_with_cut};
 ghost use Rattle.proxy_figures.specs.Unanswered.{cause_of_cut, unanswered_place};
-ghost use Rattle.proxy_ends.specs.Departures.{departure_of, departed_client, ClientIsKept, LossIsTold, LostIsKept};
+ghost use Rattle.proxy_ends.specs.Departures.{unanswered_departure_of, client_after_departure, LostClientIsListed};
+ghost use Rattle.proxy_ends.specs.Departures.{LossOfClientIsListed, LostClientIsListedIfMemory};
 
 pub mod client;
 mod closing;
@@ -33,13 +36,13 @@ mod giving_way;
 mod timeouts;
 
 use crate::clients::client::{Client, Place};
-use crate::clients::departures::{Departure, LostClient};
+use crate::clients::departures::{LostClient, UnansweredDeparture};
 use crate::limits::Limits;
 use mio::event::Event;
-use proxy_figures::{CutReason, Endings, UnansweredCause, UnansweredCounts};
+use proxy_figures::{ClientEndCounts, CutReason, UnansweredCause, UnansweredCounts};
 use proxy_pacing::{Moments, StreamQueue, StreamQueues};
 use proxy_reads::Received;
-use proxy_streams::{Peer, Socket, Stream, held_after};
+use proxy_streams::{Peer, Socket, Stream, held_bytes_after_change};
 use slab::Slab;
 use std::alloc::Global;
 use std::collections::BTreeMap;
@@ -59,7 +62,7 @@ pub struct Clients<S: Stream + Drop = Socket> {
     /// When each is looked at next.
     pub looks: Moments,
     /// Those that have sent their end, by the moment when that was seen.
-    departed: Moments,
+    half_closed_since: Moments,
     /// Those whose request isn't answered yet, by the moment when a byte of them last came or went. One of which more
     /// came later, or that was answered, stands by the earlier moment until somebody looks.
     begun: Moments,
@@ -72,7 +75,7 @@ pub struct Clients<S: Stream + Drop = Socket> {
     pub limits: Limits,
     /// A closed one may have more to be dropped that no event will tell of.
     pub more: bool,
-    pub endings: Endings,
+    pub endings: ClientEndCounts,
     /// Requests that were never answered.
     pub unanswered: UnansweredCounts,
     /// Lines of the log about such requests that had no memory, and weren't counted there yet.
@@ -89,7 +92,7 @@ impl<S: Stream + Drop> Drop for Clients<S> {
             queues: _,
             idle: _,
             looks: _,
-            departed: _,
+            half_closed_since: _,
             begun: _,
             lost: _,
             unsent: _,
@@ -118,14 +121,14 @@ impl<S: Stream + Drop> Clients<S> {
             queues: StreamQueues::new(alloc),
             idle: Moments::new(alloc),
             looks: Moments::new(alloc),
-            departed: Moments::new(alloc),
+            half_closed_since: Moments::new(alloc),
             begun: Moments::new(alloc),
             lost: Vec::new(alloc),
             unsent: 0,
             handed: 0,
             limits,
             more: false,
-            endings: Endings::new(),
+            endings: ClientEndCounts::new(),
             unanswered: UnansweredCounts::new(),
             lost_lines: 0,
         }
@@ -164,7 +167,7 @@ impl<S: Stream + Drop> Clients<S> {
 
     /// The least number of those that the engine knows, from this one on.
     pub fn next_number(&self, from: u64) -> Option<u64>
-        ensures { result ≡ option_map (λ entry. entry.0) (first_from from self.now.open.entries) }
+        ensures { result ≡ option_map (λ entry. entry.0) (first_entry_from from self.now.open.entries) }
     {
         let (n, _) = self.open.range(from..).next()?;
         Some(*n)
@@ -203,11 +206,11 @@ impl<S: Stream + Drop> Clients<S> {
 
     /// Reads from the client of a number; from one that isn't there nothing comes.
     pub fn read(&mut self, n: u64, buf: &mut [u8], now: u64) -> io::Result<Received>
-        ensures within { IfOk result (FitsTheBuffer (length buf.old)) }
+        ensures within { IfOk result (ReceivedBytesAreAtMostRoom (length buf.old)) }
         ensures length { length buf.new ≡ length buf.old }
         ensures nothing { stream_at_number self.old.open self.old.streams n ≡ None → result ≡ Ok Received.Nothing }
         ensures handed_in { 0 < length buf.old → IfOk result
-            (λ received. IsDoneToClient (ClientIsRead S.Passed received buf.new)
+            (λ received. CallIsDoneToClientOfNumber (ClientIsRead S.Passed received buf.new)
             (stream_at_number self.old.open self.old.streams n) (stream_at_number self.new.open self.new.streams n)) }
         ensures open { self.new.open ≡ self.old.open }
         ensures others { ChangesOnlyAtNumber self.old.open n self.old.streams self.new.streams }
@@ -232,7 +235,7 @@ impl<S: Stream + Drop> Clients<S> {
     pub fn remove_number(&mut self, n: u64) -> Option<usize>
         ensures key { result ≡ get nat_cmp self.old.open n }
         ensures gone { get nat_cmp self.new.open n ≡ None }
-        ensures others { OtherEntriesStay n self.old.open self.new.open }
+        ensures others { EntriesOfOtherNumbersStay n self.old.open self.new.open }
         ensures streams { self.new.streams ≡ self.old.streams }
         ensures counts { self.new.endings ≡ self.old.endings }
         ensures unsent { self.new.unsent ≡ self.old.unsent }
@@ -249,7 +252,10 @@ impl<S: Stream + Drop> Clients<S> {
         let client = Client::new(self.alloc, peer, n, now);
         let client = Box::new(self.alloc, client).ok()?;
         let key = self.streams.insert(client).ok()?;
-        if self.open.insert(n, key).is_ok() && self.mark_idle(key) && self.look_at(key, now) {
+        if self.open.insert(n, key).is_ok()
+            && self.mark_idle(key)
+            && self.schedule_check(key, now)
+        {
             return Some(key);
         }
         // It has asked for nothing.
@@ -261,7 +267,7 @@ impl<S: Stream + Drop> Clients<S> {
     /// A client is between two requests: it stands among those. Whether there was memory for it.
     fn mark_idle(&mut self, key: usize) -> bool
         ensures open { self.new.open ≡ self.old.open }
-        ensures others { OtherSlabKeysStay key self.old.streams self.new.streams }
+        ensures others { StreamsOfOtherKeysStay key self.old.streams self.new.streams }
     {
         let Some(client) = self.streams.get_mut(key) else {
             return true;
@@ -276,11 +282,11 @@ impl<S: Stream + Drop> Clients<S> {
     }
 
     /// A client is looked at next at this moment. Whether there was memory for it.
-    pub fn look_at(&mut self, key: usize, moment: u64) -> bool
+    pub fn schedule_check(&mut self, key: usize, moment: u64) -> bool
         ensures look { client_at self.new.streams key
-            ≡ option_map (looked_at_next moment) (client_at self.old.streams key) }
+            ≡ option_map (client_with_next_check moment) (client_at self.old.streams key) }
         ensures open { self.new.open ≡ self.old.open }
-        ensures others { OtherSlabKeysStay key self.old.streams self.new.streams }
+        ensures others { StreamsOfOtherKeysStay key self.old.streams self.new.streams }
     {
         let Some(client) = self.streams.get_mut(key) else {
             return true;
@@ -295,11 +301,12 @@ impl<S: Stream + Drop> Clients<S> {
         ensures value { result ≡ slab.get self.old.streams key }
         ensures gone { slab.get self.new.streams key ≡ None }
         ensures open { self.new.open ≡ self.old.open }
-        ensures unsent { self.new.unsent ≡ self.old.unsent - unsent_of_client (client_at self.old.streams key) }
-        ensures handed { self.new.handed ≡ self.old.handed - handed_of_client (client_at self.old.streams key) }
+        ensures unsent { self.new.unsent ≡ self.old.unsent - unsent_bytes_of_client (client_at self.old.streams key) }
+        ensures handed { self.new.handed
+            ≡ self.old.handed - handed_in_bytes_of_client (client_at self.old.streams key) }
         ensures counts { self.new.endings ≡ self.old.endings }
         ensures lost { (self.new.lost ≡ self.old.lost) × (self.new.lost_lines ≡ self.old.lost_lines) }
-        ensures others { OtherSlabKeysStay key self.old.streams self.new.streams }
+        ensures others { StreamsOfOtherKeysStay key self.old.streams self.new.streams }
     {
         let client = self.streams.try_remove(key)?;
         self.looks.remove(client.look, key as u64);
@@ -307,7 +314,7 @@ impl<S: Stream + Drop> Clients<S> {
             self.idle.remove(mark, key as u64);
         }
         if let Some(mark) = client.departed_mark {
-            self.departed.remove(mark, key as u64);
+            self.half_closed_since.remove(mark, key as u64);
         }
         if let Some(mark) = client.begun_mark {
             self.begun.remove(mark, key as u64);
@@ -322,15 +329,15 @@ impl<S: Stream + Drop> Clients<S> {
         &mut self,
         client: &mut Client<S>,
         cause: UnansweredCause,
-    ) -> Option<Departure>
-        ensures told { result ≡ departure_of cause client.old }
+    ) -> Option<UnansweredDeparture>
+        ensures told { result ≡ unanswered_departure_of cause client.old }
         ensures rest { self.new ≡ record self.old { unanswered = self.new.unanswered } }
-        ensures counted { is_some (departure_of cause client.old) ≡ true → self.new.unanswered.counts
+        ensures counted { is_some (unanswered_departure_of cause client.old) ≡ true → self.new.unanswered.counts
             ≡ counts_with_one_more self.old.unanswered.counts (unanswered_place cause) }
-        ensures not_counted { is_some (departure_of cause client.old) ≡ false → self.new.unanswered
+        ensures not_counted { is_some (unanswered_departure_of cause client.old) ≡ false → self.new.unanswered
             ≡ self.old.unanswered }
     {
-        let departure = client.depart(cause);
+        let departure = client.take_unanswered_departure(cause);
         if departure.is_some() {
             self.unanswered.add(cause);
         }
@@ -338,10 +345,10 @@ impl<S: Stream + Drop> Clients<S> {
     }
 
     /// The engine is told of a client whose stream was dropped before the next turn.
-    fn keep_lost(&mut self, number: u64, departure: Option<Departure>)
-        ensures kept { LostIsKept number departure self.old self.new }
+    fn keep_lost(&mut self, number: u64, departure: Option<UnansweredDeparture>)
+        ensures kept { LostClientIsListedIfMemory number departure self.old self.new }
         ensures room { vec_len self.old.lost < vec_capacity self.old.lost
-            → ClientIsKept number departure self.old self.new }
+            → LostClientIsListed number departure self.old self.new }
         ensures rest { self.new ≡ record self.old { lost = self.new.lost; lost_lines = self.new.lost_lines } }
     {
         let has_line = departure.is_some();
@@ -355,11 +362,12 @@ impl<S: Stream + Drop> Clients<S> {
     pub fn drop_stream(&mut self, key: usize, cause: UnansweredCause)
         ensures counts { self.new.endings ≡ self.old.endings }
         ensures gone { slab.get self.new.streams key ≡ None }
-        ensures open { ClientLeavesItsPlace (client_at self.old.streams key) self.old.open self.new.open }
-        ensures unsent { self.new.unsent ≡ self.old.unsent - unsent_of_client (client_at self.old.streams key) }
-        ensures handed { self.new.handed ≡ self.old.handed - handed_of_client (client_at self.old.streams key) }
-        ensures told { LossIsTold cause (client_at self.old.streams key) self.old self.new }
-        ensures others { OtherSlabKeysStay key self.old.streams self.new.streams }
+        ensures open { NumberOfClientIsRemoved (client_at self.old.streams key) self.old.open self.new.open }
+        ensures unsent { self.new.unsent ≡ self.old.unsent - unsent_bytes_of_client (client_at self.old.streams key) }
+        ensures handed { self.new.handed
+            ≡ self.old.handed - handed_in_bytes_of_client (client_at self.old.streams key) }
+        ensures told { LossOfClientIsListed cause (client_at self.old.streams key) self.old self.new }
+        ensures others { StreamsOfOtherKeysStay key self.old.streams self.new.streams }
     {
         let Some(mut client) = self.take_stream(key) else {
             return;
@@ -376,16 +384,16 @@ impl<S: Stream + Drop> Clients<S> {
 
     /// Drops the stream of a number, of which the engine is told otherwise, for this cause; what is told of it where
     /// its request isn't answered.
-    pub fn forget(&mut self, n: u64, cause: UnansweredCause) -> Option<Departure>
-        ensures told { result ≡ option_and_then (departure_of cause)
+    pub fn forget(&mut self, n: u64, cause: UnansweredCause) -> Option<UnansweredDeparture>
+        ensures told { result ≡ option_and_then (unanswered_departure_of cause)
             (stream_at_number self.old.open self.old.streams n) }
         ensures gone { get nat_cmp self.new.open n ≡ None }
         ensures dropped { stream_at_number self.old.open self.new.streams n ≡ None }
         ensures unsent { self.new.unsent ≡ self.old.unsent
-            - unsent_of_client (stream_at_number self.old.open self.old.streams n) }
+            - unsent_bytes_of_client (stream_at_number self.old.open self.old.streams n) }
         ensures handed { self.new.handed ≡ self.old.handed
-            - handed_of_client (stream_at_number self.old.open self.old.streams n) }
-        ensures open { OtherEntriesStay n self.old.open self.new.open }
+            - handed_in_bytes_of_client (stream_at_number self.old.open self.old.streams n) }
+        ensures open { EntriesOfOtherNumbersStay n self.old.open self.new.open }
         ensures others { ChangesOnlyAtNumber self.old.open n self.old.streams self.new.streams }
     {
         let key = self.remove_number(n)?;
@@ -395,13 +403,14 @@ impl<S: Stream + Drop> Clients<S> {
 
     /// Drops a stream for a reason that is counted.
     pub fn cut_stream(&mut self, key: usize, cut: CutReason)
-        ensures counted { self.new.endings ≡ endings_with_cut self.old.endings cut }
+        ensures counted { self.new.endings ≡ end_counts_with_cut self.old.endings cut }
         ensures gone { slab.get self.new.streams key ≡ None }
-        ensures open { ClientLeavesItsPlace (client_at self.old.streams key) self.old.open self.new.open }
-        ensures unsent { self.new.unsent ≡ self.old.unsent - unsent_of_client (client_at self.old.streams key) }
-        ensures handed { self.new.handed ≡ self.old.handed - handed_of_client (client_at self.old.streams key) }
-        ensures told { LossIsTold (cause_of_cut cut) (client_at self.old.streams key) self.old self.new }
-        ensures others { OtherSlabKeysStay key self.old.streams self.new.streams }
+        ensures open { NumberOfClientIsRemoved (client_at self.old.streams key) self.old.open self.new.open }
+        ensures unsent { self.new.unsent ≡ self.old.unsent - unsent_bytes_of_client (client_at self.old.streams key) }
+        ensures handed { self.new.handed
+            ≡ self.old.handed - handed_in_bytes_of_client (client_at self.old.streams key) }
+        ensures told { LossOfClientIsListed (cause_of_cut cut) (client_at self.old.streams key) self.old self.new }
+        ensures others { StreamsOfOtherKeysStay key self.old.streams self.new.streams }
     {
         self.endings.count_cut(cut);
         self.drop_stream(key, UnansweredCause::of_cut(cut));
@@ -430,11 +439,11 @@ impl<S: Stream + Drop> Clients<S> {
 
     /// What is told of the client of a number that is closed with a request that isn't answered: that is told once, and
     /// counted.
-    pub fn depart(&mut self, n: u64) -> Option<Departure>
-        ensures told { result ≡ option_and_then (departure_of UnansweredCause.Closed)
+    pub fn take_unanswered_departure(&mut self, n: u64) -> Option<UnansweredDeparture>
+        ensures told { result ≡ option_and_then (unanswered_departure_of UnansweredCause.Closed)
             (stream_at_number self.old.open self.old.streams n) }
         ensures left { stream_at_number self.new.open self.new.streams n
-            ≡ option_map departed_client (stream_at_number self.old.open self.old.streams n) }
+            ≡ option_map client_after_departure (stream_at_number self.old.open self.old.streams n) }
         ensures counted { IfSome result (λ departure. self.new.unanswered.counts
             ≡ counts_with_one_more self.old.unanswered.counts (unanswered_place UnansweredCause.Closed)) }
         ensures not_counted { result ≡ None → self.new.unanswered ≡ self.old.unanswered }
@@ -443,13 +452,13 @@ impl<S: Stream + Drop> Clients<S> {
     {
         let key = self.key_of(n)?;
         let client = self.streams.get_mut(key)?;
-        let departure = client.depart(UnansweredCause::Closed)?;
+        let departure = client.take_unanswered_departure(UnansweredCause::Closed)?;
         self.unanswered.add(UnansweredCause::Closed);
         Some(departure)
     }
 
     /// One that failed since the last turn.
-    pub fn next_lost(&mut self) -> Option<LostClient>
+    pub fn take_lost_client(&mut self) -> Option<LostClient>
         ensures taken { self.old.lost.items ≡ self.new.lost.items ++ option_to_list result }
         ensures rest { self.new ≡ record self.old { lost = self.new.lost } }
     {
@@ -458,8 +467,9 @@ impl<S: Stream + Drop> Clients<S> {
 
     /// Puts a stream into a queue, behind those that stand there. The engine doesn't know it any more.
     pub fn join_queue(&mut self, key: usize, queue: StreamQueue)
-        ensures stands { QueuesOrGoes queue (client_at self.old.streams key) (client_at self.new.streams key) }
-        ensures others { OtherSlabKeysStay key self.old.streams self.new.streams }
+        ensures stands { ClientIsQueuedOrDropped queue (client_at self.old.streams key)
+            (client_at self.new.streams key) }
+        ensures others { StreamsOfOtherKeysStay key self.old.streams self.new.streams }
     {
         let stamp = self.queues.next_stamp();
         self.join_queue_since(key, queue, stamp);
@@ -467,8 +477,9 @@ impl<S: Stream + Drop> Clients<S> {
 
     /// Puts a stream into a queue, by a stamp.
     fn join_queue_since(&mut self, key: usize, queue: StreamQueue, stamp: u64)
-        ensures stands { QueuesOrGoes queue (client_at self.old.streams key) (client_at self.new.streams key) }
-        ensures others { OtherSlabKeysStay key self.old.streams self.new.streams }
+        ensures stands { ClientIsQueuedOrDropped queue (client_at self.old.streams key)
+            (client_at self.new.streams key) }
+        ensures others { StreamsOfOtherKeysStay key self.old.streams self.new.streams }
     {
         let Some(client) = self.streams.get_mut(key) else {
             return;
@@ -484,8 +495,8 @@ impl<S: Stream + Drop> Clients<S> {
 
     /// Puts a stream into another queue, where it stands by the stamp that it has.
     pub fn move_to_queue(&mut self, key: usize, queue: StreamQueue)
-        ensures still { ClientStandsInQueue queue (client_at self.old.streams key) → self.new ≡ self.old }
-        ensures others { OtherSlabKeysStay key self.old.streams self.new.streams }
+        ensures still { ClientIsInQueue queue (client_at self.old.streams key) → self.new ≡ self.old }
+        ensures others { StreamsOfOtherKeysStay key self.old.streams self.new.streams }
     {
         if let Some(client) = self.streams.get(key) {
             if let Place::In(before, stamp) = client.place {
@@ -498,17 +509,17 @@ impl<S: Stream + Drop> Clients<S> {
 
     /// Writes what is kept for a client, as far as the system takes it. Whether that could be done.
     pub fn flush(&mut self, key: usize, now: u64) -> bool
-        ensures unsent { self.new.unsent ≡ unsent_where_changed self.old.unsent (client_at self.old.streams key)
+        ensures unsent { self.new.unsent ≡ unsent_bytes_after_change self.old.unsent (client_at self.old.streams key)
             (client_at self.new.streams key) }
         ensures open { self.new.open ≡ self.old.open }
-        ensures others { OtherSlabKeysStay key self.old.streams self.new.streams }
+        ensures others { StreamsOfOtherKeysStay key self.old.streams self.new.streams }
     {
         let Some(client) = self.streams.get_mut(key) else {
             return false;
         };
         let (unsent, written) = (client.peer.unsent(), client.peer.written);
         let flushed = client.peer.flush(now);
-        self.unsent = held_after(self.unsent, unsent, client.peer.unsent());
+        self.unsent = held_bytes_after_change(self.unsent, unsent, client.peer.unsent());
         self.endings
             .add_written(client.peer.written.saturating_sub(written));
         flushed.is_ok()
@@ -519,20 +530,20 @@ impl<S: Stream + Drop> Clients<S> {
         ensures written { IsDoneToClientsPeer (PeerIsWritten S.Passed bytes.now) (client_at self.old.streams key)
             (client_at self.new.streams key) }
         ensures there { OnTrue result (IsSome (client_at self.old.streams key)) }
-        ensures going { OnTrue result (client_is_cut (client_at self.new.streams key)
-            ≡ client_is_cut (client_at self.old.streams key)) }
-        ensures failed { OnFalse result (client_is_cut (client_at self.new.streams key) ≡ true) }
-        ensures unsent { self.new.unsent ≡ unsent_where_changed self.old.unsent (client_at self.old.streams key)
+        ensures going { OnTrue result (client_cannot_be_written (client_at self.new.streams key)
+            ≡ client_cannot_be_written (client_at self.old.streams key)) }
+        ensures failed { OnFalse result (client_cannot_be_written (client_at self.new.streams key) ≡ true) }
+        ensures unsent { self.new.unsent ≡ unsent_bytes_after_change self.old.unsent (client_at self.old.streams key)
             (client_at self.new.streams key) }
         ensures open { self.new.open ≡ self.old.open }
-        ensures others { OtherSlabKeysStay key self.old.streams self.new.streams }
+        ensures others { StreamsOfOtherKeysStay key self.old.streams self.new.streams }
     {
         let Some(client) = self.streams.get_mut(key) else {
             return false;
         };
         let (unsent, before) = (client.peer.unsent(), client.peer.written);
         let written = client.peer.write(bytes, now);
-        self.unsent = held_after(self.unsent, unsent, client.peer.unsent());
+        self.unsent = held_bytes_after_change(self.unsent, unsent, client.peer.unsent());
         self.endings
             .add_written(client.peer.written.saturating_sub(before));
         written.is_ok()
@@ -545,8 +556,8 @@ impl<S: Stream + Drop> Clients<S> {
             (IsDoneToClientsPeer (PeerIsWritten S.Passed bytes.now) (stream_at_number self.old.open self.old.streams n)
             (stream_at_number self.new.open self.new.streams n)) }
         ensures there { OnTrue result (IsSome (stream_at_number self.old.open self.old.streams n)) }
-        ensures going { OnTrue result (client_is_cut (stream_at_number self.new.open self.new.streams n)
-            ≡ client_is_cut (stream_at_number self.old.open self.old.streams n)) }
+        ensures going { OnTrue result (client_cannot_be_written (stream_at_number self.new.open self.new.streams n)
+            ≡ client_cannot_be_written (stream_at_number self.old.open self.old.streams n)) }
         ensures open { OnTrue result (self.new.open ≡ self.old.open) }
         ensures gone { OnFalse result (stream_at_number self.old.open self.new.streams n ≡ None) }
         ensures others { ChangesOnlyAtNumber self.old.open n self.old.streams self.new.streams }
@@ -566,7 +577,7 @@ impl<S: Stream + Drop> Clients<S> {
     pub fn answered(&mut self, key: usize, now: u64) -> u64
         ensures took { result ≡ milliseconds_since now
             (option_and_then (λ client. client.asked) (client_at self.old.streams key)) }
-        ensures others { OtherSlabKeysStay key self.old.streams self.new.streams }
+        ensures others { StreamsOfOtherKeysStay key self.old.streams self.new.streams }
     {
         let Some(client) = self.streams.get_mut(key) else {
             return 0;
@@ -589,7 +600,7 @@ impl<S: Stream + Drop> Clients<S> {
 
     /// Of the clients that are between two requests the one that is so for the longest, and since when. Marks of those
     /// that have gone on are moved or dropped on the way.
-    pub fn longest_idle(&mut self) -> Option<(usize, u64)>
+    pub fn longest_idle_client(&mut self) -> Option<(usize, u64)>
         ensures { IfSome result (λ p. IsIdleClientSince p.1 (client_at self.new.streams p.0)) }
     {
         // Each mark is moved once at most.
@@ -619,8 +630,8 @@ impl<S: Stream + Drop> Clients<S> {
 
     /// Drops the client that has been idle for the longest, unless that has asked for nothing and came in this very
     /// millisecond: its request may be on its way. Whether there was one.
-    pub fn drop_idle(&mut self, now: u64) -> bool {
-        let Some((key, since)) = self.longest_idle() else {
+    pub fn drop_longest_idle(&mut self, now: u64) -> bool {
+        let Some((key, since)) = self.longest_idle_client() else {
             return false;
         };
         let has_asked = self.stream(key).is_some_and(|it| it.has_asked);
@@ -633,9 +644,9 @@ impl<S: Stream + Drop> Clients<S> {
 
     /// A client that has sent its end stands behind the others that have. Where there is no memory for that, it has its
     /// time as others have.
-    pub fn mark_departed(&mut self, key: usize, now: u64)
+    pub fn mark_half_closed(&mut self, key: usize, now: u64)
         ensures open { self.new.open ≡ self.old.open }
-        ensures others { OtherSlabKeysStay key self.old.streams self.new.streams }
+        ensures others { StreamsOfOtherKeysStay key self.old.streams self.new.streams }
     {
         let Some(client) = self.streams.get_mut(key) else {
             return;
@@ -643,16 +654,16 @@ impl<S: Stream + Drop> Clients<S> {
         if client.number().is_none() || client.departed_mark.is_some() {
             return;
         }
-        if self.departed.add(now, key as u64) {
+        if self.half_closed_since.add(now, key as u64) {
             client.departed_mark = Some(now);
         }
     }
 
     /// Takes out the first client of those that have sent their end: its number, if the engine knows it.
-    pub fn next_departed(&mut self) -> Option<u64>
-        ensures { IfSome result (λ n. (key : ℕ) × IsUnmarkedClient n (client_at self.new.streams key)) }
+    pub fn next_half_closed(&mut self) -> Option<u64>
+        ensures { IfSome result (λ n. (key : ℕ) × IsClientNotMarkedHalfClosed n (client_at self.new.streams key)) }
     {
-        let key = self.departed.take_due(u64::MAX)? as usize;
+        let key = self.half_closed_since.take_due(u64::MAX)? as usize;
         let client = self.streams.get_mut(key)?;
         client.departed_mark = None;
         client.number()
@@ -660,10 +671,10 @@ impl<S: Stream + Drop> Clients<S> {
 
     /// Makes room for one more stream, where there are as many as may be: of those that were closed the first goes, or
     /// else the one that is idle for the longest. Whether there is room now.
-    pub fn make_room(&mut self, now: u64) -> bool
+    pub fn make_room_for_a_stream(&mut self, now: u64) -> bool
         ensures room { slab_len self.old.streams < self.old.limits.connections → (self.new ≡ self.old) × IsTrue result }
         ensures first { self.old.limits.connections ≤ slab_len self.old.streams
-            → FirstLingeringGoes self.old.queues self.old.streams self.new.streams result }
+            → FirstLingeringIsDropped self.old.queues self.old.streams self.new.streams result }
     {
         if self.len() < self.limits.connections {
             return true;
@@ -672,16 +683,17 @@ impl<S: Stream + Drop> Clients<S> {
             self.drop_stream(key, UnansweredCause::Closed);
             return true;
         }
-        self.drop_idle(now)
+        self.drop_longest_idle(now)
     }
 
     /// Puts a client among the ends that are read next, where it may give something and doesn't stand there. Its number
     /// is to be added then.
     pub fn begin_listing(&mut self, key: usize) -> Option<u64>
-        ensures number { result ≡ number_to_list (client_at self.old.streams key) }
-        ensures marked { client_at self.new.streams key ≡ option_map listed_client (client_at self.old.streams key) }
+        ensures number { result ≡ number_of_client_to_list (client_at self.old.streams key) }
+        ensures marked { client_at self.new.streams key
+            ≡ option_map client_marked_if_input (client_at self.old.streams key) }
         ensures open { self.new.open ≡ self.old.open }
-        ensures others { OtherSlabKeysStay key self.old.streams self.new.streams }
+        ensures others { StreamsOfOtherKeysStay key self.old.streams self.new.streams }
     {
         let client = self.streams.get_mut(key)?;
         if client.is_listed || !client.may_have_input() {
@@ -717,7 +729,7 @@ impl<S: Stream + Drop> Clients<S> {
         client.peer.mark_ready(event);
         if client.peer.hung && client.left.is_none() {
             client.left = Some(now);
-            self.mark_departed(key, now);
+            self.mark_half_closed(key, now);
         }
         let Some(client) = self.streams.get(key) else {
             return;

@@ -12,11 +12,12 @@ mod socket_tokens;
 
 pub use crate::clients::Clients;
 pub use crate::clients::client::Client;
-pub use crate::clients::departures::Departure;
+pub use crate::clients::departures::UnansweredDeparture;
 pub use crate::limits::{
-    LONGEST_WAIT, Limits, MOST_ACCEPTED, MOST_EVENTS, MOST_OPEN, MOST_READ, SECOND,
+    LONGEST_WAIT_MILLISECONDS, Limits, MOST_ACCEPTED_PER_TURN, MOST_ENDS_READ_PER_TURN,
+    MOST_EVENTS_PER_POLL, MOST_OPEN_CONNECTIONS, SECOND,
 };
 pub use crate::links::Links;
 pub use crate::links::link::Link;
 pub use crate::replies::Reply;
-pub use crate::socket_tokens::Holder;
+pub use crate::socket_tokens::TokenHolder;

@@ -31,7 +31,7 @@ pub struct Limits {
 impl Limits {
     /// A client is looked at no later than so many milliseconds after it was looked at last: none of its times is over
     /// sooner than that.
-    pub fn client_look(&self) -> u64
+    pub fn client_check_milliseconds(&self) -> u64
         ensures { result ≡ max
             (min (min (min self.now.client_timeout self.now.request_timeout) self.now.abandon_timeout) 5000) 1000 }
     {
@@ -43,7 +43,7 @@ impl Limits {
     }
 
     /// The same of a link whose origin may send no byte for so long.
-    pub fn link_look(&self, silence: u64) -> u64
+    pub fn link_check_milliseconds(&self, silence: u64) -> u64
         ensures { result ≡ max (min (min self.now.connect_timeout silence) self.now.exchange_timeout) 1000 }
     {
         self.connect_timeout
@@ -57,22 +57,22 @@ impl Limits {
 pub const SECOND: u64 = 1000;
 
 /// Ends that are read in a turn, at most.
-pub const MOST_READ: usize = 256;
+pub const MOST_ENDS_READ_PER_TURN: usize = 256;
 
 /// Connections that come in a turn, at most.
-pub const MOST_ACCEPTED: u64 = 64;
+pub const MOST_ACCEPTED_PER_TURN: u64 = 64;
 
 /// Connections that an engine has open, at most: those that can be asked for, and as many as may come in a turn in
 /// place of others of which it wasn't told yet that they are gone. The sockets themselves keep to
 /// `Limits::connections`.
-pub const MOST_OPEN: usize = 1_048_640;
+pub const MOST_OPEN_CONNECTIONS: usize = 1_048_640;
 
 /// While no more connections are taken, one that has asked for nothing is given so many milliseconds.
 pub const FIRST_REQUEST_MILLISECONDS: u64 = 1000;
 
 /// Connections that were closed, and whose clients may still send. Beyond it the one that was closed first is closed
 /// whole.
-pub const MOST_LINGERING: usize = 256;
+pub const MOST_LINGERING_CONNECTIONS: usize = 256;
 
 /// A closed connection whose client has taken everything and sends nothing more is given so many milliseconds.
 pub const LINGER_MILLISECONDS: u64 = 5000;
@@ -82,10 +82,10 @@ pub const LINGER_MILLISECONDS: u64 = 5000;
 pub const CLOSE_TIMEOUT_MILLISECONDS: u64 = 30_000;
 
 /// The most events of one wait.
-pub const MOST_EVENTS: usize = 1024;
+pub const MOST_EVENTS_PER_POLL: usize = 1024;
 
 /// The longest wait, in milliseconds: what has had its time is looked for once a second.
-pub const LONGEST_WAIT: u64 = SECOND;
+pub const LONGEST_WAIT_MILLISECONDS: u64 = SECOND;
 
 /// Bytes that one segment of TCP takes, on any usual path.
-pub(crate) const ONE_SEGMENT: usize = 1200;
+pub(crate) const TCP_SEGMENT_BYTES: usize = 1200;

@@ -5,25 +5,25 @@ ghost use Rattle.std.specs.Option.{option_and_then};
 ghost use Rattle.std.specs.Ordering.{nat_cmp};
 ghost use Rattle.std.specs.BTreeMap.{get, btree_map_len, values};
 ghost use Rattle.std.specs.Bool.{OnTrue, OnFalse};
-ghost use Rattle.proxy_reads.specs.Received.{FitsTheBuffer};
+ghost use Rattle.proxy_reads.specs.Received.{ReceivedBytesAreAtMostRoom};
 ghost use Rattle.proxy_ends.specs.Connecting.{link_is_connecting};
-ghost use Rattle.proxy_ends.specs.OtherEntries.{OtherEntriesStay};
-ghost use Rattle.proxy_ends.specs.Timeouts.{link_time_is_over, link_with_seconds, age_of_link};
+ghost use Rattle.proxy_ends.specs.OtherEntries.{EntriesOfOtherNumbersStay};
+ghost use Rattle.proxy_ends.specs.Timeouts.{link_time_is_over, link_with_origin_timeout, milliseconds_open_of_link};
 ghost use Rattle.proxy_streams.specs.PeerCalls.{PeerIsRead, PeerIsWritten};
-ghost use Rattle.proxy_ends.specs.Streams.{IsDoneToLinksPeer, peer_is_broken, peer_is_lost, peer_of_link};
-ghost use Rattle.proxy_ends.specs.Streams.{link_is_to_be_listed, listed_link, unlisted_link};
+ghost use Rattle.proxy_ends.specs.Streams.{IsDoneToLinksPeer, peer_is_broken, peer_failed_to_connect, peer_of_link};
+ghost use Rattle.proxy_ends.specs.Streams.{link_is_to_be_listed, link_marked_if_input, unlisted_link};
 
 pub mod link;
 
-use crate::limits::{Limits, ONE_SEGMENT, SECOND};
+use crate::limits::{Limits, SECOND, TCP_SEGMENT_BYTES};
 use crate::links::link::{Link, mark_peer_ready};
-use crate::socket_tokens::Holder;
+use crate::socket_tokens::TokenHolder;
 use mio::Poll;
 use mio::event::Event;
 use proxy_figures::{LinkTimeouts, Origins};
 use proxy_pacing::Moments;
 use proxy_reads::Received;
-use proxy_streams::{Socket, Stream, held_after};
+use proxy_streams::{Socket, Stream, held_bytes_after_change};
 use std::alloc::Global;
 use std::collections::BTreeMap;
 use std::io;
@@ -56,13 +56,13 @@ impl<S: Stream + Drop> Drop for Links<S> {
 impl Links {
     /// Takes what an event told of a link; the answer is an error where its connection couldn't be made.
     pub fn mark_ready(&mut self, number: u64, event: &Event, now: u64) -> io::Result<()>
-        ensures others { OtherEntriesStay number self.old.items self.new.items }
+        ensures others { EntriesOfOtherNumbersStay number self.old.items self.new.items }
     {
         if let Some(link) = self.items.get_mut(&number) {
             if let Some(peer) = &mut link.peer {
                 let (unsent, written) = (peer.unsent(), peer.written);
                 let marked = mark_peer_ready(peer, event, now);
-                self.held = held_after(self.held, unsent, peer.unsent());
+                self.held = held_bytes_after_change(self.held, unsent, peer.unsent());
                 let more = peer.written.saturating_sub(written);
                 self.origins.add_written(link.origin, more);
                 return marked;
@@ -72,20 +72,20 @@ impl Links {
     }
 
     /// Has a message for a link go without a wait, where it takes more than one segment.
-    pub fn send_at_once(&self, number: u64, length: usize) {
-        if length <= ONE_SEGMENT {
+    pub fn send_without_delay(&self, number: u64, length: usize) {
+        if length <= TCP_SEGMENT_BYTES {
             return;
         }
         if let Some(link) = self.items.get(&number) {
             if let Some(peer) = &link.peer {
-                peer.send_at_once();
+                peer.send_without_delay();
             }
         }
     }
 
     /// Asks for the events of a link that was written to. Fails where the system refuses it.
     pub fn watch(&mut self, number: u64, poll: &Poll) -> io::Result<()>
-        ensures others { OtherEntriesStay number self.old.items self.new.items }
+        ensures others { EntriesOfOtherNumbersStay number self.old.items self.new.items }
     {
         let Some(link) = self.items.get_mut(&number) else {
             return Ok(());
@@ -93,7 +93,7 @@ impl Links {
         let Some(peer) = &mut link.peer else {
             return Ok(());
         };
-        peer.register_written(poll, Holder::Link(number).token()?)
+        peer.register_written(poll, TokenHolder::Link(number).token()?)
     }
 }
 
@@ -148,7 +148,7 @@ impl<S: Stream + Drop> Links<S> {
 
     /// Reads from a link; from one without a stream nothing comes.
     pub fn read(&mut self, number: u64, buf: &mut [u8], now: u64) -> io::Result<Received>
-        ensures within { IfOk result (FitsTheBuffer (length buf.old)) }
+        ensures within { IfOk result (ReceivedBytesAreAtMostRoom (length buf.old)) }
         ensures length { length buf.new ≡ length buf.old }
         ensures read { IfOk result (λ received. IsDoneToLinksPeer (PeerIsRead S.Passed (length buf.old)
             (Ok received) buf.new)
@@ -156,7 +156,7 @@ impl<S: Stream + Drop> Links<S> {
         ensures failed { IfErr result (λ e. IsDoneToLinksPeer (PeerIsRead S.Passed (length buf.old) (Err e) buf.new)
             (get nat_cmp self.old.items number) (get nat_cmp self.new.items number)) }
         ensures nothing { peer_of_link (get nat_cmp self.old.items number) ≡ None → result ≡ Ok Received.Nothing }
-        ensures others { OtherEntriesStay number self.old.items self.new.items }
+        ensures others { EntriesOfOtherNumbersStay number self.old.items self.new.items }
     {
         let Some(link) = self.items.get_mut(&number) else {
             return Ok(Received::Nothing);
@@ -167,7 +167,7 @@ impl<S: Stream + Drop> Links<S> {
         let received = peer.read(buf, now)?;
         if let Received::Bytes(count) = received {
             self.held = self.held.saturating_add(count);
-            self.origins.note_answer(link.origin, count);
+            self.origins.count_received_bytes(link.origin, count);
         }
         Ok(received)
     }
@@ -176,11 +176,12 @@ impl<S: Stream + Drop> Links<S> {
     pub fn write(&mut self, number: u64, bytes: &[u8], now: u64) -> bool
         ensures written { IsDoneToLinksPeer (PeerIsWritten S.Passed bytes.now) (get nat_cmp self.old.items number)
             (get nat_cmp self.new.items number) }
-        ensures lost { result ≡ false → peer_is_lost (peer_of_link (get nat_cmp self.new.items number)) ≡ true }
-        ensures going { peer_is_lost (peer_of_link (get nat_cmp self.new.items number)) ≡ true → result ≡ true
+        ensures lost { result ≡ false → peer_failed_to_connect (peer_of_link (get nat_cmp self.new.items number))
+            ≡ true }
+        ensures going { peer_failed_to_connect (peer_of_link (get nat_cmp self.new.items number)) ≡ true → result ≡ true
             → peer_is_broken (peer_of_link (get nat_cmp self.old.items number)) ≡ true }
         ensures connected { link_is_connecting (get nat_cmp self.old.items number) ≡ false → result ≡ true }
-        ensures others { OtherEntriesStay number self.old.items self.new.items }
+        ensures others { EntriesOfOtherNumbersStay number self.old.items self.new.items }
     {
         let Some(link) = self.items.get_mut(&number) else {
             return true;
@@ -190,7 +191,7 @@ impl<S: Stream + Drop> Links<S> {
         };
         let (unsent, written) = (peer.unsent(), peer.written);
         let is_written = peer.write(bytes, now).is_ok() || !peer.connecting;
-        self.held = held_after(self.held, unsent, peer.unsent());
+        self.held = held_bytes_after_change(self.held, unsent, peer.unsent());
         let more = peer.written.saturating_sub(written);
         self.origins.add_written(link.origin, more);
         is_written
@@ -200,7 +201,7 @@ impl<S: Stream + Drop> Links<S> {
     pub fn put(&mut self, number: u64, link: Link<S>, look: u64) -> bool
         ensures put { OnTrue result (get nat_cmp self.new.items number ≡ Some (record link { look = look })) }
         ensures not_put { OnFalse result (get nat_cmp self.new.items number ≡ get nat_cmp self.old.items number) }
-        ensures others { OtherEntriesStay number self.old.items self.new.items }
+        ensures others { EntriesOfOtherNumbersStay number self.old.items self.new.items }
     {
         if !self.looks.add(look, number) {
             return false;
@@ -219,17 +220,17 @@ impl<S: Stream + Drop> Links<S> {
     }
 
     /// The number of a link that is to be looked at now.
-    pub fn next_to_look_at(&mut self, now: u64) -> Option<u64>
+    pub fn next_to_check_timeout(&mut self, now: u64) -> Option<u64>
         ensures { self.new ≡ record self.old { looks = self.new.looks } }
     {
         self.looks.take_due(now)
     }
 
     /// The line over which the request of a link went forward gives its origin so many seconds, or says nothing of it.
-    pub fn give_seconds(&mut self, number: u64, seconds: Option<u32>)
+    pub fn set_origin_timeout_seconds(&mut self, number: u64, seconds: Option<u32>)
         ensures given { get nat_cmp self.new.items number
-            ≡ option_map (link_with_seconds seconds) (get nat_cmp self.old.items number) }
-        ensures others { OtherEntriesStay number self.old.items self.new.items }
+            ≡ option_map (link_with_origin_timeout seconds) (get nat_cmp self.old.items number) }
+        ensures others { EntriesOfOtherNumbersStay number self.old.items self.new.items }
     {
         if let Some(link) = self.items.get_mut(&number) {
             link.seconds = seconds;
@@ -239,15 +240,15 @@ impl<S: Stream + Drop> Links<S> {
     /// A link was looked at, and its time isn't over: it is looked at once that may be, and no later than a time that
     /// begins now may be. Without memory for that, it is looked at no more.
     pub fn look_again(&mut self, number: u64, now: u64, limits: &Limits)
-        ensures others { OtherEntriesStay number self.old.items self.new.items }
+        ensures others { EntriesOfOtherNumbersStay number self.old.items self.new.items }
     {
         let Some(link) = self.items.get_mut(&number) else {
             return;
         };
         let look = link
-            .next_time(limits)
+            .first_overtime_moment(limits)
             .max(now.saturating_add(SECOND))
-            .min(now.saturating_add(limits.link_look(link.silence(limits))));
+            .min(now.saturating_add(limits.link_check_milliseconds(link.silence(limits))));
         self.looks.remove(link.look, number);
         link.look = look;
         let _ = self.looks.add(look, number);
@@ -258,8 +259,8 @@ impl<S: Stream + Drop> Links<S> {
     pub fn begin_listing(&mut self, number: u64) -> bool
         ensures listed { result ≡ link_is_to_be_listed (get nat_cmp self.old.items number) }
         ensures marked { get nat_cmp self.new.items number
-            ≡ option_map listed_link (get nat_cmp self.old.items number) }
-        ensures others { OtherEntriesStay number self.old.items self.new.items }
+            ≡ option_map link_marked_if_input (get nat_cmp self.old.items number) }
+        ensures others { EntriesOfOtherNumbersStay number self.old.items self.new.items }
     {
         let Some(link) = self.items.get_mut(&number) else {
             return false;
@@ -280,7 +281,7 @@ impl<S: Stream + Drop> Links<S> {
         ensures there { result ≡ is_some (get nat_cmp self.old.items number) }
         ensures marked { get nat_cmp self.new.items number
             ≡ option_map unlisted_link (get nat_cmp self.old.items number) }
-        ensures others { OtherEntriesStay number self.old.items self.new.items }
+        ensures others { EntriesOfOtherNumbersStay number self.old.items self.new.items }
     {
         match self.items.get_mut(&number) {
             Some(link) => {
@@ -309,7 +310,7 @@ impl<S: Stream + Drop> Links<S> {
     /// Drops the stream of a link. Its number stays until it is taken out.
     pub fn drop_stream(&mut self, number: u64)
         ensures gone { peer_of_link (get nat_cmp self.new.items number) ≡ None }
-        ensures others { OtherEntriesStay number self.old.items self.new.items }
+        ensures others { EntriesOfOtherNumbersStay number self.old.items self.new.items }
     {
         if let Some(link) = self.items.get_mut(&number) {
             self.held = self.held.saturating_sub(link.held());
@@ -323,7 +324,7 @@ impl<S: Stream + Drop> Links<S> {
     /// Takes a link out.
     pub fn remove(&mut self, number: u64, now: u64)
         ensures gone { get nat_cmp self.new.items number ≡ None }
-        ensures others { OtherEntriesStay number self.old.items self.new.items }
+        ensures others { EntriesOfOtherNumbersStay number self.old.items self.new.items }
     {
         let Some(mut link) = self.items.remove(&number) else {
             return;
@@ -357,7 +358,7 @@ impl<S: Stream + Drop> Links<S> {
             return;
         };
         let origin = link.origin;
-        self.origins.note_silence(origin);
+        self.origins.count_silent_exchange(origin);
         self.timeouts.count(overtime);
     }
 
@@ -367,13 +368,13 @@ impl<S: Stream + Drop> Links<S> {
     {
         if let Some(link) = self.get(number) {
             let origin = link.origin;
-            self.origins.note_silence(origin);
+            self.origins.count_silent_exchange(origin);
         }
     }
 
     /// For how long the oldest link is open, in milliseconds; 0 where there is none.
-    pub fn oldest_age(&self, now: u64) -> u64
-        ensures { result ≡ age_of_link now (slice_get (values self.now.items) 0) }
+    pub fn oldest_link_milliseconds(&self, now: u64) -> u64
+        ensures { result ≡ milliseconds_open_of_link now (slice_get (values self.now.items) 0) }
     {
         match self.items.values().next() {
             Some(link) => now.saturating_sub(link.began),

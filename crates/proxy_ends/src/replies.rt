@@ -1,6 +1,6 @@
 //! What is told of a reply that was written.
 
-use hx_status::Replied;
+use hx_status::ReplyData;
 
 /// A reply that was written.
 #[derive(Clone, Copy)]
@@ -8,7 +8,7 @@ pub struct Reply<'a> {
     /// When, in milliseconds since 1970.
     pub moment: u64,
     /// What it is, and what it answers.
-    pub replied: &'a Replied,
+    pub replied: &'a ReplyData,
     /// The bytes of its content.
     pub length: u64,
     /// Milliseconds since the first byte of its request came.

@@ -15,7 +15,7 @@ use Rattle.proxy_engine.specs.EngineModel.{EngineModel}
 use Rattle.proxy_engine.specs.Due.{LinkResult}
 use Rattle.proxy_engine.specs.Acts.{RequestIsRefused, ConnectionIsClosed, ConnectionIsServed}
 use Rattle.proxy_engine.specs.State.{due_request_at, link_result_at}
-use Rattle.proxy_engine.specs.Actions.{IsActionOfMessage, IsActionForNext, action_of_fault}
+use Rattle.proxy_engine.specs.Actions.{IsActionOfMessage, IsActionForReaderAnswer, action_of_fault}
 use Rattle.proxy_engine.specs.declared.steps.actions.Action.{Action}
 use Rattle.proxy_engine.specs.declared.steps.actions.Action.TheVariants as action
 use Rattle.proxy_engine.specs.declared.endpoints.ends.Connection.{Connection}
@@ -45,7 +45,7 @@ refused_frame s now i frame.TooLarge why head question emitted after e h = refus
 refused_frame s now i frame.Expect why head question emitted after e h = refuses_same s now i why (cause.Frame frame.Expect) head false question None emitted after e h
 refused_frame s now i frame.Status why head question emitted after e h = refuses_same s now i why (cause.Frame frame.Status) head false question None emitted after e h
 
-pub refused_served : (s : EngineModel) (now i : ℕ) (a : Next Request) (why : Cause) (head : Bool) (question : Option Question) (emitted : List Effect) (after : EngineModel) → IsActionForNext a (action.Refuse why head question) → RequestIsRefused s now i why head question emitted after → ConnectionIsServed s now i a emitted after
+pub refused_served : (s : EngineModel) (now i : ℕ) (a : Next Request) (why : Cause) (head : Bool) (question : Option Question) (emitted : List Effect) (after : EngineModel) → IsActionForReaderAnswer a (action.Refuse why head question) → RequestIsRefused s now i why head question emitted after → ConnectionIsServed s now i a emitted after
 refused_served s now i next.More why head question emitted after w h = absurd w
 refused_served s now i next.NeedsContinue why head question emitted after w h = cc
 refused_served s now i (next.Message r) why head question emitted after w h =
@@ -65,7 +65,7 @@ closed_frame s now i frame.TooLarge emitted after e h = cc
 closed_frame s now i frame.Expect emitted after e h = cc
 closed_frame s now i frame.Status emitted after e h = cc
 
-pub closed_served : (s : EngineModel) (now i : ℕ) (a : Next Request) (emitted : List Effect) (after : EngineModel) → IsActionForNext a action.Close → ConnectionIsClosed s i emitted after → ConnectionIsServed s now i a emitted after
+pub closed_served : (s : EngineModel) (now i : ℕ) (a : Next Request) (emitted : List Effect) (after : EngineModel) → IsActionForReaderAnswer a action.Close → ConnectionIsClosed s i emitted after → ConnectionIsServed s now i a emitted after
 closed_served s now i next.More emitted after w h = absurd w
 closed_served s now i next.NeedsContinue emitted after w h = cc
 closed_served s now i (next.Message r) emitted after w h = absurd w
@@ -85,7 +85,7 @@ no_arrival frame.Expect asked e = cc
 no_arrival frame.Status asked e = cc
 
 -- what arrives is a message that was read
-pub arrival_action : (a : Next Request) (w : Action) (asked : Asked) → w ≡ action.Arrive asked → IsActionForNext a w → (r : Request) × (a ≡ next.Message r) × RequestIsAdmittedOrRefused r (Ok asked)
+pub arrival_action : (a : Next Request) (w : Action) (asked : Asked) → w ≡ action.Arrive asked → IsActionForReaderAnswer a w → (r : Request) × (a ≡ next.Message r) × RequestIsAdmittedOrRefused r (Ok asked)
 arrival_action next.More w asked e h = absurd h
 arrival_action next.NeedsContinue w asked e h = cc
 arrival_action (next.Message r) w asked e h = (r, refl, subst (λ (v : Action). IsActionOfMessage r v) e h)

@@ -3,7 +3,7 @@ use Rattle.std.proofs.Common.{◌≡◌, Bool, true, false, ℕ, Option, None, S
 use Rattle.std.specs.List.{AllByRecursion}
 use Rattle.proxy_core.specs.Leading.{is_waiting}
 use Rattle.proxy_core.specs.Outcomes.{find_exchange, fault_at_exchange, step_fault}
-use Rattle.proxy_core.specs.State.{State as CoreState, StepIsAccepted, overdue_exchange, state_after}
+use Rattle.proxy_core.specs.State.{State as CoreState, StepIsAccepted, overdue_exchange, state_after_event}
 use Rattle.proxy_core.specs.Traces.{Item}
 use Rattle.proxy_core.specs.declared.core_fault.CoreFault.{CoreFault}
 use Rattle.proxy_core.specs.declared.core_fault.CoreFault.TheVariants as faults
@@ -13,16 +13,16 @@ use Rattle.proxy_core.specs.declared.open.exchange.Exchange.{Exchange}
 use Rattle.proxy_core.specs.declared.outcome.Outcome.{Outcome}
 use Rattle.proxy_core.specs.declared.outcome.Outcome.TheVariants as outcomes
 use Rattle.proxy_engine.specs.EngineModel.{EngineModel, happening_fault, fault_if_none_waits, model_after_happening}
-use Rattle.proxy_engine.specs.State.{EngineRepresents, IsFaultOfTaking, IsFaultOrOutOfMemory, PartsTakeHappening, engine_state}
+use Rattle.proxy_engine.specs.State.{EngineRepresents, IsFaultOfTakingHappening, IsFaultOrOutOfMemory, EnginePartsTakeHappening, engine_state}
 use Rattle.proxy_engine.specs.declared.endpoints.ends.Connection.{Connection}
 use Rattle.proxy_engine.specs.declared.endpoints.ends.Link.{Link}
-use Rattle.proxy_engine.specs.Executions.{core_event_of_happening, TakingAddsToTrace}
-use Rattle.proxy_engine.specs.Happenings.{PlainHappening, Accepts, Sends, Hears, Ends, Leaves, Retires, Overdues, Shuts, Fails}
+use Rattle.proxy_engine.specs.Executions.{core_event_of_happening, HappeningAddsItemToTrace}
+use Rattle.proxy_engine.specs.Happenings.{HappeningModel, Accepts, Sends, Hears, Ends, Leaves, Retires, Overdues, Shuts, Fails}
 use Rattle.proxy_engine.specs.declared.work.EngineFault.{EngineFault}
 use Rattle.proxy_engine.specs.declared.work.EngineFault.TheVariants as refusals
 
 -- what holds of the items so far, and of what an overdue request asks, holds of those with the next
-pub taking_adds : (Q : Item → Type 0) → ((n : ℕ) (item : Item) → item.event ≡ events.Overdue n → Q item) → (s after : EngineModel) (h : PlainHappening) (past trace : List Item) → TakingAddsToTrace s (core_event_of_happening h) after past trace → AllByRecursion Q past → AllByRecursion Q trace
+pub taking_adds : (Q : Item → Type 0) → ((n : ℕ) (item : Item) → item.event ≡ events.Overdue n → Q item) → (s after : EngineModel) (h : HappeningModel) (past trace : List Item) → HappeningAddsItemToTrace s (core_event_of_happening h) after past trace → AllByRecursion Q past → AllByRecursion Q trace
 taking_adds Q q s after (Accepts n) past trace adds all = subst (AllByRecursion Q) (sym adds) all
 taking_adds Q q s after (Sends n bytes) past trace adds all = subst (AllByRecursion Q) (sym adds) all
 taking_adds Q q s after (Hears l bytes) past trace adds all = subst (AllByRecursion Q) (sym adds) all
@@ -34,7 +34,7 @@ taking_adds Q q s after (Shuts l) past trace adds all = subst (AllByRecursion Q)
 taking_adds Q q s after (Fails l kind) past trace adds all = subst (AllByRecursion Q) (sym adds) all
 
 -- the table stays
-pub table_heard : (s : EngineModel) (h : PlainHappening) → (model_after_happening s h).core.table ≡ s.core.table
+pub table_heard : (s : EngineModel) (h : HappeningModel) → (model_after_happening s h).core.table ≡ s.core.table
 table_heard s (Accepts n) = refl
 table_heard s (Sends n bytes) = refl
 table_heard s (Hears l bytes) = refl
@@ -71,12 +71,12 @@ refused_where_not (Some x) n fault h = by_test (is_waiting x.stage) h
     by_test false h = refl
 
 -- the step of the core
-pub overdue_steps : (s : EngineModel) (n : ℕ) → happening_fault s (Overdues n) ≡ None → StepIsAccepted s.core (events.Overdue n) outcomes.WaitsNoMore (state_after s.core (events.Overdue n) outcomes.WaitsNoMore)
+pub overdue_steps : (s : EngineModel) (n : ℕ) → happening_fault s (Overdues n) ≡ None → StepIsAccepted s.core (events.Overdue n) outcomes.WaitsNoMore (state_after_event s.core (events.Overdue n) outcomes.WaitsNoMore)
 overdue_steps s n h = record { allowed = allowed_where_taken (find_exchange n s.core.exchanges) n h; outcome_is = refl; leaves = refl }
 
 -- what the core did, the model does
 pub overdue_taken : (s : EngineModel) (n : ℕ) (cs : List (Option Connection)) (ks : List (Option Link)) (core core1 : CoreState) (first : ℕ) (o : Outcome) → StepIsAccepted core (events.Overdue n) o core1
-    → EngineRepresents (engine_state cs ks core first) s → PartsTakeHappening s (Overdues n) cs ks core1 first
+    → EngineRepresents (engine_state cs ks core first) s → EnginePartsTakeHappening s (Overdues n) cs ks core1 first
 overdue_taken s n cs ks core core1 first o steps h =
     let ends : o ≡ outcomes.WaitsNoMore = steps.outcome_is in
     record {
@@ -85,8 +85,8 @@ overdue_taken s n cs ks core core1 first o steps h =
         connections = h.connections;
         links = h.links;
         core = steps.leaves
-            ∙ (ap (state_after core (events.Overdue n)) ends
-            ∙ ap (λ (k : CoreState). state_after k (events.Overdue n) outcomes.WaitsNoMore) h.core);
+            ∙ (ap (state_after_event core (events.Overdue n)) ends
+            ∙ ap (λ (k : CoreState). state_after_event k (events.Overdue n) outcomes.WaitsNoMore) h.core);
         first = h.first;
         numbers = h.numbers;
       };
@@ -94,7 +94,7 @@ overdue_taken s n cs ks core core1 first o steps h =
 
 -- what the core refused, the engine refuses
 pub overdue_refused : (s : EngineModel) (n : ℕ) (cs : List (Option Connection)) (ks : List (Option Link)) (core : CoreState) (first : ℕ) (fault : CoreFault) → step_fault core.exchanges (events.Overdue n) ≡ Some fault
-    → EngineRepresents (engine_state cs ks core first) s → IsFaultOfTaking s (Overdues n) refusals.NotWaiting
+    → EngineRepresents (engine_state cs ks core first) s → IsFaultOfTakingHappening s (Overdues n) refusals.NotWaiting
 overdue_refused s n cs ks core first fault is h =
     let here : fault_at_exchange (find_exchange n s.core.exchanges) (events.Overdue n) ≡ Some fault =
     subst (λ (k : CoreState). fault_at_exchange (find_exchange n k.exchanges) (events.Overdue n) ≡ Some fault) h.core is in

@@ -2,23 +2,23 @@
 use Rattle.std.proofs.Common.{◌≡◌, ℕ, ◌+◌, ◌<◌, ◌≤◌, ◌^◌, List, [], ◌∷◌, ◌++◌, length, get_or, set, refl, sym, ap, ◌∙◌, subst, arith, Bool, true, false, not, cond, Option, None, Some, is_some, length-append, ◌||◌}
 use Rattle.std.proofs.Math.ListN.{length-set}
 use Rattle.proxy_core.specs.State.{State as CoreState}
-use Rattle.hx_framing.specs.Progress.{no_stream}
+use Rattle.hx_framing.specs.Progress.{empty_stream_progress}
 use Rattle.hx_framing.specs.declared.messages.Next.{Next}
 use Rattle.hx_framing.specs.declared.messages.Next.TheVariants as next
 use Rattle.hx_framing.specs.declared.messages.Request.{Request}
 use Rattle.proxy_engine.specs.declared.endpoints.lookahead.Lookahead.{Lookahead}
 use Rattle.proxy_engine.specs.declared.endpoints.lookahead.Lookahead.TheVariants.{Unknown, Quiet, Due}
 use Rattle.proxy_engine.specs.Lookahead.{one_if_message_or_continue}
-use Rattle.proxy_engine.specs.Due.{takes_no_request}
+use Rattle.proxy_engine.specs.Due.{accepts_no_request}
 use Rattle.proxy_engine.specs.Activities.{has_exchange}
-use Rattle.proxy_engine.specs.Acts.{with_activity, with_opened_link, with_closed}
+use Rattle.proxy_engine.specs.Acts.{connection_with_activity, model_with_opened_link, connection_with_closed}
 use Rattle.hx_framing.specs.ResponseState.{State as ResponseState}
 use Rattle.hx_framing.specs.declared.messages.Response.{Response}
 use Rattle.proxy_engine.specs.declared.endpoints.peeked.Peeked.{Peeked}
 use Rattle.proxy_engine.specs.Peeked.{ResponseRepresents}
-use Rattle.proxy_engine.specs.EngineModel.{EngineModel, ConnectionModel, LinkModel, new_link_model, no_connection, no_link, connection_at, link_at, with_connection, with_link, with_core}
-use Rattle.proxy_engine.specs.Pairing.{activity_of}
-use Rattle.proxy_engine.specs.State.{RelatesLists, ConnectionRepresents, LinkRepresents, EngineRepresents, engine_state, due_request_at, due_request_seen, work_left_of_due_request, connection_is_free_at, is_gone_at, is_retired_at, link_result_at, connection_work_left}
+use Rattle.proxy_engine.specs.EngineModel.{EngineModel, ConnectionModel, LinkModel, new_link_model, no_connection, no_link, connection_at, link_at, with_connection, with_link, model_with_core}
+use Rattle.proxy_engine.specs.Pairing.{activity_of_connection}
+use Rattle.proxy_engine.specs.State.{ListsAreRelated, ConnectionRepresents, LinkRepresents, EngineRepresents, engine_state, due_request_at, due_request_seen, work_left_of_due_request, connection_is_free_at, is_gone_at, is_retired_at, link_result_at, connection_work_left}
 use Rattle.proxy_engine.specs.declared.endpoints.activities.Activity.{Activity}
 use Rattle.proxy_engine.specs.declared.endpoints.activities.Activity.TheVariants.{Free, Forwarded}
 use Rattle.proxy_engine.specs.declared.endpoints.ends.Connection.{Connection}
@@ -47,18 +47,18 @@ changed_link f cs ks core first s j o l keep h = record {
   numbers = subst (λ n. s.first + n ≤ 2 ^ 64) (sym (length-set s.links j (f (link_at s j)))) h.numbers;
 }
 
-pub changed_core : (cs : List (Option Connection)) (ks : List (Option Link)) (core : CoreState) (first : ℕ) (new : CoreState) (s : EngineModel) → EngineRepresents (engine_state cs ks core first) s → EngineRepresents (engine_state cs ks new first) (with_core s new)
+pub changed_core : (cs : List (Option Connection)) (ks : List (Option Link)) (core : CoreState) (first : ℕ) (new : CoreState) (s : EngineModel) → EngineRepresents (engine_state cs ks core first) s → EngineRepresents (engine_state cs ks new first) (model_with_core s new)
 changed_core cs ks core first new s h = record { connections = h.connections; links = h.links; core = refl; first = h.first; numbers = h.numbers }
 
 -- a link is opened for the connection at i, which has it already
 pub opened_link : (cs : List (Option Connection)) (ks : List (Option Link)) (core : CoreState) (first max_body place : ℕ) (to_head : Bool) (s : EngineModel) (i : ℕ) (w : Peeked ResponseState Response)
-    → place ≡ length ks → core.table.max_body ≡ max_body → ResponseRepresents w (no_stream max_body to_head) → first + length ks < 2 ^ 64 → EngineRepresents (engine_state cs ks core first) (with_connection s i (with_activity (Forwarded place)))
-    → EngineRepresents (engine_state cs (ks ++ Some (record { reader = w; ended = false; failed = None; connection = i }) ∷ []) core first) (with_opened_link s i to_head)
+    → place ≡ length ks → core.table.max_body ≡ max_body → ResponseRepresents w (empty_stream_progress max_body to_head) → first + length ks < 2 ^ 64 → EngineRepresents (engine_state cs ks core first) (with_connection s i (connection_with_activity (Forwarded place)))
+    → EngineRepresents (engine_state cs (ks ++ Some (record { reader = w; ended = false; failed = None; connection = i }) ∷ []) core first) (model_with_opened_link s i to_head)
 opened_link cs ks core first max_body place to_head s i w at most fresh small h =
     let same = both_length LinkRepresents ks s.links h.links in
-    let reader : ResponseRepresents w (no_stream s.core.table.max_body to_head) = subst (λ (n : ℕ). ResponseRepresents w (no_stream n to_head)) (sym most ∙ ap (λ (k : CoreState). k.table.max_body) h.core) fresh in
+    let reader : ResponseRepresents w (empty_stream_progress s.core.table.max_body to_head) = subst (λ (n : ℕ). ResponseRepresents w (empty_stream_progress n to_head)) (sym most ∙ ap (λ (k : CoreState). k.table.max_body) h.core) fresh in
     record {
-      connections = subst (λ (n : ℕ). RelatesLists ConnectionRepresents cs (set s.connections i (with_activity (Forwarded n) (connection_at s i)))) (at ∙ same) h.connections;
+      connections = subst (λ (n : ℕ). ListsAreRelated ConnectionRepresents cs (set s.connections i (connection_with_activity (Forwarded n) (connection_at s i)))) (at ∙ same) h.connections;
       links = both_push LinkRepresents ks s.links (Some (record { reader = w; ended = false; failed = None; connection = i })) (new_link_model s.core.table.max_body to_head i) h.links record { reader = reader; ended = refl; failed = refl; still = refl; connection = refl };
       core = h.core;
       first = h.first;
@@ -66,10 +66,10 @@ opened_link cs ks core first max_body place to_head s i w at most fresh small h 
     }
 
 -- ends that were looked at
-pub looked_connections : (cs ds : List (Option Connection)) (ks : List (Option Link)) (core : CoreState) (first : ℕ) (s : EngineModel) → RelatesLists ConnectionRepresents ds s.connections → EngineRepresents (engine_state cs ks core first) s → EngineRepresents (engine_state ds ks core first) s
+pub looked_connections : (cs ds : List (Option Connection)) (ks : List (Option Link)) (core : CoreState) (first : ℕ) (s : EngineModel) → ListsAreRelated ConnectionRepresents ds s.connections → EngineRepresents (engine_state cs ks core first) s → EngineRepresents (engine_state ds ks core first) s
 looked_connections cs ds ks core first s b h = record { connections = b; links = h.links; core = h.core; first = h.first; numbers = h.numbers }
 
-pub looked_links : (cs : List (Option Connection)) (ks ls : List (Option Link)) (core : CoreState) (first : ℕ) (s : EngineModel) → RelatesLists LinkRepresents ls s.links → EngineRepresents (engine_state cs ks core first) s → EngineRepresents (engine_state cs ls core first) s
+pub looked_links : (cs : List (Option Connection)) (ks ls : List (Option Link)) (core : CoreState) (first : ℕ) (s : EngineModel) → ListsAreRelated LinkRepresents ls s.links → EngineRepresents (engine_state cs ks core first) s → EngineRepresents (engine_state cs ls core first) s
 looked_links cs ks ls core first s b h = record { connections = h.connections; links = b; core = h.core; first = h.first; numbers = h.numbers }
 
 -- ---- what stands at a place
@@ -77,7 +77,7 @@ looked_links cs ks ls core first s b h = record { connections = h.connections; l
 some_same : {B : Type 0} {x y : B} → Some x ≡ Some y → x ≡ y
 some_same h = cc
 
-free_by : (gone : Bool) (a : Activity) → not (takes_no_request gone false a) ≡ true → (gone ≡ false) × (a ≡ Free)
+free_by : (gone : Bool) (a : Activity) → not (accepts_no_request gone false a) ≡ true → (gone ≡ false) × (a ≡ Free)
 free_by true a e = absurd (cc)
 free_by false a e = (refl, free_from a (not_so (has_exchange a) e))
 
@@ -86,7 +86,7 @@ pub free_there : (o : Option Connection) → connection_is_free_at o ≡ true �
 free_there None e = absurd (cc)
 free_there (Some c) e = refl
 
-pub free_activity : (o : Option Connection) → connection_is_free_at o ≡ true → activity_of o ≡ Free
+pub free_activity : (o : Option Connection) → connection_is_free_at o ≡ true → activity_of_connection o ≡ Free
 free_activity None e = absurd (cc)
 free_activity (Some c) e = (free_by c.gone c.activity e).1
 
@@ -97,7 +97,7 @@ action_of_fault false o e = refl
 -- one on which something is due is free
 pub action_free : (o : Option Connection) → is_some (due_request_at o) ≡ true → connection_is_free_at o ≡ true
 action_free None e = absurd (cc)
-action_free (Some c) e = action_of_fault (takes_no_request c.gone false c.activity) (due_request_seen c.reader.ahead) e
+action_free (Some c) e = action_of_fault (accepts_no_request c.gone false c.activity) (due_request_seen c.reader.ahead) e
 
 or_true : (a b : Bool) → a || (b || true) ≡ true
 or_true true b = refl
@@ -109,12 +109,12 @@ or_false true = refl
 or_false false = refl
 
 -- a closed connection without an open exchange is over
-pub closed_over : (o : Option Connection) (c : ConnectionModel) → activity_of o ≡ Free → ConnectionRepresents o c → ConnectionRepresents None (with_closed true c)
+pub closed_over : (o : Option Connection) (c : ConnectionModel) → activity_of_connection o ≡ Free → ConnectionRepresents o c → ConnectionRepresents None (connection_with_closed true c)
 closed_over None c none h = (or_true c.gone c.closed, h.1)
 closed_over (Some x) c none h = (or_true c.gone c.closed, sym h.activity ∙ none)
 
 -- a gone one whose exchange is over
-pub lost_over : (o : Option Connection) (c : ConnectionModel) → is_gone_at o ≡ Some true → ConnectionRepresents o c → ConnectionRepresents None (with_activity Free c)
+pub lost_over : (o : Option Connection) (c : ConnectionModel) → is_gone_at o ≡ Some true → ConnectionRepresents o c → ConnectionRepresents None (connection_with_activity Free c)
 lost_over None c g h = (h.0, refl)
 lost_over (Some x) c g h = (ap (λ (b : Bool). b || c.closed) (sym h.gone ∙ some_same g), refl)
 
@@ -140,7 +140,7 @@ finish_there None e = absurd (cc)
 finish_there (Some k) e = refl
 
 -- where it isn't closed
-pub left_open : (o : Option Connection) (c : ConnectionModel) → ConnectionRepresents o c → ConnectionRepresents o (with_closed false c)
+pub left_open : (o : Option Connection) (c : ConnectionModel) → ConnectionRepresents o c → ConnectionRepresents o (connection_with_closed false c)
 left_open None c h = (ap (λ (b : Bool). c.gone || b) (or_false c.closed) ∙ h.0, h.1)
 left_open (Some x) c h = record { reader = h.reader; ended = h.ended; gone = h.gone; retired = h.retired; activity = h.activity; still = ap (λ (b : Bool). b || false) h.still; used = h.used }
 
@@ -156,7 +156,7 @@ action_due false (Due (next.Refused f)) a e = ap (λ (b : Next Request). Due b) 
 action_due false (Due next.End) a e = ap (λ (b : Next Request). Due b) (some_same e)
 
 pub due_at : (c : Connection) (a : Next Request) → due_request_at (Some c) ≡ Some a → c.reader.ahead ≡ Due a
-due_at c a e = action_due (takes_no_request c.gone false c.activity) c.reader.ahead a e
+due_at c a e = action_due (accepts_no_request c.gone false c.activity) c.reader.ahead a e
 
 known_by : (busy : Bool) (l : Lookahead Request) → work_left_of_due_request (cond busy None (due_request_seen l)) ≤ one_if_message_or_continue l
 known_by true l = omega arith
@@ -169,4 +169,4 @@ known_by false (Due (next.Refused f)) = omega arith
 known_by false (Due next.End) = omega arith
 
 pub action_known : (c : Connection) → work_left_of_due_request (due_request_at (Some c)) ≤ one_if_message_or_continue c.reader.ahead
-action_known c = known_by (takes_no_request c.gone false c.activity) c.reader.ahead
+action_known c = known_by (accepts_no_request c.gone false c.activity) c.reader.ahead

@@ -7,23 +7,23 @@ use Rattle.hx_framing.specs.declared.frame_fault.FrameFault.TheVariants as frame
 use Rattle.hx_framing.specs.declared.messages.Next.{Next}
 use Rattle.hx_framing.specs.declared.messages.Next.TheVariants as next
 use Rattle.hx_hop.specs.declared.request_view.Asked.{Asked}
-use Rattle.hx_hop.specs.Asking.{IsAsked}
+use Rattle.hx_hop.specs.Asking.{RequestIsReadAsAsked}
 use Rattle.hx_status.specs.declared.cause.Cause.{Cause}
 use Rattle.hx_status.specs.declared.cause.Cause.TheVariants as cause
 use Rattle.hx_status.specs.declared.question.Question.{Question}
 use Rattle.hx_target.specs.declared.target_fault.TargetFault.{TargetFault}
-use Rattle.proxy_core.specs.State.{State as CoreState, StepIsAccepted, state_after as core_after}
+use Rattle.proxy_core.specs.State.{State as CoreState, StepIsAccepted, state_after_event as core_after}
 use Rattle.proxy_core.specs.declared.outcome.Outcome.{Outcome}
 use Rattle.proxy_core.specs.declared.event.Event.{Event}
 use Rattle.proxy_core.specs.declared.event.Event.TheVariants as events
 use Rattle.proxy_core.specs.Traces.{Item}
 use Rattle.proxy_script.specs.declared.effect_list.Effect.{Effect}
 use Rattle.proxy_engine.specs.Admitted.{Refusal, RequestIsAdmittedOrRefused, asked_on_connection}
-use Rattle.proxy_engine.specs.EngineModel.{EngineModel, connection_at, with_core}
-use Rattle.proxy_engine.specs.Questions.{question_of, question_as_it_came}
+use Rattle.proxy_engine.specs.EngineModel.{EngineModel, connection_at, model_with_core}
+use Rattle.proxy_engine.specs.Questions.{question_of, question_with_raw_target}
 use Rattle.proxy_engine.specs.Due.{Act, Abandons, Finishes, Wakes, Serves, Gives, Breaks}
-use Rattle.proxy_engine.specs.Acts.{asks_head, outcome_by_table, model_after_outcome, effects_of_outcome, next_link_number, CoreIsStepped, RequestArrives, ConnectionIsServed, RequestIsRefused, ConnectionIsClosed}
-use Rattle.proxy_engine.specs.Executions.{ExecutionStep, Took, Worked, StepLeads, IsCoreEventOfAct, ActAsksCoreNothing, IsItemOfAct, StepAddsToTrace, TakingAddsToTrace, core_event_of_happening, ActIsDoneInOneWay, StepsHaveOneTrace}
+use Rattle.proxy_engine.specs.Acts.{request_is_head, outcome_with_origin_address, model_after_outcome, effects_of_outcome, next_link_number, CoreIsStepped, RequestArrives, ConnectionIsServed, RequestIsRefused, ConnectionIsClosed}
+use Rattle.proxy_engine.specs.Executions.{ExecutionStep, Took, Worked, StepLeadsToModel, IsCoreEventOfAct, ActAsksCoreNothing, IsItemOfAct, StepAddsItemToTrace, HappeningAddsItemToTrace, core_event_of_happening, ActIsDoneInOneWay, StepsHaveOneTrace}
 
 -- the same effects, and the same model behind them
 abbrev Same : List Effect → List Effect → EngineModel → EngineModel → Type 0
@@ -43,10 +43,10 @@ stepped_once : (s t : EngineModel) (i : ℕ) (asked : Option Asked) (event : Eve
 stepped_once s t i asked event before emitted more v w h k =
     let outcome : h.outcome ≡ k.outcome = outcome_once s.core event h.outcome k.outcome h.core k.core h.steps k.steps in
     let core : h.core ≡ k.core = core_once s.core event h.outcome k.outcome h.core k.core h.steps k.steps in (
-      h.emitted_is ∙ (ap (λ (o : Outcome). before ++ effects_of_outcome i (next_link_number s) (option_map question_of asked) (outcome_by_table s.core.table o)) outcome ∙ sym k.emitted_is),
+      h.emitted_is ∙ (ap (λ (o : Outcome). before ++ effects_of_outcome i (next_link_number s) (option_map question_of asked) (outcome_with_origin_address s.core.table o)) outcome ∙ sym k.emitted_is),
       h.after_is
-          ∙ (ap (λ (o : Outcome). model_after_outcome i (asks_head asked) (outcome_by_table s.core.table o) (with_core t h.core)) outcome
-          ∙ (ap (λ (c : CoreState). model_after_outcome i (asks_head asked) (outcome_by_table s.core.table k.outcome) (with_core t c)) core ∙ sym k.after_is)),
+          ∙ (ap (λ (o : Outcome). model_after_outcome i (request_is_head asked) (outcome_with_origin_address s.core.table o) (model_with_core t h.core)) outcome
+          ∙ (ap (λ (c : CoreState). model_after_outcome i (request_is_head asked) (outcome_with_origin_address s.core.table k.outcome) (model_with_core t c)) core ∙ sym k.after_is)),
     )
 
 refused_once : (s : EngineModel) (now i : ℕ) (why : Cause) (head : Bool) (question : Option Question) (emitted more : List Effect) (t u : EngineModel) → RequestIsRefused s now i why head question emitted t → RequestIsRefused s now i why head question more u → Same emitted more t u
@@ -56,7 +56,7 @@ closed_once : (s : EngineModel) (i : ℕ) (emitted more : List Effect) (t u : En
 closed_once s i emitted more t u h k = (h.0 ∙ sym k.0, h.1 ∙ sym k.1)
 
 -- where a request is asked in one way
-module _ (asked_once : (request : Request) (r s : Result Asked TargetFault) → IsAsked request r → IsAsked request s → r ≡ s) where
+module _ (asked_once : (request : Request) (r s : Result Asked TargetFault) → RequestIsReadAsAsked request r → RequestIsReadAsAsked request s → r ≡ s) where
   one_request : (r : Request) (a b : Asked) → RequestIsAdmittedOrRefused r (Ok a) → RequestIsAdmittedOrRefused r (Ok b) → a ≡ b
   one_request r a b h k = let same : ◌≡◌ {A = Result Asked TargetFault} (Ok a) (Ok b) = asked_once r (Ok a) (Ok b) h k in cc
 
@@ -76,7 +76,7 @@ module _ (asked_once : (request : Request) (r s : Result Asked TargetFault) → 
   arrives_once s now i r (Ok a) (Err b) emitted more t u p q h k = not_both r a b p q
   arrives_once s now i r (Err a) (Ok b) emitted more t u p q h k = not_both r b a q p
   arrives_once s now i r (Err a) (Err b) emitted more t u p q h k =
-      refused_once s now i a.why a.head _ emitted more t u h (subst (λ (x : Refusal). RequestIsRefused s now i x.why x.head (Some (question_as_it_came r)) more u) (sym (one_refusal r a b p q)) k)
+      refused_once s now i a.why a.head _ emitted more t u h (subst (λ (x : Refusal). RequestIsRefused s now i x.why x.head (Some (question_with_raw_target r)) more u) (sym (one_refusal r a b p q)) k)
 
   served_once : (s : EngineModel) (now i : ℕ) (action : Next Request) (emitted more : List Effect) (t u : EngineModel) → ConnectionIsServed s now i action emitted t → ConnectionIsServed s now i action more u → Same emitted more t u
   served_once s now i next.More emitted more t u h k = absurd h
@@ -101,7 +101,7 @@ module _ (asked_once : (request : Request) (r s : Result Asked TargetFault) → 
   acts_in_one_way s now (Wakes i) emitted more t u h k = stepped_once s _ _ _ _ _ emitted more t u h.1 k.1
   acts_in_one_way s now (Serves i action) emitted more t u h k = served_once s now i action emitted more t u h k
 
-  leads_once : (s : EngineModel) (step : ExecutionStep) (t u : EngineModel) → StepLeads s step t → StepLeads s step u → t ≡ u
+  leads_once : (s : EngineModel) (step : ExecutionStep) (t u : EngineModel) → StepLeadsToModel s step t → StepLeadsToModel s step u → t ≡ u
   leads_once s (Took h) t u l m = l.1 ∙ sym m.1
   leads_once s (Worked now act emitted) t u l m = (acts_in_one_way s now act emitted emitted t u l.1 m.1).1
 
@@ -135,14 +135,14 @@ module _ (asked_once : (request : Request) (r s : Result Asked TargetFault) → 
       let outcome : i.outcome ≡ j.outcome = outcome_once s.core i.event i.outcome j.outcome t.core t.core h.steps steps in
       ap (λ (e : Event). record { event = e; outcome = i.outcome }) event ∙ ap (λ (o : Outcome). record { event = j.event; outcome = o }) outcome
 
-  taken_once : (s : EngineModel) (event : Option Event) (t : EngineModel) (past trace other : List Item) → TakingAddsToTrace s event t past trace → TakingAddsToTrace s event t past other → trace ≡ other
+  taken_once : (s : EngineModel) (event : Option Event) (t : EngineModel) (past trace other : List Item) → HappeningAddsItemToTrace s event t past trace → HappeningAddsItemToTrace s event t past other → trace ≡ other
   taken_once s None t past trace other l m = l ∙ sym m
   taken_once s (Some event) t past trace other (i, is, i_event, i_steps) (j, js, j_event, j_steps) =
       let outcome : i.outcome ≡ j.outcome = outcome_once s.core event i.outcome j.outcome t.core t.core i_steps j_steps in
       let same : i ≡ j = ap (λ (e : Event). record { event = e; outcome = i.outcome }) (i_event ∙ sym j_event) ∙ ap (λ (o : Outcome). record { event = j.event; outcome = o }) outcome in
       is ∙ (ap (λ (k : Item). k ∷ past) same ∙ sym js)
 
-  adds_once : (table : Table) (s : EngineModel) (step : ExecutionStep) (t : EngineModel) (past trace other : List Item) → StepAddsToTrace table s step t past trace → StepAddsToTrace table s step t past other → trace ≡ other
+  adds_once : (table : Table) (s : EngineModel) (step : ExecutionStep) (t : EngineModel) (past trace other : List Item) → StepAddsItemToTrace table s step t past trace → StepAddsItemToTrace table s step t past other → trace ≡ other
   adds_once table s (Took h) t past trace other l m = taken_once s (core_event_of_happening h) t past trace other l m
   adds_once table s (Worked now act emitted) t past trace other (inl l) (inl m) = l.1 ∙ (ap (λ (i : Item). i ∷ past) (item_once table s now act l.0 m.0 emitted t l.2 m.2) ∙ sym m.1)
   adds_once table s (Worked now act emitted) t past trace other (inl l) (inr m) = event_or_none s now act l.0.event l.2.event_is m.1
@@ -153,9 +153,9 @@ module _ (asked_once : (request : Request) (r s : Result Asked TargetFault) → 
   has_one_trace table s [] t u trace other h k = (h.0 ∙ sym k.0, h.1 ∙ sym k.1)
   has_one_trace table s (step ∷ steps) t u trace other h k =
       let was = has_one_trace table s steps h.0 k.0 h.1 k.1 h.2 k.2 in
-      let leads : StepLeads h.0 step u = subst (λ (v : EngineModel). StepLeads v step u) (sym was.0) k.3 in
+      let leads : StepLeadsToModel h.0 step u = subst (λ (v : EngineModel). StepLeadsToModel v step u) (sym was.0) k.3 in
       let here : t ≡ u = leads_once h.0 step t u h.3 leads in
-      let adds : StepAddsToTrace table h.0 step t h.1 other =
-      subst (λ (v : EngineModel). StepAddsToTrace table h.0 step v h.1 other) (sym here)
-      (subst (λ (past : List Item). StepAddsToTrace table h.0 step u past other) (sym was.1) (subst (λ (v : EngineModel). StepAddsToTrace table v step u k.1 other) (sym was.0) k.4)) in
+      let adds : StepAddsItemToTrace table h.0 step t h.1 other =
+      subst (λ (v : EngineModel). StepAddsItemToTrace table h.0 step v h.1 other) (sym here)
+      (subst (λ (past : List Item). StepAddsItemToTrace table h.0 step u past other) (sym was.1) (subst (λ (v : EngineModel). StepAddsItemToTrace table v step u k.1 other) (sym was.0) k.4)) in
       (here, adds_once table h.0 step t h.1 trace other h.4 adds)

@@ -6,7 +6,7 @@ use Rattle.hx_framing.specs.declared.messages.Request.{Request}
 use Rattle.hx_framing.specs.declared.frame_fault.FrameFault.TheVariants as frame
 use Rattle.hx_framing.specs.declared.messages.Next.{Next}
 use Rattle.hx_framing.specs.declared.messages.Next.TheVariants as next
-use Rattle.hx_framing.specs.Progress.{stream_with_piece, stream_finished}
+use Rattle.hx_framing.specs.Progress.{progress_after_piece, progress_after_end}
 use Rattle.hx_hop.specs.declared.request_view.Asked.{Asked}
 use Rattle.hx_status.specs.declared.cause.Cause.{Cause}
 use Rattle.proxy_core.specs.declared.event.Event.{Event}
@@ -15,11 +15,11 @@ use Rattle.proxy_script.specs.declared.effect_list.Effect.{Effect}
 use Rattle.proxy_script.specs.declared.effect_list.Effect.TheVariants as effects
 use Rattle.proxy_engine.specs.Admitted.{Refusal}
 use Rattle.proxy_engine.specs.Happenings.{Accepts, Sends, Hears, Ends, Leaves, Retires, Overdues, Shuts, Fails}
-use Rattle.proxy_engine.specs.EngineModel.{EngineModel, LinkModel, no_link, new_link_model, link_at, link_after_bytes, link_after_shut, link_after_failure, with_core, with_connection}
+use Rattle.proxy_engine.specs.EngineModel.{EngineModel, LinkModel, no_link, new_link_model, link_at, link_after_bytes, link_after_end, link_after_its_failure, model_with_core, with_connection}
 use Rattle.proxy_engine.specs.Questions.{question_of}
 use Rattle.proxy_engine.specs.Due.{Abandons, Finishes, Wakes, Serves, Gives, Breaks}
-use Rattle.proxy_engine.specs.Acts.{asks_head, OutcomeOnConnection, Replies, Forwards, Nothing, outcome_by_table, effects_of_outcome, next_link_number, model_after_outcome, model_after_link_freed, with_dropped, CoreIsStepped, ConnectionIsServed, RequestArrives, RequestIsRefused, ConnectionIsClosed, Queues, with_activity}
-use Rattle.proxy_engine.specs.Drops.{EffectsDropNoLink, OnlyFirstEffectDropsALink, ActHasFewEffects, EachDroppedLinkIsEmitted, HappeningsDropNoLink}
+use Rattle.proxy_engine.specs.Acts.{request_is_head, OutcomeOnConnection, Replies, Forwards, Nothing, outcome_with_origin_address, effects_of_outcome, next_link_number, model_after_outcome, model_after_link_freed, link_model_dropped, CoreIsStepped, ConnectionIsServed, RequestArrives, RequestIsRefused, ConnectionIsClosed, Queues, connection_with_activity}
+use Rattle.proxy_engine.specs.Drops.{EffectsDropNoLink, OnlyFirstEffectMayDropALink, ActHasFewEffects, EachDroppedLinkIsEmitted, HappeningsDropNoLink}
 
 -- ---- how many effects
 
@@ -35,9 +35,9 @@ on_plain i n question Queues = (omega arith, tt)
 on_plain i n question Nothing = (omega arith, tt)
 
 abbrev IsShort : List Effect → Type 0
-IsShort emitted = (length emitted ≤ 3) × OnlyFirstEffectDropsALink emitted
+IsShort emitted = (length emitted ≤ 3) × OnlyFirstEffectMayDropALink emitted
 
-first_drops : (emitted : List Effect) → EffectsDropNoLink emitted → OnlyFirstEffectDropsALink emitted
+first_drops : (emitted : List Effect) → EffectsDropNoLink emitted → OnlyFirstEffectMayDropALink emitted
 first_drops [] h = tt
 first_drops (e ∷ emitted) h = h.1
 
@@ -48,10 +48,10 @@ short_behind : (emitted said : List Effect) (l : ℕ) → emitted ≡ effects.Dr
 short_behind emitted said l e h = subst IsShort (sym e) (let few = h.0 in omega (arith, few), h.1)
 
 stepped_short : (s t : EngineModel) (i l : ℕ) (asked : Option Asked) (event : Event) (emitted : List Effect) (after : EngineModel) → CoreIsStepped s t i asked event (effects.Drop l ∷ []) emitted after → IsShort emitted
-stepped_short s t i l asked event emitted after h = short_behind emitted _ l h.emitted_is (on_plain i (next_link_number s) _ (outcome_by_table s.core.table h.outcome))
+stepped_short s t i l asked event emitted after h = short_behind emitted _ l h.emitted_is (on_plain i (next_link_number s) _ (outcome_with_origin_address s.core.table h.outcome))
 
 plain_short : (s t : EngineModel) (i : ℕ) (asked : Option Asked) (event : Event) (emitted : List Effect) (after : EngineModel) → CoreIsStepped s t i asked event [] emitted after → IsShort emitted
-plain_short s t i asked event emitted after h = short_of emitted _ h.emitted_is (on_plain i (next_link_number s) _ (outcome_by_table s.core.table h.outcome))
+plain_short s t i asked event emitted after h = short_of emitted _ h.emitted_is (on_plain i (next_link_number s) _ (outcome_with_origin_address s.core.table h.outcome))
 
 refused_short : (s : EngineModel) (now i : ℕ) (why : Cause) (head : Bool) (question : Option Question) (emitted : List Effect) (after : EngineModel) → RequestIsRefused s now i why head question emitted after → IsShort emitted
 refused_short s now i why head question emitted after h = short_of emitted _ h.emitted_is (omega arith, (refl, (refl, tt)))
@@ -60,7 +60,7 @@ closed_short : (s : EngineModel) (i : ℕ) (emitted : List Effect) (after : Engi
 closed_short s i emitted after h = short_of emitted _ h.0 (omega arith, (refl, tt))
 
 arrived_short : (s : EngineModel) (now i : ℕ) (r : Request) (judged : Result Asked Refusal) (emitted : List Effect) (after : EngineModel) → RequestArrives s now i r judged emitted after → IsShort emitted
-arrived_short s now i r (Ok asked) emitted after h = short_of emitted _ h.1.emitted_is (on_plain i (next_link_number s) _ (outcome_by_table s.core.table h.1.outcome))
+arrived_short s now i r (Ok asked) emitted after h = short_of emitted _ h.1.emitted_is (on_plain i (next_link_number s) _ (outcome_with_origin_address s.core.table h.1.outcome))
 arrived_short s now i r (Err refusal) emitted after h = refused_short s now i _ _ _ emitted after h
 
 served_short : (s : EngineModel) (now i : ℕ) (w : Next Request) (emitted : List Effect) (after : EngineModel) → ConnectionIsServed s now i w emitted after → IsShort emitted
@@ -124,18 +124,18 @@ IsEmitted s emitted j = IsDropped s.links j ⊎ ((rest : List Effect) × (emitte
 stepped_emitted : (s : EngineModel) (k c i : ℕ) (asked : Option Asked) (event : Event) (emitted : List Effect) (after : EngineModel) (j : ℕ) → CoreIsStepped s (model_after_link_freed s k c) i asked event (effects.Drop (s.first + k) ∷ []) emitted after →
     IsDropped after.links j → IsEmitted s emitted j
 stepped_emitted s k c i asked event emitted after j h d =
-    by_place (dropped_set s.links k (with_dropped (link_at s k)) j (dropped_on i (asks_head asked) (outcome_by_table s.core.table h.outcome) (with_core (model_after_link_freed s k c) h.core) j (dropped_equal after _ j h.after_is d)))
+    by_place (dropped_set s.links k (link_model_dropped (link_at s k)) j (dropped_on i (request_is_head asked) (outcome_with_origin_address s.core.table h.outcome) (model_with_core (model_after_link_freed s k c) h.core) j (dropped_equal after _ j h.after_is d)))
   where
     by_place : (j ≡ k) ⊎ IsDropped s.links j → IsEmitted s emitted j
-    by_place (inl e) = inr (_, h.emitted_is ∙ ap (λ n. effects.Drop (s.first + n) ∷ effects_of_outcome i (next_link_number s) (option_map question_of asked) (outcome_by_table s.core.table h.outcome)) (sym e))
+    by_place (inl e) = inr (_, h.emitted_is ∙ ap (λ n. effects.Drop (s.first + n) ∷ effects_of_outcome i (next_link_number s) (option_map question_of asked) (outcome_with_origin_address s.core.table h.outcome)) (sym e))
     by_place (inr before) = inl before
 
-plain_emitted : (s : EngineModel) (i : ℕ) (asked : Option Asked) (event : Event) (emitted : List Effect) (after : EngineModel) (j : ℕ) → CoreIsStepped s (with_connection s i (with_activity Free)) i asked event [] emitted after → IsDropped after.links j → IsDropped s.links j
+plain_emitted : (s : EngineModel) (i : ℕ) (asked : Option Asked) (event : Event) (emitted : List Effect) (after : EngineModel) (j : ℕ) → CoreIsStepped s (with_connection s i (connection_with_activity Free)) i asked event [] emitted after → IsDropped after.links j → IsDropped s.links j
 plain_emitted s i asked event emitted after j h d =
-    dropped_on i (asks_head asked) (outcome_by_table s.core.table h.outcome) (with_core (with_connection s i (with_activity Free)) h.core) j (dropped_equal after _ j h.after_is d)
+    dropped_on i (request_is_head asked) (outcome_with_origin_address s.core.table h.outcome) (model_with_core (with_connection s i (connection_with_activity Free)) h.core) j (dropped_equal after _ j h.after_is d)
 
 arrived_emitted : (s : EngineModel) (now i : ℕ) (r : Request) (judged : Result Asked Refusal) (emitted : List Effect) (after : EngineModel) (j : ℕ) → RequestArrives s now i r judged emitted after → IsDropped after.links j → IsDropped s.links j
-arrived_emitted s now i r (Ok asked) emitted after j h d = dropped_on i _ (outcome_by_table s.core.table h.1.outcome) _ j (dropped_equal after _ j h.1.after_is d)
+arrived_emitted s now i r (Ok asked) emitted after j h d = dropped_on i _ (outcome_with_origin_address s.core.table h.1.outcome) _ j (dropped_equal after _ j h.1.after_is d)
 arrived_emitted s now i r (Err refusal) emitted after j h d = dropped_equal after _ j h.after_is d
 
 served_emitted : (s : EngineModel) (now i : ℕ) (w : Next Request) (emitted : List Effect) (after : EngineModel) (j : ℕ) → ConnectionIsServed s now i w emitted after → IsDropped after.links j → IsDropped s.links j
@@ -184,10 +184,10 @@ takes_drop_none s (Retires n) j = refl
 takes_drop_none s (Overdues n) j = refl
 takes_drop_none s (Hears l bytes) j =
     let k = link_at s (l - s.first) in
-    same_set s.links (l - s.first) (link_after_bytes bytes k) j (same_by (k.dropped || (is_some k.failed || k.progress.ended)) k (record k { progress = stream_with_piece k.progress bytes }) refl)
+    same_set s.links (l - s.first) (link_after_bytes bytes k) j (same_by (k.dropped || (is_some k.failed || k.progress.ended)) k (record k { progress = progress_after_piece k.progress bytes }) refl)
 takes_drop_none s (Shuts l) j =
     let k = link_at s (l - s.first) in
-    same_set s.links (l - s.first) (link_after_shut k) j (same_by (k.dropped || is_some k.failed) k (record k { progress = stream_finished k.progress }) refl)
+    same_set s.links (l - s.first) (link_after_end k) j (same_by (k.dropped || is_some k.failed) k (record k { progress = progress_after_end k.progress }) refl)
 takes_drop_none s (Fails l kind) j =
     let k = link_at s (l - s.first) in
-    same_set s.links (l - s.first) (link_after_failure kind k) j (same_by (k.dropped || is_some k.failed) k (record k { failed = Some kind }) refl)
+    same_set s.links (l - s.first) (link_after_its_failure kind k) j (same_by (k.dropped || is_some k.failed) k (record k { failed = Some kind }) refl)

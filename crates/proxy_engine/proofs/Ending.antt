@@ -13,7 +13,7 @@ use Rattle.proxy_core.specs.declared.outcome.Outcome.{Outcome}
 use Rattle.proxy_core.specs.declared.outcome.Outcome.TheVariants as outcomes
 use Rattle.proxy_core.specs.declared.steps.fallback.Fallback.{Fallback}
 use Rattle.proxy_core.specs.declared.steps.fallback.Fallback.TheVariants.{Sends, Refuses}
-use Rattle.proxy_core.specs.Outcomes.{find_exchange, outcome_of, outcome_of_failure, fallback_for}
+use Rattle.proxy_core.specs.Outcomes.{find_exchange, outcome_for_exchange, outcome_of_failure, fallback_for_failed_answer}
 use Rattle.proxy_core.specs.Leading.{is_forwarded}
 use Rattle.proxy_core.specs.Validating.{condition_about_serial}
 use Rattle.proxy_core.specs.Scopes.{Scope}
@@ -22,7 +22,7 @@ use Rattle.proxy_core.proofs.Waits.{is_wait, late_no_wait}
 use Rattle.proxy_engine.specs.declared.endpoints.lookahead.Lookahead.TheVariants.{Due}
 use Rattle.proxy_engine.specs.Due.{LinkResult, Gives, Breaks}
 use Rattle.proxy_engine.specs.State.{link_result_seen, link_result_at}
-use Rattle.proxy_engine.specs.Actions.{ExchangeIsFinishedBy, is_whole_answer, outcome_needs_link, acts_due_after_outcome}
+use Rattle.proxy_engine.specs.Actions.{ExchangeIsFinishedBy, link_result_is_answer, outcome_needs_link, acts_due_after_outcome}
 use Rattle.proxy_engine.specs.declared.endpoints.ends.Link.{Link}
 
 -- a link that shows a response
@@ -41,8 +41,8 @@ failed_replies table es now x kind came (Sends serial detail) = refl
 failed_replies table es now x kind came (Refuses rule error) = refl
 
 -- a failure ends its exchange by a reply
-pub failure_replies : (table : Table) (es : List Stored) (xs : List Exchange) (x : Option Exchange) (o : Option ℕ) (now id : ℕ) (kind : FailKind) → is_some x ≡ true → is_reply (outcome_of table es xs x o (events.Fail now id kind)) ≡ true
-failure_replies table es xs (Some x) o now id kind e = failed_replies table es now x kind None (fallback_for (policy_of table.lines x.line) es x.asked now (decision_of (policy_of table.lines x.line) es x.asked now))
+pub failure_replies : (table : Table) (es : List Stored) (xs : List Exchange) (x : Option Exchange) (o : Option ℕ) (now id : ℕ) (kind : FailKind) → is_some x ≡ true → is_reply (outcome_for_exchange table es xs x o (events.Fail now id kind)) ≡ true
+failure_replies table es xs (Some x) o now id kind e = failed_replies table es now x kind None (fallback_for_failed_answer (policy_of table.lines x.line) es x.asked now (decision_of (policy_of table.lines x.line) es x.asked now))
 failure_replies table es xs None o now id kind e = absurd (cc)
 
 goes_by : (o : Outcome) → is_reply o ≡ true → outcome_needs_link o ≡ false
@@ -53,7 +53,7 @@ goes_by outcomes.Ended e = refl
 goes_by outcomes.WaitsNoMore e = refl
 
 -- what goes forward once more was answered
-pub goes_given : (core core1 : CoreState) (now id : ℕ) (f : LinkResult) (o : Outcome) → is_some (find_exchange id core.exchanges) ≡ true → ExchangeIsFinishedBy core now id f o core1 → outcome_needs_link o ≡ true → is_whole_answer f ≡ true
+pub goes_given : (core core1 : CoreState) (now id : ℕ) (f : LinkResult) (o : Outcome) → is_some (find_exchange id core.exchanges) ≡ true → ExchangeIsFinishedBy core now id f o core1 → outcome_needs_link o ≡ true → link_result_is_answer f ≡ true
 goes_given core core1 now id (Gives r) o there h goes = refl
 goes_given core core1 now id (Breaks kind) o there h goes =
     let stays = goes_by o (ap is_reply h.outcome_is ∙ failure_replies core.table core.entries core.exchanges (find_exchange id core.exchanges) core.next now id kind there) in
@@ -102,7 +102,7 @@ reply_remains (outcomes.Waits leader) id xs e = absurd (cc)
 reply_remains outcomes.Ended id xs e = absurd (cc)
 reply_remains outcomes.WaitsNoMore id xs e = absurd (cc)
 
-pub failure_remains : (table : Table) (es : List Stored) (xs : List Exchange) (next : Option ℕ) (now id : ℕ) (kind : FailKind) (o : Outcome) → is_some (find_exchange id xs) ≡ true → o ≡ outcome_of table es xs (find_exchange id xs) next (events.Fail now id kind)
+pub failure_remains : (table : Table) (es : List Stored) (xs : List Exchange) (next : Option ℕ) (now id : ℕ) (kind : FailKind) (o : Outcome) → is_some (find_exchange id xs) ≡ true → o ≡ outcome_for_exchange table es xs (find_exchange id xs) next (events.Fail now id kind)
     → Remains o id xs (exchanges_after_close id xs)
 failure_remains table es xs next now id kind o there e = reply_remains o id xs (ap is_reply e ∙ failure_replies table es xs (find_exchange id xs) next now id kind there)
 

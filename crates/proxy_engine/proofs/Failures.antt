@@ -5,9 +5,9 @@ use Rattle.std.proofs.lemmas.List.FromFn.{length-map-range_with_len, get_or-map-
 use Rattle.std.proofs.lemmas.List.{ext_get_or}
 use Rattle.std.proofs.lemmas.Bool.{cases_lt, cases_order, cases_Bool}
 use Rattle.std.proofs.lemmas.List.{append_assoc, map-append, length-append}
-use Rattle.proxy_engine.specs.Held.{has_flag, link_failed}
+use Rattle.proxy_engine.specs.Held.{open_end_has_flag, link_failed}
 use Rattle.proxy_engine.specs.Lookahead.{lookahead_may_be_due}
-use Rattle.proxy_engine.specs.Marked.{link_may_be_due, item_at}
+use Rattle.proxy_engine.specs.Marked.{link_may_be_due, end_if_open_at}
 use Rattle.proxy_engine.specs.ReadyList.{PlacesAscend, PlacesAreBelow}
 use Rattle.proxy_engine.specs.Reading.{places_with_flag}
 use Rattle.proxy_engine.specs.declared.endpoints.ends.Link.{Link}
@@ -31,17 +31,17 @@ bound places (suc k) = get_or places k 0 + 1
 module _ {A : Type 0} (flag : A → Bool) (at : ℕ → Option A) where
   -- at the places below a bound
   abbrev pub found_below : ℕ → List ℕ
-  found_below n = places_with_flag (has_flag flag) 0 (map at (range_with_len 0 n))
+  found_below n = places_with_flag (open_end_has_flag flag) 0 (map at (range_with_len 0 n))
 
-  found_more : (n : ℕ) → found_below (n + 1) ≡ found_below n ++ cond (has_flag flag (at n)) (n ∷ []) []
+  found_more : (n : ℕ) → found_below (n + 1) ≡ found_below n ++ cond (open_end_has_flag flag (at n)) (n ∷ []) []
   found_more n =
       let xs = map at (range_with_len 0 n) in
       let count : 0 + length xs ≡ n = omega (arith, length-map-range_with_len at 0 n) in
-      ap (λ (ys : List (Option A)). places_with_flag (has_flag flag) 0 ys) (map-range_with_len_more at 0 n n (omega arith))
-      ∙ (flagged_push (has_flag flag) xs 0 (at n) ∙ ap (λ (k : ℕ). found_below n ++ cond (has_flag flag (at n)) (k ∷ []) []) count)
+      ap (λ (ys : List (Option A)). places_with_flag (open_end_has_flag flag) 0 ys) (map-range_with_len_more at 0 n n (omega arith))
+      ∙ (flagged_push (open_end_has_flag flag) xs 0 (at n) ∙ ap (λ (k : ℕ). found_below n ++ cond (open_end_has_flag flag (at n)) (k ∷ []) []) count)
 
   -- nothing is found where nothing has the flag
-  found_none : (k n : ℕ) → ((q : ℕ) → n ≤ q → q < n + k → has_flag flag (at q) ≡ false) → found_below (n + k) ≡ found_below n
+  found_none : (k n : ℕ) → ((q : ℕ) → n ≤ q → q < n + k → open_end_has_flag flag (at q) ≡ false) → found_below (n + k) ≡ found_below n
   found_none zero n none = let same : n + 0 ≡ n = omega arith in ap found_below same
   found_none (suc k) n none =
       let same : n + suc k ≡ n + k + 1 = omega arith in
@@ -61,7 +61,7 @@ module _ {A : Type 0} (flag : A → Bool) (at : ℕ → Option A) where
     ]
 
     -- between one of the places and the next
-    between : (seen p q : ℕ) → seen ≤ length places → ((k : ℕ) → seen ≤ k → k < length places → p ≤ get_or places k 0) → bound places seen ≤ q → q < p → has_flag flag (at q) ≡ false
+    between : (seen p q : ℕ) → seen ≤ length places → ((k : ℕ) → seen ≤ k → k < length places → p ≤ get_or places k 0) → bound places seen ≤ q → q < p → open_end_has_flag flag (at q) ≡ false
     between seen p q most greater from less = by_kept (at q) refl
       where
         not_there : Contains places q → ⊥
@@ -72,7 +72,7 @@ module _ {A : Type 0} (flag : A → Bool) (at : ℕ → Option A) where
               | inr behind ↦ let high = greater c.0 behind c.1 in omega (arith, high, here, less)
             ]
 
-        by_kept : (o : Option A) → at q ≡ o → has_flag flag o ≡ false
+        by_kept : (o : Option A) → at q ≡ o → open_end_has_flag flag o ≡ false
         by_kept None e = refl
         by_kept (Some x) e = elim (cases_Bool (flag x)) [
           | inl shown ↦ absurd (not_there (marked q x e shown))
@@ -80,7 +80,7 @@ module _ {A : Type 0} (flag : A → Bool) (at : ℕ → Option A) where
         ]
 
     -- up to a greater bound, where nothing between has the flag
-    found_up_to : (n p : ℕ) → n ≤ p → ((q : ℕ) → n ≤ q → q < p → has_flag flag (at q) ≡ false) → found_below p ≡ found_below n
+    found_up_to : (n p : ℕ) → n ≤ p → ((q : ℕ) → n ≤ q → q < p → open_end_has_flag flag (at q) ≡ false) → found_below p ≡ found_below n
     found_up_to n p l none =
         let same : n + (p - n) ≡ p = omega (arith, l) in
         sym (ap found_below same) ∙ found_none (p - n) n (λ q from less. none q from (omega (arith, less, l)))
@@ -90,7 +90,7 @@ module _ {A : Type 0} (flag : A → Bool) (at : ℕ → Option A) where
     low (suc last) within = let rising = rises.rises last (suc last) (omega arith) within in omega (arith, rising)
 
     -- the next place
-    pub found_next : (seen next : ℕ) → next ≡ seen + 1 → seen < length places → found_below (bound places next) ≡ found_below (bound places seen) ++ cond (has_flag flag (at (get_or places seen 0))) (get_or places seen 0 ∷ []) []
+    pub found_next : (seen next : ℕ) → next ≡ seen + 1 → seen < length places → found_below (bound places next) ≡ found_below (bound places seen) ++ cond (open_end_has_flag flag (at (get_or places seen 0))) (get_or places seen 0 ∷ []) []
     found_next seen next e within =
         let p = get_or places seen 0 in
         let is : next ≡ suc seen = omega (arith, e) in
@@ -100,7 +100,7 @@ module _ {A : Type 0} (flag : A → Bool) (at : ℕ → Option A) where
           | inr (inr less) ↦ absurd (omega (arith, less, from))
         ] in
         ap (λ (k : ℕ). found_below (bound places k)) is
-        ∙ (found_more p ∙ ap (λ (ns : List ℕ). ns ++ cond (has_flag flag (at p)) (p ∷ []) []) (found_up_to (bound places seen) p (low seen within) (λ q from less. between seen p q (omega (arith, within)) greater from less)))
+        ∙ (found_more p ∙ ap (λ (ns : List ℕ). ns ++ cond (open_end_has_flag flag (at p)) (p ∷ []) []) (found_up_to (bound places seen) p (low seen within) (λ q from less. between seen p q (omega (arith, within)) greater from less)))
 
     -- all are passed
     pub found_all : (count : ℕ) → PlacesAreBelow count places → found_below count ≡ found_below (bound places (length places))
@@ -131,10 +131,10 @@ emitted_same f before now ps qs b p was more hidden =
     was ∙ ap (λ (ns : List ℕ). before ++ map f ns) (sym (more ∙ (ap (λ (c : Bool). ps ++ cond c (p ∷ []) []) hidden ∙ append-nil ps)))
 
 -- a list is what is at each of its places
-pub listed_back : {A : Type 0} (xs : List (Option A)) → map (item_at xs) (range_with_len 0 (length xs)) ≡ xs
-listed_back {A} xs = ext_get_or None _ xs (length-map-range_with_len (item_at xs) 0 (length xs)) (λ q l.
-    let count = length-map-range_with_len (item_at xs) 0 (length xs) in
-    get_or-map-range_with_len (item_at xs) 0 (length xs) q q None (omega (arith, l, count)) (omega arith))
+pub listed_back : {A : Type 0} (xs : List (Option A)) → map (end_if_open_at xs) (range_with_len 0 (length xs)) ≡ xs
+listed_back {A} xs = ext_get_or None _ xs (length-map-range_with_len (end_if_open_at xs) 0 (length xs)) (λ q l.
+    let count = length-map-range_with_len (end_if_open_at xs) 0 (length xs) in
+    get_or-map-range_with_len (end_if_open_at xs) 0 (length xs) q q None (omega (arith, l, count)) (omega arith))
 
 pub counted_more : (ps qs : List ℕ) (b : Bool) (p n : ℕ) → n ≡ length ps → qs ≡ ps ++ cond b (p ∷ []) [] → b ≡ true → n + 1 ≡ length qs
 counted_more ps qs b p n was more shown =

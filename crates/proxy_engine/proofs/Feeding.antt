@@ -3,7 +3,7 @@ use Rattle.std.proofs.Common.{◌≡◌, ℕ, ◌||◌, List, refl, sym, ap, ◌
 use Rattle.std.proofs.Math.Nat.{le_refl}
 use Rattle.hx_framing.specs.declared.messages.Request.{Request}
 use Rattle.hx_framing.specs.declared.messages.Response.{Response}
-use Rattle.hx_framing.specs.Progress.{Progress, stream_with_piece, stream_finished}
+use Rattle.hx_framing.specs.Progress.{Progress, progress_after_piece, progress_after_end}
 use Rattle.hx_framing.specs.RequestState.{State as RequestState, RepresentsStream as RequestRepresentsStream, weight}
 use Rattle.hx_framing.specs.RequestStream.{Answers as RequestAnswers}
 use Rattle.hx_framing.specs.ResponseState.{State as ResponseState, RepresentsStream as ResponseRepresentsStream}
@@ -15,9 +15,9 @@ use Rattle.proxy_engine.specs.declared.endpoints.peeked.Peeked.{Peeked}
 use Rattle.proxy_engine.specs.declared.endpoints.ends.Connection.{Connection}
 use Rattle.proxy_engine.specs.declared.endpoints.ends.Link.{Link}
 use Rattle.proxy_engine.specs.Lookahead.{lookahead_after_input}
-use Rattle.proxy_engine.specs.EngineModel.{ConnectionModel, LinkModel, connection_after_bytes, connection_after_end, link_after_bytes, link_after_shut}
-use Rattle.proxy_engine.specs.State.{ConnectionHolds, LinkHolds}
-use Rattle.proxy_engine.specs.Marked.{DiffersInRoom, ConnectionAfterLook, LinkAfterLook, connection_may_be_due, link_may_be_due}
+use Rattle.proxy_engine.specs.EngineModel.{ConnectionModel, LinkModel, connection_after_bytes, connection_after_end, link_after_bytes, link_after_end}
+use Rattle.proxy_engine.specs.State.{ConnectionMatchesModel, LinkMatchesModel}
+use Rattle.proxy_engine.specs.Marked.{DiffersOnlyInSpareRoom, ConnectionAfterLookahead, LinkAfterLookahead, connection_may_be_due, link_may_be_due}
 use Rattle.proxy_engine.proofs.Peeking.{kept_ahead, fed_ahead, finished_ahead, request_spare_represents, spare_represents}
 
 peeked_is : {S M : Type 0} (w : Peeked S M) (r : S) (l : Lookahead M) → w.inner ≡ r → w.ahead ≡ l → w ≡ record { inner = r; ahead = l }
@@ -25,7 +25,7 @@ peeked_is {S} {M} w r l same again = ap {B = Peeked S M} (λ (s : S). record { i
 
 -- ---- room
 
-pub connection_grows : (x : Connection) (r : RequestState) → r ≡ record x.reader.inner { spare = r.spare } → DiffersInRoom ConnectionAfterLook connection_may_be_due x (record x { reader = record { inner = r; ahead = x.reader.ahead } })
+pub connection_grows : (x : Connection) (r : RequestState) → r ≡ record x.reader.inner { spare = r.spare } → DiffersOnlyInSpareRoom ConnectionAfterLookahead connection_may_be_due x (record x { reader = record { inner = r; ahead = x.reader.ahead } })
 connection_grows x r same =
     let as_much : weight r ≡ weight x.reader.inner = ap weight same in
     record {
@@ -46,7 +46,7 @@ connection_grows x r same =
       shows = refl;
     }
 
-pub link_grows : (x : Link) (r : ResponseState) → r ≡ record x.reader.inner { spare = r.spare } → DiffersInRoom LinkAfterLook link_may_be_due x (record x { reader = record { inner = r; ahead = x.reader.ahead } })
+pub link_grows : (x : Link) (r : ResponseState) → r ≡ record x.reader.inner { spare = r.spare } → DiffersOnlyInSpareRoom LinkAfterLookahead link_may_be_due x (record x { reader = record { inner = r; ahead = x.reader.ahead } })
 link_grows x r same = record {
   alike = record {
     represents = λ k h. record {
@@ -64,15 +64,15 @@ link_grows x r same = record {
 
 -- ---- bytes
 
-connection_read : (x : Connection) (c : ConnectionModel) → x.gone ≡ false → x.ended ≡ false → ConnectionHolds x c → c.gone || (c.closed || c.progress.ended) ≡ false
+connection_read : (x : Connection) (c : ConnectionModel) → x.gone ≡ false → x.ended ≡ false → ConnectionMatchesModel x c → c.gone || (c.closed || c.progress.ended) ≡ false
 connection_read x c here still h =
     ap (λ (b : Bool). b || (c.closed || c.progress.ended)) (sym h.gone ∙ here) ∙ (ap (λ (b : Bool). b || c.progress.ended) h.still ∙ (sym h.ended ∙ still))
 
 pub connection_fed : (x : Connection) (w : Peeked RequestState Request) (r : RequestState) (bytes : List ℕ) → x.gone ≡ false → x.ended ≡ false → w.inner ≡ r → w.ahead ≡ lookahead_after_input x.reader.ahead
-    → ((p : Progress Request) → RequestRepresentsStream x.reader.inner p → p.ended ≡ false → RequestRepresentsStream r (stream_with_piece p bytes)) → (c : ConnectionModel) → ConnectionHolds x c → ConnectionHolds (record x { reader = w }) (connection_after_bytes bytes c)
+    → ((p : Progress Request) → RequestRepresentsStream x.reader.inner p → p.ended ≡ false → RequestRepresentsStream r (progress_after_piece p bytes)) → (c : ConnectionModel) → ConnectionMatchesModel x c → ConnectionMatchesModel (record x { reader = w }) (connection_after_bytes bytes c)
 connection_fed x w r bytes here still same again feed c h =
-    subst (λ (b : Bool). ConnectionHolds (record x { reader = w }) (cond b c (record c { progress = stream_with_piece c.progress bytes }))) (sym (connection_read x c here still h))
-    (subst (λ (v : Peeked RequestState Request). ConnectionHolds (record x { reader = v }) (record c { progress = stream_with_piece c.progress bytes })) (sym (peeked_is w r (lookahead_after_input x.reader.ahead) same again))
+    subst (λ (b : Bool). ConnectionMatchesModel (record x { reader = w }) (cond b c (record c { progress = progress_after_piece c.progress bytes }))) (sym (connection_read x c here still h))
+    (subst (λ (v : Peeked RequestState Request). ConnectionMatchesModel (record x { reader = v }) (record c { progress = progress_after_piece c.progress bytes })) (sym (peeked_is w r (lookahead_after_input x.reader.ahead) same again))
     (record {
       reader = fed_ahead RequestRepresentsStream RequestAnswers x.reader.inner r x.reader.ahead c.progress bytes feed (λ q a. request_due_fed q a bytes) (sym h.ended ∙ still) h.reader;
       ended = h.ended;
@@ -83,15 +83,15 @@ connection_fed x w r bytes here still same again feed c h =
       used = h.used;
     }))
 
-link_read : (x : Link) (k : LinkModel) → is_some x.failed ≡ false → x.ended ≡ false → LinkHolds x k → k.dropped || (is_some k.failed || k.progress.ended) ≡ false
+link_read : (x : Link) (k : LinkModel) → is_some x.failed ≡ false → x.ended ≡ false → LinkMatchesModel x k → k.dropped || (is_some k.failed || k.progress.ended) ≡ false
 link_read x k here still h =
     ap (λ (b : Bool). b || (is_some k.failed || k.progress.ended)) h.still ∙ (ap (λ (b : Bool). b || k.progress.ended) (ap is_some (sym h.failed) ∙ here) ∙ (sym h.ended ∙ still))
 
 pub link_fed : (x : Link) (w : Peeked ResponseState Response) (r : ResponseState) (bytes : List ℕ) → is_some x.failed ≡ false → x.ended ≡ false → w.inner ≡ r → w.ahead ≡ lookahead_after_input x.reader.ahead
-    → ((p : Progress Response) → ResponseRepresentsStream x.reader.inner p → p.ended ≡ false → ResponseRepresentsStream r (stream_with_piece p bytes)) → (k : LinkModel) → LinkHolds x k → LinkHolds (record x { reader = w }) (link_after_bytes bytes k)
+    → ((p : Progress Response) → ResponseRepresentsStream x.reader.inner p → p.ended ≡ false → ResponseRepresentsStream r (progress_after_piece p bytes)) → (k : LinkModel) → LinkMatchesModel x k → LinkMatchesModel (record x { reader = w }) (link_after_bytes bytes k)
 link_fed x w r bytes here still same again feed k h =
-    subst (λ (b : Bool). LinkHolds (record x { reader = w }) (cond b k (record k { progress = stream_with_piece k.progress bytes }))) (sym (link_read x k here still h))
-    (subst (λ (v : Peeked ResponseState Response). LinkHolds (record x { reader = v }) (record k { progress = stream_with_piece k.progress bytes })) (sym (peeked_is w r (lookahead_after_input x.reader.ahead) same again))
+    subst (λ (b : Bool). LinkMatchesModel (record x { reader = w }) (cond b k (record k { progress = progress_after_piece k.progress bytes }))) (sym (link_read x k here still h))
+    (subst (λ (v : Peeked ResponseState Response). LinkMatchesModel (record x { reader = v }) (record k { progress = progress_after_piece k.progress bytes })) (sym (peeked_is w r (lookahead_after_input x.reader.ahead) same again))
     (record {
       reader = fed_ahead ResponseRepresentsStream ResponseAnswers x.reader.inner r x.reader.ahead k.progress bytes feed (λ q a. response_due_fed q a bytes) (sym h.ended ∙ still) h.reader;
       ended = h.ended;
@@ -103,11 +103,11 @@ link_fed x w r bytes here still same again feed k h =
 -- ---- the end
 
 pub connection_finished : (x : Connection) (w : Peeked RequestState Request) (r : RequestState) → x.gone ≡ false → w.inner ≡ r → w.ahead ≡ lookahead_after_input x.reader.ahead
-    → ((p : Progress Request) → RequestRepresentsStream x.reader.inner p → RequestRepresentsStream r (stream_finished p)) → (c : ConnectionModel) → ConnectionHolds x c → ConnectionHolds (record x { reader = w; ended = true }) (connection_after_end c)
+    → ((p : Progress Request) → RequestRepresentsStream x.reader.inner p → RequestRepresentsStream r (progress_after_end p)) → (c : ConnectionModel) → ConnectionMatchesModel x c → ConnectionMatchesModel (record x { reader = w; ended = true }) (connection_after_end c)
 connection_finished x w r here same again finish c h =
     let open_now : c.gone || c.closed ≡ false = ap (λ (b : Bool). b || c.closed) (sym h.gone ∙ here) ∙ h.still in
-    subst (λ (b : Bool). ConnectionHolds (record x { reader = w; ended = true }) (cond b c (record c { progress = stream_finished c.progress }))) (sym open_now)
-    (subst (λ (v : Peeked RequestState Request). ConnectionHolds (record x { reader = v; ended = true }) (record c { progress = stream_finished c.progress })) (sym (peeked_is w r (lookahead_after_input x.reader.ahead) same again))
+    subst (λ (b : Bool). ConnectionMatchesModel (record x { reader = w; ended = true }) (cond b c (record c { progress = progress_after_end c.progress }))) (sym open_now)
+    (subst (λ (v : Peeked RequestState Request). ConnectionMatchesModel (record x { reader = v; ended = true }) (record c { progress = progress_after_end c.progress })) (sym (peeked_is w r (lookahead_after_input x.reader.ahead) same again))
     (record {
       reader = finished_ahead RequestRepresentsStream RequestAnswers x.reader.inner r x.reader.ahead c.progress finish request_due_finished h.reader;
       ended = refl;
@@ -119,11 +119,11 @@ connection_finished x w r here same again finish c h =
     }))
 
 pub link_finished : (x : Link) (w : Peeked ResponseState Response) (r : ResponseState) → is_some x.failed ≡ false → w.inner ≡ r → w.ahead ≡ lookahead_after_input x.reader.ahead
-    → ((p : Progress Response) → ResponseRepresentsStream x.reader.inner p → ResponseRepresentsStream r (stream_finished p)) → (k : LinkModel) → LinkHolds x k → LinkHolds (record x { reader = w; ended = true }) (link_after_shut k)
+    → ((p : Progress Response) → ResponseRepresentsStream x.reader.inner p → ResponseRepresentsStream r (progress_after_end p)) → (k : LinkModel) → LinkMatchesModel x k → LinkMatchesModel (record x { reader = w; ended = true }) (link_after_end k)
 link_finished x w r here same again finish k h =
     let open_now : k.dropped || is_some k.failed ≡ false = ap (λ (b : Bool). b || is_some k.failed) h.still ∙ (ap is_some (sym h.failed) ∙ here) in
-    subst (λ (b : Bool). LinkHolds (record x { reader = w; ended = true }) (cond b k (record k { progress = stream_finished k.progress }))) (sym open_now)
-    (subst (λ (v : Peeked ResponseState Response). LinkHolds (record x { reader = v; ended = true }) (record k { progress = stream_finished k.progress })) (sym (peeked_is w r (lookahead_after_input x.reader.ahead) same again))
+    subst (λ (b : Bool). LinkMatchesModel (record x { reader = w; ended = true }) (cond b k (record k { progress = progress_after_end k.progress }))) (sym open_now)
+    (subst (λ (v : Peeked ResponseState Response). LinkMatchesModel (record x { reader = v; ended = true }) (record k { progress = progress_after_end k.progress })) (sym (peeked_is w r (lookahead_after_input x.reader.ahead) same again))
     (record {
       reader = finished_ahead ResponseRepresentsStream ResponseAnswers x.reader.inner r x.reader.ahead k.progress finish response_due_finished h.reader;
       ended = refl;

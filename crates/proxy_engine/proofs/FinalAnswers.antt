@@ -6,25 +6,25 @@ use Rattle.hx_framing.specs.declared.messages.Request.{Request}
 use Rattle.hx_framing.specs.declared.messages.Response.{Response}
 use Rattle.hx_framing.specs.declared.messages.Next.{Next}
 use Rattle.hx_framing.specs.declared.messages.Next.TheVariants as next
-use Rattle.hx_framing.specs.Progress.{Progress, next_of_reading}
+use Rattle.hx_framing.specs.Progress.{Progress, next_answer_of_reading}
 use Rattle.hx_framing.specs.Reading.{StreamReading, Incomplete, Continue, Over, Spelled, Faulty}
-use Rattle.hx_framing.specs.RequestReading.{Reads as ReadsRequest}
-use Rattle.hx_framing.specs.ResponseReading.{Reads}
-use Rattle.hx_framing.specs.ResponseStream.{Answers, AnswersAfterGiven}
+use Rattle.hx_framing.specs.RequestReading.{ReadsAs as ReadsRequest}
+use Rattle.hx_framing.specs.ResponseReading.{ReadsAs}
+use Rattle.hx_framing.specs.ResponseStream.{Answers, IsAnswerAfterGivenResponses}
 use Rattle.hx_status.specs.declared.cause.FailKind.{FailKind}
 use Rattle.proxy_core.specs.declared.event.Event.{Event}
 use Rattle.proxy_core.specs.declared.event.Event.TheVariants as events
-use Rattle.proxy_core.specs.ReadAnswers.{WasReadFromAStream, EventIsReadFromAStream}
+use Rattle.proxy_core.specs.ReadAnswers.{ResponseWasReadFromAStream, EventIsReadFromAStream}
 use Rattle.proxy_core.specs.Traces.{Item}
 use Rattle.proxy_engine.specs.EngineModel.{EngineModel, ConnectionModel, LinkModel, connection_at, link_at}
-use Rattle.proxy_engine.specs.Due.{Act, Abandons, Finishes, Wakes, Serves, Gives, Breaks, IsDueFirst, LinkResultUnlessDropped, ConnectionActionUnlessBusy, link_result_of, takes_no_request, due_request_action}
+use Rattle.proxy_engine.specs.Due.{Act, Abandons, Finishes, Wakes, Serves, Gives, Breaks, IsDueFirst, LinkResultUnlessDropped, ConnectionActionUnlessBusy, link_result_of, accepts_no_request, due_request_action}
 use Rattle.proxy_engine.specs.Executions.{Took, Worked, IsCoreEventOfAct}
-use Rattle.proxy_engine.specs.FinalAnswers.{EachActIsSpelled, EachAnswerIsFinal, EachAnswerWasRead, EventHasFinalStatus, LinkSpellsAnswer, ConnectionSpellsRequest}
+use Rattle.proxy_engine.specs.FinalAnswers.{EachDueActIsSpelledByItsStream, EachAnswerHasFinalStatus, EachAnswerWasReadFromAStream, EventHasFinalStatus, LinkSpellsAnswer, ConnectionSpellsRequest}
 use Rattle.proxy_engine.proofs.Asking.{taking_adds}
 
 -- ---- what an act is about is what a stream spells
 
-next_spelled : {M : Type 0} (m : M) (reading : StreamReading M) → next.Message m ≡ next_of_reading reading → (rest : List ℕ) × (reading ≡ Spelled m rest)
+next_spelled : {M : Type 0} (m : M) (reading : StreamReading M) → next.Message m ≡ next_answer_of_reading reading → (rest : List ℕ) × (reading ≡ Spelled m rest)
 next_spelled m Incomplete e = absurd cc
 next_spelled m Continue e = absurd cc
 next_spelled m Over e = absurd cc
@@ -32,12 +32,12 @@ next_spelled m (Faulty f) e = absurd cc
 next_spelled m (Spelled n rest) e = (rest, cc)
 
 abbrev IsAnswer : Progress Response → Response → Type 0
-IsAnswer p r = (p.given ≡ []) × ((rest : List ℕ) × Reads p.max_body p.to_head p.ended p.stream (Spelled r rest))
+IsAnswer p r = (p.given ≡ []) × ((rest : List ℕ) × ReadsAs p.max_body p.to_head p.ended p.stream (Spelled r rest))
 
-answered : (p : Progress Response) (r : Response) (given : List Response) → p.given ≡ given → AnswersAfterGiven p given (next.Message r) → IsAnswer p r
+answered : (p : Progress Response) (r : Response) (given : List Response) → p.given ≡ given → IsAnswerAfterGivenResponses p given (next.Message r) → IsAnswer p r
 answered p r [] none h =
     let is = next_spelled r h.0 h.2 in
-    (none, (is.0, subst (λ (reading : StreamReading Response). Reads p.max_body p.to_head p.ended p.stream reading) is.1 h.1))
+    (none, (is.0, subst (λ (reading : StreamReading Response). ReadsAs p.max_body p.to_head p.ended p.stream reading) is.1 h.1))
 answered p r (g ∷ more) some h = absurd cc
 
 finished : (p : Progress Response) (r : Response) (a : Next Response) (kind : Option FailKind) → Answers p a → Some (Gives r) ≡ link_result_of a kind → IsAnswer p r
@@ -64,7 +64,7 @@ action_is r (next.Message m) e = cc
 action_is r (next.Refused f) e = absurd cc
 action_is r next.End e = absurd cc
 
-wanted : (c : ConnectionModel) (r : Request) (busy : Bool) → takes_no_request c.gone c.closed c.activity ≡ busy → ConnectionActionUnlessBusy busy c (Some (next.Message r)) → ConnectionSpellsRequest c r
+wanted : (c : ConnectionModel) (r : Request) (busy : Bool) → accepts_no_request c.gone c.closed c.activity ≡ busy → ConnectionActionUnlessBusy busy c (Some (next.Message r)) → ConnectionSpellsRequest c r
 wanted c r true is h = absurd cc
 wanted c r false is h =
     let answer = h.1 in
@@ -77,19 +77,19 @@ wanted c r false is h =
       reads = subst (λ (reading : StreamReading Request). ReadsRequest c.progress.max_body c.progress.ended c.progress.continue_sent answer.rest reading) read.1 answer.reads;
     }
 
-pub acts_are_spelled : EachActIsSpelled
+pub acts_are_spelled : EachDueActIsSpelledByItsStream
 acts_are_spelled s (Abandons i l) due = tt
 acts_are_spelled s (Finishes j (Gives r)) due = finish_due (link_at s j) r (link_at s j).dropped refl due.1.1
 acts_are_spelled s (Finishes j (Breaks kind)) due = tt
 acts_are_spelled s (Wakes i) due = tt
 acts_are_spelled s (Serves i (next.Message r)) due =
-    wanted (connection_at s i) r (takes_no_request (connection_at s i).gone (connection_at s i).closed (connection_at s i).activity) refl due.3.1
+    wanted (connection_at s i) r (accepts_no_request (connection_at s i).gone (connection_at s i).closed (connection_at s i).activity) refl due.3.1
 acts_are_spelled s (Serves i next.More) due = tt
 acts_are_spelled s (Serves i next.NeedsContinue) due = tt
 acts_are_spelled s (Serves i (next.Refused fault)) due = tt
 acts_are_spelled s (Serves i next.End) due = tt
 
-read_of : (k : LinkModel) (r : Response) → LinkSpellsAnswer k r → WasReadFromAStream r
+read_of : (k : LinkModel) (r : Response) → LinkSpellsAnswer k r → ResponseWasReadFromAStream r
 read_of k r is = record { max_body = k.progress.max_body; to_head = k.progress.to_head; ended = k.progress.ended; bytes = k.progress.stream; rest = is.rest; reads = is.reads }
 
 event_read : (s : EngineModel) (now : ℕ) (act : Act) (event : Event) → IsDueFirst s (Some act) → IsCoreEventOfAct s now act event → EventIsReadFromAStream event
@@ -108,7 +108,7 @@ event_read s now (Serves i next.End) event due is = absurd is
 abbrev AreRead : List Item → Type 0
 AreRead = AllByRecursion (λ item. EventIsReadFromAStream item.event)
 
-pub answers_are_read : EachAnswerWasRead
+pub answers_are_read : EachAnswerWasReadFromAStream
 answers_are_read table begin last [] trace h = subst AreRead (sym h.1) tt
 answers_are_read table begin last (Took happening ∷ steps) trace (before, past, has_trace, leads, adds) =
     taking_adds (λ item. EventIsReadFromAStream item.event) (λ n item e. subst EventIsReadFromAStream (sym e) tt) before last happening past trace adds (answers_are_read table begin before steps past has_trace)
@@ -122,7 +122,7 @@ answers_are_read table begin last (Worked now act emitted ∷ steps) trace (befo
 abbrev pub ReadsFinal : Type 0
 ReadsFinal =
     (max_body : ℕ) → (to_head : Bool) → (ended : Bool) → (bytes : List ℕ) → (response : Response) → (rest : List ℕ) →
-    Reads max_body to_head ended bytes (Spelled response rest) → (200 ≤ response.status) × (response.status ≤ 599)
+    ReadsAs max_body to_head ended bytes (Spelled response rest) → (200 ≤ response.status) × (response.status ≤ 599)
 
 module _ (read : ReadsFinal) where
   final : (event : Event) → EventIsReadFromAStream event → EventHasFinalStatus event
@@ -137,5 +137,5 @@ module _ (read : ReadsFinal) where
   all_final [] h = tt
   all_final (item ∷ past) h = (final item.event h.0, all_final past h.1)
 
-  pub answers_are_final : EachAnswerIsFinal
-  answers_are_final table begin last steps trace h = all_final trace (answers_are_read table begin last steps trace h)
+  pub answers_have_a_final_status : EachAnswerHasFinalStatus
+  answers_have_a_final_status table begin last steps trace h = all_final trace (answers_are_read table begin last steps trace h)

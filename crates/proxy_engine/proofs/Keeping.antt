@@ -15,7 +15,7 @@ use Rattle.std.proofs.Math.ListN.{length-set}
 use borrow.Follows.Closed.{read_of}
 use Rattle.proxy_engine.proofs.Rising.{at_any}
 use Rattle.proxy_engine.specs.ReadyList.{entries_below}
-use Rattle.proxy_engine.specs.Marked.{kept_count}
+use Rattle.proxy_engine.specs.Marked.{open_end_count}
 
 -- a query finds its place and no other
 pub here_at : (p k : ℕ) → k ≡ p → is_at (nat_cmp p) k ≡ true
@@ -123,11 +123,11 @@ module _ {A : Type 0} where
       not_first q c e = apart 0 (suc c.0) (omega arith) (omega (arith, c.1)) (at_any ps c.0 q c.1 ∙ (c.2 ∙ e))
 
   -- no more are kept at the places below a count than a map has
-  kept_within : (n : ℕ) (es : List (ℕ × A)) → kept_count (map (λ q. lookup (is_at (nat_cmp q)) es) (range_with_len 0 n)) ≤ length es
+  kept_within : (n : ℕ) (es : List (ℕ × A)) → open_end_count (map (λ q. lookup (is_at (nat_cmp q)) es) (range_with_len 0 n)) ≤ length es
   kept_within zero es = omega arith
   kept_within (suc n) es =
       let next : n + 1 ≡ suc n = omega arith in
-      subst (λ (k : ℕ). kept_count (map (λ q. lookup (is_at (nat_cmp q)) es) (range_with_len 0 k)) ≤ length es) next (by_last (lookup (is_at (nat_cmp n)) es) refl (kept_within n es) (kept_within n (remove_entry (is_at (nat_cmp n)) es)))
+      subst (λ (k : ℕ). open_end_count (map (λ q. lookup (is_at (nat_cmp q)) es) (range_with_len 0 k)) ≤ length es) next (by_last (lookup (is_at (nat_cmp n)) es) refl (kept_within n es) (kept_within n (remove_entry (is_at (nat_cmp n)) es)))
     where
       at : List (ℕ × A) → ℕ → Option A
       at fs q = lookup (is_at (nat_cmp q)) fs
@@ -135,7 +135,7 @@ module _ {A : Type 0} where
       left : List (ℕ × A)
       left = remove_entry (is_at (nat_cmp n)) es
 
-      more : kept_count (map (at es) (range_with_len 0 (n + 1))) ≡ kept_count (map (at es) (range_with_len 0 n)) + one_if_some (at es n)
+      more : open_end_count (map (at es) (range_with_len 0 (n + 1))) ≡ open_end_count (map (at es) (range_with_len 0 n)) + one_if_some (at es n)
       more = sum_by-map-range_with_len_more one_if_some (at es) 0 n n (omega arith)
 
       same : map (at left) (range_with_len 0 n) ≡ map (at es) (range_with_len 0 n)
@@ -145,16 +145,16 @@ module _ {A : Type 0} where
           let within : q < n = omega (arith, l, count) in
           get_or-map-range_with_len (at left) 0 n q q None within (omega arith) ∙ (lookup_left n q (λ e. absurd (omega (arith, e, within))) es ∙ sym (get_or-map-range_with_len (at es) 0 n q q None within (omega arith))))
 
-      by_last : (o : Option A) → at es n ≡ o → kept_count (map (at es) (range_with_len 0 n)) ≤ length es → kept_count (map (at left) (range_with_len 0 n)) ≤ length left → kept_count (map (at es) (range_with_len 0 (n + 1))) ≤ length es
+      by_last : (o : Option A) → at es n ≡ o → open_end_count (map (at es) (range_with_len 0 n)) ≤ length es → open_end_count (map (at left) (range_with_len 0 n)) ≤ length left → open_end_count (map (at es) (range_with_len 0 (n + 1))) ≤ length es
       by_last None e few fewer =
           let none = ap one_if_some e in
           omega (arith, few, more, none)
       by_last (Some x) e few fewer =
           let one = removed_length (is_at (nat_cmp n)) es (ap is_some e) in
           let some = ap one_if_some e in
-          omega (arith, fewer, one, more, some, ap kept_count same)
+          omega (arith, fewer, one, more, some, ap open_end_count same)
 
-  pub kept_listed : (m : BTreeMap ℕ A) (n : ℕ) → kept_count (entries_below m n) ≤ length m.entries
+  pub kept_listed : (m : BTreeMap ℕ A) (n : ℕ) → open_end_count (entries_below m n) ≤ length m.entries
   kept_listed m n = kept_within n m.entries
 
 -- ---- what a map answers

@@ -13,12 +13,12 @@ use Rattle.hx_status.specs.declared.cause.FailKind.{FailKind}
 use Rattle.proxy_engine.specs.Activities.{link_place_of_activity, has_exchange}
 use Rattle.proxy_engine.specs.declared.endpoints.lookahead.Lookahead.{Lookahead}
 use Rattle.proxy_engine.specs.declared.endpoints.lookahead.Lookahead.TheVariants.{Unknown, Quiet, Due}
-use Rattle.proxy_engine.specs.Lookahead.{LookaheadShows, lookahead_is_due, lookahead_may_be_due}
+use Rattle.proxy_engine.specs.Lookahead.{LookaheadShowsAnswer, lookahead_is_due, lookahead_may_be_due}
 use Rattle.proxy_engine.specs.EngineModel.{ConnectionModel, LinkModel}
-use Rattle.proxy_engine.specs.Due.{Breaks, IsLostConnection, IsDueOnLink, IsDueOnConnection, ConnectionActionUnlessBusy, LinkResultUnlessDropped, takes_no_request}
+use Rattle.proxy_engine.specs.Due.{Breaks, IsGoneWhileBusy, IsDueOnLink, IsDueOnConnection, ConnectionActionUnlessBusy, LinkResultUnlessDropped, accepts_no_request}
 use Rattle.proxy_engine.specs.State.{ConnectionRepresents, LinkRepresents, due_request_seen}
 use Rattle.proxy_engine.specs.ReadyList.{ReadyPlaces, PlacesAscend, PlacesAreBelow, PlaceIsLeast, FlaggedPlacesAreMarked}
-use Rattle.proxy_engine.specs.Marked.{EndList, item_at, kept_count, ConnectionAfterLook, may_be_lost, connection_may_be_due, link_may_be_due, RelatesOptions, RelatesAtEachPlace, NoneHasFlagBelow, NoneHasFlag, NoneIsBeyond, lost_connection_at}
+use Rattle.proxy_engine.specs.Marked.{EndList, end_if_open_at, open_end_count, ConnectionAfterLookahead, is_gone_with_exchange, connection_may_be_due, link_may_be_due, OptionsAreRelated, PlacesAreRelated, NoOpenEndBelowHasFlag, NoOpenEndHasFlag, NoEndIsOpenBeyond, link_of_disconnected_exchange_at}
 use Rattle.proxy_engine.specs.declared.endpoints.activities.Activity.{Activity}
 use Rattle.proxy_engine.specs.declared.endpoints.ends.Connection.{Connection}
 use Rattle.proxy_engine.specs.declared.endpoints.ends.Link.{Link}
@@ -39,13 +39,13 @@ FillsAtMost m n = (ps : List ℕ) → ((i j : ℕ) → i < j → j < length ps �
 pub fills_map : {A : Type 0} (m : BTreeMap ℕ A) → FillsAtMost (get nat_cmp m) (length m.entries)
 fills_map m ps apart there = fits ps m.entries apart there
 
-pub fills_list : {A : Type 0} (xs : List (Option A)) → FillsAtMost (item_at xs) (kept_count xs)
+pub fills_list : {A : Type 0} (xs : List (Option A)) → FillsAtMost (end_if_open_at xs) (open_end_count xs)
 fills_list xs [] apart there = omega arith
 fills_list {A} xs (p ∷ ps) apart there =
     let here : is_some (get_or xs p None) ≡ true = there p (0, omega arith, refl) in
     let one : one_if_some (get_or xs p None) ≡ 1 = ap {B = ℕ} (λ (b : Bool). cond b 1 0) here in
     let gone = sum_by-set one_if_some xs p None None (inside xs p here) in
-    let rest : length ps ≤ kept_count (set xs p None) =
+    let rest : length ps ≤ open_end_count (set xs p None) =
     fills_list (set xs p None) ps (λ i j l m. apart (suc i) (suc j) (omega (arith, l)) (omega (arith, m)))
     (λ q c. ap is_some (get_or-set_other xs p q None None (not_first q c)) ∙ there q (suc c.0, omega (arith, c.1), c.2)) in
     omega (arith, rest, gone, one)
@@ -58,10 +58,10 @@ pub same_at : {A : Type 0} (m k : BTreeMap ℕ A) → k.entries ≡ m.entries �
 same_at {A} m k same q = ap (λ (es : List (ℕ × A)). lookup (is_at (nat_cmp q)) es) same
 
 -- what is open stays so
-pub alike_some : {A : Type 0} (R : A → A → Type 0) (m k : ℕ → Option A) → RelatesAtEachPlace R m k → (i : ℕ) → is_some (m i) ≡ true → is_some (k i) ≡ true
+pub alike_some : {A : Type 0} (R : A → A → Type 0) (m k : ℕ → Option A) → PlacesAreRelated R m k → (i : ℕ) → is_some (m i) ≡ true → is_some (k i) ≡ true
 alike_some {A} R m k alike i e = by_new (m i) (k i) (alike i) e
   where
-    by_new : (o p : Option A) → RelatesOptions R o p → is_some o ≡ true → is_some p ≡ true
+    by_new : (o p : Option A) → OptionsAreRelated R o p → is_some o ≡ true → is_some p ≡ true
     by_new (Some x) (Some y) r e = refl
     by_new (Some x) None r e = absurd r
     by_new None p r e = absurd (cc)
@@ -151,20 +151,20 @@ module _ {A : Type 0} (flag : A → Bool) where
   }
 
   -- a look at each place leaves the flags
-  pub marked_alike : (R : A → A → Type 0) (m k : ℕ → Option A) (a b : ℕ) (kept : ReadyPlaces) → ((x y : A) → R x y → flag y ≡ true → flag x ≡ true) → FlaggedPlacesAreMarked flag m a kept → RelatesAtEachPlace R m k → b ≤ a → FlaggedPlacesAreMarked flag k b kept
+  pub marked_alike : (R : A → A → Type 0) (m k : ℕ → Option A) (a b : ℕ) (kept : ReadyPlaces) → ((x y : A) → R x y → flag y ≡ true → flag x ≡ true) → FlaggedPlacesAreMarked flag m a kept → PlacesAreRelated R m k → b ≤ a → FlaggedPlacesAreMarked flag k b kept
   marked_alike R m k a b kept keep h alike size = record {
-    marked = λ j y e f. by_old j y (m j) refl (subst (λ (o : Option A). RelatesOptions R (m j) o) e (alike j)) f;
+    marked = λ j y e f. by_old j y (m j) refl (subst (λ (o : Option A). OptionsAreRelated R (m j) o) e (alike j)) f;
     filled = λ j c. alike_some R m k alike j (h.filled j c);
     room = omega (arith, h.room, size);
     rises = h.rises;
   }
     where
-      by_old : (j : ℕ) (y : A) (o : Option A) → m j ≡ o → RelatesOptions R (m j) (Some y) → flag y ≡ true → Contains kept.places j
-      by_old j y None e r f = absurd (subst (λ (p : Option A). RelatesOptions R p (Some y)) e r)
-      by_old j y (Some x) e r f = h.marked j x e (keep x y (subst (λ (p : Option A). RelatesOptions R p (Some y)) e r) f)
+      by_old : (j : ℕ) (y : A) (o : Option A) → m j ≡ o → OptionsAreRelated R (m j) (Some y) → flag y ≡ true → Contains kept.places j
+      by_old j y None e r f = absurd (subst (λ (p : Option A). OptionsAreRelated R p (Some y)) e r)
+      by_old j y (Some x) e r f = h.marked j x e (keep x y (subst (λ (p : Option A). OptionsAreRelated R p (Some y)) e r) f)
 
   -- a look at the least place
-  pub marked_look : (R : A → A → Type 0) (m k : ℕ → Option A) (a b : ℕ) (kept : ReadyPlaces) (i : ℕ) → FlaggedPlacesAreMarked flag m a kept → PlaceIsLeast kept.places i → ((q : ℕ) → q ≢ i → k q ≡ m q) → RelatesAtEachPlace R m k → b ≡ a → FlaggedPlacesAreMarked flag k b kept
+  pub marked_look : (R : A → A → Type 0) (m k : ℕ → Option A) (a b : ℕ) (kept : ReadyPlaces) (i : ℕ) → FlaggedPlacesAreMarked flag m a kept → PlaceIsLeast kept.places i → ((q : ℕ) → q ≢ i → k q ≡ m q) → PlacesAreRelated R m k → b ≡ a → FlaggedPlacesAreMarked flag k b kept
   marked_look R m k a b kept i h first others alike size =
       marked_by m k a b kept kept i h others (omega (arith, h.room, size)) h.rises (λ q other c. c) (λ q other c. c) (λ x e f. least_there kept.places i first) (λ c. alike_some R m k alike i (h.filled i c))
 
@@ -176,14 +176,14 @@ module _ {A : Type 0} (flag : A → Bool) where
       (λ x e f. absurd (let both : true ≡ false = sym f ∙ none x e in absurd (cc))) (λ c. absurd ((only i i first c).0 refl))
 
   -- nothing that is open before the least place has the flag
-  pub none_before : (m : ℕ → Option A) (a : ℕ) (kept : ReadyPlaces) (n : ℕ) → FlaggedPlacesAreMarked flag m a kept → PlaceIsLeast kept.places n → NoneHasFlagBelow flag m n
+  pub none_before : (m : ℕ → Option A) (a : ℕ) (kept : ReadyPlaces) (n : ℕ) → FlaggedPlacesAreMarked flag m a kept → PlaceIsLeast kept.places n → NoOpenEndBelowHasFlag flag m n
   none_before m a kept n h first j x l e = elim (cases_Bool (flag x)) [
     | inl shown ↦ absurd (let most = first.least j (h.marked j x e shown) in omega (arith, most, l))
     | inr hidden ↦ hidden
   ]
 
   -- where no place is marked, nothing has it
-  pub none_at_all : (m : ℕ → Option A) (a : ℕ) (kept : ReadyPlaces) → FlaggedPlacesAreMarked flag m a kept → kept.places ≡ [] → NoneHasFlag flag m
+  pub none_at_all : (m : ℕ → Option A) (a : ℕ) (kept : ReadyPlaces) → FlaggedPlacesAreMarked flag m a kept → kept.places ≡ [] → NoOpenEndHasFlag flag m
   none_at_all m a kept h none j x e = elim (cases_Bool (flag x)) [
     | inl shown ↦ absurd (let c = subst (λ (ps : List ℕ). Contains ps j) none (h.marked j x e shown) in omega (arith, c.1))
     | inr hidden ↦ hidden
@@ -209,35 +209,35 @@ pub same_list : {A : Type 0} (xs ys : List (Option A)) (a b : Bool) → xs ≡ y
 same_list {A} xs ys a b e f = ap {B = EndList A} (λ (zs : List (Option A)). record { items = zs; has_room = a }) e ∙ ap {B = EndList A} (λ (c : Bool). record { items = ys; has_room = c }) f
 
 -- a look leaves what may be lost
-pub looked_lost : (x y : Connection) → ConnectionAfterLook x y → may_be_lost y ≡ true → may_be_lost x ≡ true
+pub looked_lost : (x y : Connection) → ConnectionAfterLookahead x y → is_gone_with_exchange y ≡ true → is_gone_with_exchange x ≡ true
 looked_lost x y r f = sym (ap (λ (b : Bool). b && has_exchange y.activity) r.gone ∙ ap (λ (a : Activity). x.gone && has_exchange a) r.activity) ∙ f
 
 -- ---- nothing is beyond the count
 
-module _ {A : Type 0} (m k : ℕ → Option A) (n : ℕ) (h : NoneIsBeyond n m) where
+module _ {A : Type 0} (m k : ℕ → Option A) (n : ℕ) (h : NoEndIsOpenBeyond n m) where
   -- what is at one place changes
-  pub none_changed : (i : ℕ) → i ≤ n → ((q : ℕ) → q ≢ i → k q ≡ m q) → NoneIsBeyond n k
+  pub none_changed : (i : ℕ) → i ≤ n → ((q : ℕ) → q ≢ i → k q ≡ m q) → NoEndIsOpenBeyond n k
   none_changed i l same q there = elim (cases_eq q i) [
     | inl is ↦ omega (arith, is, l)
     | inr other ↦ h q (sym (ap is_some (same q other)) ∙ there)
   ]
 
-  pub none_alike : (R : A → A → Type 0) → RelatesAtEachPlace R m k → NoneIsBeyond n k
+  pub none_alike : (R : A → A → Type 0) → PlacesAreRelated R m k → NoEndIsOpenBeyond n k
   none_alike R alike q there = h q (by_old (m q) (k q) (alike q) there)
     where
-      by_old : (o p : Option A) → RelatesOptions R o p → is_some p ≡ true → is_some o ≡ true
+      by_old : (o p : Option A) → OptionsAreRelated R o p → is_some p ≡ true → is_some o ≡ true
       by_old o None r e = absurd (cc)
       by_old None (Some y) r e = absurd r
       by_old (Some x) (Some y) r e = refl
 
-pub none_beyond_more : {A : Type 0} (m : ℕ → Option A) (n : ℕ) → NoneIsBeyond n m → NoneIsBeyond (n + 1) m
+pub none_beyond_more : {A : Type 0} (m : ℕ → Option A) (n : ℕ) → NoEndIsOpenBeyond n m → NoEndIsOpenBeyond (n + 1) m
 none_beyond_more m n h q there = let most = h q there in omega (arith, most)
 
 -- one look after another
-pub alike_trans : {A : Type 0} (R : A → A → Type 0) → ((x y z : A) → R x y → R y z → R x z) → (m k l : ℕ → Option A) → RelatesAtEachPlace R m k → RelatesAtEachPlace R k l → RelatesAtEachPlace R m l
+pub alike_trans : {A : Type 0} (R : A → A → Type 0) → ((x y z : A) → R x y → R y z → R x z) → (m k l : ℕ → Option A) → PlacesAreRelated R m k → PlacesAreRelated R k l → PlacesAreRelated R m l
 alike_trans {A} R trans m k l first second i = by_each (m i) (k i) (l i) (first i) (second i)
   where
-    by_each : (o p q : Option A) → RelatesOptions R o p → RelatesOptions R p q → RelatesOptions R o q
+    by_each : (o p q : Option A) → OptionsAreRelated R o p → OptionsAreRelated R p q → OptionsAreRelated R o q
     by_each None None None r s = tt
     by_each None None (Some z) r s = absurd s
     by_each None (Some y) q r s = absurd r
@@ -245,22 +245,22 @@ alike_trans {A} R trans m k l first second i = by_each (m i) (k i) (l i) (first 
     by_each (Some x) (Some y) None r s = absurd s
     by_each (Some x) (Some y) (Some z) r s = trans x y z r s
 
-pub alike_refl : {A : Type 0} (R : A → A → Type 0) → ((x : A) → R x x) → (m : ℕ → Option A) → RelatesAtEachPlace R m m
+pub alike_refl : {A : Type 0} (R : A → A → Type 0) → ((x : A) → R x x) → (m : ℕ → Option A) → PlacesAreRelated R m m
 alike_refl {A} R same m i = by_each (m i)
   where
-    by_each : (o : Option A) → RelatesOptions R o o
+    by_each : (o : Option A) → OptionsAreRelated R o o
     by_each None = tt
     by_each (Some x) = same x
 
 -- a look at one place
-pub alike_at : {A : Type 0} (R : A → A → Type 0) → ((x : A) → R x x) → (m k : ℕ → Option A) (i : ℕ) → RelatesOptions R (m i) (k i) → ((q : ℕ) → q ≢ i → k q ≡ m q) → RelatesAtEachPlace R m k
+pub alike_at : {A : Type 0} (R : A → A → Type 0) → ((x : A) → R x x) → (m k : ℕ → Option A) (i : ℕ) → OptionsAreRelated R (m i) (k i) → ((q : ℕ) → q ≢ i → k q ≡ m q) → PlacesAreRelated R m k
 alike_at {A} R same m k i here others j = elim (cases_eq j i) [
-  | inl is ↦ subst (λ (p : ℕ). RelatesOptions R (m p) (k p)) (sym is) here
-  | inr other ↦ subst (λ (o : Option A). RelatesOptions R (m j) o) (sym (others j other)) (alike_refl R same m j)
+  | inl is ↦ subst (λ (p : ℕ). OptionsAreRelated R (m p) (k p)) (sym is) here
+  | inr other ↦ subst (λ (o : Option A). OptionsAreRelated R (m j) o) (sym (others j other)) (alike_refl R same m j)
 ]
 
 -- a look that shows nothing
-quiet_shows : {M : Type 0} (l : Lookahead M) → lookahead_may_be_due l ≡ false → LookaheadShows l next.More
+quiet_shows : {M : Type 0} (l : Lookahead M) → lookahead_may_be_due l ≡ false → LookaheadShowsAnswer l next.More
 quiet_shows Unknown e = absurd cc
 quiet_shows Quiet e = refl
 quiet_shows (Due next.More) e = refl
@@ -270,17 +270,17 @@ quiet_shows (Due (next.Refused f)) e = absurd cc
 quiet_shows (Due next.End) e = absurd cc
 
 -- it was looked at, and nothing is due
-pub settled : {M : Type 0} (l : Lookahead M) (a : Next M) → LookaheadShows l a → lookahead_is_due l ≡ false → lookahead_may_be_due l ≡ false
+pub settled : {M : Type 0} (l : Lookahead M) (a : Next M) → LookaheadShowsAnswer l a → lookahead_is_due l ≡ false → lookahead_may_be_due l ≡ false
 settled Unknown a shows e = absurd shows
 settled Quiet a shows e = refl
 settled (Due b) a shows e = e
 
 -- ---- what has no flag
 
-pub unlost : (c : Connection) (s : ConnectionModel) → may_be_lost c ≡ false → ConnectionRepresents (Some c) s → IsLostConnection s None
+pub unlost : (c : Connection) (s : ConnectionModel) → is_gone_with_exchange c ≡ false → ConnectionRepresents (Some c) s → IsGoneWhileBusy s None
 unlost c s e h = ap (λ (b : Bool). cond b (Some (link_place_of_activity s.activity)) None) (sym e ∙ (ap (λ (b : Bool). b && has_exchange c.activity) h.gone ∙ ap (λ (a : Activity). s.gone && has_exchange a) h.activity))
 
-pub unlost_over : (s : ConnectionModel) → ConnectionRepresents None s → IsLostConnection s None
+pub unlost_over : (s : ConnectionModel) → ConnectionRepresents None s → IsGoneWhileBusy s None
 unlost_over s h = by_gone s.gone ∙ ap (λ (a : Activity). cond (s.gone && has_exchange a) (Some (link_place_of_activity s.activity)) None) (sym h.1)
   where
     by_gone : (b : Bool) → None ≡ cond (b && false) (Some (link_place_of_activity s.activity)) None
@@ -288,9 +288,9 @@ unlost_over s h = by_gone s.gone ∙ ap (λ (a : Activity). cond (s.gone && has_
     by_gone false = refl
 
 pub unwanted : (c : Connection) (s : ConnectionModel) → connection_may_be_due c ≡ false → ConnectionRepresents (Some c) s → IsDueOnConnection s None
-unwanted c s e h = by_busy (takes_no_request c.gone false c.activity) refl e
+unwanted c s e h = by_busy (accepts_no_request c.gone false c.activity) refl e
   where
-    by_busy : (b : Bool) → takes_no_request c.gone false c.activity ≡ b → not b && lookahead_may_be_due c.reader.ahead ≡ false → IsDueOnConnection s None
+    by_busy : (b : Bool) → accepts_no_request c.gone false c.activity ≡ b → not b && lookahead_may_be_due c.reader.ahead ≡ false → IsDueOnConnection s None
     by_busy true busy e = subst (λ o. IsDueOnConnection s o) (ap (λ (b : Bool). cond b None (due_request_seen c.reader.ahead)) busy) (wanted_busy c s busy h)
     by_busy false idle e =
         let shows = quiet_shows c.reader.ahead e in
@@ -299,7 +299,7 @@ unwanted c s e h = by_busy (takes_no_request c.gone false c.activity) refl e
 pub unwanted_over : (s : ConnectionModel) → ConnectionRepresents None s → IsDueOnConnection s None
 unwanted_over s h = subst (λ (b : Bool). ConnectionActionUnlessBusy b s None) (sym (by_over s.gone s.closed h.0)) refl
   where
-    by_over : (gone closed : Bool) → gone || closed ≡ true → takes_no_request gone closed s.activity ≡ true
+    by_over : (gone closed : Bool) → gone || closed ≡ true → accepts_no_request gone closed s.activity ≡ true
     by_over true closed e = refl
     by_over false true e = refl
     by_over false false e = absurd (cc)
@@ -319,8 +319,8 @@ pub no_finish_due_over : (s : LinkModel) → LinkRepresents None s → IsDueOnLi
 no_finish_due_over s h = subst (λ (b : Bool). LinkResultUnlessDropped b s None) (sym h) refl
 
 -- the link that was read of a gone connection
-pub no_mark : (c : Connection) → None ≡ lost_connection_at (Some c) → may_be_lost c ≡ false
-no_mark c e = by_mark (may_be_lost c) (link_place_of_activity c.activity) e
+pub no_mark : (c : Connection) → None ≡ link_of_disconnected_exchange_at (Some c) → is_gone_with_exchange c ≡ false
+no_mark c e = by_mark (is_gone_with_exchange c) (link_place_of_activity c.activity) e
   where
     by_mark : (b : Bool) (o : Option ℕ) → None ≡ cond b (Some o) None → b ≡ false
     by_mark true o e = absurd (cc)

@@ -6,7 +6,7 @@ use Rattle.hx_framing.specs.declared.messages.Next.{Next}
 use Rattle.hx_framing.proofs.RequestOnce.{answered_once_lem as requests_once}
 use Rattle.hx_framing.proofs.ResponseOnce.{answered_once_lem as responses_once}
 use Rattle.proxy_engine.specs.EngineModel.{EngineModel, ConnectionModel, LinkModel, no_connection, no_link}
-use Rattle.proxy_engine.specs.Due.{Act, Abandons, Finishes, Wakes, Serves, LinkResult, IsFirstAtWhich, IsDueFirst, IsLostConnection, IsDueOnLink, LinkResultUnlessDropped, IsDueOnConnection, ConnectionActionUnlessBusy, due_request_action, link_result_of, takes_no_request}
+use Rattle.proxy_engine.specs.Due.{Act, Abandons, Finishes, Wakes, Serves, LinkResult, IsFirstAtWhich, IsDueFirst, IsGoneWhileBusy, IsDueOnLink, LinkResultUnlessDropped, IsDueOnConnection, ConnectionActionUnlessBusy, due_request_action, link_result_of, accepts_no_request}
 
 none_some : {B : Type 0} {b : B} {C : Type 0} → ◌≡◌ {A = Option B} None (Some b) → C
 none_some h = cc
@@ -28,7 +28,7 @@ first_once {A} {B} R d xs (Some p) (Some q) once h k = by_order (cases_lt p.0 q.
         let what : p.1 ≡ q.1 = some_same (once (get_or xs q.0 d) (Some p.1) (Some q.1) (subst (λ n. R (get_or xs n d) (Some p.1)) place h.1) k.1) in
         ap (λ n. Some (n, p.1)) place ∙ ap (λ b. Some (q.0, b)) what
 
-lost_once : (x : ConnectionModel) (o p : Option (Option ℕ)) → IsLostConnection x o → IsLostConnection x p → o ≡ p
+lost_once : (x : ConnectionModel) (o p : Option (Option ℕ)) → IsGoneWhileBusy x o → IsGoneWhileBusy x p → o ≡ p
 lost_once x o p h k = h ∙ sym k
 
 finish_due_by : (b : Bool) (x : LinkModel) (o p : Option LinkResult) → LinkResultUnlessDropped b x o → LinkResultUnlessDropped b x p → o ≡ p
@@ -43,10 +43,10 @@ wanted_by true x o p h k = h ∙ sym k
 wanted_by false x o p h k = h.2 ∙ (ap due_request_action (requests_once x.progress h.0 k.0 h.1 k.1) ∙ sym k.2)
 
 wanted_once : (x : ConnectionModel) (o p : Option (Next Request)) → IsDueOnConnection x o → IsDueOnConnection x p → o ≡ p
-wanted_once x o p h k = wanted_by (takes_no_request x.gone x.closed x.activity) x o p h k
+wanted_once x o p h k = wanted_by (accepts_no_request x.gone x.closed x.activity) x o p h k
 
-pub lost_same : (s : EngineModel) (a b : Option (ℕ × Option ℕ)) → IsFirstAtWhich IsLostConnection no_connection s.connections a → IsFirstAtWhich IsLostConnection no_connection s.connections b → a ≡ b
-lost_same s a b h k = first_once IsLostConnection no_connection s.connections a b lost_once h k
+pub lost_same : (s : EngineModel) (a b : Option (ℕ × Option ℕ)) → IsFirstAtWhich IsGoneWhileBusy no_connection s.connections a → IsFirstAtWhich IsGoneWhileBusy no_connection s.connections b → a ≡ b
+lost_same s a b h k = first_once IsGoneWhileBusy no_connection s.connections a b lost_once h k
 
 pub finish_due_same : (s : EngineModel) (a b : Option (ℕ × LinkResult)) → IsFirstAtWhich IsDueOnLink no_link s.links a → IsFirstAtWhich IsDueOnLink no_link s.links b → a ≡ b
 finish_due_same s a b h k = first_once IsDueOnLink no_link s.links a b finish_due_once h k

@@ -7,14 +7,14 @@ use Rattle.proxy_core.specs.Traces.{Item}
 use Rattle.proxy_engine.specs.EngineModel.{EngineModel, happening_fault}
 use Rattle.proxy_engine.specs.Due.{Act, Abandons, Finishes, Wakes, Serves, Gives, Breaks, IsDueFirst}
 use Rattle.proxy_engine.specs.Acts.{ActIsDone}
-use Rattle.proxy_engine.specs.Executions.{Took, Worked, StepAddsToTrace, TakingAddsToTrace, core_event_of_happening, IsCoreEventOfAct, ActIsDoneInOneWay, StepsHaveOneTrace}
-use Rattle.proxy_engine.specs.OneRun.{moment_of_event, count_of_core_steps, count_of_events, RunHasNoOtherEffects, RunHasNoOtherAct, RunHasNoOtherMoment, RunHasNoUntakenHappening, RunHasNoMoreItems, RunHasNoItemWithoutStep}
+use Rattle.proxy_engine.specs.Executions.{Took, Worked, StepAddsItemToTrace, HappeningAddsItemToTrace, core_event_of_happening, IsCoreEventOfAct, ActIsDoneInOneWay, StepsHaveOneTrace}
+use Rattle.proxy_engine.specs.OneRun.{moment_of_event, count_of_core_steps, count_of_events, RunHasOnlyEffectsOfItsActs, RunDoesOnlyTheFirstDueAct, RunStepsCoreAtMomentOfAct, RunHasNoUntakenHappening, RunHasNoMoreItems, RunHasNoItemWithoutStep}
 use Rattle.proxy_engine.proofs.Once.{due_first_once}
 
 some_act : {a b : Act} → Some a ≡ Some b → a ≡ b
 some_act h = cc
 
-pub no_other_effects : StepsHaveOneTrace → ActIsDoneInOneWay → RunHasNoOtherEffects
+pub no_other_effects : StepsHaveOneTrace → ActIsDoneInOneWay → RunHasOnlyEffectsOfItsActs
 no_other_effects once one_way table start first now begin last other past act emitted more run differ second =
     let a = run.has_trace in
     let b = second.has_trace in
@@ -22,7 +22,7 @@ no_other_effects once one_way table start first now begin last other past act em
     let does = subst (λ (s : EngineModel). ActIsDone s now act emitted last) same a.3.1 in
     differ (one_way b.0 now act emitted more last other does b.3.1).0
 
-pub no_other_act : StepsHaveOneTrace → RunHasNoOtherAct
+pub no_other_act : StepsHaveOneTrace → RunDoesOnlyTheFirstDueAct
 no_other_act once table start first now then begin last other past act instead emitted more run differ second =
     let a = run.has_trace in
     let b = second.has_trace in
@@ -41,7 +41,7 @@ at_its_moment s now then (Serves i next.NeedsContinue) event is at = absurd is
 at_its_moment s now then (Serves i (next.Refused fault)) event is at = absurd is
 at_its_moment s now then (Serves i next.End) event is at = absurd is
 
-pub no_other_moment : RunHasNoOtherMoment
+pub no_other_moment : RunStepsCoreAtMomentOfAct
 no_other_moment table s after now then act item emitted h at differ = differ (at_its_moment s now then act item.event h.event_is at)
 
 pub nothing_untaken : StepsHaveOneTrace → RunHasNoUntakenHappening
@@ -54,12 +54,12 @@ pub no_more_items : RunHasNoMoreItems
 no_more_items table begin last [] trace h = subst (λ (z : List Item). length z ≤ 0) (sym h.1) (omega arith)
 no_more_items table begin last (Took happening ∷ past) trace h = by_question (core_event_of_happening happening) (no_more_items table begin h.0 past h.1 h.2) h.4
   where
-    by_question : (event : Option Event) → length h.1 ≤ count_of_core_steps past → TakingAddsToTrace h.0 event last h.1 trace → length trace ≤ count_of_core_steps past + count_of_events event
+    by_question : (event : Option Event) → length h.1 ≤ count_of_core_steps past → HappeningAddsItemToTrace h.0 event last h.1 trace → length trace ≤ count_of_core_steps past + count_of_events event
     by_question None few adds = subst (λ (z : List Item). length z ≤ count_of_core_steps past + 0) (sym adds) (omega (arith, few))
     by_question (Some event) few adds = subst (λ (z : List Item). length z ≤ count_of_core_steps past + 1) (sym adds.1) (omega (arith, few))
 no_more_items table begin last (Worked now act emitted ∷ past) trace h = by_step (no_more_items table begin h.0 past h.1 h.2) h.4
   where
-    by_step : length h.1 ≤ count_of_core_steps past → StepAddsToTrace table h.0 (Worked now act emitted) last h.1 trace → length trace ≤ count_of_core_steps past + 1
+    by_step : length h.1 ≤ count_of_core_steps past → StepAddsItemToTrace table h.0 (Worked now act emitted) last h.1 trace → length trace ≤ count_of_core_steps past + 1
     by_step few (inl (item, is, done)) = subst (λ (z : List Item). length z ≤ count_of_core_steps past + 1) (sym is) (omega (arith, few))
     by_step few (inr (is, none, own)) = subst (λ (z : List Item). length z ≤ count_of_core_steps past + 1) (sym is) (omega (arith, few))
 

@@ -7,7 +7,7 @@ use Rattle.std.proofs.Math.ListN.{get_or-append, length-map, length-set}
 use Rattle.std.proofs.Math.Seq.{get_or-append_seam}
 use Rattle.hx_fields.specs.declared.limits.TheConstants.{END_OF_TIME}
 use Rattle.proxy_core.specs.Moments.{moment_too_late_fault}
-use Rattle.proxy_core.specs.Outcomes.{find_exchange, or_fault, fault_if_not_forwarded, fault_if_not_released, fault_at_exchange, step_fault}
+use Rattle.proxy_core.specs.Outcomes.{find_exchange, fault_else, fault_if_not_forwarded, fault_if_not_released, fault_at_exchange, step_fault}
 use Rattle.proxy_core.specs.Leading.{is_forwarded, is_waiting as stage_waits, is_released, waits_for}
 use Rattle.proxy_core.specs.Waiting.{ExchangeMayBeWoken}
 use Rattle.proxy_core.specs.declared.open.stage.Stage.{Stage}
@@ -21,19 +21,19 @@ use Rattle.proxy_core.specs.declared.core_fault.CoreFault.TheVariants.{MomentToo
 use Rattle.hx_hop.specs.declared.request_view.Asked.{Asked}
 use Rattle.hx_allow.specs.TableLines.{Table}
 use Rattle.hx_store.specs.Stored.{Stored}
-use Rattle.proxy_core.specs.LeadingOn.{next_leader, stage_after_leader, led_on_exchange, exchanges_after_abandon}
+use Rattle.proxy_core.specs.LeadingOn.{next_leader, stage_after_leader, after_abandon, exchanges_after_abandon}
 use Rattle.proxy_core.proofs.LedOn.{behind-not_out}
 use Rattle.proxy_engine.proofs.Ending.{Remains, Renews, renewed}
-use Rattle.proxy_core.specs.Scopes.{Scope, is_in_scope}
-use Rattle.proxy_core.specs.State.{exchanges_after_close, released_exchange, forwarded_exchange, waiting_exchange, line_of_verdict, open_exchanges_after, overtaken_exchange, exchanges_after_end, exchanges_after_purge, scope_purged, exchange_past_its_wait, overdue_exchange}
+use Rattle.proxy_core.specs.Scopes.{Scope, key_is_in_scope}
+use Rattle.proxy_core.specs.State.{exchanges_after_close, released_exchange, forwarded_exchange, waiting_exchange, line_of_verdict, open_exchanges_after, overtaken_exchange, exchanges_after_end, exchanges_after_purge, scope_purged, exchange_released_by_timeout, overdue_exchange}
 use Rattle.proxy_core.specs.declared.outcome.Outcome.{Outcome}
 use Rattle.proxy_core.specs.declared.event.Event.{Event}
 use Rattle.proxy_core.specs.declared.event.Event.TheVariants.{Arrive, Answer, Fail, Wake}
 use Rattle.proxy_core.specs.declared.outcome.Outcome.TheVariants.{Reply, Forward, Waits, Ended, WaitsNoMore}
 use Rattle.proxy_core.specs.declared.open.exchange.Exchange.{Exchange}
 use Rattle.proxy_engine.specs.Activities.{link_place_of_activity, has_exchange, forwarded_or_waiting}
-use Rattle.proxy_engine.specs.Pairing.{ConnectionsAndLinksArePaired, forwarded_or_waiting_at, activity_at, owner_at, activity_of, owner_of, activities_of, owners_of, activities_after, owners_after}
-use Rattle.proxy_engine.specs.State.{NoConnectionIsLost, is_gone_at, connection_is_free_at}
+use Rattle.proxy_engine.specs.Pairing.{ConnectionsAndLinksArePaired, forwarded_or_waiting_at, activity_at, owner_at, activity_of_connection, owner_of_open_link, activities_of_connections, owners_of_links, activities_after_outcome, owners_after_outcome}
+use Rattle.proxy_engine.specs.State.{NoDisconnectedClientHasExchange, is_gone_at, connection_is_free_at}
 use Rattle.proxy_engine.proofs.ActivityCases.{open_from, forwarded_from, waiting_by}
 use Rattle.proxy_engine.proofs.Keeping.{inside}
 use Rattle.proxy_engine.proofs.Changes.{free_there, free_activity}
@@ -167,10 +167,10 @@ waits_apart_still (stages.Waiting m) h = refl
 waits_apart_still stages.Released h = absurd (cc)
 
 overdue_by : (b : Bool) (x : Exchange) (id : ℕ) (o p : Option Exchange) → (b ≡ true → stage_waits x.stage ≡ true) → out o ≡ out p
-    → out (cond ((cond b (exchange_past_its_wait x) x).id == id) (Some (cond b (exchange_past_its_wait x) x)) o) ≡ out (cond (x.id == id) (Some x) p)
+    → out (cond ((cond b (exchange_released_by_timeout x) x).id == id) (Some (cond b (exchange_released_by_timeout x) x)) o) ≡ out (cond (x.id == id) (Some x) p)
 overdue_by true x id o p w h = open_by (x.id == id)
   where
-    open_by : (b : Bool) → out (cond b (Some (exchange_past_its_wait x)) o) ≡ out (cond b (Some x) p)
+    open_by : (b : Bool) → out (cond b (Some (exchange_released_by_timeout x)) o) ≡ out (cond b (Some x) p)
     open_by true = waits_apart_still x.stage (w refl)
     open_by false = h
 overdue_by false x id o p w h = out_by (x.id == id) x o p h
@@ -322,7 +322,7 @@ overtaken_by false x id o p h = out_by (x.id == id) x o p h
 
 find_overtaken : (key : Scope) (id : ℕ) (xs : List Exchange) → forwarded_or_waiting_at id (map (overtaken_exchange key) xs) ≡ forwarded_or_waiting_at id xs
 find_overtaken key id [] = refl
-find_overtaken key id (x ∷ xs) = overtaken_by (is_in_scope key x.asked.target.key) x id (find_exchange id (map (overtaken_exchange key) xs)) (find_exchange id xs) (find_overtaken key id xs)
+find_overtaken key id (x ∷ xs) = overtaken_by (key_is_in_scope key x.asked.target.key) x id (find_exchange id (map (overtaken_exchange key) xs)) (find_exchange id xs) (find_overtaken key id xs)
 
 -- what is marked stays open
 find_left : (key : Option Scope) (id other : ℕ) (xs : List Exchange) → forwarded_or_waiting_at other (exchanges_after_end key id xs) ≡ forwarded_or_waiting_at other (exchanges_after_close id xs)
@@ -338,9 +338,9 @@ paired_left activities owners xs key id h = record {
 }
 
 -- who is led on waits still, and who is released has waited
-out_led_on : (table : Table) (ys : List Exchange) (l id : ℕ) (xs : List Exchange) → forwarded_or_waiting_at id (map (led_on_exchange table (next_leader table l ys) l) xs) ≡ forwarded_or_waiting_at id xs
+out_led_on : (table : Table) (ys : List Exchange) (l id : ℕ) (xs : List Exchange) → forwarded_or_waiting_at id (map (after_abandon table (next_leader table l ys) l) xs) ≡ forwarded_or_waiting_at id xs
 out_led_on table ys l id [] = refl
-out_led_on table ys l id (x ∷ xs) = led_on_by (waits_for l x.stage) refl (find_exchange id (map (led_on_exchange table (next_leader table l ys) l) xs)) (find_exchange id xs) (out_led_on table ys l id xs)
+out_led_on table ys l id (x ∷ xs) = led_on_by (waits_for l x.stage) refl (find_exchange id (map (after_abandon table (next_leader table l ys) l) xs)) (find_exchange id xs) (out_led_on table ys l id xs)
   where
     led_on_by : (b : Bool) → waits_for l x.stage ≡ b → (o p : Option Exchange) → out o ≡ out p
         → out (cond ((cond b (record x { stage = stage_after_leader table (next_leader table l ys) x }) x).id == id) (Some (cond b (record x { stage = stage_after_leader table (next_leader table l ys) x }) x)) o) ≡ out (cond (x.id == id) (Some x) p)
@@ -507,22 +507,22 @@ paired_purged activities owners xs key h = record {
 }
 
 -- a request has arrived: it goes forward, or not
-pub paired_arrived : (table : Table) (cs cs1 cs2 : List (Option Connection)) (ks ks2 : List (Option Link)) (held : List Stored) (xs : List Exchange) (now i : ℕ) (asked : Asked) (o : Outcome) → i < length cs → activities_of cs1 ≡ activities_of cs → activity_at (activities_of cs) i ≡ Free
-    → activities_of cs2 ≡ activities_after i (length ks) o (activities_of cs1) → owners_of ks2 ≡ owners_after i o (owners_of ks) → ConnectionsAndLinksArePaired (activities_of cs) (owners_of ks) xs → ConnectionsAndLinksArePaired (activities_of cs2) (owners_of ks2) (open_exchanges_after table held xs (Arrive now (i + 1) asked) o)
+pub paired_arrived : (table : Table) (cs cs1 cs2 : List (Option Connection)) (ks ks2 : List (Option Link)) (held : List Stored) (xs : List Exchange) (now i : ℕ) (asked : Asked) (o : Outcome) → i < length cs → activities_of_connections cs1 ≡ activities_of_connections cs → activity_at (activities_of_connections cs) i ≡ Free
+    → activities_of_connections cs2 ≡ activities_after_outcome i (length ks) o (activities_of_connections cs1) → owners_of_links ks2 ≡ owners_after_outcome i o (owners_of_links ks) → ConnectionsAndLinksArePaired (activities_of_connections cs) (owners_of_links ks) xs → ConnectionsAndLinksArePaired (activities_of_connections cs2) (owners_of_links ks2) (open_exchanges_after table held xs (Arrive now (i + 1) asked) o)
 paired_arrived table cs cs1 cs2 ks ks2 held xs now i asked (Reply r) inside same free links owners h =
     let key = scope_purged asked (Reply r) in
-    paired_same _ _ _ _ (exchanges_after_purge key xs) (links ∙ same) owners (paired_purged (activities_of cs) (owners_of ks) xs key h)
+    paired_same _ _ _ _ (exchanges_after_purge key xs) (links ∙ same) owners (paired_purged (activities_of_connections cs) (owners_of_links ks) xs key h)
 paired_arrived table cs cs1 cs2 ks ks2 held xs now i asked (Forward line bytes) inside same free links owners h =
-    let size : length (owners_of ks) ≡ length ks = length-map ks owner_of in
-    let pairing : length (activities_of cs) ≡ length cs = length-map cs activity_of in
+    let size : length (owners_of_links ks) ≡ length ks = length-map ks owner_of_open_link in
+    let pairing : length (activities_of_connections cs) ≡ length cs = length-map cs activity_of_connection in
     let ys = xs ++ forwarded_exchange table held now (i + 1) asked line ∷ [] in
-    let opens = paired_opened (activities_of cs) (owners_of ks) xs (forwarded_exchange table held now (i + 1) asked line) i (omega (arith, inside, pairing)) free refl refl h in
-    paired_same _ _ _ _ ys (links ∙ (ap (λ (ds : List Activity). set ds i (Forwarded (length ks))) same ∙ ap (λ n. set (activities_of cs) i (Forwarded n)) (sym size))) owners opens
+    let opens = paired_opened (activities_of_connections cs) (owners_of_links ks) xs (forwarded_exchange table held now (i + 1) asked line) i (omega (arith, inside, pairing)) free refl refl h in
+    paired_same _ _ _ _ ys (links ∙ (ap (λ (ds : List Activity). set ds i (Forwarded (length ks))) same ∙ ap (λ n. set (activities_of_connections cs) i (Forwarded n)) (sym size))) owners opens
 paired_arrived table cs cs1 cs2 ks ks2 held xs now i asked (Waits leader) inside same free links owners h =
-    let pairing : length (activities_of cs) ≡ length cs = length-map cs activity_of in
+    let pairing : length (activities_of_connections cs) ≡ length cs = length-map cs activity_of_connection in
     let x = waiting_exchange table held now (i + 1) asked (line_of_verdict (verdict_of_asked table asked)) leader in
     paired_same _ _ _ _ (xs ++ x ∷ []) (links ∙ ap (λ (ds : List Activity). set ds i Waiting) same) owners
-    (paired_queued (activities_of cs) (owners_of ks) xs x i (omega (arith, inside, pairing)) free refl refl h)
+    (paired_queued (activities_of_connections cs) (owners_of_links ks) xs x i (omega (arith, inside, pairing)) free refl refl h)
 paired_arrived table cs cs1 cs2 ks ks2 held xs now i asked Ended inside same free links owners h = paired_same _ _ _ _ xs (links ∙ same) owners h
 paired_arrived table cs cs1 cs2 ks ks2 held xs now i asked WaitsNoMore inside same free links owners h = paired_same _ _ _ _ xs (links ∙ same) owners h
 
@@ -532,33 +532,33 @@ paired_arrived table cs cs1 cs2 ks ks2 held xs now i asked WaitsNoMore inside sa
 pub mapped_at : {A : Type 0} (f : A → Option ℕ) (xs : List A) (i : ℕ) (d : A) → i < length xs → owner_at (map f xs) i ≡ f (get_or xs i d)
 mapped_at f xs i d l = get_or-map f xs i d None l
 
-pub doing_at : (cs : List (Option Connection)) (i : ℕ) → i < length cs → activity_at (activities_of cs) i ≡ activity_of (get_or cs i None)
-doing_at cs i l = get_or-map activity_of cs i None Free l
+pub doing_at : (cs : List (Option Connection)) (i : ℕ) → i < length cs → activity_at (activities_of_connections cs) i ≡ activity_of_connection (get_or cs i None)
+doing_at cs i l = get_or-map activity_of_connection cs i None Free l
 
 -- a link that is open belongs to a connection that has it
-pub owned_link : (cs : List (Option Connection)) (ks : List (Option Link)) (xs : List Exchange) (j : ℕ) (x : Link) → get_or ks j None ≡ Some x → ConnectionsAndLinksArePaired (activities_of cs) (owners_of ks) xs → link_place_of_activity (activity_at (activities_of cs) x.connection) ≡ Some j
-owned_link cs ks xs j x e w = w.linked x.connection j (mapped_at owner_of ks j None (inside ks j (ap is_some e)) ∙ ap owner_of e)
+pub owned_link : (cs : List (Option Connection)) (ks : List (Option Link)) (xs : List Exchange) (j : ℕ) (x : Link) → get_or ks j None ≡ Some x → ConnectionsAndLinksArePaired (activities_of_connections cs) (owners_of_links ks) xs → link_place_of_activity (activity_at (activities_of_connections cs) x.connection) ≡ Some j
+owned_link cs ks xs j x e w = w.linked x.connection j (mapped_at owner_of_open_link ks j None (inside ks j (ap is_some e)) ∙ ap owner_of_open_link e)
 
 -- the place of a connection that has a link, and that of its link
-pub within_connections : (cs : List (Option Connection)) (i j : ℕ) → link_place_of_activity (activity_at (activities_of cs) i) ≡ Some j → i < length cs
-within_connections cs i j h = subst (λ n. i < n) (length-map cs activity_of) (has_place (activities_of cs) i j h)
+pub within_connections : (cs : List (Option Connection)) (i j : ℕ) → link_place_of_activity (activity_at (activities_of_connections cs) i) ≡ Some j → i < length cs
+within_connections cs i j h = subst (λ n. i < n) (length-map cs activity_of_connection) (has_place (activities_of_connections cs) i j h)
 
-pub within_links : (cs : List (Option Connection)) (ks : List (Option Link)) (xs : List Exchange) (i j : ℕ) → link_place_of_activity (activity_at (activities_of cs) i) ≡ Some j → ConnectionsAndLinksArePaired (activities_of cs) (owners_of ks) xs → j < length ks
-within_links cs ks xs i j h w = subst (λ n. j < n) (length-map ks owner_of) (within (owners_of ks) j i (w.owned i j h))
+pub within_links : (cs : List (Option Connection)) (ks : List (Option Link)) (xs : List Exchange) (i j : ℕ) → link_place_of_activity (activity_at (activities_of_connections cs) i) ≡ Some j → ConnectionsAndLinksArePaired (activities_of_connections cs) (owners_of_links ks) xs → j < length ks
+within_links cs ks xs i j h w = subst (λ n. j < n) (length-map ks owner_of_open_link) (within (owners_of_links ks) j i (w.owned i j h))
 
 -- its exchange is open, and its request at the origin
-pub is_out : (cs : List (Option Connection)) (ks : List (Option Link)) (xs : List Exchange) (i j : ℕ) → link_place_of_activity (activity_at (activities_of cs) i) ≡ Some j → ConnectionsAndLinksArePaired (activities_of cs) (owners_of ks) xs → forwarded_or_waiting_at (i + 1) xs ≡ Some true
-is_out cs ks xs i j h w = w.opened i ∙ forwarded_from (activity_at (activities_of cs) i) j h
+pub is_out : (cs : List (Option Connection)) (ks : List (Option Link)) (xs : List Exchange) (i j : ℕ) → link_place_of_activity (activity_at (activities_of_connections cs) i) ≡ Some j → ConnectionsAndLinksArePaired (activities_of_connections cs) (owners_of_links ks) xs → forwarded_or_waiting_at (i + 1) xs ≡ Some true
+is_out cs ks xs i j h w = w.opened i ∙ forwarded_from (activity_at (activities_of_connections cs) i) j h
 
-pub is_open : (cs : List (Option Connection)) (ks : List (Option Link)) (xs : List Exchange) (i j : ℕ) → link_place_of_activity (activity_at (activities_of cs) i) ≡ Some j → ConnectionsAndLinksArePaired (activities_of cs) (owners_of ks) xs → is_some (find_exchange (i + 1) xs) ≡ true
+pub is_open : (cs : List (Option Connection)) (ks : List (Option Link)) (xs : List Exchange) (i j : ℕ) → link_place_of_activity (activity_at (activities_of_connections cs) i) ≡ Some j → ConnectionsAndLinksArePaired (activities_of_connections cs) (owners_of_links ks) xs → is_some (find_exchange (i + 1) xs) ≡ true
 is_open cs ks xs i j h w = some_out (find_exchange (i + 1) xs) true (is_out cs ks xs i j h w)
 
 -- that of a request that waits is open
-pub is_waiting : (cs : List (Option Connection)) (ks : List (Option Link)) (xs : List Exchange) (i : ℕ) → activity_at (activities_of cs) i ≡ Waiting → ConnectionsAndLinksArePaired (activities_of cs) (owners_of ks) xs → is_some (find_exchange (i + 1) xs) ≡ true
+pub is_waiting : (cs : List (Option Connection)) (ks : List (Option Link)) (xs : List Exchange) (i : ℕ) → activity_at (activities_of_connections cs) i ≡ Waiting → ConnectionsAndLinksArePaired (activities_of_connections cs) (owners_of_links ks) xs → is_some (find_exchange (i + 1) xs) ≡ true
 is_waiting cs ks xs i h w = some_out (find_exchange (i + 1) xs) false (w.opened i ∙ ap forwarded_or_waiting h)
 
-pub within_waiting : (cs : List (Option Connection)) (i : ℕ) → activity_at (activities_of cs) i ≡ Waiting → i < length cs
-within_waiting cs i h = subst (λ n. i < n) (length-map cs activity_of) (waits_inside (activities_of cs) i h)
+pub within_waiting : (cs : List (Option Connection)) (i : ℕ) → activity_at (activities_of_connections cs) i ≡ Waiting → i < length cs
+within_waiting cs i h = subst (λ n. i < n) (length-map cs activity_of_connection) (waits_inside (activities_of_connections cs) i h)
 
 released_out : (s : Stage) → is_released s ≡ true → is_forwarded s ≡ false
 released_out stages.Forwarded h = absurd (cc)
@@ -578,38 +578,38 @@ ready_numbered activities owners xs zero r w =
 ready_numbered activities owners xs (suc i) r w = omega arith
 
 -- that of a free connection isn't
-pub not_open : (cs : List (Option Connection)) (ks : List (Option Link)) (xs : List Exchange) (i : ℕ) → connection_is_free_at (get_or cs i None) ≡ true → ConnectionsAndLinksArePaired (activities_of cs) (owners_of ks) xs → (activity_at (activities_of cs) i ≡ Free) × (is_some (find_exchange (i + 1) xs) ≡ false)
+pub not_open : (cs : List (Option Connection)) (ks : List (Option Link)) (xs : List Exchange) (i : ℕ) → connection_is_free_at (get_or cs i None) ≡ true → ConnectionsAndLinksArePaired (activities_of_connections cs) (owners_of_links ks) xs → (activity_at (activities_of_connections cs) i ≡ Free) × (is_some (find_exchange (i + 1) xs) ≡ false)
 not_open cs ks xs i free w =
-    let idle : activity_at (activities_of cs) i ≡ Free = doing_at cs i (inside cs i (free_there (get_or cs i None) free)) ∙ free_activity (get_or cs i None) free in
+    let idle : activity_at (activities_of_connections cs) i ≡ Free = doing_at cs i (inside cs i (free_there (get_or cs i None) free)) ∙ free_activity (get_or cs i None) free in
     (idle, ap is_some (none_out (find_exchange (i + 1) xs) (w.opened i ∙ ap forwarded_or_waiting idle)))
 
 -- what has a link is open
-linked_there : (o : Option Connection) (j : ℕ) → link_place_of_activity (activity_of o) ≡ Some j → (c : Connection) × (o ≡ Some c) × (link_place_of_activity c.activity ≡ Some j)
+linked_there : (o : Option Connection) (j : ℕ) → link_place_of_activity (activity_of_connection o) ≡ Some j → (c : Connection) × (o ≡ Some c) × (link_place_of_activity c.activity ≡ Some j)
 linked_there None j e = absurd (cc)
 linked_there (Some c) j e = (c, refl, e)
 
-pub linked_at : (cs : List (Option Connection)) (i j : ℕ) → link_place_of_activity (activity_at (activities_of cs) i) ≡ Some j → (c : Connection) × (get_or cs i None ≡ Some c) × (link_place_of_activity c.activity ≡ Some j)
+pub linked_at : (cs : List (Option Connection)) (i j : ℕ) → link_place_of_activity (activity_at (activities_of_connections cs) i) ≡ Some j → (c : Connection) × (get_or cs i None ≡ Some c) × (link_place_of_activity c.activity ≡ Some j)
 linked_at cs i j e = linked_there (get_or cs i None) j (sym (ap link_place_of_activity (doing_at cs i (within_connections cs i j e))) ∙ e)
 
-owned_there : (o : Option Link) (i : ℕ) → owner_of o ≡ Some i → is_some o ≡ true
+owned_there : (o : Option Link) (i : ℕ) → owner_of_open_link o ≡ Some i → is_some o ≡ true
 owned_there None i e = absurd (cc)
 owned_there (Some k) i e = refl
 
 -- the link of a connection is open
-pub link_there : (cs : List (Option Connection)) (ks : List (Option Link)) (xs : List Exchange) (i j : ℕ) → link_place_of_activity (activity_at (activities_of cs) i) ≡ Some j → ConnectionsAndLinksArePaired (activities_of cs) (owners_of ks) xs → is_some (get_or ks j None) ≡ true
-link_there cs ks xs i j e w = owned_there (get_or ks j None) i (sym (mapped_at owner_of ks j None (within_links cs ks xs i j e w)) ∙ w.owned i j e)
+pub link_there : (cs : List (Option Connection)) (ks : List (Option Link)) (xs : List Exchange) (i j : ℕ) → link_place_of_activity (activity_at (activities_of_connections cs) i) ≡ Some j → ConnectionsAndLinksArePaired (activities_of_connections cs) (owners_of_links ks) xs → is_some (get_or ks j None) ≡ true
+link_there cs ks xs i j e w = owned_there (get_or ks j None) i (sym (mapped_at owner_of_open_link ks j None (within_links cs ks xs i j e w)) ∙ w.owned i j e)
 
 here_by : (gone : Bool) (a : Activity) (j : ℕ) → link_place_of_activity a ≡ Some j → gone && has_exchange a ≡ false → gone ≡ false
 here_by true a j l e = sym (open_from a j l) ∙ e
 here_by false a j l e = refl
 
 -- where none is lost, a connection that has a link isn't gone
-pub still_here : (cs : List (Option Connection)) (i j : ℕ) → NoConnectionIsLost cs → link_place_of_activity (activity_at (activities_of cs) i) ≡ Some j → is_gone_at (get_or cs i None) ≡ Some false
+pub still_here : (cs : List (Option Connection)) (i j : ℕ) → NoDisconnectedClientHasExchange cs → link_place_of_activity (activity_at (activities_of_connections cs) i) ≡ Some j → is_gone_at (get_or cs i None) ≡ Some false
 still_here cs i j none e =
     let c = linked_at cs i j e in
     ap is_gone_at c.1 ∙ ap (λ (b : Bool). Some b) (here_by c.0.gone c.0.activity j c.2 (none i c.0 c.1))
 
-waiting_there : (o : Option Connection) → activity_of o ≡ Waiting → (c : Connection) × (o ≡ Some c) × (has_exchange c.activity ≡ true)
+waiting_there : (o : Option Connection) → activity_of_connection o ≡ Waiting → (c : Connection) × (o ≡ Some c) × (has_exchange c.activity ≡ true)
 waiting_there None e = absurd (cc)
 waiting_there (Some c) e = (c, refl, ap has_exchange e)
 
@@ -618,75 +618,75 @@ here_with true held o e = sym o ∙ e
 here_with false held o e = refl
 
 -- nor is one whose request waits
-pub waits_here : (cs : List (Option Connection)) (i : ℕ) → NoConnectionIsLost cs → activity_at (activities_of cs) i ≡ Waiting → is_gone_at (get_or cs i None) ≡ Some false
+pub waits_here : (cs : List (Option Connection)) (i : ℕ) → NoDisconnectedClientHasExchange cs → activity_at (activities_of_connections cs) i ≡ Waiting → is_gone_at (get_or cs i None) ≡ Some false
 waits_here cs i none e =
     let c = waiting_there (get_or cs i None) (sym (doing_at cs i (within_waiting cs i e)) ∙ e) in
     ap is_gone_at c.1 ∙ ap (λ (b : Bool). Some b) (here_with c.0.gone (has_exchange c.0.activity) c.2 (none i c.0 c.1))
 
 -- an exchange has ended, on all sides
-pub paired_ended : (cs cs1 : List (Option Connection)) (ks ks1 : List (Option Link)) (xs xs1 : List Exchange) (i j : ℕ) → link_place_of_activity (activity_at (activities_of cs) i) ≡ Some j → activities_of cs1 ≡ set (activities_of cs) i Free → owners_of ks1 ≡ set (owners_of ks) j None → (key : Option Scope) → xs1 ≡ exchanges_after_end key (i + 1) xs
-    → ConnectionsAndLinksArePaired (activities_of cs) (owners_of ks) xs → ConnectionsAndLinksArePaired (activities_of cs1) (owners_of ks1) xs1
+pub paired_ended : (cs cs1 : List (Option Connection)) (ks ks1 : List (Option Link)) (xs xs1 : List Exchange) (i j : ℕ) → link_place_of_activity (activity_at (activities_of_connections cs) i) ≡ Some j → activities_of_connections cs1 ≡ set (activities_of_connections cs) i Free → owners_of_links ks1 ≡ set (owners_of_links ks) j None → (key : Option Scope) → xs1 ≡ exchanges_after_end key (i + 1) xs
+    → ConnectionsAndLinksArePaired (activities_of_connections cs) (owners_of_links ks) xs → ConnectionsAndLinksArePaired (activities_of_connections cs1) (owners_of_links ks1) xs1
 paired_ended cs cs1 ks ks1 xs xs1 i j h links owners key exchanges w =
-    subst (λ (ds : List Activity). ConnectionsAndLinksArePaired ds (owners_of ks1) xs1) (sym links)
-    (subst (λ (os : List (Option ℕ)). ConnectionsAndLinksArePaired (set (activities_of cs) i Free) os xs1) (sym owners)
-    (subst (λ (es : List Exchange). ConnectionsAndLinksArePaired (set (activities_of cs) i Free) (set (owners_of ks) j None) es) (sym exchanges) (paired_left (set (activities_of cs) i Free) (set (owners_of ks) j None) xs key (i + 1) (paired_freed (activities_of cs) (owners_of ks) xs i j h w))))
+    subst (λ (ds : List Activity). ConnectionsAndLinksArePaired ds (owners_of_links ks1) xs1) (sym links)
+    (subst (λ (os : List (Option ℕ)). ConnectionsAndLinksArePaired (set (activities_of_connections cs) i Free) os xs1) (sym owners)
+    (subst (λ (es : List Exchange). ConnectionsAndLinksArePaired (set (activities_of_connections cs) i Free) (set (owners_of_links ks) j None) es) (sym exchanges) (paired_left (set (activities_of_connections cs) i Free) (set (owners_of_links ks) j None) xs key (i + 1) (paired_freed (activities_of_connections cs) (owners_of_links ks) xs i j h w))))
 
 -- its client has gone, so that another may lead on
-pub paired_lost : (cs cs1 : List (Option Connection)) (ks ks1 : List (Option Link)) (xs xs1 : List Exchange) (i j : ℕ) → link_place_of_activity (activity_at (activities_of cs) i) ≡ Some j → activities_of cs1 ≡ set (activities_of cs) i Free → owners_of ks1 ≡ set (owners_of ks) j None → (table : Table) → xs1 ≡ exchanges_after_abandon table (i + 1) xs
-    → ConnectionsAndLinksArePaired (activities_of cs) (owners_of ks) xs → ConnectionsAndLinksArePaired (activities_of cs1) (owners_of ks1) xs1
+pub paired_lost : (cs cs1 : List (Option Connection)) (ks ks1 : List (Option Link)) (xs xs1 : List Exchange) (i j : ℕ) → link_place_of_activity (activity_at (activities_of_connections cs) i) ≡ Some j → activities_of_connections cs1 ≡ set (activities_of_connections cs) i Free → owners_of_links ks1 ≡ set (owners_of_links ks) j None → (table : Table) → xs1 ≡ exchanges_after_abandon table (i + 1) xs
+    → ConnectionsAndLinksArePaired (activities_of_connections cs) (owners_of_links ks) xs → ConnectionsAndLinksArePaired (activities_of_connections cs1) (owners_of_links ks1) xs1
 paired_lost cs cs1 ks ks1 xs xs1 i j h links owners table exchanges w =
-    subst (λ (es : List Exchange). ConnectionsAndLinksArePaired (activities_of cs1) (owners_of ks1) es) (sym exchanges)
-    (paired_abandoned (activities_of cs1) (owners_of ks1) xs table (i + 1) (paired_ended cs cs1 ks ks1 xs (exchanges_after_close (i + 1) xs) i j h links owners None refl w))
+    subst (λ (es : List Exchange). ConnectionsAndLinksArePaired (activities_of_connections cs1) (owners_of_links ks1) es) (sym exchanges)
+    (paired_abandoned (activities_of_connections cs1) (owners_of_links ks1) xs table (i + 1) (paired_ended cs cs1 ks ks1 xs (exchanges_after_close (i + 1) xs) i j h links owners None refl w))
 
 -- an exchange was finished, or goes forward once more
-pub paired_finished : (cs cs1 cs2 : List (Option Connection)) (ks ks1 ks2 : List (Option Link)) (xs ys : List Exchange) (i j : ℕ) (o : Outcome) → link_place_of_activity (activity_at (activities_of cs) i) ≡ Some j → activities_of cs1 ≡ set (activities_of cs) i Free → owners_of ks1 ≡ set (owners_of ks) j None
-    → activities_of cs2 ≡ activities_after i (length ks1) o (activities_of cs1) → owners_of ks2 ≡ owners_after i o (owners_of ks1) → is_some (find_exchange (i + 1) xs) ≡ true → Remains o (i + 1) xs ys → ConnectionsAndLinksArePaired (activities_of cs) (owners_of ks) xs → ConnectionsAndLinksArePaired (activities_of cs2) (owners_of ks2) ys
+pub paired_finished : (cs cs1 cs2 : List (Option Connection)) (ks ks1 ks2 : List (Option Link)) (xs ys : List Exchange) (i j : ℕ) (o : Outcome) → link_place_of_activity (activity_at (activities_of_connections cs) i) ≡ Some j → activities_of_connections cs1 ≡ set (activities_of_connections cs) i Free → owners_of_links ks1 ≡ set (owners_of_links ks) j None
+    → activities_of_connections cs2 ≡ activities_after_outcome i (length ks1) o (activities_of_connections cs1) → owners_of_links ks2 ≡ owners_after_outcome i o (owners_of_links ks1) → is_some (find_exchange (i + 1) xs) ≡ true → Remains o (i + 1) xs ys → ConnectionsAndLinksArePaired (activities_of_connections cs) (owners_of_links ks) xs → ConnectionsAndLinksArePaired (activities_of_connections cs2) (owners_of_links ks2) ys
 paired_finished cs cs1 cs2 ks ks1 ks2 xs ys i j (Reply r) here links owners links2 owners2 there left h = paired_ended cs cs2 ks ks2 xs ys i j here (links2 ∙ links) (owners2 ∙ owners) left.0 left.1 h
 paired_finished cs cs1 cs2 ks ks1 ks2 xs ys i j (Forward line bytes) here links owners links2 owners2 there left h =
-    let free = set (owners_of ks) j None in
-    let size : length ks1 ≡ length free = sym (length-map ks1 owner_of) ∙ ap length owners in
-    subst (λ (es : List Exchange). ConnectionsAndLinksArePaired (activities_of cs2) (owners_of ks2) es) (sym left.2)
+    let free = set (owners_of_links ks) j None in
+    let size : length ks1 ≡ length free = sym (length-map ks1 owner_of_open_link) ∙ ap length owners in
+    subst (λ (es : List Exchange). ConnectionsAndLinksArePaired (activities_of_connections cs2) (owners_of_links ks2) es) (sym left.2)
     (paired_same _ _ _ _ (map (renewed (i + 1) left.0) xs)
-    (links2 ∙ (ap (λ (ds : List Activity). set ds i (Forwarded (length ks1))) links ∙ ap (λ n. set (set (activities_of cs) i Free) i (Forwarded n)) size))
-    (owners2 ∙ ap (λ (os : List (Option ℕ)). os ++ Some i ∷ []) owners) (paired_again (activities_of cs) (owners_of ks) xs i j left.0 left.1 here there h))
+    (links2 ∙ (ap (λ (ds : List Activity). set ds i (Forwarded (length ks1))) links ∙ ap (λ n. set (set (activities_of_connections cs) i Free) i (Forwarded n)) size))
+    (owners2 ∙ ap (λ (os : List (Option ℕ)). os ++ Some i ∷ []) owners) (paired_again (activities_of_connections cs) (owners_of_links ks) xs i j left.0 left.1 here there h))
 paired_finished cs cs1 cs2 ks ks1 ks2 xs ys i j (Waits leader) here links owners links2 owners2 there left h = absurd left
 paired_finished cs cs1 cs2 ks ks1 ks2 xs ys i j Ended here links owners links2 owners2 there left h = paired_ended cs cs2 ks ks2 xs ys i j here (links2 ∙ links) (owners2 ∙ owners) left.0 left.1 h
 paired_finished cs cs1 cs2 ks ks1 ks2 xs ys i j WaitsNoMore here links owners links2 owners2 there left h = paired_ended cs cs2 ks ks2 xs ys i j here (links2 ∙ links) (owners2 ∙ owners) left.0 left.1 h
 
 -- the exchange of a request that waited has ended, on all sides
-pub paired_waited : (cs cs1 : List (Option Connection)) (os : List (Option ℕ)) (xs xs1 : List Exchange) (i : ℕ) → activity_at (activities_of cs) i ≡ Waiting → activities_of cs1 ≡ set (activities_of cs) i Free → (key : Option Scope) → xs1 ≡ exchanges_after_end key (i + 1) xs
-    → ConnectionsAndLinksArePaired (activities_of cs) os xs → ConnectionsAndLinksArePaired (activities_of cs1) os xs1
+pub paired_waited : (cs cs1 : List (Option Connection)) (os : List (Option ℕ)) (xs xs1 : List Exchange) (i : ℕ) → activity_at (activities_of_connections cs) i ≡ Waiting → activities_of_connections cs1 ≡ set (activities_of_connections cs) i Free → (key : Option Scope) → xs1 ≡ exchanges_after_end key (i + 1) xs
+    → ConnectionsAndLinksArePaired (activities_of_connections cs) os xs → ConnectionsAndLinksArePaired (activities_of_connections cs1) os xs1
 paired_waited cs cs1 os xs xs1 i h links key exchanges w =
     subst (λ (ds : List Activity). ConnectionsAndLinksArePaired ds os xs1) (sym links)
-    (subst (λ (es : List Exchange). ConnectionsAndLinksArePaired (set (activities_of cs) i Free) os es) (sym exchanges) (paired_left (set (activities_of cs) i Free) os xs key (i + 1) (paired_unqueued (activities_of cs) os xs i h w)))
+    (subst (λ (es : List Exchange). ConnectionsAndLinksArePaired (set (activities_of_connections cs) i Free) os es) (sym exchanges) (paired_left (set (activities_of_connections cs) i Free) os xs key (i + 1) (paired_unqueued (activities_of_connections cs) os xs i h w)))
 
-pub paired_given_up : (cs cs1 : List (Option Connection)) (os : List (Option ℕ)) (xs xs1 : List Exchange) (i : ℕ) → activity_at (activities_of cs) i ≡ Waiting → activities_of cs1 ≡ set (activities_of cs) i Free → (table : Table) → xs1 ≡ exchanges_after_abandon table (i + 1) xs
-    → ConnectionsAndLinksArePaired (activities_of cs) os xs → ConnectionsAndLinksArePaired (activities_of cs1) os xs1
+pub paired_given_up : (cs cs1 : List (Option Connection)) (os : List (Option ℕ)) (xs xs1 : List Exchange) (i : ℕ) → activity_at (activities_of_connections cs) i ≡ Waiting → activities_of_connections cs1 ≡ set (activities_of_connections cs) i Free → (table : Table) → xs1 ≡ exchanges_after_abandon table (i + 1) xs
+    → ConnectionsAndLinksArePaired (activities_of_connections cs) os xs → ConnectionsAndLinksArePaired (activities_of_connections cs1) os xs1
 paired_given_up cs cs1 os xs xs1 i h links table exchanges w =
-    subst (λ (es : List Exchange). ConnectionsAndLinksArePaired (activities_of cs1) os es) (sym exchanges)
-    (paired_abandoned (activities_of cs1) os xs table (i + 1) (paired_waited cs cs1 os xs (exchanges_after_close (i + 1) xs) i h links None refl w))
+    subst (λ (es : List Exchange). ConnectionsAndLinksArePaired (activities_of_connections cs1) os es) (sym exchanges)
+    (paired_abandoned (activities_of_connections cs1) os xs table (i + 1) (paired_waited cs cs1 os xs (exchanges_after_close (i + 1) xs) i h links None refl w))
 
 -- a request that waited was answered, or goes forward
-pub paired_woken : (cs cs1 cs2 : List (Option Connection)) (ks ks2 : List (Option Link)) (xs ys : List Exchange) (i : ℕ) (o : Outcome) → activity_at (activities_of cs) i ≡ Waiting → activities_of cs1 ≡ set (activities_of cs) i Free
-    → activities_of cs2 ≡ activities_after i (length ks) o (activities_of cs1) → owners_of ks2 ≡ owners_after i o (owners_of ks) → is_some (find_exchange (i + 1) xs) ≡ true → Remains o (i + 1) xs ys → ConnectionsAndLinksArePaired (activities_of cs) (owners_of ks) xs → ConnectionsAndLinksArePaired (activities_of cs2) (owners_of ks2) ys
+pub paired_woken : (cs cs1 cs2 : List (Option Connection)) (ks ks2 : List (Option Link)) (xs ys : List Exchange) (i : ℕ) (o : Outcome) → activity_at (activities_of_connections cs) i ≡ Waiting → activities_of_connections cs1 ≡ set (activities_of_connections cs) i Free
+    → activities_of_connections cs2 ≡ activities_after_outcome i (length ks) o (activities_of_connections cs1) → owners_of_links ks2 ≡ owners_after_outcome i o (owners_of_links ks) → is_some (find_exchange (i + 1) xs) ≡ true → Remains o (i + 1) xs ys → ConnectionsAndLinksArePaired (activities_of_connections cs) (owners_of_links ks) xs → ConnectionsAndLinksArePaired (activities_of_connections cs2) (owners_of_links ks2) ys
 paired_woken cs cs1 cs2 ks ks2 xs ys i (Reply r) here links links2 owners2 there left h =
-    subst (λ (os : List (Option ℕ)). ConnectionsAndLinksArePaired (activities_of cs2) os ys) (sym owners2) (paired_waited cs cs2 (owners_of ks) xs ys i here (links2 ∙ links) left.0 left.1 h)
+    subst (λ (os : List (Option ℕ)). ConnectionsAndLinksArePaired (activities_of_connections cs2) os ys) (sym owners2) (paired_waited cs cs2 (owners_of_links ks) xs ys i here (links2 ∙ links) left.0 left.1 h)
 paired_woken cs cs1 cs2 ks ks2 xs ys i (Forward line bytes) here links links2 owners2 there left h =
-    let size : length ks ≡ length (owners_of ks) = sym (length-map ks owner_of) in
-    subst (λ (es : List Exchange). ConnectionsAndLinksArePaired (activities_of cs2) (owners_of ks2) es) (sym left.2)
+    let size : length ks ≡ length (owners_of_links ks) = sym (length-map ks owner_of_open_link) in
+    subst (λ (es : List Exchange). ConnectionsAndLinksArePaired (activities_of_connections cs2) (owners_of_links ks2) es) (sym left.2)
     (paired_same _ _ _ _ (map (renewed (i + 1) left.0) xs)
-    (links2 ∙ (ap (λ (ds : List Activity). set ds i (Forwarded (length ks))) links ∙ ap (λ n. set (set (activities_of cs) i Free) i (Forwarded n)) size))
-    owners2 (paired_awake (activities_of cs) (owners_of ks) xs i left.0 left.1 here there h))
+    (links2 ∙ (ap (λ (ds : List Activity). set ds i (Forwarded (length ks))) links ∙ ap (λ n. set (set (activities_of_connections cs) i Free) i (Forwarded n)) size))
+    owners2 (paired_awake (activities_of_connections cs) (owners_of_links ks) xs i left.0 left.1 here there h))
 paired_woken cs cs1 cs2 ks ks2 xs ys i (Waits leader) here links links2 owners2 there left h = absurd left
 paired_woken cs cs1 cs2 ks ks2 xs ys i Ended here links links2 owners2 there left h =
-    subst (λ (os : List (Option ℕ)). ConnectionsAndLinksArePaired (activities_of cs2) os ys) (sym owners2) (paired_waited cs cs2 (owners_of ks) xs ys i here (links2 ∙ links) left.0 left.1 h)
+    subst (λ (os : List (Option ℕ)). ConnectionsAndLinksArePaired (activities_of_connections cs2) os ys) (sym owners2) (paired_waited cs cs2 (owners_of_links ks) xs ys i here (links2 ∙ links) left.0 left.1 h)
 paired_woken cs cs1 cs2 ks ks2 xs ys i WaitsNoMore here links links2 owners2 there left h =
-    subst (λ (os : List (Option ℕ)). ConnectionsAndLinksArePaired (activities_of cs2) os ys) (sym owners2) (paired_waited cs cs2 (owners_of ks) xs ys i here (links2 ∙ links) left.0 left.1 h)
+    subst (λ (os : List (Option ℕ)). ConnectionsAndLinksArePaired (activities_of_connections cs2) os ys) (sym owners2) (paired_waited cs cs2 (owners_of_links ks) xs ys i here (links2 ∙ links) left.0 left.1 h)
 
 -- a connection was accepted, or wasn't
-pub paired_accepted : {E : Type 0} (r : Result (Unit {0}) E) (cs cs1 : List (Option Connection)) (os : List (Option ℕ)) (xs : List Exchange) → OnOk r (activities_of cs1 ≡ activities_of cs ++ Free ∷ []) → OnErr r (cs1 ≡ cs) → ConnectionsAndLinksArePaired (activities_of cs) os xs → ConnectionsAndLinksArePaired (activities_of cs1) os xs
-paired_accepted (Ok u) cs cs1 os xs more same w = subst (λ (ds : List Activity). ConnectionsAndLinksArePaired ds os xs) (sym more) (paired_more (activities_of cs) os xs w)
-paired_accepted (Err e) cs cs1 os xs more same w = subst (λ (ds : List (Option Connection)). ConnectionsAndLinksArePaired (activities_of ds) os xs) (sym same) w
+pub paired_accepted : {E : Type 0} (r : Result (Unit {0}) E) (cs cs1 : List (Option Connection)) (os : List (Option ℕ)) (xs : List Exchange) → OnOk r (activities_of_connections cs1 ≡ activities_of_connections cs ++ Free ∷ []) → OnErr r (cs1 ≡ cs) → ConnectionsAndLinksArePaired (activities_of_connections cs) os xs → ConnectionsAndLinksArePaired (activities_of_connections cs1) os xs
+paired_accepted (Ok u) cs cs1 os xs more same w = subst (λ (ds : List Activity). ConnectionsAndLinksArePaired ds os xs) (sym more) (paired_more (activities_of_connections cs) os xs w)
+paired_accepted (Err e) cs cs1 os xs more same w = subst (λ (ds : List (Option Connection)). ConnectionsAndLinksArePaired (activities_of_connections ds) os xs) (sym same) w
 
 early_by : (now : ℕ) → now < END_OF_TIME → moment_too_late_fault now ≡ None
 early_by now l = ap (λ (b : Bool). cond b None (Some MomentTooLate)) (lt-ltb now END_OF_TIME l)
@@ -707,7 +707,7 @@ not_out s h = ap (λ (b : Bool). cond b None (Some NotForwarded)) h
 -- what stands on a link of an open exchange is refused only where memory runs out
 module _ (xs : List Exchange) (now id : ℕ) (fault : CoreFault) (out_now : forwarded_or_waiting_at id xs ≡ Some true) (early : now < END_OF_TIME) where
   -- so is any event that asks of its exchange to be at the origin
-  out_refused : (e : Event) → ((x : Exchange) → fault_at_exchange (Some x) e ≡ or_fault (moment_too_late_fault now) (fault_if_not_forwarded x.stage))
+  out_refused : (e : Event) → ((x : Exchange) → fault_at_exchange (Some x) e ≡ fault_else (moment_too_late_fault now) (fault_if_not_forwarded x.stage))
       → (fault_at_exchange (find_exchange id xs) e ≡ Some fault) ⊎ ((fault_at_exchange (find_exchange id xs) e ≡ None) × (fault ≡ OutOfMemory)) → fault ≡ OutOfMemory
   out_refused e asks (inl represents) = refused_by (find_exchange id xs) out_now represents
     where
@@ -715,7 +715,7 @@ module _ (xs : List Exchange) (now id : ℕ) (fault : CoreFault) (out_now : forw
       refused_by None h f = absurd (cc)
       refused_by (Some x) h f =
           let staged : is_forwarded x.stage ≡ true = cc in
-          let none : fault_at_exchange (Some x) e ≡ None = asks x ∙ (ap (λ (a : Option CoreFault). or_fault a (fault_if_not_forwarded x.stage)) (early_by now early) ∙ not_out x.stage staged) in
+          let none : fault_at_exchange (Some x) e ≡ None = asks x ∙ (ap (λ (a : Option CoreFault). fault_else a (fault_if_not_forwarded x.stage)) (early_by now early) ∙ not_out x.stage staged) in
           let no : None ≡ Some fault = sym none ∙ f in
           absurd (cc)
   out_refused e asks (inr memory) = memory.1
@@ -731,7 +731,7 @@ pub wake_refused : (xs : List Exchange) (now id : ℕ) (fault : CoreFault) → E
 wake_refused xs now id fault r early (inl represents) =
     let none : step_fault xs (Wake now id) ≡ None =
     ap (λ (w : Option Exchange). fault_at_exchange w (Wake now id)) r.is_open
-    ∙ (ap (λ (a : Option CoreFault). or_fault a (fault_if_not_released r.x.stage)) (early_by now early) ∙ ap (λ (b : Bool). cond b None (Some NotReady)) r.stage) in
+    ∙ (ap (λ (a : Option CoreFault). fault_else a (fault_if_not_released r.x.stage)) (early_by now early) ∙ ap (λ (b : Bool). cond b None (Some NotReady)) r.stage) in
     let no : None ≡ Some fault = sym none ∙ represents in
     absurd (cc)
 wake_refused xs now id fault r early (inr memory) = memory.1

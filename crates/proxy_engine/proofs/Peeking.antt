@@ -8,7 +8,7 @@ use Rattle.hx_framing.specs.declared.heads.request_head.Head.{Head}
 use Rattle.hx_framing.specs.declared.heads.status_head.StatusHead.{StatusHead}
 use Rattle.hx_framing.specs.declared.readers.progress.ReaderPhase.{ReaderPhase}
 use Rattle.hx_framing.specs.declared.readers.progress.ReaderPhase.TheVariants as phase
-use Rattle.hx_framing.specs.Progress.{Progress, no_stream, stream_with_piece, stream_finished, stream_after_answer, AnswerIsDue}
+use Rattle.hx_framing.specs.Progress.{Progress, empty_stream_progress, progress_after_piece, progress_after_end, progress_after_answer, AnswerIsDue}
 use Rattle.hx_framing.specs.Reading.{Incomplete}
 use Rattle.hx_framing.specs.RequestState.{State as RequestState, RepresentsStream as RequestRepresentsStream, RequestReaderKeeps as RequestKeeps}
 use Rattle.hx_framing.specs.RequestStream.{Answers as RequestAnswers}
@@ -17,24 +17,24 @@ use Rattle.hx_framing.specs.ResponseStream.{Answers as ResponseAnswers}
 use Rattle.proxy_engine.specs.declared.endpoints.lookahead.Lookahead.{Lookahead}
 use Rattle.proxy_engine.specs.declared.endpoints.lookahead.Lookahead.TheVariants.{Unknown, Quiet, Due}
 use Rattle.proxy_engine.specs.declared.endpoints.peeked.Peeked.{Peeked}
-use Rattle.proxy_engine.specs.Lookahead.{LookaheadShows, lookahead_after_input}
+use Rattle.proxy_engine.specs.Lookahead.{LookaheadShowsAnswer, lookahead_after_input}
 use Rattle.proxy_engine.specs.Peeked.{RepresentsWithLookahead, PeekedRepresents}
 
 -- what is shown is the answer of each stream that it stands for
-pub answers_shown : {S M : Type 0} (RepresentsStream : S → Progress M → Type 0) (Answers : Progress M → Next M → Type 0) (w : Peeked S M) (p : Progress M) (a : Next M) → PeekedRepresents RepresentsStream Answers w p → LookaheadShows w.ahead a → Answers p a
+pub answers_shown : {S M : Type 0} (RepresentsStream : S → Progress M → Type 0) (Answers : Progress M → Next M → Type 0) (w : Peeked S M) (p : Progress M) (a : Next M) → PeekedRepresents RepresentsStream Answers w p → LookaheadShowsAnswer w.ahead a → Answers p a
 answers_shown {S} {M} RepresentsStream Answers w p a h s = shown w.ahead h s
   where
-    shown : (l : Lookahead M) → RepresentsWithLookahead RepresentsStream Answers w.inner l p → LookaheadShows l a → Answers p a
+    shown : (l : Lookahead M) → RepresentsWithLookahead RepresentsStream Answers w.inner l p → LookaheadShowsAnswer l a → Answers p a
     shown Unknown h s = absurd s
     shown Quiet h s = subst (λ (x : Next M). Answers p x) (sym s) h.1
     shown (Due b) h s = subst (λ (x : Next M). Answers p x) (sym s) h.1
 
 -- ---- nothing is due on a stream of which nothing has come
 
-pub no_request_yet : (max_body : ℕ) → RequestAnswers (no_stream max_body false) next.More
+pub no_request_yet : (max_body : ℕ) → RequestAnswers (empty_stream_progress max_body false) next.More
 no_request_yet max_body = record { rest = []; reading = Incomplete; spells = refl; reads = refl; answer_is = refl }
 
-pub no_response_yet : (max_body : ℕ) (to_head : Bool) → ResponseAnswers (no_stream max_body to_head) next.More
+pub no_response_yet : (max_body : ℕ) (to_head : Bool) → ResponseAnswers (empty_stream_progress max_body to_head) next.More
 no_response_yet max_body to_head = record { spells = tt; by = (Incomplete, ([], [], refl, refl), refl) }
 
 -- ---- what comes goes to the reader itself, and is asked for again
@@ -44,28 +44,28 @@ pub kept_ahead : {S M : Type 0} (RepresentsStream : S → Progress M → Type 0)
     → RepresentsWithLookahead RepresentsStream Answers s l p
 kept_ahead RepresentsStream Answers r s Unknown p keep h = keep p h
 kept_ahead RepresentsStream Answers r s Quiet p keep h = (keep p h.0, h.1)
-kept_ahead RepresentsStream Answers r s (Due a) p keep h = (keep (stream_after_answer p a) h.0, h.1, h.2)
+kept_ahead RepresentsStream Answers r s (Due a) p keep h = (keep (progress_after_answer p a) h.0, h.1, h.2)
 
 -- a piece has come
 pub fed_ahead : {S M : Type 0} (RepresentsStream : S → Progress M → Type 0) (Answers : Progress M → Next M → Type 0) (r s : S) (l : Lookahead M) (p : Progress M) (w : List ℕ)
-    → ((q : Progress M) → RepresentsStream r q → q.ended ≡ false → RepresentsStream s (stream_with_piece q w)) → ((q : Progress M) (a : Next M) → q.ended ≡ false → AnswerIsDue a → Answers q a → Answers (stream_with_piece q w) a)
-    → p.ended ≡ false → RepresentsWithLookahead RepresentsStream Answers r l p → RepresentsWithLookahead RepresentsStream Answers s (lookahead_after_input l) (stream_with_piece p w)
+    → ((q : Progress M) → RepresentsStream r q → q.ended ≡ false → RepresentsStream s (progress_after_piece q w)) → ((q : Progress M) (a : Next M) → q.ended ≡ false → AnswerIsDue a → Answers q a → Answers (progress_after_piece q w) a)
+    → p.ended ≡ false → RepresentsWithLookahead RepresentsStream Answers r l p → RepresentsWithLookahead RepresentsStream Answers s (lookahead_after_input l) (progress_after_piece p w)
 fed_ahead RepresentsStream Answers r s Unknown p w feed due still h = feed p h still
 fed_ahead RepresentsStream Answers r s Quiet p w feed due still h = feed p h.0 still
 fed_ahead RepresentsStream Answers r s (Due next.More) p w feed due still h = absurd h.2
-fed_ahead RepresentsStream Answers r s (Due next.NeedsContinue) p w feed due still h = (feed (stream_after_answer p next.NeedsContinue) h.0 still, due p next.NeedsContinue still h.2 h.1, h.2)
-fed_ahead RepresentsStream Answers r s (Due (next.Message m)) p w feed due still h = (feed (stream_after_answer p (next.Message m)) h.0 still, due p (next.Message m) still h.2 h.1, h.2)
+fed_ahead RepresentsStream Answers r s (Due next.NeedsContinue) p w feed due still h = (feed (progress_after_answer p next.NeedsContinue) h.0 still, due p next.NeedsContinue still h.2 h.1, h.2)
+fed_ahead RepresentsStream Answers r s (Due (next.Message m)) p w feed due still h = (feed (progress_after_answer p (next.Message m)) h.0 still, due p (next.Message m) still h.2 h.1, h.2)
 fed_ahead RepresentsStream Answers r s (Due (next.Refused f)) p w feed due still h = (feed p h.0 still, due p (next.Refused f) still h.2 h.1, h.2)
 fed_ahead RepresentsStream Answers r s (Due next.End) p w feed due still h = (feed p h.0 still, due p next.End still h.2 h.1, h.2)
 
 -- the stream has ended
-pub finished_ahead : {S M : Type 0} (RepresentsStream : S → Progress M → Type 0) (Answers : Progress M → Next M → Type 0) (r s : S) (l : Lookahead M) (p : Progress M) → ((q : Progress M) → RepresentsStream r q → RepresentsStream s (stream_finished q))
-    → ((q : Progress M) (a : Next M) → AnswerIsDue a → Answers q a → Answers (stream_finished q) a) → RepresentsWithLookahead RepresentsStream Answers r l p → RepresentsWithLookahead RepresentsStream Answers s (lookahead_after_input l) (stream_finished p)
+pub finished_ahead : {S M : Type 0} (RepresentsStream : S → Progress M → Type 0) (Answers : Progress M → Next M → Type 0) (r s : S) (l : Lookahead M) (p : Progress M) → ((q : Progress M) → RepresentsStream r q → RepresentsStream s (progress_after_end q))
+    → ((q : Progress M) (a : Next M) → AnswerIsDue a → Answers q a → Answers (progress_after_end q) a) → RepresentsWithLookahead RepresentsStream Answers r l p → RepresentsWithLookahead RepresentsStream Answers s (lookahead_after_input l) (progress_after_end p)
 finished_ahead RepresentsStream Answers r s Unknown p finish due h = finish p h
 finished_ahead RepresentsStream Answers r s Quiet p finish due h = finish p h.0
 finished_ahead RepresentsStream Answers r s (Due next.More) p finish due h = absurd h.2
-finished_ahead RepresentsStream Answers r s (Due next.NeedsContinue) p finish due h = (finish (stream_after_answer p next.NeedsContinue) h.0, due p next.NeedsContinue h.2 h.1, h.2)
-finished_ahead RepresentsStream Answers r s (Due (next.Message m)) p finish due h = (finish (stream_after_answer p (next.Message m)) h.0, due p (next.Message m) h.2 h.1, h.2)
+finished_ahead RepresentsStream Answers r s (Due next.NeedsContinue) p finish due h = (finish (progress_after_answer p next.NeedsContinue) h.0, due p next.NeedsContinue h.2 h.1, h.2)
+finished_ahead RepresentsStream Answers r s (Due (next.Message m)) p finish due h = (finish (progress_after_answer p (next.Message m)) h.0, due p (next.Message m) h.2 h.1, h.2)
 finished_ahead RepresentsStream Answers r s (Due (next.Refused f)) p finish due h = (finish p h.0, due p (next.Refused f) h.2 h.1, h.2)
 finished_ahead RepresentsStream Answers r s (Due next.End) p finish due h = (finish p h.0, due p next.End h.2 h.1, h.2)
 

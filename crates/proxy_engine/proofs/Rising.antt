@@ -10,7 +10,7 @@ use Rattle.std.proofs.lemmas.Bool.{cases_lt, cases_order}
 use Rattle.std.proofs.lemmas.List.{get_or-drop, length-drop, length-take-le, drop-drop, drop-take, drop-append-le}
 use Rattle.std.proofs.lemmas.List.Edits.{length-insert, get_or-insert_below, get_or-insert_at, get_or-insert_above, get_or-remove_below, get_or-remove_above, length-remove}
 use Rattle.std.proofs.lemmas.List.Sorted.{IsPermutation-insert, IsPermutation-sym, Contains-permutation}
-use Rattle.proxy_engine.specs.ReadyList.{PlacesAscend, PlaceBelongsBehind, PlaceIsLeast}
+use Rattle.proxy_engine.specs.ReadyList.{PlacesAscend, IsInsertionIndexOfPlace, PlaceIsLeast}
 
 pub rises_none : (xs : List ℕ) → xs ≡ [] → PlacesAscend xs
 rises_none xs e = subst PlacesAscend (sym e) record { rises = λ i j l m. absurd (omega (arith, m)) }
@@ -24,7 +24,7 @@ at_any (x ∷ xs) (suc i) d l = at_any xs i d (omega (arith, l))
 -- a place that isn't there, behind the lesser ones
 pub record IsNew (xs : List ℕ) (at p : ℕ) : Type 0 where
   pub rises : PlacesAscend xs
-  pub behind : PlaceBelongsBehind xs p at
+  pub behind : IsInsertionIndexOfPlace xs p at
 
 module _ (xs : List ℕ) (at p : ℕ) (h : IsNew xs at p) where
   abbrev ys : List ℕ
@@ -207,7 +207,7 @@ module _ (xs : List ℕ) (p : ℕ) where
       let rise : get_or xs i 0 ≤ get_or xs j 0 = grind (arith, rises.rises i j, λ (same : i ≡ j). ap (λ (k : ℕ). get_or xs k 0) same) in
       grind (arith, nat_tests))
 
-  pub found_behind : (r : Result ℕ ℕ) → IsSearchInRange r (length xs) → IsBinarySearchResult (λ x. nat_cmp x p) xs r → PlacesAscend xs → IfErr r (λ at. PlaceBelongsBehind xs p at)
+  pub found_behind : (r : Result ℕ ℕ) → IsSearchInRange r (length xs) → IsBinarySearchResult (λ x. nat_cmp x p) xs r → PlacesAscend xs → IfErr r (λ at. IsInsertionIndexOfPlace xs p at)
   found_behind (Ok at) within equal rises = tt
   found_behind (Err at) within parted rises = record {
     within = within;

@@ -3,8 +3,8 @@ use Rattle.std.proofs.Common.{◌≡◌, ℕ, suc, ◌+◌, ◌<◌, ◌≤◌, 
 use Rattle.std.proofs.lemmas.List.Sums.{sum_by-cons, sum_by-set}
 use Rattle.std.proofs.Math.Seq.{map-set_same}
 use Rattle.proxy_engine.specs.Due.{IsFirstAtWhich}
-use Rattle.proxy_engine.specs.State.{RelatesLists}
-use Rattle.proxy_engine.specs.Marked.{item_at, RelatesOptions, RelatesAtEachPlace, NoneHasFlagBelow, NoneHasFlag}
+use Rattle.proxy_engine.specs.State.{ListsAreRelated}
+use Rattle.proxy_engine.specs.Marked.{end_if_open_at, OptionsAreRelated, PlacesAreRelated, NoOpenEndBelowHasFlag, NoOpenEndHasFlag}
 use Rattle.proxy_engine.proofs.Parts.{both_length, both_at}
 
 pub some_from : {C : Type 0} (o : Option C) → true ≡ is_some o → (c : C) × (o ≡ Some c)
@@ -13,19 +13,19 @@ some_from (Some c) e = (c, refl)
 
 module _ {A B C : Type 0} (R : Option A → B → Type 0) (P : B → Option C → Type 0) (flag : A → Bool) (d : B) (xs : List (Option A))
     (hidden : (x : A) (y : B) → flag x ≡ false → R (Some x) y → P y None) (over : (y : B) → R None y → P y None) where
-  passed : (j : ℕ) (y : B) (o : Option A) → item_at xs j ≡ o → ((x : A) → item_at xs j ≡ Some x → flag x ≡ false) → R o y → P y None
+  passed : (j : ℕ) (y : B) (o : Option A) → end_if_open_at xs j ≡ o → ((x : A) → end_if_open_at xs j ≡ Some x → flag x ≡ false) → R o y → P y None
   passed j y None e none r = over y r
   passed j y (Some x) e none r = hidden x y (none x e) r
 
-  at_place : (ys : List B) → RelatesLists R xs ys → (j : ℕ) → j < length xs → R (item_at xs j) (get_or ys j d)
+  at_place : (ys : List B) → ListsAreRelated R xs ys → (j : ℕ) → j < length xs → R (end_if_open_at xs j) (get_or ys j d)
   at_place ys both j l = both_at R xs ys j None d both l
 
   -- nothing that is open before i has the flag
-  pub before_none : (i : ℕ) → i < length xs → NoneHasFlagBelow flag (item_at xs) i → (ys : List B) → RelatesLists R xs ys → (j : ℕ) → j < i → P (get_or ys j d) None
-  before_none i within before ys both j l = passed j (get_or ys j d) (item_at xs j) refl (λ x e. before j x l e) (at_place ys both j (omega (arith, l, within)))
+  pub before_none : (i : ℕ) → i < length xs → NoOpenEndBelowHasFlag flag (end_if_open_at xs) i → (ys : List B) → ListsAreRelated R xs ys → (j : ℕ) → j < i → P (get_or ys j d) None
+  before_none i within before ys both j l = passed j (get_or ys j d) (end_if_open_at xs j) refl (λ x e. before j x l e) (at_place ys both j (omega (arith, l, within)))
 
   -- what is open at i shows c, and nothing before it has the flag
-  pub found_first : (i : ℕ) (c : C) → i < length xs → ((y : B) → R (item_at xs i) y → P y (Some c)) → NoneHasFlagBelow flag (item_at xs) i → (ys : List B) → RelatesLists R xs ys → IsFirstAtWhich P d ys (Some (i, c))
+  pub found_first : (i : ℕ) (c : C) → i < length xs → ((y : B) → R (end_if_open_at xs i) y → P y (Some c)) → NoOpenEndBelowHasFlag flag (end_if_open_at xs) i → (ys : List B) → ListsAreRelated R xs ys → IsFirstAtWhich P d ys (Some (i, c))
   found_first i c within here before ys both =
       let same = both_length R xs ys both in (
         omega (arith, within, same),
@@ -34,21 +34,21 @@ module _ {A B C : Type 0} (R : Option A → B → Type 0) (P : B → Option C �
       )
 
   -- nothing has the flag
-  pub none_first : NoneHasFlag flag (item_at xs) → (ys : List B) → RelatesLists R xs ys → IsFirstAtWhich P d ys None
+  pub none_first : NoOpenEndHasFlag flag (end_if_open_at xs) → (ys : List B) → ListsAreRelated R xs ys → IsFirstAtWhich P d ys None
   none_first none ys both j l =
       let same = both_length R xs ys both in
-      passed j (get_or ys j d) (item_at xs j) refl (λ x e. none j x e) (at_place ys both j (omega (arith, l, same)))
+      passed j (get_or ys j d) (end_if_open_at xs j) refl (λ x e. none j x e) (at_place ys both j (omega (arith, l, same)))
 
 -- ---- what a look at each place leaves
 
 module _ {A B : Type 0} (R : A → A → Type 0) (S : Option A → B → Type 0) (keep : (x y : A) → R x y → (s : B) → S (Some x) s → S (Some y) s) where
-  kept_one : (o p : Option A) → RelatesOptions R o p → (s : B) → S o s → S p s
+  kept_one : (o p : Option A) → OptionsAreRelated R o p → (s : B) → S o s → S p s
   kept_one None None r s h = h
   kept_one None (Some y) r s h = absurd r
   kept_one (Some x) None r s h = absurd r
   kept_one (Some x) (Some y) r s h = keep x y r s h
 
-  pub both_alike : (xs ys : List (Option A)) → length ys ≡ length xs → RelatesAtEachPlace R (item_at xs) (item_at ys) → (ss : List B) → RelatesLists S xs ss → RelatesLists S ys ss
+  pub both_alike : (xs ys : List (Option A)) → length ys ≡ length xs → PlacesAreRelated R (end_if_open_at xs) (end_if_open_at ys) → (ss : List B) → ListsAreRelated S xs ss → ListsAreRelated S ys ss
   both_alike [] [] e each ss h = h
   both_alike [] (y ∷ ys) e each ss h = absurd (omega (arith, e))
   both_alike (x ∷ xs) [] e each ss h = absurd (omega (arith, e))
@@ -56,32 +56,32 @@ module _ {A B : Type 0} (R : A → A → Type 0) (S : Option A → B → Type 0)
   both_alike (x ∷ xs) (y ∷ ys) e each (s ∷ ss) h = (kept_one x y (each 0) s h.0, both_alike xs ys (omega (arith, e)) (λ i. each (suc i)) ss h.1)
 
 -- what is read of each is as it was
-pub map_alike : {A B : Type 0} (R : A → A → Type 0) (f : Option A → B) → ((x y : A) → R x y → f (Some y) ≡ f (Some x)) → (xs ys : List (Option A)) → length ys ≡ length xs → RelatesAtEachPlace R (item_at xs) (item_at ys) → map f ys ≡ map f xs
+pub map_alike : {A B : Type 0} (R : A → A → Type 0) (f : Option A → B) → ((x y : A) → R x y → f (Some y) ≡ f (Some x)) → (xs ys : List (Option A)) → length ys ≡ length xs → PlacesAreRelated R (end_if_open_at xs) (end_if_open_at ys) → map f ys ≡ map f xs
 map_alike {A} R f same = by_list
   where
-    one : (o p : Option A) → RelatesOptions R o p → f p ≡ f o
+    one : (o p : Option A) → OptionsAreRelated R o p → f p ≡ f o
     one None None r = refl
     one None (Some y) r = absurd r
     one (Some x) None r = absurd r
     one (Some x) (Some y) r = same x y r
 
-    by_list : (xs ys : List (Option A)) → length ys ≡ length xs → RelatesAtEachPlace R (item_at xs) (item_at ys) → map f ys ≡ map f xs
+    by_list : (xs ys : List (Option A)) → length ys ≡ length xs → PlacesAreRelated R (end_if_open_at xs) (end_if_open_at ys) → map f ys ≡ map f xs
     by_list [] [] e each = refl
     by_list [] (y ∷ ys) e each = absurd (omega (arith, e))
     by_list (x ∷ xs) [] e each = absurd (omega (arith, e))
     by_list (x ∷ xs) (y ∷ ys) e each = ap (λ b. b ∷ map f ys) (one x y (each 0)) ∙ ap (λ bs. f x ∷ bs) (by_list xs ys (omega (arith, e)) (λ i. each (suc i)))
 
 -- a sum over what is read of each is no greater
-pub sum_alike : {A : Type 0} (R : A → A → Type 0) (f : Option A → ℕ) → ((x y : A) → R x y → f (Some y) ≤ f (Some x)) → (xs ys : List (Option A)) → length ys ≡ length xs → RelatesAtEachPlace R (item_at xs) (item_at ys) → sum_by f ys ≤ sum_by f xs
+pub sum_alike : {A : Type 0} (R : A → A → Type 0) (f : Option A → ℕ) → ((x y : A) → R x y → f (Some y) ≤ f (Some x)) → (xs ys : List (Option A)) → length ys ≡ length xs → PlacesAreRelated R (end_if_open_at xs) (end_if_open_at ys) → sum_by f ys ≤ sum_by f xs
 sum_alike {A} R f less = by_list
   where
-    one : (o p : Option A) → RelatesOptions R o p → f p ≤ f o
+    one : (o p : Option A) → OptionsAreRelated R o p → f p ≤ f o
     one None None r = omega arith
     one None (Some y) r = absurd r
     one (Some x) None r = absurd r
     one (Some x) (Some y) r = less x y r
 
-    by_list : (xs ys : List (Option A)) → length ys ≡ length xs → RelatesAtEachPlace R (item_at xs) (item_at ys) → sum_by f ys ≤ sum_by f xs
+    by_list : (xs ys : List (Option A)) → length ys ≡ length xs → PlacesAreRelated R (end_if_open_at xs) (end_if_open_at ys) → sum_by f ys ≤ sum_by f xs
     by_list [] [] e each = omega arith
     by_list [] (y ∷ ys) e each = absurd (omega (arith, e))
     by_list (x ∷ xs) [] e each = absurd (omega (arith, e))

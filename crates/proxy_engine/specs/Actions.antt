@@ -1,7 +1,8 @@
 -- What is to be done where something is due, between the readers and the core.
 --
--- IsActionForNext: what a client's stream asks for, read as a request or refused
--- ExchangeIsFinishedBy: the core's step that finishes an exchange      is_whole_answer: it may go forward once more
+-- IsActionForReaderAnswer: what a client's stream asks for, read as a request or refused
+-- ExchangeIsFinishedBy: the core's step that finishes an exchange      link_result_is_answer: it may go forward once
+-- more
 -- IsFaultOfFinishing: why it isn't done
 use Rattle.std.specs.Prelude.{◌≡◌, ℕ, Bool, true, false, None, Some, Ok, Err}
 use Rattle.hx_framing.specs.declared.messages.Request.{Request}
@@ -15,7 +16,7 @@ use Rattle.proxy_core.specs.declared.outcome.Outcome.{Outcome}
 use Rattle.proxy_core.specs.declared.outcome.Outcome.TheVariants as outcomes
 use Rattle.proxy_core.specs.declared.event.Event.TheVariants as events
 use Rattle.proxy_engine.specs.Admitted.{RequestIsAdmittedOrRefused}
-use Rattle.proxy_engine.specs.Questions.{question_as_it_came}
+use Rattle.proxy_engine.specs.Questions.{question_with_raw_target}
 use Rattle.proxy_engine.specs.Due.{LinkResult, Gives, Breaks}
 use Rattle.proxy_engine.specs.declared.work.EngineFault.{EngineFault}
 use Rattle.proxy_engine.specs.declared.work.EngineFault.TheVariants.{WrongNumber, NotAccepted, OutOfMemory, Spent}
@@ -28,7 +29,8 @@ abbrev pub IsActionOfMessage : Request → Action → Type 0
 IsActionOfMessage r action.Continue = ⊥
 IsActionOfMessage r (action.Arrive asked) = RequestIsAdmittedOrRefused r (Ok asked)
 IsActionOfMessage r (action.Refuse why head question) =
-    RequestIsAdmittedOrRefused r (Err (record { why = why; head = head })) × (question ≡ Some (question_as_it_came r))
+    RequestIsAdmittedOrRefused r (Err (record { why = why; head = head }))
+    × (question ≡ Some (question_with_raw_target r))
 IsActionOfMessage r action.Close = ⊥
 
 -- a stream that was cut off is closed without an answer
@@ -44,12 +46,12 @@ action_of_fault frame.TooLarge = action.Refuse (cause.Frame frame.TooLarge) fals
 action_of_fault frame.Expect = action.Refuse (cause.Frame frame.Expect) false None
 action_of_fault frame.Status = action.Refuse (cause.Frame frame.Status) false None
 
-abbrev pub IsActionForNext : Next Request → Action → Type 0
-IsActionForNext next.More w = ⊥
-IsActionForNext next.NeedsContinue w = w ≡ action.Continue
-IsActionForNext (next.Message r) w = IsActionOfMessage r w
-IsActionForNext (next.Refused fault) w = w ≡ action_of_fault fault
-IsActionForNext next.End w = w ≡ action.Close
+abbrev pub IsActionForReaderAnswer : Next Request → Action → Type 0
+IsActionForReaderAnswer next.More w = ⊥
+IsActionForReaderAnswer next.NeedsContinue w = w ≡ action.Continue
+IsActionForReaderAnswer (next.Message r) w = IsActionOfMessage r w
+IsActionForReaderAnswer (next.Refused fault) w = w ≡ action_of_fault fault
+IsActionForReaderAnswer next.End w = w ≡ action.Close
 
 -- the core's step that finishes the exchange of an id
 abbrev pub ExchangeIsFinishedBy : CoreState → ℕ → ℕ → LinkResult → Outcome → CoreState → Type 0
@@ -57,9 +59,9 @@ ExchangeIsFinishedBy s now id (Gives r) outcome t = StepIsAccepted s (events.Ans
 ExchangeIsFinishedBy s now id (Breaks kind) outcome t = StepIsAccepted s (events.Fail now id kind) outcome t
 
 -- an answer may go forward once more, and then needs a link
-abbrev pub is_whole_answer : LinkResult → Bool
-is_whole_answer (Gives r) = true
-is_whole_answer (Breaks kind) = false
+abbrev pub link_result_is_answer : LinkResult → Bool
+link_result_is_answer (Gives r) = true
+link_result_is_answer (Breaks kind) = false
 
 -- Why an exchange isn't finished, where no link number is left or one is. Out of memory never hides that none is left.
 abbrev pub IsFaultOfFinishing : Bool → LinkResult → EngineFault → Type 0

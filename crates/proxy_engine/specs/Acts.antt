@@ -11,15 +11,15 @@ use Rattle.hx_framing.specs.declared.messages.Request.{Request}
 use Rattle.hx_framing.specs.declared.frame_fault.FrameFault.TheVariants as frame
 use Rattle.hx_framing.specs.declared.messages.Next.{Next}
 use Rattle.hx_framing.specs.declared.messages.Next.TheVariants as next
-use Rattle.hx_framing.specs.Progress.{stream_after_answer}
+use Rattle.hx_framing.specs.Progress.{progress_after_answer}
 use Rattle.hx_framing.specs.Text.{continue_text}
 use Rattle.hx_hop.specs.declared.request_view.Asked.{Asked}
 use Rattle.hx_allow.specs.TableLines.{Table}
 use Rattle.hx_allow.specs.Addresses.{address_of_numbers}
 use Rattle.hx_allow.specs.Matching.{origin_address_of}
-use Rattle.hx_allow.specs.declared.verdicts.Route.{Route}
+use Rattle.hx_allow.specs.declared.verdicts.RequestRoute.{RequestRoute}
 use Rattle.hx_status.specs.Abouts.{about_refusal}
-use Rattle.hx_status.specs.declared.about.About.{About}
+use Rattle.hx_status.specs.declared.about.StatusAndReason.{StatusAndReason}
 use Rattle.hx_status.specs.declared.question.Question.{Question}
 use Rattle.hx_status.specs.declared.cause.Cause.{Cause}
 use Rattle.hx_status.specs.declared.cause.Cause.TheVariants as cause
@@ -35,73 +35,73 @@ use Rattle.proxy_core.specs.declared.event.Event.TheVariants as events
 use Rattle.proxy_script.specs.declared.effect_list.Effect.{Effect}
 use Rattle.proxy_script.specs.declared.effect_list.Effect.TheVariants as effects
 use Rattle.proxy_engine.specs.ConnectionNumbers.{connection_number, link_number}
-use Rattle.proxy_engine.specs.Questions.{question_of, question_as_it_came}
+use Rattle.proxy_engine.specs.Questions.{question_of, question_with_raw_target}
 use Rattle.proxy_engine.specs.Admitted.{Refusal, RequestIsAdmittedOrRefused, asked_on_connection}
 use Rattle.proxy_engine.specs.EngineModel.{EngineModel, ConnectionModel, LinkModel, new_link_model, connection_at}
 use Rattle.proxy_engine.specs.EngineModel.{link_at}
-use Rattle.proxy_engine.specs.EngineModel.{with_connection, with_link, with_core}
+use Rattle.proxy_engine.specs.EngineModel.{with_connection, with_link, model_with_core}
 use Rattle.proxy_engine.specs.Due.{LinkResult, Gives, Breaks, Act, Abandons, Finishes, Wakes, Serves}
 use Rattle.proxy_engine.specs.declared.endpoints.activities.Activity.{Activity}
 use Rattle.proxy_engine.specs.declared.endpoints.activities.Activity.TheVariants.{Free, Forwarded, Waiting}
 
 -- an answer to the client and what it is, a request to the origin at an address, a request that waits, or nothing
 pub data OutcomeOnConnection : Type 0 where
-  Replies : (bytes : List ℕ) (about : About) (close : Bool) → OutcomeOnConnection
+  Replies : (bytes : List ℕ) (about : StatusAndReason) (close : Bool) → OutcomeOnConnection
   Forwards : (address : SocketAddrV4) (bytes : List ℕ) → OutcomeOnConnection
   Queues : OutcomeOnConnection
   Nothing : OutcomeOnConnection
 
 -- the address of the origin of a line; 0.0.0.0:0 of one that has none, by which no request comes
-abbrev pub origin_address_of_line : Table → Route → SocketAddrV4
+abbrev pub origin_address_of_line : Table → RequestRoute → SocketAddrV4
 origin_address_of_line table line = unwrap_or (origin_address_of table.lines line.number) (address_of_numbers 0 0 0 0 0)
 
 -- an outcome by this table
-abbrev pub outcome_by_table : Table → Outcome → OutcomeOnConnection
-outcome_by_table table (outcomes.Reply r) = Replies r.bytes r.about r.close
-outcome_by_table table (outcomes.Forward line bytes) = Forwards (origin_address_of_line table line) bytes
-outcome_by_table table (outcomes.Waits leader) = Queues
-outcome_by_table table outcomes.Ended = Nothing
-outcome_by_table table outcomes.WaitsNoMore = Nothing
+abbrev pub outcome_with_origin_address : Table → Outcome → OutcomeOnConnection
+outcome_with_origin_address table (outcomes.Reply r) = Replies r.bytes r.about r.close
+outcome_with_origin_address table (outcomes.Forward line bytes) = Forwards (origin_address_of_line table line) bytes
+outcome_with_origin_address table (outcomes.Waits leader) = Queues
+outcome_with_origin_address table outcomes.Ended = Nothing
+outcome_with_origin_address table outcomes.WaitsNoMore = Nothing
 
-abbrev pub with_closed : Bool → ConnectionModel → ConnectionModel
-with_closed close c = record c { closed = c.closed || close }
+abbrev pub connection_with_closed : Bool → ConnectionModel → ConnectionModel
+connection_with_closed close c = record c { closed = c.closed || close }
 
-abbrev pub with_activity : Activity → ConnectionModel → ConnectionModel
-with_activity activity c = record c { activity = activity }
+abbrev pub connection_with_activity : Activity → ConnectionModel → ConnectionModel
+connection_with_activity activity c = record c { activity = activity }
 
-abbrev pub with_next_passed : Next Request → ConnectionModel → ConnectionModel
-with_next_passed a c = record c { progress = stream_after_answer c.progress a }
+abbrev pub with_due_answer_used : Next Request → ConnectionModel → ConnectionModel
+with_due_answer_used a c = record c { progress = progress_after_answer c.progress a }
 
-abbrev pub with_dropped : LinkModel → LinkModel
-with_dropped k = record k { dropped = true }
+abbrev pub link_model_dropped : LinkModel → LinkModel
+link_model_dropped k = record k { dropped = true }
 
 -- the link at j is dropped, and the connection at i is free
 abbrev pub model_after_link_freed : EngineModel → ℕ → ℕ → EngineModel
-model_after_link_freed s j i = with_connection (with_link s j with_dropped) i (with_activity Free)
+model_after_link_freed s j i = with_connection (with_link s j link_model_dropped) i (connection_with_activity Free)
 
 -- the exchange of the connection at i ends: its link is dropped, if it has one
 abbrev pub model_after_exchange_ends : EngineModel → Option ℕ → ℕ → EngineModel
 model_after_exchange_ends s (Some j) i = model_after_link_freed s j i
-model_after_exchange_ends s None i = with_connection s i (with_activity Free)
+model_after_exchange_ends s None i = with_connection s i (connection_with_activity Free)
 
 -- which is told
-abbrev pub drop_effects : ℕ → Option ℕ → List Effect
-drop_effects first (Some l) = effects.Drop (link_number first l) ∷ []
-drop_effects first None = []
+abbrev pub effects_of_link_drop : ℕ → Option ℕ → List Effect
+effects_of_link_drop first (Some l) = effects.Drop (link_number first l) ∷ []
+effects_of_link_drop first None = []
 
 -- a link is opened for the connection at i; it answers a HEAD or not
-abbrev pub with_opened_link : EngineModel → ℕ → Bool → EngineModel
-with_opened_link s i to_head = record {
-  connections = slice_set s.connections i (with_activity (Forwarded (length s.links)) (connection_at s i));
+abbrev pub model_with_opened_link : EngineModel → ℕ → Bool → EngineModel
+model_with_opened_link s i to_head = record {
+  connections = slice_set s.connections i (connection_with_activity (Forwarded (length s.links)) (connection_at s i));
   links = s.links ++ new_link_model s.core.table.max_body to_head i ∷ [];
   core = s.core;
   first = s.first;
 }
 
 -- the request of a step is a HEAD
-abbrev pub asks_head : Option Asked → Bool
-asks_head None = false
-asks_head (Some asked) = is_head asked
+abbrev pub request_is_head : Option Asked → Bool
+request_is_head None = false
+request_is_head (Some asked) = is_head asked
 
 -- for the connection at i; the next link has this number, and a reply answers this question
 abbrev pub effects_of_outcome : ℕ → ℕ → Option Question → OutcomeOnConnection → List Effect
@@ -113,9 +113,9 @@ effects_of_outcome i number question Queues = []
 effects_of_outcome i number question Nothing = []
 
 abbrev pub model_after_outcome : ℕ → Bool → OutcomeOnConnection → EngineModel → EngineModel
-model_after_outcome i to_head (Replies bytes about close) s = with_connection s i (with_closed close)
-model_after_outcome i to_head (Forwards address bytes) s = with_opened_link s i to_head
-model_after_outcome i to_head Queues s = with_connection s i (with_activity Waiting)
+model_after_outcome i to_head (Replies bytes about close) s = with_connection s i (connection_with_closed close)
+model_after_outcome i to_head (Forwards address bytes) s = model_with_opened_link s i to_head
+model_after_outcome i to_head Queues s = with_connection s i (connection_with_activity Waiting)
 model_after_outcome i to_head Nothing s = s
 
 -- the number of the next link
@@ -133,9 +133,10 @@ pub record CoreIsStepped (s t : EngineModel) (i : ℕ) (asked : Option Asked) (e
   pub steps : StepIsAccepted s.core event outcome core
   pub emitted_is : emitted ≡ before
       ++ effects_of_outcome i (next_link_number s) (option_map question_of asked)
-      (outcome_by_table s.core.table outcome)
-  pub after_is : after ≡ model_after_outcome i (asks_head asked) (outcome_by_table s.core.table outcome)
-      (with_core t core)
+      (outcome_with_origin_address s.core.table outcome)
+  pub after_is : after
+      ≡ model_after_outcome i (request_is_head asked) (outcome_with_origin_address s.core.table outcome)
+      (model_with_core t core)
 
 -- the proxy answers this question by itself, and closes
 pub record RequestIsRefused (s : EngineModel) (now i : ℕ) (why : Cause) (head : Bool) (question : Option Question)
@@ -145,27 +146,27 @@ pub record RequestIsRefused (s : EngineModel) (now i : ℕ) (why : Cause) (head 
       (Some (record { about = about_refusal why; question = question }))
       ∷ effects.Close (connection_number i)
       ∷ []
-  pub after_is : after ≡ with_connection s i (with_closed true)
+  pub after_is : after ≡ with_connection s i (connection_with_closed true)
 
 abbrev pub ConnectionIsClosed : EngineModel → ℕ → List Effect → EngineModel → Type 0
 ConnectionIsClosed s i emitted after =
-    (emitted ≡ effects.Close (connection_number i) ∷ []) × (after ≡ with_connection s i (with_closed true))
+    (emitted ≡ effects.Close (connection_number i) ∷ []) × (after ≡ with_connection s i (connection_with_closed true))
 
 -- a request arrives at the core, or is refused
 abbrev pub RequestArrives : EngineModel → ℕ → ℕ → Request → Result Asked Refusal → List Effect → EngineModel → Type 0
 RequestArrives s now i r (Ok asked) emitted after =
-    (next_link_number s < 2 ^ 64) × CoreIsStepped s (with_connection s i (with_next_passed (next.Message r))) i
+    (next_link_number s < 2 ^ 64) × CoreIsStepped s (with_connection s i (with_due_answer_used (next.Message r))) i
     (Some (asked_on_connection (connection_at s i).retired asked))
     (events.Arrive now (connection_number i) (asked_on_connection (connection_at s i).retired asked)) [] emitted after
 RequestArrives s now i r (Err refusal) emitted after =
-    RequestIsRefused s now i refusal.why refusal.head (Some (question_as_it_came r)) emitted after
+    RequestIsRefused s now i refusal.why refusal.head (Some (question_with_raw_target r)) emitted after
 
 -- what a client's stream asks for is done
 abbrev pub ConnectionIsServed : EngineModel → ℕ → ℕ → Next Request → List Effect → EngineModel → Type 0
 ConnectionIsServed s now i next.More emitted after = ⊥
 ConnectionIsServed s now i next.NeedsContinue emitted after =
     (emitted ≡ effects.Client (connection_number i) continue_text None ∷ [])
-    × (after ≡ with_connection s i (with_next_passed next.NeedsContinue))
+    × (after ≡ with_connection s i (with_due_answer_used next.NeedsContinue))
 ConnectionIsServed s now i (next.Message r) emitted after =
     (judged : Result Asked Refusal) × RequestIsAdmittedOrRefused r judged
     × RequestArrives s now i r judged emitted after
@@ -205,7 +206,7 @@ LinkIsFinished s now j i (Breaks kind) emitted after =
 -- the request of the connection at i waited, and is judged anew
 abbrev pub RequestIsWoken : EngineModel → ℕ → ℕ → List Effect → EngineModel → Type 0
 RequestIsWoken s now i emitted after =
-    (next_link_number s < 2 ^ 64) × CoreIsStepped s (with_connection s i (with_activity Free)) i
+    (next_link_number s < 2 ^ 64) × CoreIsStepped s (with_connection s i (connection_with_activity Free)) i
     (request_of_exchange (find_exchange (connection_number i) s.core.exchanges))
     (events.Wake now (connection_number i)) []
     emitted after
@@ -214,7 +215,7 @@ RequestIsWoken s now i emitted after =
 abbrev pub ActIsDone : EngineModel → ℕ → Act → List Effect → EngineModel → Type 0
 ActIsDone s now (Abandons i l) emitted after =
     CoreIsStepped s (model_after_exchange_ends s l i) i None (events.Abandon (connection_number i))
-    (drop_effects s.first l) emitted after
+    (effects_of_link_drop s.first l) emitted after
 ActIsDone s now (Finishes j finish) emitted after = LinkIsFinished s now j (link_at s j).connection finish emitted after
 ActIsDone s now (Wakes i) emitted after = RequestIsWoken s now i emitted after
 ActIsDone s now (Serves i action) emitted after = ConnectionIsServed s now i action emitted after

@@ -1,11 +1,11 @@
 -- How a request that was read comes to the core, or why it is refused.
 --
 -- RequestIsAdmittedOrRefused: a request as it is asked, or why and how it is refused
--- asked_on_connection, RequestIsHandedOver: a request as the core sees it
+-- asked_on_connection, CoreIsHandedRequest: a request as the core sees it
 use Rattle.std.specs.Prelude.{◌≡◌, Bool, ◌||◌, codes, bytes_eq, Result, Ok, Err}
 use Rattle.hx_framing.specs.declared.messages.Request.{Request}
 use Rattle.hx_hop.specs.declared.request_view.Asked.{Asked}
-use Rattle.hx_hop.specs.Asking.{IsAsked}
+use Rattle.hx_hop.specs.Asking.{RequestIsReadAsAsked}
 use Rattle.hx_target.specs.declared.target_fault.TargetFault.{TargetFault}
 use Rattle.hx_status.specs.declared.cause.Cause.{Cause}
 use Rattle.hx_status.specs.declared.cause.Cause.TheVariants as cause
@@ -17,9 +17,9 @@ pub record Refusal : Type 0 where
 
 -- a request arrives as it is asked for, if it names a resource; any other is refused
 abbrev pub RequestIsAdmittedOrRefused : Request → Result Asked Refusal → Type 0
-RequestIsAdmittedOrRefused r (Ok asked) = IsAsked r (Ok asked)
+RequestIsAdmittedOrRefused r (Ok asked) = RequestIsReadAsAsked r (Ok asked)
 RequestIsAdmittedOrRefused r (Err refusal) =
-    (fault : TargetFault) × IsAsked r (Err fault)
+    (fault : TargetFault) × RequestIsReadAsAsked r (Err fault)
     × (refusal ≡ record { why = cause.Target fault; head = bytes_eq r.method (codes "HEAD") })
 
 -- On a connection that is to end it is a request whose answer closes the connection, and says so, as if its client had
@@ -28,6 +28,6 @@ abbrev pub asked_on_connection : Bool → Asked → Asked
 asked_on_connection retired asked = record asked { close = asked.close || retired }
 
 -- what the core is handed of a request, where it names a resource
-abbrev pub RequestIsHandedOver : Bool → Request → Asked → Type 0
-RequestIsHandedOver retired r asked =
+abbrev pub CoreIsHandedRequest : Bool → Request → Asked → Type 0
+CoreIsHandedRequest retired r asked =
     (sent : Asked) × RequestIsAdmittedOrRefused r (Ok sent) × (asked ≡ asked_on_connection retired sent)

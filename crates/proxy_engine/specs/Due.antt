@@ -1,8 +1,9 @@
 -- What is due at the ends of the proxy, and which act is due first.
 --
 -- LinkResult, link_result_of: what stands on a link
--- IsLostConnection, IsDueOnLink, IsDueOnConnection: what is due at one end
--- first_ready_id: the first request that may be woken      Act, IsDueFirst: the first act that is due, or that none is
+-- IsGoneWhileBusy, IsDueOnLink, IsDueOnConnection: what is due at one end
+-- first_wakeable_id: the first request that may be woken      Act, IsDueFirst: the first act that is due, or that none
+-- is
 use Rattle.std.specs.Prelude.{◌≡◌, ℕ, ◌<◌, List, length, Bool, true, false, ◌||◌, Option, None, Some, if◌then◌else◌}
 use Rattle.std.specs.Prelude.{slice_index_or, ◌&&◌, slice_get}
 use Rattle.std.specs.Option.{option_map}
@@ -18,7 +19,7 @@ use Rattle.hx_status.specs.declared.cause.FailKind.{FailKind}
 use Rattle.hx_status.specs.declared.cause.FailKind.TheVariants as kinds
 use Rattle.proxy_engine.specs.ConnectionNumbers.{connection_number}
 use Rattle.proxy_engine.specs.Activities.{link_place_of_activity, has_exchange}
-use Rattle.proxy_core.specs.Leading.{ready_ids}
+use Rattle.proxy_core.specs.Leading.{wakeable_ids}
 use Rattle.proxy_core.specs.State.{State as CoreState}
 use Rattle.proxy_engine.specs.EngineModel.{EngineModel, ConnectionModel, LinkModel, no_connection, no_link}
 use Rattle.proxy_engine.specs.declared.endpoints.activities.Activity.{Activity}
@@ -58,8 +59,8 @@ due_request_action (next.Refused fault) = Some (next.Refused fault)
 due_request_action next.End = Some next.End
 
 -- a gone connection with an open exchange: its link, if its request went forward
-abbrev pub IsLostConnection : ConnectionModel → Option (Option ℕ) → Type 0
-IsLostConnection c o = o ≡ (if c.gone && has_exchange c.activity then Some (link_place_of_activity c.activity)
+abbrev pub IsGoneWhileBusy : ConnectionModel → Option (Option ℕ) → Type 0
+IsGoneWhileBusy c o = o ≡ (if c.gone && has_exchange c.activity then Some (link_place_of_activity c.activity)
     else None)
 
 abbrev pub LinkResultUnlessDropped : Bool → LinkModel → Option LinkResult → Type 0
@@ -71,8 +72,8 @@ abbrev pub IsDueOnLink : LinkModel → Option LinkResult → Type 0
 IsDueOnLink k o = LinkResultUnlessDropped k.dropped k o
 
 -- it is gone or closed, or has an open exchange
-abbrev pub takes_no_request : Bool → Bool → Activity → Bool
-takes_no_request gone closed activity = gone || (closed || has_exchange activity)
+abbrev pub accepts_no_request : Bool → Bool → Activity → Bool
+accepts_no_request gone closed activity = gone || (closed || has_exchange activity)
 
 abbrev pub ConnectionActionUnlessBusy : Bool → ConnectionModel → Option (Next Request) → Type 0
 ConnectionActionUnlessBusy true c o = o ≡ None
@@ -80,7 +81,7 @@ ConnectionActionUnlessBusy false c o = (a : Next Request) × RequestAnswers c.pr
 
 -- what stands on a connection that is neither closed nor gone and has no open exchange
 abbrev pub IsDueOnConnection : ConnectionModel → Option (Next Request) → Type 0
-IsDueOnConnection c o = ConnectionActionUnlessBusy (takes_no_request c.gone c.closed c.activity) c o
+IsDueOnConnection c o = ConnectionActionUnlessBusy (accepts_no_request c.gone c.closed c.activity) c o
 
 -- the first place of a list at which something stands, and what; or that nothing stands anywhere
 abbrev pub IsFirstAtWhich : {A B : Type 0} → (A → Option B → Type 0) → A → List A → Option (ℕ × B) → Type 0
@@ -97,23 +98,23 @@ pub data Act : Type 0 where
   Serves : (i : ℕ) (action : Next Request) → Act
 
 -- the id of the first request to arrive of those that waited and may be woken
-abbrev pub first_ready_id : CoreState → Option ℕ
-first_ready_id core = slice_get (ready_ids core.exchanges) 0
+abbrev pub first_wakeable_id : CoreState → Option ℕ
+first_wakeable_id core = slice_get (wakeable_ids core.exchanges) 0
 
 -- the first act that is due, or that none is
 abbrev pub IsDueFirst : EngineModel → Option Act → Type 0
-IsDueFirst s (Some (Abandons i l)) = IsFirstAtWhich IsLostConnection no_connection s.connections (Some (i, l))
+IsDueFirst s (Some (Abandons i l)) = IsFirstAtWhich IsGoneWhileBusy no_connection s.connections (Some (i, l))
 IsDueFirst s (Some (Finishes j f)) =
-    IsFirstAtWhich IsLostConnection no_connection s.connections None × IsFirstAtWhich IsDueOnLink no_link s.links (Some
+    IsFirstAtWhich IsGoneWhileBusy no_connection s.connections None × IsFirstAtWhich IsDueOnLink no_link s.links (Some
     (j, f))
 IsDueFirst s (Some (Wakes i)) =
-    IsFirstAtWhich IsLostConnection no_connection s.connections None × IsFirstAtWhich IsDueOnLink no_link s.links None
-    × (first_ready_id s.core ≡ Some (connection_number i))
+    IsFirstAtWhich IsGoneWhileBusy no_connection s.connections None × IsFirstAtWhich IsDueOnLink no_link s.links None
+    × (first_wakeable_id s.core ≡ Some (connection_number i))
 IsDueFirst s (Some (Serves i w)) =
-    IsFirstAtWhich IsLostConnection no_connection s.connections None × IsFirstAtWhich IsDueOnLink no_link s.links None
-    × (first_ready_id s.core ≡ None)
+    IsFirstAtWhich IsGoneWhileBusy no_connection s.connections None × IsFirstAtWhich IsDueOnLink no_link s.links None
+    × (first_wakeable_id s.core ≡ None)
     × IsFirstAtWhich IsDueOnConnection no_connection s.connections (Some (i, w))
 IsDueFirst s None =
-    IsFirstAtWhich IsLostConnection no_connection s.connections None × IsFirstAtWhich IsDueOnLink no_link s.links None
-    × (first_ready_id s.core ≡ None)
+    IsFirstAtWhich IsGoneWhileBusy no_connection s.connections None × IsFirstAtWhich IsDueOnLink no_link s.links None
+    × (first_wakeable_id s.core ≡ None)
     × IsFirstAtWhich IsDueOnConnection no_connection s.connections None

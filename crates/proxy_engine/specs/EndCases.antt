@@ -7,13 +7,13 @@ use Rattle.hx_framing.specs.RequestState.{State as RequestState}
 use Rattle.hx_framing.specs.ResponseState.{State as ResponseState}
 use Rattle.hx_status.specs.declared.cause.FailKind.{FailKind}
 use Rattle.hx_status.specs.declared.cause.FailKind.TheVariants as kinds
-use Rattle.hx_allow.specs.Matching.{over_line}
+use Rattle.hx_allow.specs.Matching.{route_over}
 use Rattle.proxy_core.specs.declared.open.stage.Stage.TheVariants as stages
 use Rattle.proxy_core.specs.Cases.{forwarded_on_miss, get_a_with, line_with_no_cache, table}
 use Rattle.proxy_core.specs.declared.open.exchange.Exchange.{Exchange}
 use Rattle.proxy_engine.specs.Happenings.{Accepts, Leaves, Shuts, Fails}
 use Rattle.proxy_engine.specs.EngineModel.{EngineModel, model_after_happening, with_connection}
-use Rattle.proxy_engine.specs.Acts.{with_activity, with_closed, with_opened_link}
+use Rattle.proxy_engine.specs.Acts.{connection_with_activity, connection_with_closed, model_with_opened_link}
 use Rattle.proxy_engine.specs.ModelCases.{model_with_connection, model_with_link}
 use Rattle.proxy_engine.specs.declared.endpoints.activities.Activity.{Activity}
 use Rattle.proxy_engine.specs.declared.endpoints.activities.Activity.TheVariants.{Forwarded, Free, Waiting}
@@ -26,48 +26,48 @@ use Rattle.proxy_engine.specs.declared.endpoints.lookahead.Lookahead.{Lookahead}
 -- three clients: the first has a link, the second waits, the third is between two requests
 abbrev pub model_with_three_clients : EngineModel
 model_with_three_clients = with_connection (model_after_happening (model_after_happening model_with_link (Accepts 2))
-    (Accepts 3)) 1 (with_activity Waiting)
+    (Accepts 3)) 1 (connection_with_activity Waiting)
 
 -- of these the third has gone, or was closed
-abbrev pub model_without_the_third : EngineModel
-model_without_the_third = model_after_happening model_with_three_clients (Leaves 3)
+abbrev pub model_after_third_client_left : EngineModel
+model_after_third_client_left = model_after_happening model_with_three_clients (Leaves 3)
 
-abbrev pub model_with_the_third_closed : EngineModel
-model_with_the_third_closed = with_connection model_with_three_clients 2 (with_closed true)
+abbrev pub model_with_third_client_closed : EngineModel
+model_with_third_client_closed = with_connection model_with_three_clients 2 (connection_with_closed true)
 
 -- the third client's request went forward too: a second link
 abbrev pub model_with_two_links : EngineModel
-model_with_two_links = with_opened_link model_with_three_clients 2 false
+model_with_two_links = model_with_opened_link model_with_three_clients 2 false
 
 -- the second line gives its origin 7 seconds; over it the first client's request went forward, over the first line the
 -- third one's
-abbrev pub exchange_over : ℕ → ℕ → Exchange
-exchange_over id line = record (forwarded_on_miss (get_a_with [])) { id = id; line = over_line line }
+abbrev pub exchange_over_line : ℕ → ℕ → Exchange
+exchange_over_line id line = record (forwarded_on_miss (get_a_with [])) { id = id; line = route_over line }
 
-abbrev pub model_with_two_lines : EngineModel
-model_with_two_lines = record model_with_two_links {
+abbrev pub model_with_origin_timeout_7 : EngineModel
+model_with_origin_timeout_7 = record model_with_two_links {
   core = record model_with_two_links.core {
     table = record table { lines = line_with_no_cache ∷ record line_with_no_cache { origin_timeout = Some 7 } ∷ [] };
-    exchanges = exchange_over 1 2 ∷ exchange_over 3 1 ∷ [];
+    exchanges = exchange_over_line 1 2 ∷ exchange_over_line 3 1 ∷ [];
   };
 }
 
 -- The second line lets requests wait for 3 seconds. Over it the first client's request went forward, and the second
 -- one's waits for it; the third one's does over the first line, which says nothing.
-abbrev pub model_with_waiters : EngineModel
-model_with_waiters = record model_with_two_links {
+abbrev pub model_with_wait_timeout_3 : EngineModel
+model_with_wait_timeout_3 = record model_with_two_links {
   core = record model_with_two_links.core {
     table = record table { lines = line_with_no_cache ∷ record line_with_no_cache { wait_timeout = Some 3 } ∷ [] };
-    exchanges = exchange_over 1 2 ∷ record (exchange_over 2 2) { stage = stages.Waiting 1 }
-        ∷ record (exchange_over 3 1) { stage = stages.Waiting 1 } ∷ [];
+    exchanges = exchange_over_line 1 2 ∷ record (exchange_over_line 2 2) { stage = stages.Waiting 1 }
+        ∷ record (exchange_over_line 3 1) { stage = stages.Waiting 1 } ∷ [];
   };
 }
 
 -- ---- what is kept of them
 
 -- the reader of a client's stream of which these bytes wait to be read, with room for 4,096 more
-abbrev pub reader_with : List ℕ → RequestState
-reader_with bytes = record {
+abbrev pub request_reader_with_bytes : List ℕ → RequestState
+request_reader_with_bytes bytes = record {
   max_body = 10;
   to_head = false;
   unread = bytes;
@@ -76,8 +76,8 @@ reader_with bytes = record {
   phase = phase.BeforeHead;
 }
 
-abbrev pub answer_reader : ResponseState
-answer_reader = record {
+abbrev pub empty_response_reader : ResponseState
+empty_response_reader = record {
   max_body = 10;
   to_head = false;
   unread = [];
@@ -87,9 +87,9 @@ answer_reader = record {
 }
 
 -- a client that has sent nothing, or these bytes, and of which this is known
-abbrev pub kept_client : List ℕ → Lookahead Request → Bool → Activity → Connection
-kept_client bytes ahead gone activity = record {
-  reader = record { inner = reader_with bytes; ahead = ahead };
+abbrev pub example_connection : List ℕ → Lookahead Request → Bool → Activity → Connection
+example_connection bytes ahead gone activity = record {
+  reader = record { inner = request_reader_with_bytes bytes; ahead = ahead };
   ended = false;
   gone = gone;
   retired = false;
@@ -97,9 +97,9 @@ kept_client bytes ahead gone activity = record {
 }
 
 -- a link of the first client
-abbrev pub kept_link : Lookahead Response → Option FailKind → Bool → Link
-kept_link ahead failed ended = record {
-  reader = record { inner = answer_reader; ahead = ahead };
+abbrev pub example_link : Lookahead Response → Option FailKind → Bool → Link
+example_link ahead failed ended = record {
+  reader = record { inner = empty_response_reader; ahead = ahead };
   ended = ended;
   failed = failed;
   connection = 0;

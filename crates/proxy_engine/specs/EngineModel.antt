@@ -4,21 +4,21 @@
 -- EngineModel: connections, links and the core
 -- model_after_happening: what a happening adds
 -- happening_fault: why one isn't taken
--- happening_is_kept: whether anything of a happening is kept
+-- happening_adds_connection_or_bytes: whether anything of a happening is kept
 use Rattle.std.specs.Prelude.{ℕ, List, [], ◌∷◌, ◌++◌, length, Bool, true, false, ◌&&◌, ◌||◌, ◌==◌, not}
 use Rattle.std.specs.Prelude.{nat_lt, nat_le, Option, None, Some, is_some, if◌then◌else◌, slice_set, slice_index_or}
 use Rattle.hx_framing.specs.declared.messages.Request.{Request}
 use Rattle.hx_framing.specs.declared.messages.Response.{Response}
-use Rattle.hx_framing.specs.Progress.{Progress, no_stream, stream_with_piece, stream_finished}
+use Rattle.hx_framing.specs.Progress.{Progress, empty_stream_progress, progress_after_piece, progress_after_end}
 use Rattle.hx_status.specs.declared.cause.FailKind.{FailKind}
 use Rattle.proxy_core.specs.Leading.{is_waiting}
 use Rattle.proxy_core.specs.Outcomes.{find_exchange}
 use Rattle.proxy_core.specs.declared.event.Event.TheVariants.{Overdue}
 use Rattle.proxy_core.specs.declared.open.exchange.Exchange.{Exchange}
 use Rattle.proxy_core.specs.declared.outcome.Outcome.TheVariants.{WaitsNoMore}
-use Rattle.proxy_core.specs.State.{State as CoreState, state_after}
+use Rattle.proxy_core.specs.State.{State as CoreState, state_after_event}
 use Rattle.proxy_engine.specs.ConnectionNumbers.{connection_number, connection_place, link_place}
-use Rattle.proxy_engine.specs.Happenings.{PlainHappening, Accepts, Sends, Hears, Ends, Leaves, Retires, Overdues, Shuts}
+use Rattle.proxy_engine.specs.Happenings.{HappeningModel, Accepts, Sends, Hears, Ends, Leaves, Retires, Overdues, Shuts}
 use Rattle.proxy_engine.specs.Happenings.{Fails}
 use Rattle.proxy_engine.specs.declared.endpoints.activities.Activity.{Activity}
 use Rattle.proxy_engine.specs.declared.endpoints.activities.Activity.TheVariants.{Free}
@@ -47,7 +47,7 @@ pub record EngineModel : Type 0 where
 
 abbrev pub new_connection_model : ℕ → ConnectionModel
 new_connection_model max_body = record {
-  progress = no_stream max_body false;
+  progress = empty_stream_progress max_body false;
   gone = false;
   closed = false;
   retired = false;
@@ -57,7 +57,7 @@ new_connection_model max_body = record {
 
 abbrev pub new_link_model : ℕ → Bool → ℕ → LinkModel
 new_link_model max_body to_head i = record {
-  progress = no_stream max_body to_head;
+  progress = empty_stream_progress max_body to_head;
   failed = None;
   dropped
       = false;
@@ -66,10 +66,11 @@ new_link_model max_body to_head i = record {
 
 -- stand-ins beyond the lists
 abbrev pub no_connection : ConnectionModel
-no_connection = record { progress = no_stream 0 false; gone = true; closed = true; retired = false; activity = Free }
+no_connection =
+    record { progress = empty_stream_progress 0 false; gone = true; closed = true; retired = false; activity = Free }
 
 abbrev pub no_link : LinkModel
-no_link = record { progress = no_stream 0 false; failed = None; dropped = true; connection = 0 }
+no_link = record { progress = empty_stream_progress 0 false; failed = None; dropped = true; connection = 0 }
 
 abbrev pub connection_at : EngineModel → ℕ → ConnectionModel
 connection_at s i = slice_index_or s.connections i no_connection
@@ -82,8 +83,8 @@ link_at s j = slice_index_or s.links j no_link
 abbrev pub connection_fault : ℕ → ℕ → Option EngineFault
 connection_fault count n = if nat_lt 0 n && nat_le n count then None else Some NotAccepted
 
-abbrev pub link_fault : ℕ → ℕ → ℕ → Option EngineFault
-link_fault first count l = if nat_le first l && nat_lt (link_place first l) count then None else Some WrongNumber
+abbrev pub link_number_fault : ℕ → ℕ → ℕ → Option EngineFault
+link_number_fault first count l = if nat_le first l && nat_lt (link_place first l) count then None else Some WrongNumber
 
 -- it doesn't wait for the answer to another
 abbrev pub fault_if_none_waits : Option Exchange → Option EngineFault
@@ -91,24 +92,24 @@ fault_if_none_waits None = Some NotWaiting
 fault_if_none_waits (Some x) = if is_waiting x.stage then None else Some NotWaiting
 
 -- why a happening isn't taken
-abbrev pub happening_fault : EngineModel → PlainHappening → Option EngineFault
+abbrev pub happening_fault : EngineModel → HappeningModel → Option EngineFault
 happening_fault s (Accepts n) = if n == connection_number (length s.connections) then None else Some WrongNumber
 happening_fault s (Sends n bytes) = connection_fault (length s.connections) n
 happening_fault s (Ends n) = connection_fault (length s.connections) n
 happening_fault s (Leaves n) = connection_fault (length s.connections) n
 happening_fault s (Retires n) = connection_fault (length s.connections) n
 happening_fault s (Overdues n) = fault_if_none_waits (find_exchange n s.core.exchanges)
-happening_fault s (Hears l bytes) = link_fault s.first (length s.links) l
-happening_fault s (Shuts l) = link_fault s.first (length s.links) l
-happening_fault s (Fails l kind) = link_fault s.first (length s.links) l
+happening_fault s (Hears l bytes) = link_number_fault s.first (length s.links) l
+happening_fault s (Shuts l) = link_number_fault s.first (length s.links) l
+happening_fault s (Fails l kind) = link_number_fault s.first (length s.links) l
 
 -- what comes for a connection that is closed, gone or ended changes nothing
 abbrev pub connection_after_bytes : List ℕ → ConnectionModel → ConnectionModel
 connection_after_bytes bytes c = if c.gone || (c.closed || c.progress.ended) then c
-    else record c { progress = stream_with_piece c.progress bytes }
+    else record c { progress = progress_after_piece c.progress bytes }
 
 abbrev pub connection_after_end : ConnectionModel → ConnectionModel
-connection_after_end c = if c.gone || c.closed then c else record c { progress = stream_finished c.progress }
+connection_after_end c = if c.gone || c.closed then c else record c { progress = progress_after_end c.progress }
 
 abbrev pub connection_after_disconnect : ConnectionModel → ConnectionModel
 connection_after_disconnect c = if c.closed then c else record c { gone = true }
@@ -121,32 +122,32 @@ connection_after_retirement c = record c { retired = true }
 abbrev pub link_after_bytes : List ℕ → LinkModel → LinkModel
 link_after_bytes bytes k =
     if k.dropped || (is_some k.failed || k.progress.ended) then k
-    else record k { progress = stream_with_piece k.progress bytes }
+    else record k { progress = progress_after_piece k.progress bytes }
 
-abbrev pub link_after_shut : LinkModel → LinkModel
-link_after_shut k = if k.dropped || is_some k.failed then k else record k { progress = stream_finished k.progress }
+abbrev pub link_after_end : LinkModel → LinkModel
+link_after_end k = if k.dropped || is_some k.failed then k else record k { progress = progress_after_end k.progress }
 
-abbrev pub link_after_failure : FailKind → LinkModel → LinkModel
-link_after_failure kind k = if k.dropped || is_some k.failed then k else record k { failed = Some kind }
+abbrev pub link_after_its_failure : FailKind → LinkModel → LinkModel
+link_after_its_failure kind k = if k.dropped || is_some k.failed then k else record k { failed = Some kind }
 
 -- bytes are kept of a connection that isn't closed, gone or ended, and of a link that isn't dropped, failed or shut
-abbrev pub keeps_bytes : ConnectionModel → Bool
-keeps_bytes c = not (c.gone || (c.closed || c.progress.ended))
+abbrev pub connection_accepts_bytes : ConnectionModel → Bool
+connection_accepts_bytes c = not (c.gone || (c.closed || c.progress.ended))
 
-abbrev pub keeps_answer : LinkModel → Bool
-keeps_answer k = not (k.dropped || (is_some k.failed || k.progress.ended))
+abbrev pub link_accepts_bytes : LinkModel → Bool
+link_accepts_bytes k = not (k.dropped || (is_some k.failed || k.progress.ended))
 
 -- a connection is kept, and bytes where they are; marks take no memory
-abbrev pub happening_is_kept : EngineModel → PlainHappening → Bool
-happening_is_kept s (Accepts n) = true
-happening_is_kept s (Sends n bytes) = keeps_bytes (connection_at s (connection_place n))
-happening_is_kept s (Hears l bytes) = keeps_answer (link_at s (link_place s.first l))
-happening_is_kept s (Ends n) = false
-happening_is_kept s (Leaves n) = false
-happening_is_kept s (Retires n) = false
-happening_is_kept s (Overdues n) = false
-happening_is_kept s (Shuts l) = false
-happening_is_kept s (Fails l kind) = false
+abbrev pub happening_adds_connection_or_bytes : EngineModel → HappeningModel → Bool
+happening_adds_connection_or_bytes s (Accepts n) = true
+happening_adds_connection_or_bytes s (Sends n bytes) = connection_accepts_bytes (connection_at s (connection_place n))
+happening_adds_connection_or_bytes s (Hears l bytes) = link_accepts_bytes (link_at s (link_place s.first l))
+happening_adds_connection_or_bytes s (Ends n) = false
+happening_adds_connection_or_bytes s (Leaves n) = false
+happening_adds_connection_or_bytes s (Retires n) = false
+happening_adds_connection_or_bytes s (Overdues n) = false
+happening_adds_connection_or_bytes s (Shuts l) = false
+happening_adds_connection_or_bytes s (Fails l kind) = false
 
 abbrev pub with_connection : EngineModel → ℕ → (ConnectionModel → ConnectionModel) → EngineModel
 with_connection s i f =
@@ -166,10 +167,10 @@ with_link s j f =
       first = s.first;
     }
 
-abbrev pub with_core : EngineModel → CoreState → EngineModel
-with_core s core = record { connections = s.connections; links = s.links; core = core; first = s.first }
+abbrev pub model_with_core : EngineModel → CoreState → EngineModel
+model_with_core s core = record { connections = s.connections; links = s.links; core = core; first = s.first }
 
-abbrev pub model_after_happening : EngineModel → PlainHappening → EngineModel
+abbrev pub model_after_happening : EngineModel → HappeningModel → EngineModel
 model_after_happening s (Accepts n) =
     record {
       connections = s.connections ++ new_connection_model s.core.table.max_body ∷ [];
@@ -181,7 +182,7 @@ model_after_happening s (Sends n bytes) = with_connection s (connection_place n)
 model_after_happening s (Ends n) = with_connection s (connection_place n) connection_after_end
 model_after_happening s (Leaves n) = with_connection s (connection_place n) connection_after_disconnect
 model_after_happening s (Retires n) = with_connection s (connection_place n) connection_after_retirement
-model_after_happening s (Overdues n) = with_core s (state_after s.core (Overdue n) WaitsNoMore)
+model_after_happening s (Overdues n) = model_with_core s (state_after_event s.core (Overdue n) WaitsNoMore)
 model_after_happening s (Hears l bytes) = with_link s (link_place s.first l) (link_after_bytes bytes)
-model_after_happening s (Shuts l) = with_link s (link_place s.first l) link_after_shut
-model_after_happening s (Fails l kind) = with_link s (link_place s.first l) (link_after_failure kind)
+model_after_happening s (Shuts l) = with_link s (link_place s.first l) link_after_end
+model_after_happening s (Fails l kind) = with_link s (link_place s.first l) (link_after_its_failure kind)

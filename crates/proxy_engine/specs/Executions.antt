@@ -1,12 +1,12 @@
 -- What an engine lives through, and the run of its core: whoever takes happenings and does what is due.
 --
--- ExecutionStep, StepsLead: steps one after another, the latest first     effects_of_steps: what they did
+-- ExecutionStep, StepsLeadToModel: steps one after another, the latest first     effects_of_steps: what they did
 -- IsCoreEventOfAct, ActAsksCoreNothing: what an act asks the core, or that it asks nothing
 -- IsItemOfAct, IsEffectsWithoutCoreStep: a step of the core with its effects, or effects without one
--- core_event_of_happening, TakingAddsToTrace: what is taken asks the core nothing, or is its step of the core
--- StepAddsToTrace, StepsHaveTrace: each act is its step of the core, and has its effects
+-- core_event_of_happening, HappeningAddsItemToTrace: what is taken asks the core nothing, or is its step of the core
+-- StepAddsItemToTrace, StepsHaveTrace: each act is its step of the core, and has its effects
 -- StepsAreAGoodRun: the steps of the core are a good run
--- ActIsDoneInOneWay, StepsHaveOneTrace, ExecutionsAreRuns: the laws
+-- ActIsDoneInOneWay, StepsHaveOneTrace, CoreStepsOfExecutionsAreGoodRuns: the laws
 use Rattle.std.specs.Prelude.{◌≡◌, ◌⊎◌, ℕ, List, [], ◌∷◌, ◌++◌, Bool, true, Option, None, Some, Ok, Err}
 use Rattle.std.specs.Option.{option_map}
 use Rattle.hx_allow.specs.TableLines.{Table}
@@ -17,41 +17,42 @@ use Rattle.hx_hop.specs.Moments.{date_text_of}
 use Rattle.hx_status.specs.Abouts.{about_refusal}
 use Rattle.hx_status.specs.declared.cause.Cause.{Cause}
 use Rattle.hx_status.specs.declared.question.Question.{Question}
-use Rattle.proxy_core.specs.Driving.{KeepsThePromises}
+use Rattle.proxy_core.specs.Driving.{TraceKeepsThePromises}
 use Rattle.proxy_core.specs.Replies.{refusal_reply_text}
 use Rattle.proxy_core.specs.State.{StepIsAccepted, bounds_of}
-use Rattle.proxy_core.specs.Starts.{StoreAtStart, StartStands}
+use Rattle.proxy_core.specs.Starts.{StoreAtStart, StartIsValid}
 use Rattle.proxy_core.specs.declared.event.Event.{Event}
 use Rattle.proxy_core.specs.declared.event.Event.TheVariants as events
 use Rattle.proxy_core.specs.Traces.{Item, initial_state as core_begun}
 use Rattle.proxy_script.specs.declared.effect_list.Effect.{Effect}
 use Rattle.proxy_script.specs.declared.effect_list.Effect.TheVariants as effects
 use Rattle.proxy_engine.specs.ConnectionNumbers.{connection_number, link_number}
-use Rattle.proxy_engine.specs.Admitted.{Refusal, RequestIsAdmittedOrRefused, RequestIsHandedOver}
-use Rattle.proxy_engine.specs.Happenings.{PlainHappening, Accepts, Sends, Hears, Ends, Leaves, Retires, Overdues}
+use Rattle.proxy_engine.specs.Admitted.{Refusal, RequestIsAdmittedOrRefused, CoreIsHandedRequest}
+use Rattle.proxy_engine.specs.Happenings.{HappeningModel, Accepts, Sends, Hears, Ends, Leaves, Retires, Overdues}
 use Rattle.proxy_engine.specs.Happenings.{Shuts, Fails}
 use Rattle.proxy_engine.specs.EngineModel.{EngineModel, connection_at, link_at, model_after_happening}
 use Rattle.proxy_engine.specs.EngineModel.{happening_fault}
 use Rattle.proxy_engine.specs.Due.{Act, Abandons, Finishes, Wakes, Serves, Gives, Breaks, IsDueFirst}
-use Rattle.proxy_engine.specs.Acts.{drop_effects, ActIsDone, outcome_by_table, effects_of_outcome}
+use Rattle.proxy_engine.specs.Acts.{effects_of_link_drop, ActIsDone, outcome_with_origin_address, effects_of_outcome}
 use Rattle.proxy_engine.specs.Acts.{next_link_number}
-use Rattle.proxy_engine.specs.Questions.{question_of, question_as_it_came, request_of_event}
+use Rattle.proxy_engine.specs.Questions.{question_of, question_with_raw_target, request_of_event}
 use Rattle.proxy_engine.specs.State.{new_engine_model}
 
 -- a happening was taken, or an act was done at a moment, with its effects
 pub data ExecutionStep : Type 0 where
-  Took : (happening : PlainHappening) → ExecutionStep
+  Took : (happening : HappeningModel) → ExecutionStep
   Worked : (now : ℕ) (act : Act) (emitted : List Effect) → ExecutionStep
 
 -- a step leads from one model to another: the act was the first that was due
-abbrev pub StepLeads : EngineModel → ExecutionStep → EngineModel → Type 0
-StepLeads s (Took h) t = (happening_fault s h ≡ None) × (t ≡ model_after_happening s h)
-StepLeads s (Worked now act emitted) t = IsDueFirst s (Some act) × ActIsDone s now act emitted t
+abbrev pub StepLeadsToModel : EngineModel → ExecutionStep → EngineModel → Type 0
+StepLeadsToModel s (Took h) t = (happening_fault s h ≡ None) × (t ≡ model_after_happening s h)
+StepLeadsToModel s (Worked now act emitted) t = IsDueFirst s (Some act) × ActIsDone s now act emitted t
 
 -- these steps lead from s to t, the latest first
-abbrev pub StepsLead : EngineModel → List ExecutionStep → EngineModel → Type 0
-StepsLead s [] t = t ≡ s
-StepsLead s (step ∷ past) t = (before : EngineModel) × StepsLead s past before × StepLeads before step t
+abbrev pub StepsLeadToModel : EngineModel → List ExecutionStep → EngineModel → Type 0
+StepsLeadToModel s [] t = t ≡ s
+StepsLeadToModel s (step ∷ past) t = (before : EngineModel) × StepsLeadToModel s past before
+    × StepLeadsToModel before step t
 
 -- their effects in order
 abbrev pub effects_of_steps : List ExecutionStep → List Effect
@@ -67,11 +68,11 @@ connection_place_of_act s (Wakes i) = i
 connection_place_of_act s (Serves i action) = i
 
 -- the link on which its exchange stood is dropped, if it had one
-abbrev pub drop_effects_of_act : EngineModel → Act → List Effect
-drop_effects_of_act s (Abandons i l) = drop_effects s.first l
-drop_effects_of_act s (Finishes j finish) = effects.Drop (link_number s.first j) ∷ []
-drop_effects_of_act s (Wakes i) = []
-drop_effects_of_act s (Serves i action) = []
+abbrev pub link_drop_effects_of_act : EngineModel → Act → List Effect
+link_drop_effects_of_act s (Abandons i l) = effects_of_link_drop s.first l
+link_drop_effects_of_act s (Finishes j finish) = effects.Drop (link_number s.first j) ∷ []
+link_drop_effects_of_act s (Wakes i) = []
+link_drop_effects_of_act s (Serves i action) = []
 
 -- The event that an act asks the core about at a moment: the client's going away, the response that the origin's stream
 -- spells, the failure, the wake, or the request that the client's stream spells: on a connection that is to end, as one
@@ -84,7 +85,7 @@ IsCoreEventOfAct s now (Finishes j (Breaks kind)) event =
     event ≡ events.Fail now (connection_number (link_at s j).connection) kind
 IsCoreEventOfAct s now (Wakes i) event = event ≡ events.Wake now (connection_number i)
 IsCoreEventOfAct s now (Serves i (next.Message r)) event =
-    (asked : Asked) × RequestIsHandedOver (connection_at s i).retired r asked
+    (asked : Asked) × CoreIsHandedRequest (connection_at s i).retired r asked
     × (event ≡ events.Arrive now (connection_number i) asked)
 IsCoreEventOfAct s now (Serves i next.More) event = ⊥
 IsCoreEventOfAct s now (Serves i next.NeedsContinue) event = ⊥
@@ -104,15 +105,15 @@ ActAsksCoreNothing (Serves i next.End) = Unit {0}
 
 -- What the client asked for whose request an act refuses: nothing is known of it where its head or its content was
 -- refused.
-abbrev pub question_refused : Act → Option Question
-question_refused (Abandons i l) = None
-question_refused (Finishes j finish) = None
-question_refused (Wakes i) = None
-question_refused (Serves i (next.Message r)) = Some (question_as_it_came r)
-question_refused (Serves i next.More) = None
-question_refused (Serves i next.NeedsContinue) = None
-question_refused (Serves i (next.Refused fault)) = None
-question_refused (Serves i next.End) = None
+abbrev pub question_of_refused_act : Act → Option Question
+question_of_refused_act (Abandons i l) = None
+question_of_refused_act (Finishes j finish) = None
+question_of_refused_act (Wakes i) = None
+question_of_refused_act (Serves i (next.Message r)) = Some (question_with_raw_target r)
+question_of_refused_act (Serves i next.More) = None
+question_of_refused_act (Serves i next.NeedsContinue) = None
+question_of_refused_act (Serves i (next.Refused fault)) = None
+question_of_refused_act (Serves i next.End) = None
 
 -- An item of the core, which an act in this model did at this moment: its event is the act's, the core took the step,
 -- its link is dropped, and then come the effects on its connection. What goes forward names the number of the next
@@ -121,9 +122,9 @@ pub record IsItemOfAct (table : Table) (s : EngineModel) (now : ℕ) (act : Act)
     (after : EngineModel) : Type 0 where
   pub event_is : IsCoreEventOfAct s now act item.event
   pub steps : StepIsAccepted s.core item.event item.outcome after.core
-  pub emitted_is : emitted ≡ drop_effects_of_act s act ++ effects_of_outcome (connection_place_of_act s act)
+  pub emitted_is : emitted ≡ link_drop_effects_of_act s act ++ effects_of_outcome (connection_place_of_act s act)
       (next_link_number s) (option_map question_of (request_of_event s.core.exchanges item.event))
-      (outcome_by_table table item.outcome)
+      (outcome_with_origin_address table item.outcome)
 
 -- effects without a step of the core, on the connection at a place: a continue, the proxy's answer to what is no
 -- request, which says this question, or a close
@@ -139,7 +140,7 @@ pub data IsEffectsWithoutCoreStep (now place : ℕ) (question : Option Question)
       → IsEffectsWithoutCoreStep now place question emitted
 
 -- what is taken asks the core nothing, but that a request has waited as long as it is to wait
-abbrev pub core_event_of_happening : PlainHappening → Option Event
+abbrev pub core_event_of_happening : HappeningModel → Option Event
 core_event_of_happening (Accepts n) = None
 core_event_of_happening (Sends n bytes) = None
 core_event_of_happening (Hears l bytes) = None
@@ -151,25 +152,27 @@ core_event_of_happening (Shuts l) = None
 core_event_of_happening (Fails l kind) = None
 
 -- the core took that step, whose item is the next of the trace; where it is asked nothing the trace stays
-abbrev pub TakingAddsToTrace : EngineModel → Option Event → EngineModel → List Item → List Item → Type 0
-TakingAddsToTrace s None after past trace = trace ≡ past
-TakingAddsToTrace s (Some event) after past trace =
+abbrev pub HappeningAddsItemToTrace : EngineModel → Option Event → EngineModel → List Item → List Item → Type 0
+HappeningAddsItemToTrace s None after past trace = trace ≡ past
+HappeningAddsItemToTrace s (Some event) after past trace =
     (item : Item) × (trace ≡ item ∷ past) × (item.event ≡ event) × StepIsAccepted s.core event item.outcome after.core
 
 -- a step from this model to the next did the next item of the trace, or no step of the core
-abbrev pub StepAddsToTrace : Table → EngineModel → ExecutionStep → EngineModel → List Item → List Item → Type 0
-StepAddsToTrace table s (Took h) after past trace = TakingAddsToTrace s (core_event_of_happening h) after past trace
-StepAddsToTrace table s (Worked now act emitted) after past trace =
+abbrev pub StepAddsItemToTrace : Table → EngineModel → ExecutionStep → EngineModel → List Item → List Item → Type 0
+StepAddsItemToTrace table s (Took h) after past trace =
+    HappeningAddsItemToTrace s (core_event_of_happening h) after past trace
+StepAddsItemToTrace table s (Worked now act emitted) after past trace =
     ((item : Item) × (trace ≡ item ∷ past) × IsItemOfAct table s now act item emitted after)
     ⊎ ((trace ≡ past) × ActAsksCoreNothing act
-    × IsEffectsWithoutCoreStep now (connection_place_of_act s act) (question_refused act) emitted)
+    × IsEffectsWithoutCoreStep now (connection_place_of_act s act) (question_of_refused_act act) emitted)
 
 -- the steps that lead from s to t did the items of the trace, in order, and told them
 abbrev pub StepsHaveTrace : Table → EngineModel → List ExecutionStep → EngineModel → List Item → Type 0
 StepsHaveTrace table s [] t trace = (t ≡ s) × (trace ≡ [])
 StepsHaveTrace table s (step ∷ steps) t trace =
-    (before : EngineModel) × (past : List Item) × StepsHaveTrace table s steps before past × StepLeads before step t
-    × StepAddsToTrace table before step t past trace
+    (before : EngineModel) × (past : List Item) × StepsHaveTrace table s steps before past
+    × StepLeadsToModel before step t
+    × StepAddsItemToTrace table before step t past trace
 
 -- From a model whose core has begun, the steps of the core are a good run, with all that a good run keeps: its events
 -- are those that the acts ask about, one after another, and what they gave was told.
@@ -177,7 +180,7 @@ pub record StepsAreAGoodRun (table : Table) (start : StoreAtStart) (first : ℕ)
     (steps : List ExecutionStep)
     (last : EngineModel) : Type 0 where
   pub trace : List Item
-  pub keeps : KeepsThePromises table start first trace last.core
+  pub keeps : TraceKeepsThePromises table start first trace last.core
   pub has_trace : StepsHaveTrace table begin steps last trace
 
 -- an act has one model behind it, and its effects
@@ -194,9 +197,9 @@ StepsHaveOneTrace =
     → StepsHaveTrace table s steps t trace → StepsHaveTrace table s steps u other → (t ≡ u) × (trace ≡ other)
 
 -- whatever an engine lives through, with what its store may hold at first, the steps of its core are a good run
-abbrev pub ExecutionsAreRuns : Type 0
-ExecutionsAreRuns =
+abbrev pub CoreStepsOfExecutionsAreGoodRuns : Type 0
+CoreStepsOfExecutionsAreGoodRuns =
     (table : Table) (start : StoreAtStart) (first link : ℕ) (steps : List ExecutionStep) (t : EngineModel)
-    → StartStands (bounds_of table start.limit) (Some first) start.entries
-    → StepsLead (new_engine_model (core_begun table start first) link) steps t
+    → StartIsValid (bounds_of table start.limit) (Some first) start.entries
+    → StepsLeadToModel (new_engine_model (core_begun table start first) link) steps t
     → StepsAreAGoodRun table start first (new_engine_model (core_begun table start first) link) steps t

@@ -3,7 +3,8 @@
 --
 -- LinkSpellsAnswer, ConnectionSpellsRequest: what a link's and a connection's stream spells next
 -- ActIsSpelledByStreams: what an act is about
--- EventHasFinalStatus: of an answer     EachActIsSpelled, EachAnswerWasRead, EachAnswerIsFinal: the statements
+-- EventHasFinalStatus: of an answer     EachDueActIsSpelledByItsStream, EachAnswerWasReadFromAStream,
+-- EachAnswerHasFinalStatus: the statements
 use Rattle.std.specs.Prelude.{◌≡◌, ℕ, ◌≤◌, false, List, [], Some}
 use Rattle.std.specs.List.{AllByRecursion}
 use Rattle.hx_allow.specs.TableLines.{Table}
@@ -11,15 +12,16 @@ use Rattle.hx_framing.specs.declared.messages.Request.{Request}
 use Rattle.hx_framing.specs.declared.messages.Response.{Response}
 use Rattle.hx_framing.specs.declared.messages.Next.TheVariants as next
 use Rattle.hx_framing.specs.Reading.{Spelled}
-use Rattle.hx_framing.specs.RequestReading.{Reads as ReadsRequest}
+use Rattle.hx_framing.specs.RequestReading.{ReadsAs as ReadsRequest}
 use Rattle.hx_framing.specs.RequestStream.{StreamSpells}
-use Rattle.hx_framing.specs.ResponseReading.{Reads as ReadsResponse}
+use Rattle.hx_framing.specs.ResponseReading.{ReadsAs as ReadsResponse}
 use Rattle.proxy_core.specs.declared.event.Event.{Event}
 use Rattle.proxy_core.specs.declared.event.Event.TheVariants as events
 use Rattle.proxy_core.specs.ReadAnswers.{EventIsReadFromAStream}
 use Rattle.proxy_core.specs.Traces.{Item}
 use Rattle.proxy_engine.specs.EngineModel.{EngineModel, ConnectionModel, LinkModel, connection_at, link_at}
-use Rattle.proxy_engine.specs.Due.{Act, Abandons, Finishes, Wakes, Serves, Gives, Breaks, IsDueFirst, takes_no_request}
+use Rattle.proxy_engine.specs.Due.{Act, Abandons, Finishes, Wakes, Serves, Gives, Breaks, IsDueFirst}
+use Rattle.proxy_engine.specs.Due.{accepts_no_request}
 use Rattle.proxy_engine.specs.Executions.{ExecutionStep, StepsHaveTrace}
 
 -- the link isn't dropped, and this is the response that its stream spells: none was given of it
@@ -33,7 +35,7 @@ pub record LinkSpellsAnswer (k : LinkModel) (response : Response) : Type 0 where
 -- the connection is open and has no open exchange, and this is the request that its stream spells behind those that
 -- were given of it
 pub record ConnectionSpellsRequest (c : ConnectionModel) (request : Request) : Type 0 where
-  pub free : takes_no_request c.gone c.closed c.activity ≡ false
+  pub free : accepts_no_request c.gone c.closed c.activity ≡ false
   pub behind : List ℕ
   pub given : StreamSpells c.progress.max_body c.progress.stream c.progress.given behind
   pub rest : List ℕ
@@ -61,18 +63,18 @@ EventHasFinalStatus (events.Abandon id) = Unit {0}
 EventHasFinalStatus (events.Overdue id) = Unit {0}
 
 -- whatever act is due
-abbrev pub EachActIsSpelled : Type 0
-EachActIsSpelled = (s : EngineModel) (act : Act) → IsDueFirst s (Some act) → ActIsSpelledByStreams s act
+abbrev pub EachDueActIsSpelledByItsStream : Type 0
+EachDueActIsSpelledByItsStream = (s : EngineModel) (act : Act) → IsDueFirst s (Some act) → ActIsSpelledByStreams s act
 
 -- from whatever model steps lead on, so is each event that their acts ask the core about
-abbrev pub EachCoreEventIs : (Event → Type 0) → Type 0
-EachCoreEventIs Is =
+abbrev pub HoldsForEachCoreEvent : (Event → Type 0) → Type 0
+HoldsForEachCoreEvent Is =
     (table : Table) (begin last : EngineModel) (steps : List ExecutionStep) (trace : List Item)
     → StepsHaveTrace table begin steps last trace →
     AllByRecursion (λ item. Is item.event) trace
 
-abbrev pub EachAnswerWasRead : Type 0
-EachAnswerWasRead = EachCoreEventIs EventIsReadFromAStream
+abbrev pub EachAnswerWasReadFromAStream : Type 0
+EachAnswerWasReadFromAStream = HoldsForEachCoreEvent EventIsReadFromAStream
 
-abbrev pub EachAnswerIsFinal : Type 0
-EachAnswerIsFinal = EachCoreEventIs EventHasFinalStatus
+abbrev pub EachAnswerHasFinalStatus : Type 0
+EachAnswerHasFinalStatus = HoldsForEachCoreEvent EventHasFinalStatus

@@ -1,7 +1,7 @@
 -- What happens to a proxy, and which of it takes memory.
 use Rattle.std.specs.Prelude.{Bool, true, false}
 pub use Rattle.proxy_script.specs.Happenings.{
-  PlainHappening,
+  HappeningModel,
   Accepts,
   Sends,
   Hears,
@@ -11,11 +11,11 @@ pub use Rattle.proxy_script.specs.Happenings.{
   Overdues,
   Shuts,
   Fails,
-  plain_happening,
+  model_of_happening,
 }
 
 -- a connection or bytes are kept
-abbrev pub happening_takes_memory : PlainHappening → Bool
+abbrev pub happening_takes_memory : HappeningModel → Bool
 happening_takes_memory (Accepts n) = true
 happening_takes_memory (Sends n bytes) = true
 happening_takes_memory (Hears l bytes) = true

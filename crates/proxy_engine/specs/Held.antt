@@ -8,11 +8,11 @@ use Rattle.proxy_engine.specs.declared.endpoints.ends.Connection.{Connection}
 use Rattle.proxy_engine.specs.declared.endpoints.ends.Link.{Link}
 
 -- whatever is kept
-abbrev pub is_kept : {A : Type 0} → A → Bool
-is_kept x = true
+abbrev pub holds_of_any_end : {A : Type 0} → A → Bool
+holds_of_any_end x = true
 
-abbrev pub connection_is_open : Connection → Bool
-connection_is_open c = not c.gone
+abbrev pub connection_is_not_gone : Connection → Bool
+connection_is_not_gone c = not c.gone
 
 abbrev pub connection_may_send : Connection → Bool
 connection_may_send c = not c.gone && (not c.ended && not (has_exchange c.activity))
@@ -29,6 +29,6 @@ flagged_places flag n [] = []
 flagged_places flag n (e ∷ es) = if nat_lt e.0 n && flag e.1 then e.0 ∷ flagged_places flag n es
     else flagged_places flag n es
 
-abbrev pub has_flag : {A : Type 0} → (A → Bool) → Option A → Bool
-has_flag flag None = false
-has_flag flag (Some x) = flag x
+abbrev pub open_end_has_flag : {A : Type 0} → (A → Bool) → Option A → Bool
+open_end_has_flag flag None = false
+open_end_has_flag flag (Some x) = flag x

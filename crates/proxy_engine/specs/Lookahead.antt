@@ -6,18 +6,18 @@ use Rattle.proxy_engine.specs.declared.endpoints.lookahead.Lookahead.{Lookahead}
 use Rattle.proxy_engine.specs.declared.endpoints.lookahead.Lookahead.TheVariants.{Unknown, Quiet, Due}
 
 -- the next answer is this
-abbrev pub LookaheadShows : {M : Type 0} → Lookahead M → Next M → Type 0
-LookaheadShows Unknown a = ⊥
-LookaheadShows Quiet a = a ≡ next.More
-LookaheadShows (Due b) a = a ≡ b
+abbrev pub LookaheadShowsAnswer : {M : Type 0} → Lookahead M → Next M → Type 0
+LookaheadShowsAnswer Unknown a = ⊥
+LookaheadShowsAnswer Quiet a = a ≡ next.More
+LookaheadShowsAnswer (Due b) a = a ≡ b
 
 -- what an answer tells
-abbrev pub lookahead_of_next : {M : Type 0} → Next M → Lookahead M
-lookahead_of_next next.More = Quiet
-lookahead_of_next next.NeedsContinue = Due next.NeedsContinue
-lookahead_of_next (next.Message m) = Due (next.Message m)
-lookahead_of_next (next.Refused f) = Due (next.Refused f)
-lookahead_of_next next.End = Due next.End
+abbrev pub lookahead_of_reader_answer : {M : Type 0} → Next M → Lookahead M
+lookahead_of_reader_answer next.More = Quiet
+lookahead_of_reader_answer next.NeedsContinue = Due next.NeedsContinue
+lookahead_of_reader_answer (next.Message m) = Due (next.Message m)
+lookahead_of_reader_answer (next.Refused f) = Due (next.Refused f)
+lookahead_of_reader_answer next.End = Due next.End
 
 -- more has come, or the end: what is due stays due
 abbrev pub lookahead_after_input : {M : Type 0} → Lookahead M → Lookahead M

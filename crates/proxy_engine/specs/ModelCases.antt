@@ -3,15 +3,15 @@ use Rattle.std.specs.Prelude.{false, [], ◌∷◌, codes, None, Some}
 use Rattle.hx_framing.specs.declared.messages.Request.{Request}
 use Rattle.hx_framing.specs.declared.messages.Response.{Response}
 use Rattle.hx_status.specs.Abouts.{about_purge}
-use Rattle.hx_status.specs.declared.about.Replied.{Replied}
+use Rattle.hx_status.specs.declared.about.ReplyData.{ReplyData}
 use Rattle.proxy_core.specs.Starts.{empty_store}
 use Rattle.proxy_core.specs.Traces.{initial_state as core_begun}
 use Rattle.hx_allow.specs.TableLines.{Table}
 use Rattle.proxy_core.specs.Cases.{line_with_no_cache, table}
 use Rattle.proxy_engine.specs.Happenings.{Accepts, Sends}
 use Rattle.proxy_engine.specs.EngineModel.{EngineModel, model_after_happening, with_link}
-use Rattle.proxy_engine.specs.Acts.{with_dropped, with_opened_link}
-use Rattle.proxy_engine.specs.Questions.{question_as_it_came}
+use Rattle.proxy_engine.specs.Acts.{link_model_dropped, model_with_opened_link}
+use Rattle.proxy_engine.specs.Questions.{question_with_raw_target}
 use Rattle.proxy_engine.specs.State.{new_engine_model}
 
 -- two lines, each with an origin of its own
@@ -34,11 +34,11 @@ model_after_two_sends = model_after_happening (model_after_happening model_with_
 
 -- a link was opened for it
 abbrev pub model_with_link : EngineModel
-model_with_link = with_opened_link model_with_connection 0 false
+model_with_link = model_with_opened_link model_with_connection 0 false
 
 -- and dropped
 abbrev pub model_with_dropped_link : EngineModel
-model_with_dropped_link = with_link model_with_link 0 with_dropped
+model_with_dropped_link = with_link model_with_link 0 link_model_dropped
 
 abbrev pub answer_200 : Response
 answer_200 = record { status = 200; fields = []; content = []; announced = None }
@@ -47,5 +47,5 @@ abbrev pub request_of_a : Request
 request_of_a = record { method = codes "GET"; target = codes "/a"; minor = 1; fields = []; content = None }
 
 -- a reply that answers it
-abbrev pub replied_to_a : Replied
-replied_to_a = record { about = about_purge 4; question = Some (question_as_it_came request_of_a) }
+abbrev pub replied_to_a : ReplyData
+replied_to_a = record { about = about_purge 4; question = Some (question_with_raw_target request_of_a) }

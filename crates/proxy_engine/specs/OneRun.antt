@@ -2,7 +2,7 @@
 -- nothing beside it.
 --
 -- moment_of_event: of an event     count_of_core_steps: how many of these steps may be steps of the core
--- RunHasNoOtherEffects and what follows it: the statements
+-- RunHasOnlyEffectsOfItsActs and what follows it: the statements
 use Rattle.std.specs.Prelude.{◌≡◌, ◌≢◌, ℕ, ◌+◌, ◌≤◌, List, [], ◌∷◌, length, Option, Some, None}
 use Rattle.hx_allow.specs.TableLines.{Table}
 use Rattle.proxy_core.specs.declared.event.Event.{Event}
@@ -10,7 +10,7 @@ use Rattle.proxy_core.specs.declared.event.Event.TheVariants as events
 use Rattle.proxy_core.specs.Traces.{Item}
 use Rattle.proxy_core.specs.Starts.{StoreAtStart}
 use Rattle.proxy_script.specs.declared.effect_list.Effect.{Effect}
-use Rattle.proxy_engine.specs.Happenings.{PlainHappening}
+use Rattle.proxy_engine.specs.Happenings.{HappeningModel}
 use Rattle.proxy_engine.specs.EngineModel.{EngineModel, happening_fault}
 use Rattle.proxy_engine.specs.Due.{Act}
 use Rattle.proxy_engine.specs.Executions.{ExecutionStep, Took, Worked, StepsHaveTrace, IsItemOfAct, StepsAreAGoodRun}
@@ -36,8 +36,8 @@ count_of_core_steps (Took happening ∷ past) =
 count_of_core_steps (Worked now act emitted ∷ past) = count_of_core_steps past + 1
 
 -- effects that the act didn't tell: one more, one less, another end, other bytes, another order
-abbrev pub RunHasNoOtherEffects : Type 0
-RunHasNoOtherEffects =
+abbrev pub RunHasOnlyEffectsOfItsActs : Type 0
+RunHasOnlyEffectsOfItsActs =
     (table : Table) (start : StoreAtStart) (first now : ℕ) (begin last other : EngineModel) (past : List ExecutionStep)
     (act : Act)
     (emitted more : List Effect) →
@@ -45,8 +45,8 @@ RunHasNoOtherEffects =
     → StepsAreAGoodRun table start first begin (Worked now act more ∷ past) other → ⊥
 
 -- an act that wasn't the first due, at whatever moment it is said to be done
-abbrev pub RunHasNoOtherAct : Type 0
-RunHasNoOtherAct =
+abbrev pub RunDoesOnlyTheFirstDueAct : Type 0
+RunDoesOnlyTheFirstDueAct =
     (table : Table) (start : StoreAtStart) (first now then : ℕ) (begin last other : EngineModel)
     (past : List ExecutionStep)
     (act instead : Act)
@@ -55,8 +55,8 @@ RunHasNoOtherAct =
     → StepsAreAGoodRun table start first begin (Worked then instead more ∷ past) other → ⊥
 
 -- a step of the core at another moment than that of its act
-abbrev pub RunHasNoOtherMoment : Type 0
-RunHasNoOtherMoment =
+abbrev pub RunStepsCoreAtMomentOfAct : Type 0
+RunStepsCoreAtMomentOfAct =
     (table : Table) (s after : EngineModel) (now then : ℕ) (act : Act) (item : Item) (emitted : List Effect) →
     IsItemOfAct table s now act item emitted after → moment_of_event item.event ≡ Some then → now ≢ then → ⊥
 
@@ -65,7 +65,7 @@ abbrev pub RunHasNoUntakenHappening : Type 0
 RunHasNoUntakenHappening =
     (table : Table) (start : StoreAtStart) (first : ℕ) (begin before last : EngineModel) (past : List ExecutionStep)
     (trace : List Item)
-    (happening : PlainHappening) →
+    (happening : HappeningModel) →
     StepsHaveTrace table begin past before trace → happening_fault before happening ≢ None
     → StepsAreAGoodRun table start first begin (Took happening ∷ past) last → ⊥
 

@@ -1,16 +1,18 @@
 -- What each model of an engine keeps to, and which ends its effects name.
 --
--- ModelIsOrderly: connections, links and open exchanges belong together, and a closed connection has no open exchange
+-- ModelIsConsistent: connections, links and open exchanges belong together, and a closed connection has no open
+-- exchange
 -- EffectsNameOpenEnds: no effect names a connection that is closed or gone, or a link that was dropped
--- EndedStaysEnded: what is closed, gone, to end or dropped stays so
--- NewModelIsOrderly, HappeningKeepsOrder, ActKeepsOrder, HappeningKeepsEnded, ActKeepsEnded: the laws
+-- EndedEndsStayEnded: what is closed, gone, to end or dropped stays so
+-- NewModelIsConsistent, HappeningKeepsModelConsistent, ActKeepsModelConsistent, EndedEndsStayEndedAfterHappening,
+-- EndedEndsStayEndedAfterAct: the laws
 use Rattle.std.specs.Prelude.{◌≡◌, ℕ, List, [], ◌∷◌, map, true, false, Option, None, Some, if◌then◌else◌, ◌<◌, ◌≤◌}
 use Rattle.std.specs.Prelude.{length}
 use Rattle.proxy_core.specs.State.{State as CoreState}
 use Rattle.proxy_script.specs.declared.effect_list.Effect.{Effect}
 use Rattle.proxy_script.specs.declared.effect_list.Effect.TheVariants as effects
 use Rattle.proxy_engine.specs.ConnectionNumbers.{connection_number, link_number}
-use Rattle.proxy_engine.specs.Happenings.{PlainHappening}
+use Rattle.proxy_engine.specs.Happenings.{HappeningModel}
 use Rattle.proxy_engine.specs.declared.endpoints.activities.Activity.{Activity}
 use Rattle.proxy_engine.specs.declared.endpoints.activities.Activity.TheVariants.{Free}
 use Rattle.proxy_engine.specs.EngineModel.{EngineModel, ConnectionModel, LinkModel, connection_at, link_at}
@@ -28,7 +30,7 @@ activity_of_model c = c.activity
 abbrev pub owner_of_model : LinkModel → Option ℕ
 owner_of_model k = if k.dropped then None else Some k.connection
 
-pub record ModelIsOrderly (s : EngineModel) : Type 0 where
+pub record ModelIsConsistent (s : EngineModel) : Type 0 where
   pub paired : ConnectionsAndLinksArePaired (map activity_of_model s.connections)
       (map owner_of_model s.links) s.core.exchanges
   pub free : (i : ℕ) → (connection_at s i).closed ≡ true → (connection_at s i).activity ≡ Free
@@ -62,7 +64,7 @@ EffectsNameOpenEnds s after (effects.Forward l address bytes ∷ rest) = (l ≡ 
 EffectsNameOpenEnds s after (effects.Drop l ∷ rest) = LinkIsDropped s after l × EffectsNameOpenEnds s after rest
 
 -- what is closed, gone, to end or dropped is so in a later model
-pub record EndedStaysEnded (s after : EngineModel) : Type 0 where
+pub record EndedEndsStayEnded (s after : EngineModel) : Type 0 where
   pub closed : (i : ℕ) → i < length s.connections → (connection_at s i).closed ≡ true → (connection_at after i).closed
       ≡ true
   pub gone : (i : ℕ) → i < length s.connections → (connection_at s i).gone ≡ true → (connection_at after i).gone ≡ true
@@ -73,24 +75,26 @@ pub record EndedStaysEnded (s after : EngineModel) : Type 0 where
   pub links : length s.links ≤ length after.links
   pub first : after.first ≡ s.first
 
-abbrev pub NewModelIsOrderly : Type 0
-NewModelIsOrderly = (core : CoreState) (first : ℕ) → core.exchanges ≡ [] → ModelIsOrderly (new_engine_model core first)
+abbrev pub NewModelIsConsistent : Type 0
+NewModelIsConsistent = (core : CoreState) (first : ℕ) → core.exchanges ≡ []
+    → ModelIsConsistent (new_engine_model core first)
 
-abbrev pub HappeningKeepsOrder : Type 0
-HappeningKeepsOrder = (s : EngineModel) (h : PlainHappening) → ModelIsOrderly s → ModelIsOrderly
+abbrev pub HappeningKeepsModelConsistent : Type 0
+HappeningKeepsModelConsistent = (s : EngineModel) (h : HappeningModel) → ModelIsConsistent s → ModelIsConsistent
     (model_after_happening s h)
 
-abbrev pub ActKeepsOrder : Type 0
-ActKeepsOrder =
-    (s : EngineModel) (now : ℕ) (act : Act) (emitted : List Effect) (after : EngineModel) → ModelIsOrderly s
-    → IsDueFirst s (Some act) → ActIsDone s now act emitted after → ModelIsOrderly after
+abbrev pub ActKeepsModelConsistent : Type 0
+ActKeepsModelConsistent =
+    (s : EngineModel) (now : ℕ) (act : Act) (emitted : List Effect) (after : EngineModel) → ModelIsConsistent s
+    → IsDueFirst s (Some act) → ActIsDone s now act emitted after → ModelIsConsistent after
     × EffectsNameOpenEnds s after emitted
 
-abbrev pub HappeningKeepsEnded : Type 0
-HappeningKeepsEnded = (s : EngineModel) (h : PlainHappening) → EndedStaysEnded s (model_after_happening s h)
+abbrev pub EndedEndsStayEndedAfterHappening : Type 0
+EndedEndsStayEndedAfterHappening = (s : EngineModel) (h : HappeningModel)
+    → EndedEndsStayEnded s (model_after_happening s h)
 
-abbrev pub ActKeepsEnded : Type 0
-ActKeepsEnded =
+abbrev pub EndedEndsStayEndedAfterAct : Type 0
+EndedEndsStayEndedAfterAct =
     (s : EngineModel) (now : ℕ) (act : Act) (emitted : List Effect) (after : EngineModel)
     → ActIsDone s now act emitted after
-    → EndedStaysEnded s after
+    → EndedEndsStayEnded s after

@@ -1,10 +1,10 @@
 -- Which connection's request went forward on which link, and which exchanges of the core are open: the three agree.
 --
--- activities_after, owners_after: what an outcome of the core adds
+-- activities_after_outcome, owners_after_outcome: what an outcome of the core adds
 -- forwarded_or_waiting_at: whether an exchange is open, and its request at the origin
 -- ConnectionsAndLinksArePaired: connections, links and open exchanges belong together
--- StateIsPaired: those of an engine do
--- owner_kept: the connection of a link by its number
+-- ConnectionsAndLinksOfStateArePaired: those of an engine do
+-- owner_of_link_number: the connection of a link by its number
 use Rattle.std.specs.Prelude.{◌≡◌, ℕ, Bool, List, [], ◌∷◌, ◌++◌, map, Option, None, Some, slice_set}
 use Rattle.std.specs.Prelude.{slice_index_or, nat_le, if◌then◌else◌}
 use Rattle.std.specs.Option.{option_map}
@@ -22,30 +22,30 @@ use Rattle.proxy_engine.specs.declared.endpoints.ends.Connection.{Connection}
 use Rattle.proxy_engine.specs.declared.endpoints.ends.Link.{Link}
 
 -- what a connection does; one that is over is free
-abbrev pub activity_of : Option Connection → Activity
-activity_of None = Free
-activity_of (Some c) = c.activity
+abbrev pub activity_of_connection : Option Connection → Activity
+activity_of_connection None = Free
+activity_of_connection (Some c) = c.activity
 
 -- the place of the connection that an open link belongs to
-abbrev pub owner_of : Option Link → Option ℕ
-owner_of None = None
-owner_of (Some k) = Some k.connection
+abbrev pub owner_of_open_link : Option Link → Option ℕ
+owner_of_open_link None = None
+owner_of_open_link (Some k) = Some k.connection
 
 -- what the connections do behind an outcome for the connection at i, where the next link has the place n
-abbrev pub activities_after : ℕ → ℕ → Outcome → List Activity → List Activity
-activities_after i n (Reply r) activities = activities
-activities_after i n (Forward line bytes) activities = slice_set activities i (Forwarded n)
-activities_after i n (Waits leader) activities = slice_set activities i Waiting
-activities_after i n Ended activities = activities
-activities_after i n WaitsNoMore activities = activities
+abbrev pub activities_after_outcome : ℕ → ℕ → Outcome → List Activity → List Activity
+activities_after_outcome i n (Reply r) activities = activities
+activities_after_outcome i n (Forward line bytes) activities = slice_set activities i (Forwarded n)
+activities_after_outcome i n (Waits leader) activities = slice_set activities i Waiting
+activities_after_outcome i n Ended activities = activities
+activities_after_outcome i n WaitsNoMore activities = activities
 
 -- the connections of the links
-abbrev pub owners_after : ℕ → Outcome → List (Option ℕ) → List (Option ℕ)
-owners_after i (Reply r) owners = owners
-owners_after i (Forward line bytes) owners = owners ++ Some i ∷ []
-owners_after i (Waits leader) owners = owners
-owners_after i Ended owners = owners
-owners_after i WaitsNoMore owners = owners
+abbrev pub owners_after_outcome : ℕ → Outcome → List (Option ℕ) → List (Option ℕ)
+owners_after_outcome i (Reply r) owners = owners
+owners_after_outcome i (Forward line bytes) owners = owners ++ Some i ∷ []
+owners_after_outcome i (Waits leader) owners = owners
+owners_after_outcome i Ended owners = owners
+owners_after_outcome i WaitsNoMore owners = owners
 
 -- what the connection at a place does; beyond the list none has an exchange
 abbrev pub activity_at : List Activity → ℕ → Activity
@@ -70,15 +70,17 @@ pub record ConnectionsAndLinksArePaired (activities : List Activity) (owners : L
       (activity_at activities i)
   pub numbered : forwarded_or_waiting_at 0 exchanges ≡ None
 
-abbrev pub activities_of : List (Option Connection) → List Activity
-activities_of connections = map activity_of connections
+abbrev pub activities_of_connections : List (Option Connection) → List Activity
+activities_of_connections connections = map activity_of_connection connections
 
-abbrev pub owners_of : List (Option Link) → List (Option ℕ)
-owners_of links = map owner_of links
+abbrev pub owners_of_links : List (Option Link) → List (Option ℕ)
+owners_of_links links = map owner_of_open_link links
 
-abbrev pub StateIsPaired : State → Type 0
-StateIsPaired e = ConnectionsAndLinksArePaired (activities_of e.connections) (owners_of e.links) e.core.exchanges
+abbrev pub ConnectionsAndLinksOfStateArePaired : State → Type 0
+ConnectionsAndLinksOfStateArePaired e =
+    ConnectionsAndLinksArePaired (activities_of_connections e.connections) (owners_of_links e.links) e.core.exchanges
 
 -- the place of the connection that the link of this number belongs to, where it is open
-abbrev pub owner_kept : State → ℕ → Option ℕ
-owner_kept e l = if nat_le e.first l then owner_of (slice_index_or e.links (link_place e.first l) None) else None
+abbrev pub owner_of_link_number : State → ℕ → Option ℕ
+owner_of_link_number e l =
+    if nat_le e.first l then owner_of_open_link (slice_index_or e.links (link_place e.first l) None) else None

@@ -8,7 +8,7 @@ use Rattle.hx_framing.specs.declared.messages.Next.{Next}
 use Rattle.hx_framing.specs.declared.messages.Next.TheVariants as next
 use Rattle.hx_framing.specs.declared.messages.Request.{Request}
 use Rattle.hx_framing.specs.declared.messages.Response.{Response}
-use Rattle.hx_framing.specs.Progress.{Progress, stream_after_answer, AnswerIsDue}
+use Rattle.hx_framing.specs.Progress.{Progress, progress_after_answer, AnswerIsDue}
 use Rattle.hx_framing.specs.RequestState.{State as RequestState, RepresentsStream as RequestRepresentsStream, weight}
 use Rattle.hx_framing.specs.RequestStream.{Answers as RequestAnswers}
 use Rattle.hx_framing.specs.ResponseState.{State as ResponseState, RepresentsStream as ResponseRepresentsStream}
@@ -24,7 +24,7 @@ abbrev pub RepresentsWithLookahead : {S M : Type 0} → (S → Progress M → Ty
     → Progress M → Type 0
 RepresentsWithLookahead RepresentsStream Answers s Unknown p = RepresentsStream s p
 RepresentsWithLookahead RepresentsStream Answers s Quiet p = RepresentsStream s p × Answers p next.More
-RepresentsWithLookahead RepresentsStream Answers s (Due a) p = RepresentsStream s (stream_after_answer p a)
+RepresentsWithLookahead RepresentsStream Answers s (Due a) p = RepresentsStream s (progress_after_answer p a)
     × Answers p a × AnswerIsDue a
 
 abbrev pub PeekedRepresents : {S M : Type 0} → (S → Progress M → Type 0) → (Progress M → Next M → Type 0) → Peeked S M

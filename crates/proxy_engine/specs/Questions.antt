@@ -1,7 +1,7 @@
 -- What a client asked for, as it is told with its reply.
 --
 -- question_of: what a request asks for, whose target is a URI
--- question_as_it_came: the same of a request that is refused because its target is none
+-- question_with_raw_target: the same of a request that is refused because its target is none
 -- request_of_event: the request that a step of the core may answer
 use Rattle.std.specs.Prelude.{List, Option, None, Some}
 use Rattle.hx_framing.specs.declared.messages.Request.{Request}
@@ -19,8 +19,8 @@ abbrev pub question_of : Asked → Question
 question_of asked = record { method = asked.method; target = Uri asked.target.key }
 
 -- its method, and its target as the request line has it (RFC 9112, section 3.2)
-abbrev pub question_as_it_came : Request → Question
-question_as_it_came r = record { method = r.method; target = AsItCame r.target }
+abbrev pub question_with_raw_target : Request → Question
+question_with_raw_target r = record { method = r.method; target = AsItCame r.target }
 
 -- the request that arrives, or that of the open exchange of the event's id; a client that went away gets no answer
 abbrev pub request_of_event : List Exchange → Event → Option Asked

@@ -21,7 +21,7 @@ use Rattle.proxy_engine.specs.ConnectionNumbers.{connection_number, connection_p
 use Rattle.proxy_engine.specs.ConnectionNumbers.{link_with_number}
 use Rattle.proxy_engine.specs.Activities.{has_exchange, link_place_of_activity}
 use Rattle.proxy_engine.specs.EngineModel.{EngineModel, ConnectionModel, LinkModel, connection_at, link_at}
-use Rattle.proxy_engine.specs.EngineModel.{keeps_bytes, keeps_answer}
+use Rattle.proxy_engine.specs.EngineModel.{connection_accepts_bytes, link_accepts_bytes}
 use Rattle.proxy_engine.specs.declared.work.End.{End}
 use Rattle.proxy_engine.specs.declared.work.End.TheVariants as ends
 
@@ -37,7 +37,7 @@ connection_is_open_in_model c = not (c.gone || c.closed)
 
 -- it is open, has no open exchange, and its input hasn't ended
 abbrev pub connection_may_send_request : ConnectionModel → Bool
-connection_may_send_request c = keeps_bytes c && not (has_exchange c.activity)
+connection_may_send_request c = connection_accepts_bytes c && not (has_exchange c.activity)
 
 -- it isn't dropped, and has failed
 abbrev pub link_has_failed : LinkModel → Bool
@@ -53,14 +53,14 @@ client_end_at i = ends.Client (connection_number i)
 -- the links that aren't dropped, failed or shut, then the clients that may send a request
 abbrev pub readable_ends_of : EngineModel → List End
 readable_ends_of s =
-    map (link_end_at s.first) (places_with_flag keeps_answer 0 s.links) ++ map client_end_at
+    map (link_end_at s.first) (places_with_flag link_accepts_bytes 0 s.links) ++ map client_end_at
     (places_with_flag connection_may_send_request 0 s.connections)
 
 -- of one end: no bytes come from where connections do, and an end that has no number is none
 abbrev pub end_may_send : EngineModel → End → Bool
 end_may_send s ends.Listener = false
 end_may_send s (ends.Client n) = nat_lt 0 n && connection_may_send_request (connection_at s (connection_place n))
-end_may_send s (ends.Link l) = nat_le s.first l && keeps_answer (link_at s (link_place s.first l))
+end_may_send s (ends.Link l) = nat_le s.first l && link_accepts_bytes (link_at s (link_place s.first l))
 
 abbrev pub failed_links : EngineModel → List End
 failed_links s = map (link_end_at s.first) (places_with_flag link_has_failed 0 s.links)
@@ -86,25 +86,25 @@ link_of_connection s n =
     (link_place_of_activity (connection_at s (connection_place n)).activity)
 
 -- the place of the connection whose request is open on a link: there is none where that was dropped
-abbrev pub owner_in_model : LinkModel → Option ℕ
-owner_in_model k = if k.dropped then None else Some k.connection
+abbrev pub owner_place_of_link_model : LinkModel → Option ℕ
+owner_place_of_link_model k = if k.dropped then None else Some k.connection
 
 -- of the link of this number
 abbrev pub owner_of_number : EngineModel → ℕ → Option ℕ
-owner_of_number s l = if nat_le s.first l then owner_in_model (link_at s (link_place s.first l)) else None
+owner_of_number s l = if nat_le s.first l then owner_place_of_link_model (link_at s (link_place s.first l)) else None
 
 -- the line over which the request of an exchange went forward
 abbrev pub line_of_exchange : Option Exchange → Option ℕ
 line_of_exchange x = option_map (λ (x : Exchange). x.line.number) x
 
 -- the same of a connection's
-abbrev pub line_of_owner : List Exchange → Option ℕ → Option ℕ
-line_of_owner exchanges None = None
-line_of_owner exchanges (Some i) = line_of_exchange (find_exchange (connection_number i) exchanges)
+abbrev pub line_of_owners_exchange : List Exchange → Option ℕ → Option ℕ
+line_of_owners_exchange exchanges None = None
+line_of_owners_exchange exchanges (Some i) = line_of_exchange (find_exchange (connection_number i) exchanges)
 
 -- the line over which the request that is open on the link of this number went forward
 abbrev pub line_of_link : EngineModel → ℕ → Option ℕ
-line_of_link s l = line_of_owner s.core.exchanges (owner_of_number s l)
+line_of_link s l = line_of_owners_exchange s.core.exchanges (owner_of_number s l)
 
 -- for how many seconds the request of an open exchange waits for the answer to another, where it does, by these lines
 abbrev pub wait_timeout_of_exchange : List Line → Option Exchange → Option ℕ

@@ -2,7 +2,7 @@
 --
 -- entries_below: what a map has at each place          ReadyPlaces: what contracts see of marked places
 -- PlacesAscend: their order
--- PlaceBelongsBehind, PlaceIsLeast: where one belongs, and the least
+-- IsInsertionIndexOfPlace, PlaceIsLeast: where one belongs, and the least
 -- FlaggedPlacesAreMarked: what has a flag is at one of them, something is at each, and there is room for more
 use Rattle.std.specs.Prelude.{◌≡◌, ℕ, ◌<◌, ◌≤◌, List, map, length, Contains, Bool, true, Option, Some, is_some}
 use Rattle.std.specs.Prelude.{slice_index_or}
@@ -28,7 +28,7 @@ abbrev pub PlacesAreBelow : ℕ → List ℕ → Type 0
 PlacesAreBelow count places = (i : ℕ) → Contains places i → i < count
 
 -- a place that isn't there belongs behind so many: those are less, the others greater
-pub record PlaceBelongsBehind (places : List ℕ) (place count : ℕ) : Type 0 where
+pub record IsInsertionIndexOfPlace (places : List ℕ) (place count : ℕ) : Type 0 where
   pub within : count ≤ length places
   pub less : (k : ℕ) → k < count → slice_index_or places k 0 < place
   pub greater : count < length places → place < slice_index_or places count 0

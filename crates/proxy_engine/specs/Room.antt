@@ -1,12 +1,12 @@
 -- Which happenings find their memory.
 --
--- HasSpareBytes, ConnectionHasSpare, LinkHasSpare: so many bytes of an end do
+-- HasSpareBytes, ConnectionReaderHasSpareBytes, LinkReaderHasSpareBytes: so many bytes of an end do
 -- HappeningFindsMemory: a happening does
 -- NextHappeningFindsMemory: the next one of an end does
--- RoomIsGivenBack, ConnectionRoomIsGivenBack, ClientRoomIsGivenBack: no room is kept where no byte waits
+-- SpareRoomIsReleased, ConnectionRoomIsReleased, ClientRoomIsReleased: no room is kept where no byte waits
 use Rattle.std.specs.Prelude.{◌≡◌, ℕ, ◌≤◌, ◌^◌, ◌⊎◌, List, [], length, true, Option, None, Some, slice_index_or}
 use Rattle.proxy_engine.specs.ConnectionNumbers.{connection_number, connection_place, link_place}
-use Rattle.proxy_engine.specs.Happenings.{PlainHappening, Accepts, Sends, Hears, Ends, Leaves, Retires, Overdues, Shuts}
+use Rattle.proxy_engine.specs.Happenings.{HappeningModel, Accepts, Sends, Hears, Ends, Leaves, Retires, Overdues, Shuts}
 use Rattle.proxy_engine.specs.Happenings.{Fails}
 use Rattle.proxy_engine.specs.State.{State}
 use Rattle.proxy_engine.specs.declared.endpoints.ends.Connection.{Connection}
@@ -19,18 +19,19 @@ abbrev pub HasSpareBytes : {A : Type 0} → (A → ℕ) → Option A → ℕ →
 HasSpareBytes spare None n = Unit {0}
 HasSpareBytes spare (Some x) n = n ≤ spare x
 
-abbrev pub ConnectionHasSpare : Option Connection → ℕ → Type 0
-ConnectionHasSpare o n = HasSpareBytes (λ (c : Connection). c.reader.inner.spare) o n
+abbrev pub ConnectionReaderHasSpareBytes : Option Connection → ℕ → Type 0
+ConnectionReaderHasSpareBytes o n = HasSpareBytes (λ (c : Connection). c.reader.inner.spare) o n
 
-abbrev pub LinkHasSpare : Option Link → ℕ → Type 0
-LinkHasSpare o n = HasSpareBytes (λ (k : Link). k.reader.inner.spare) o n
+abbrev pub LinkReaderHasSpareBytes : Option Link → ℕ → Type 0
+LinkReaderHasSpareBytes o n = HasSpareBytes (λ (k : Link). k.reader.inner.spare) o n
 
 -- a connection or bytes find their memory; marks take none
-abbrev pub HappeningFindsMemory : State → PlainHappening → Type 0
+abbrev pub HappeningFindsMemory : State → HappeningModel → Type 0
 HappeningFindsMemory e (Accepts n) = e.room ≡ true
-HappeningFindsMemory e (Sends n bytes) = ConnectionHasSpare (slice_index_or e.connections (connection_place n) None)
+HappeningFindsMemory e (Sends n bytes) =
+    ConnectionReaderHasSpareBytes (slice_index_or e.connections (connection_place n) None)
     (length bytes)
-HappeningFindsMemory e (Hears l bytes) = LinkHasSpare (slice_index_or e.links (link_place e.first l) None)
+HappeningFindsMemory e (Hears l bytes) = LinkReaderHasSpareBytes (slice_index_or e.links (link_place e.first l) None)
     (length bytes)
 HappeningFindsMemory e (Ends n) = Unit {0}
 HappeningFindsMemory e (Leaves n) = Unit {0}
@@ -46,19 +47,19 @@ most_bytes_of_read = 4096
 -- the next connection, if a number is left for it, and one piece of another end find their memory
 abbrev pub NextHappeningFindsMemory : State → End → Type 0
 NextHappeningFindsMemory e ends.Listener = (e.room ≡ true) ⊎ (2 ^ 64 ≤ connection_number (length e.connections))
-NextHappeningFindsMemory e (ends.Client n) = ConnectionHasSpare
+NextHappeningFindsMemory e (ends.Client n) = ConnectionReaderHasSpareBytes
     (slice_index_or e.connections (connection_place n) None) most_bytes_of_read
-NextHappeningFindsMemory e (ends.Link l) = LinkHasSpare
+NextHappeningFindsMemory e (ends.Link l) = LinkReaderHasSpareBytes
     (slice_index_or e.links (link_place e.first l) None) most_bytes_of_read
 
 -- where no byte waits to be read, no room is kept for more
-abbrev pub RoomIsGivenBack : {A : Type 0} → (A → List ℕ) → (A → ℕ) → Option A → Type 0
-RoomIsGivenBack unread spare None = Unit {0}
-RoomIsGivenBack unread spare (Some x) = unread x ≡ [] → spare x ≡ 0
+abbrev pub SpareRoomIsReleased : {A : Type 0} → (A → List ℕ) → (A → ℕ) → Option A → Type 0
+SpareRoomIsReleased unread spare None = Unit {0}
+SpareRoomIsReleased unread spare (Some x) = unread x ≡ [] → spare x ≡ 0
 
-abbrev pub ConnectionRoomIsGivenBack : Option Connection → Type 0
-ConnectionRoomIsGivenBack o = RoomIsGivenBack (λ (c : Connection). c.reader.inner.unread)
+abbrev pub ConnectionRoomIsReleased : Option Connection → Type 0
+ConnectionRoomIsReleased o = SpareRoomIsReleased (λ (c : Connection). c.reader.inner.unread)
     (λ (c : Connection). c.reader.inner.spare) o
 
-abbrev pub ClientRoomIsGivenBack : State → ℕ → Type 0
-ClientRoomIsGivenBack e n = ConnectionRoomIsGivenBack (slice_index_or e.connections (connection_place n) None)
+abbrev pub ClientRoomIsReleased : State → ℕ → Type 0
+ClientRoomIsReleased e n = ConnectionRoomIsReleased (slice_index_or e.connections (connection_place n) None)

@@ -2,12 +2,12 @@
 --
 -- EndHasNumber: it is there          SendingEndHasNumber: each is there
 -- ReadableEndsMaySend, SendingEndIsReadable: they are the readable ends, and those alone
--- AcceptAddsReadableEnd, AcceptKeepsSending: one more connection is one more of them, behind the others
+-- AcceptAddsReadableEnd, EndsMaySendAsBeforeAccept: one more connection is one more of them, behind the others
 use Rattle.std.specs.Prelude.{◌≡◌, [], ◌∷◌, ◌++◌, length, true, None, Contains}
 use Rattle.std.specs.List.{AllByRecursion}
 use Rattle.proxy_engine.specs.ConnectionNumbers.{connection_number}
 use Rattle.proxy_engine.specs.Happenings.{Accepts}
-use Rattle.proxy_engine.specs.EngineModel.{EngineModel, connection_fault, link_fault, model_after_happening}
+use Rattle.proxy_engine.specs.EngineModel.{EngineModel, connection_fault, link_number_fault, model_after_happening}
 use Rattle.proxy_engine.specs.Reading.{end_may_send, readable_ends_of}
 use Rattle.proxy_engine.specs.declared.work.End.{End}
 use Rattle.proxy_engine.specs.declared.work.End.TheVariants as ends
@@ -16,7 +16,7 @@ use Rattle.proxy_engine.specs.declared.work.End.TheVariants as ends
 abbrev pub EndHasNumber : EngineModel → End → Type 0
 EndHasNumber s ends.Listener = Unit {0}
 EndHasNumber s (ends.Client n) = connection_fault (length s.connections) n ≡ None
-EndHasNumber s (ends.Link l) = link_fault s.first (length s.links) l ≡ None
+EndHasNumber s (ends.Link l) = link_number_fault s.first (length s.links) l ≡ None
 
 -- ---- the statements
 
@@ -34,6 +34,6 @@ AcceptAddsReadableEnd = (s : EngineModel) →
     readable_ends_of (model_after_happening s (Accepts (connection_number (length s.connections))))
     ≡ readable_ends_of s ++ ends.Client (connection_number (length s.connections)) ∷ []
 
-abbrev pub AcceptKeepsSending : Type 0
-AcceptKeepsSending = (s : EngineModel) (end : End) → end_may_send s end ≡ true
+abbrev pub EndsMaySendAsBeforeAccept : Type 0
+EndsMaySendAsBeforeAccept = (s : EngineModel) (end : End) → end_may_send s end ≡ true
     → end_may_send (model_after_happening s (Accepts (connection_number (length s.connections)))) end ≡ true

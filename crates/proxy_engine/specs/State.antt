@@ -2,11 +2,11 @@
 --
 -- State: what contracts see of an engine
 -- EngineRepresents: the models
--- EngineTakesHappening, IsFaultOfTaking: a happening
+-- EngineTakesHappening, IsFaultOfTakingHappening: a happening
 -- link_result_at, due_request_at: what a look has found
--- IsFirstFound, IsFirstFoundLink, IsFirstFoundConnection: the first place at which it found something
+-- IsFirstPlaceFoundDue, IsFirstDueLinkFound, IsFirstDueConnectionFound: the first place at which it found something
 -- engine_work_left: a bound on the acts still to come
--- FirstDueActWasDone, NoActWasDoneSince, EachActLeavesLessWork: what a call of work did, or why it did nothing
+-- FirstDueActWasDone, NoActWasDoneBecauseOf, EachActLeavesLessWork: what a call of work did, or why it did nothing
 use Rattle.std.specs.Prelude.{◌≡◌, ℕ, ◌+◌, ◌*◌, ◌<◌, ◌≤◌, ◌^◌, List, [], ◌∷◌, length, sum_by, ◌&&◌, ◌||◌, not, Bool}
 use Rattle.std.specs.Prelude.{true, false, Option, None, Some, slice_index_or, if◌then◌else◌}
 use Rattle.std.specs.Option.{option_map}
@@ -18,7 +18,7 @@ use Rattle.hx_status.specs.declared.cause.FailKind.{FailKind}
 use Rattle.proxy_core.specs.State.{State as CoreState}
 use Rattle.proxy_engine.specs.ConnectionNumbers.{link_number}
 use Rattle.proxy_engine.specs.Activities.{has_exchange}
-use Rattle.proxy_engine.specs.Happenings.{PlainHappening}
+use Rattle.proxy_engine.specs.Happenings.{HappeningModel}
 use Rattle.proxy_engine.specs.declared.endpoints.lookahead.Lookahead.{Lookahead}
 use Rattle.proxy_engine.specs.declared.endpoints.lookahead.Lookahead.TheVariants.{Unknown, Quiet, Due}
 use Rattle.proxy_engine.specs.Lookahead.{one_if_maybe_due}
@@ -26,7 +26,7 @@ use Rattle.proxy_engine.specs.Peeked.{RequestRepresents, ResponseRepresents, req
 use Rattle.proxy_engine.specs.EngineModel.{EngineModel, ConnectionModel, LinkModel, no_connection, no_link}
 use Rattle.proxy_engine.specs.EngineModel.{happening_fault}
 use Rattle.proxy_engine.specs.EngineModel.{model_after_happening}
-use Rattle.proxy_engine.specs.Due.{LinkResult, Breaks, link_result_of, due_request_action, takes_no_request}
+use Rattle.proxy_engine.specs.Due.{LinkResult, Breaks, link_result_of, due_request_action, accepts_no_request}
 use Rattle.proxy_engine.specs.Due.{IsFirstAtWhich, IsDueOnLink, IsDueOnConnection, Act}
 use Rattle.proxy_engine.specs.Due.{IsDueFirst}
 use Rattle.proxy_engine.specs.declared.endpoints.activities.Activity.{Activity}
@@ -51,14 +51,14 @@ pub record State : Type 0 where
   pub room : Bool
 
 -- part by part
-abbrev pub RelatesLists : {A B : Type 0} → (A → B → Type 0) → List A → List B → Type 0
-RelatesLists R [] [] = Unit {0}
-RelatesLists R [] (y ∷ ys) = ⊥
-RelatesLists R (x ∷ xs) [] = ⊥
-RelatesLists R (x ∷ xs) (y ∷ ys) = R x y × RelatesLists R xs ys
+abbrev pub ListsAreRelated : {A B : Type 0} → (A → B → Type 0) → List A → List B → Type 0
+ListsAreRelated R [] [] = Unit {0}
+ListsAreRelated R [] (y ∷ ys) = ⊥
+ListsAreRelated R (x ∷ xs) [] = ⊥
+ListsAreRelated R (x ∷ xs) (y ∷ ys) = R x y × ListsAreRelated R xs ys
 
 -- a connection that isn't over
-pub record ConnectionHolds (c : Connection) (s : ConnectionModel) : Type 0 where
+pub record ConnectionMatchesModel (c : Connection) (s : ConnectionModel) : Type 0 where
   pub reader : RequestRepresents c.reader s.progress
   pub ended : c.ended ≡ s.progress.ended
   pub gone : c.gone ≡ s.gone
@@ -70,9 +70,9 @@ pub record ConnectionHolds (c : Connection) (s : ConnectionModel) : Type 0 where
 -- one that is over was closed by the proxy, or is gone, and has no open exchange: nothing is kept of it
 abbrev pub ConnectionRepresents : Option Connection → ConnectionModel → Type 0
 ConnectionRepresents None s = (s.gone || s.closed ≡ true) × (s.activity ≡ Free)
-ConnectionRepresents (Some c) s = ConnectionHolds c s
+ConnectionRepresents (Some c) s = ConnectionMatchesModel c s
 
-pub record LinkHolds (k : Link) (s : LinkModel) : Type 0 where
+pub record LinkMatchesModel (k : Link) (s : LinkModel) : Type 0 where
   pub reader : ResponseRepresents k.reader s.progress
   pub ended : k.ended ≡ s.progress.ended
   pub failed : k.failed ≡ s.failed
@@ -82,19 +82,20 @@ pub record LinkHolds (k : Link) (s : LinkModel) : Type 0 where
 -- nothing is kept of a link that was dropped
 abbrev pub LinkRepresents : Option Link → LinkModel → Type 0
 LinkRepresents None s = s.dropped ≡ true
-LinkRepresents (Some k) s = LinkHolds k s
+LinkRepresents (Some k) s = LinkMatchesModel k s
 
 -- connections, links, a core and the number of the first link represent a model
-pub record PartsRepresent (cs : List (Option Connection)) (ks : List (Option Link)) (kept : CoreState) (number : ℕ)
+pub record EnginePartsRepresentModel (cs : List (Option Connection)) (ks : List (Option Link)) (kept : CoreState)
+    (number : ℕ)
     (s : EngineModel) : Type 0 where
-  pub connections : RelatesLists ConnectionRepresents cs s.connections
-  pub links : RelatesLists LinkRepresents ks s.links
+  pub connections : ListsAreRelated ConnectionRepresents cs s.connections
+  pub links : ListsAreRelated LinkRepresents ks s.links
   pub core : kept ≡ s.core
   pub first : number ≡ s.first
   pub numbers : link_number s.first (length s.links) ≤ 2 ^ 64
 
 abbrev pub EngineRepresents : State → EngineModel → Type 0
-EngineRepresents e s = PartsRepresent e.connections e.links e.core e.first s
+EngineRepresents e s = EnginePartsRepresentModel e.connections e.links e.core e.first s
 
 -- without room
 abbrev pub engine_state : List (Option Connection) → List (Option Link) → CoreState → ℕ → State
@@ -102,22 +103,22 @@ engine_state connections links core first =
     record { connections = connections; links = links; core = core; first = first; room = false }
 
 -- the happening was taken
-pub record PartsTakeHappening (s : EngineModel) (h : PlainHappening) (cs : List (Option Connection))
+pub record EnginePartsTakeHappening (s : EngineModel) (h : HappeningModel) (cs : List (Option Connection))
     (ks : List (Option Link))
     (kept : CoreState) (number : ℕ) : Type 0 where
   pub free : happening_fault s h ≡ None
-  pub represents : PartsRepresent cs ks kept number (model_after_happening s h)
+  pub represents : EnginePartsRepresentModel cs ks kept number (model_after_happening s h)
 
-abbrev pub EngineTakesHappening : EngineModel → PlainHappening → State → Type 0
-EngineTakesHappening s h new = PartsTakeHappening s h new.connections new.links new.core new.first
+abbrev pub EngineTakesHappening : EngineModel → HappeningModel → State → Type 0
+EngineTakesHappening s h new = EnginePartsTakeHappening s h new.connections new.links new.core new.first
 
 -- the refusal that stands, or out of memory where none does
 abbrev pub IsFaultOrOutOfMemory : Option EngineFault → EngineFault → Type 0
 IsFaultOrOutOfMemory None e = e ≡ OutOfMemory
 IsFaultOrOutOfMemory (Some f) e = e ≡ f
 
-abbrev pub IsFaultOfTaking : EngineModel → PlainHappening → EngineFault → Type 0
-IsFaultOfTaking s h e = IsFaultOrOutOfMemory (happening_fault s h) e
+abbrev pub IsFaultOfTakingHappening : EngineModel → HappeningModel → EngineFault → Type 0
+IsFaultOfTakingHappening s h e = IsFaultOrOutOfMemory (happening_fault s h) e
 
 -- ---- what is known of what is due, by the lookahead of a reader
 
@@ -137,12 +138,12 @@ due_request_seen (Due a) = due_request_action a
 
 abbrev pub due_request_at : Option Connection → Option (Next Request)
 due_request_at None = None
-due_request_at (Some c) = if takes_no_request c.gone false c.activity then None else due_request_seen c.reader.ahead
+due_request_at (Some c) = if accepts_no_request c.gone false c.activity then None else due_request_seen c.reader.ahead
 
 -- it isn't gone, and has no open exchange
 abbrev pub connection_is_free_at : Option Connection → Bool
 connection_is_free_at None = false
-connection_is_free_at (Some c) = not (takes_no_request c.gone false c.activity)
+connection_is_free_at (Some c) = not (accepts_no_request c.gone false c.activity)
 
 -- whether it is gone, where it isn't over
 abbrev pub is_gone_at : Option Connection → Option Bool
@@ -155,8 +156,8 @@ is_retired_at None = false
 is_retired_at (Some c) = c.retired
 
 -- no connection is gone with an open exchange
-abbrev pub NoConnectionIsLost : List (Option Connection) → Type 0
-NoConnectionIsLost cs = (i : ℕ) (c : Connection) → slice_index_or cs i None ≡ Some c → c.gone
+abbrev pub NoDisconnectedClientHasExchange : List (Option Connection) → Type 0
+NoDisconnectedClientHasExchange cs = (i : ℕ) (c : Connection) → slice_index_or cs i None ≡ Some c → c.gone
     && has_exchange c.activity ≡ false
 
 -- R: what is kept of an end stands for it     P: what is due at it     seen: what a look has found
@@ -165,20 +166,21 @@ pub record IsFoundAt {A B C : Type 0} (R : Option A → B → Type 0) (P : B →
     (seen : Option A → Option C) (xs : List (Option A)) (i : ℕ) : Type 0 where
   pub due : C
   pub shown : seen (slice_index_or xs i None) ≡ Some due
-  pub first : (ys : List B) → RelatesLists R xs ys → IsFirstAtWhich P d ys (Some (i, due))
+  pub first : (ys : List B) → ListsAreRelated R xs ys → IsFirstAtWhich P d ys (Some (i, due))
 
 -- the first place at which something is due, or that there is none
-abbrev pub IsFirstFound : {A B C : Type 0} → (Option A → B → Type 0) → (B → Option C → Type 0) → B →
+abbrev pub IsFirstPlaceFoundDue : {A B C : Type 0} → (Option A → B → Type 0) → (B → Option C → Type 0) → B →
     (Option A → Option C)
     → List (Option A) → Option ℕ → Type 0
-IsFirstFound {A} {B} R P d seen xs None = (ys : List B) → RelatesLists R xs ys → IsFirstAtWhich P d ys None
-IsFirstFound R P d seen xs (Some i) = IsFoundAt R P d seen xs i
+IsFirstPlaceFoundDue {A} {B} R P d seen xs None = (ys : List B) → ListsAreRelated R xs ys → IsFirstAtWhich P d ys None
+IsFirstPlaceFoundDue R P d seen xs (Some i) = IsFoundAt R P d seen xs i
 
-abbrev pub IsFirstFoundLink : List (Option Link) → Option ℕ → Type 0
-IsFirstFoundLink ks r = IsFirstFound LinkRepresents IsDueOnLink no_link link_result_at ks r
+abbrev pub IsFirstDueLinkFound : List (Option Link) → Option ℕ → Type 0
+IsFirstDueLinkFound ks r = IsFirstPlaceFoundDue LinkRepresents IsDueOnLink no_link link_result_at ks r
 
-abbrev pub IsFirstFoundConnection : List (Option Connection) → Option ℕ → Type 0
-IsFirstFoundConnection cs r = IsFirstFound ConnectionRepresents IsDueOnConnection no_connection due_request_at cs r
+abbrev pub IsFirstDueConnectionFound : List (Option Connection) → Option ℕ → Type 0
+IsFirstDueConnectionFound cs r =
+    IsFirstPlaceFoundDue ConnectionRepresents IsDueOnConnection no_connection due_request_at cs r
 
 -- ---- how much is still to come
 
@@ -227,14 +229,15 @@ abbrev pub new_engine_model : CoreState → ℕ → EngineModel
 new_engine_model core first = record { connections = []; links = []; core = core; first = first }
 
 -- an act was done at this moment, with these effects
-pub record PartsDoAct (s : EngineModel) (now : ℕ) (act : Act) (effects : List Effect) (cs : List (Option Connection))
+pub record EnginePartsDoAct (s : EngineModel) (now : ℕ) (act : Act) (effects : List Effect)
+    (cs : List (Option Connection))
     (ks : List (Option Link)) (kept : CoreState) (number : ℕ) : Type 0 where
   pub after : EngineModel
   pub does : ActIsDone s now act effects after
-  pub represents : PartsRepresent cs ks kept number after
+  pub represents : EnginePartsRepresentModel cs ks kept number after
 
 abbrev pub EngineDoesAct : EngineModel → ℕ → Act → List Effect → State → Type 0
-EngineDoesAct s now act effects new = PartsDoAct s now act effects new.connections new.links new.core new.first
+EngineDoesAct s now act effects new = EnginePartsDoAct s now act effects new.connections new.links new.core new.first
 
 -- the first act that was due was done at this moment, or none was due
 abbrev pub FirstDueActWasDone : EngineModel → ℕ → Work → State → Type 0
@@ -243,12 +246,13 @@ FirstDueActWasDone s now (work.Did effects) new = (act : Act) × IsDueFirst s (S
     × EngineDoesAct s now act effects.items new
 
 -- no act was done: because memory ran out, or because the act that is due may need a link and no number is left
-abbrev pub NoActWasDoneSince : EngineModel → EngineFault → Type 0
-NoActWasDoneSince s WrongNumber = ⊥
-NoActWasDoneSince s NotAccepted = ⊥
-NoActWasDoneSince s NotWaiting = ⊥
-NoActWasDoneSince s OutOfMemory = Unit {0}
-NoActWasDoneSince s Spent = (act : Act) × IsDueFirst s (Some act) × ActMayForward act × (2 ^ 64 ≤ next_link_number s)
+abbrev pub NoActWasDoneBecauseOf : EngineModel → EngineFault → Type 0
+NoActWasDoneBecauseOf s WrongNumber = ⊥
+NoActWasDoneBecauseOf s NotAccepted = ⊥
+NoActWasDoneBecauseOf s NotWaiting = ⊥
+NoActWasDoneBecauseOf s OutOfMemory = Unit {0}
+NoActWasDoneBecauseOf s Spent = (act : Act) × IsDueFirst s (Some act) × ActMayForward act
+    × (2 ^ 64 ≤ next_link_number s)
 
 -- each act leaves less to do
 abbrev pub EachActLeavesLessWork : State → Work → State → Type 0

@@ -2,16 +2,16 @@
 --
 -- IsReplyOfStep, IsRefusalOfEngine: a reply of the core, or the proxy's own answer to what is no request, and what its
 -- client asked for
--- BytesAreTold: either is told as what it is, and nothing of an interim response
--- EachReplyIsToldAsItIs, EachRunTellsItsReplies: the laws
--- NoReplyTellsAnotherQuestion, NoReplyTellsNoQuestion: what they refuse
+-- ClientBytesAreReported: either is told as what it is, and nothing of an interim response
+-- EachReplyIsReportedTruthfully, EachRunReportsItsReplies: the laws
+-- NoReplyReportsAnotherRequest, NoReplyReportsNoRequest: what they refuse
 use Rattle.std.specs.Prelude.{◌≡◌, ◌≢◌, ◌⊎◌, ℕ, List, ◌∷◌, Bool, true, Contains, Option, None, Some}
 use Rattle.hx_allow.specs.TableLines.{Table}
 use Rattle.hx_framing.specs.Text.{continue_text}
 use Rattle.hx_hop.specs.declared.request_view.Asked.{Asked}
 use Rattle.hx_hop.specs.Moments.{date_text_of}
 use Rattle.hx_status.specs.Abouts.{about_refusal}
-use Rattle.hx_status.specs.declared.about.Replied.{Replied}
+use Rattle.hx_status.specs.declared.about.ReplyData.{ReplyData}
 use Rattle.hx_status.specs.declared.cause.Cause.{Cause}
 use Rattle.proxy_core.specs.Replies.{refusal_reply_text}
 use Rattle.proxy_core.specs.Starts.{StoreAtStart}
@@ -24,13 +24,13 @@ use Rattle.proxy_script.specs.declared.effect_list.Effect.TheVariants as effects
 use Rattle.proxy_engine.specs.ConnectionNumbers.{connection_number}
 use Rattle.proxy_engine.specs.EngineModel.{EngineModel}
 use Rattle.proxy_engine.specs.Due.{Act}
-use Rattle.proxy_engine.specs.Executions.{ExecutionStep, Worked, StepAddsToTrace, StepsAreAGoodRun, IsItemOfAct}
-use Rattle.proxy_engine.specs.Executions.{connection_place_of_act, question_refused}
+use Rattle.proxy_engine.specs.Executions.{ExecutionStep, Worked, StepAddsItemToTrace, StepsAreAGoodRun, IsItemOfAct}
+use Rattle.proxy_engine.specs.Executions.{connection_place_of_act, question_of_refused_act}
 use Rattle.proxy_engine.specs.Questions.{question_of, request_of_event}
 
 -- the core gave a reply at this step, where these exchanges were open: its bytes, what it is, and what the request
 -- asked for that it answers, the one that arrived or that of the exchange which the step ended
-pub record IsReplyOfStep (exchanges : List Exchange) (past trace : List Item) (bytes : List ℕ) (replied : Replied)
+pub record IsReplyOfStep (exchanges : List Exchange) (past trace : List Item) (bytes : List ℕ) (replied : ReplyData)
     : Type 0 where
   pub item : Item
   pub reply : Reply
@@ -44,56 +44,56 @@ pub record IsReplyOfStep (exchanges : List Exchange) (past trace : List Item) (b
 
 -- the core was asked nothing, and the proxy answers for this cause what the act's client asked for, if that could be
 -- read
-pub record IsRefusalOfEngine (now : ℕ) (act : Act) (past trace : List Item) (bytes : List ℕ) (replied : Replied)
+pub record IsRefusalOfEngine (now : ℕ) (act : Act) (past trace : List Item) (bytes : List ℕ) (replied : ReplyData)
     : Type 0 where
   pub why : Cause
   pub head : Bool
   pub added : trace ≡ past
   pub bytes_are : bytes ≡ refusal_reply_text (date_text_of now) why true head
   pub about_is : replied.about ≡ about_refusal why
-  pub question_is : replied.question ≡ question_refused act
+  pub question_is : replied.question ≡ question_of_refused_act act
 
 -- Bytes to a client, and what is told of them, where an act led from the trace `past` to `trace`, and these exchanges
 -- were open before it. Nothing is told of an interim response, which is no reply (RFC 9110, section 15.2), and of
 -- nothing else.
-abbrev pub BytesAreTold : ℕ → Act → List Exchange → List Item → List Item → List ℕ → Option Replied → Type 0
-BytesAreTold now act exchanges past trace bytes None = (trace ≡ past) × (bytes ≡ continue_text)
-BytesAreTold now act exchanges past trace bytes (Some replied) =
+abbrev pub ClientBytesAreReported : ℕ → Act → List Exchange → List Item → List Item → List ℕ → Option ReplyData → Type 0
+ClientBytesAreReported now act exchanges past trace bytes None = (trace ≡ past) × (bytes ≡ continue_text)
+ClientBytesAreReported now act exchanges past trace bytes (Some replied) =
     IsReplyOfStep exchanges past trace bytes replied ⊎ IsRefusalOfEngine now act past trace bytes replied
 
 -- whatever goes to a client goes to the one that the act is about, and is told as what it is
-abbrev pub EachReplyIsToldAsItIs : Type 0
-EachReplyIsToldAsItIs =
+abbrev pub EachReplyIsReportedTruthfully : Type 0
+EachReplyIsReportedTruthfully =
     (table : Table) (s after : EngineModel) (now : ℕ) (act : Act) (emitted : List Effect) (past trace : List Item)
-    → StepAddsToTrace table s (Worked now act emitted) after past trace
-    → (n : ℕ) (bytes : List ℕ) (replied : Option Replied)
+    → StepAddsItemToTrace table s (Worked now act emitted) after past trace
+    → (n : ℕ) (bytes : List ℕ) (replied : Option ReplyData)
     → Contains emitted (effects.Client n bytes replied)
     → (n ≡ connection_number (connection_place_of_act s act))
-    × BytesAreTold now act s.core.exchanges past trace bytes replied
+    × ClientBytesAreReported now act s.core.exchanges past trace bytes replied
 
 -- so it is of each step of a run: behind it stands the trace of the run, before it that of the steps before
-abbrev pub EachRunTellsItsReplies : Type 0
-EachRunTellsItsReplies =
+abbrev pub EachRunReportsItsReplies : Type 0
+EachRunReportsItsReplies =
     (table : Table) (start : StoreAtStart) (first now : ℕ) (begin last : EngineModel) (steps : List ExecutionStep)
     (act : Act)
     (emitted : List Effect) → (run : StepsAreAGoodRun table start first begin (Worked now act emitted ∷ steps) last)
-    → (n : ℕ) (bytes : List ℕ) (replied : Option Replied)
+    → (n : ℕ) (bytes : List ℕ) (replied : Option ReplyData)
     → Contains emitted (effects.Client n bytes replied)
-    → BytesAreTold now act run.has_trace.0.core.exchanges run.has_trace.1 run.trace bytes replied
+    → ClientBytesAreReported now act run.has_trace.0.core.exchanges run.has_trace.1 run.trace bytes replied
 
 -- no step of the core has a reply that is told with another question than that of the request which it answers
-abbrev pub NoReplyTellsAnotherQuestion : Type 0
-NoReplyTellsAnotherQuestion =
+abbrev pub NoReplyReportsAnotherRequest : Type 0
+NoReplyReportsAnotherRequest =
     (table : Table) (s after : EngineModel) (now : ℕ) (act : Act) (item : Item) (emitted : List Effect)
     → IsItemOfAct table s now act item emitted after
-    → (n : ℕ) (bytes : List ℕ) (replied : Replied) (request : Asked)
+    → (n : ℕ) (bytes : List ℕ) (replied : ReplyData) (request : Asked)
     → request_of_event s.core.exchanges item.event ≡ Some request → replied.question ≢ Some (question_of request)
     → Contains emitted (effects.Client n bytes (Some replied)) → ⊥
 
 -- nor one that is told with none
-abbrev pub NoReplyTellsNoQuestion : Type 0
-NoReplyTellsNoQuestion =
+abbrev pub NoReplyReportsNoRequest : Type 0
+NoReplyReportsNoRequest =
     (table : Table) (s after : EngineModel) (now : ℕ) (act : Act) (item : Item) (emitted : List Effect)
     → IsItemOfAct table s now act item emitted after
-    → (n : ℕ) (bytes : List ℕ) (replied : Replied) → replied.question ≡ None
+    → (n : ℕ) (bytes : List ℕ) (replied : ReplyData) → replied.question ≡ None
     → Contains emitted (effects.Client n bytes (Some replied)) → ⊥

@@ -4,20 +4,20 @@ ghost use Rattle.std.specs.Prelude.{option_copied};
 ghost use Rattle.std.specs.Prelude.{Err, true};
 ghost use Rattle.proxy_core.specs.AnsweredRequests.{request_of_exchange};
 ghost use Rattle.proxy_core.specs.Outcomes.{find_exchange};
-ghost use Rattle.proxy_core.specs.Starts.{StartStands};
+ghost use Rattle.proxy_core.specs.Starts.{StartIsValid};
 ghost use Rattle.proxy_core.specs.State.{bounds_of};
 ghost use Rattle.proxy_core.specs.Traces.{initial_state};
-ghost use Rattle.proxy_engine.specs.EngineModel.{EngineModel, connection_at, happening_is_kept};
-ghost use Rattle.proxy_engine.specs.Happenings.{plain_happening, happening_takes_memory};
+ghost use Rattle.proxy_engine.specs.EngineModel.{EngineModel, connection_at, happening_adds_connection_or_bytes};
+ghost use Rattle.proxy_engine.specs.Happenings.{model_of_happening, happening_takes_memory};
 ghost use Rattle.proxy_engine.specs.Reading.{readable_ends_of, failed_links, open_connection_count};
 ghost use Rattle.proxy_engine.specs.Reading.{next_connection_number, end_may_send, IsBetweenRequests};
-ghost use Rattle.proxy_engine.specs.Pairing.{owner_kept};
+ghost use Rattle.proxy_engine.specs.Pairing.{owner_of_link_number};
 ghost use Rattle.proxy_engine.specs.Reading.{link_of_connection, line_of_exchange, line_of_link};
 ghost use Rattle.proxy_core.specs.Leading.{is_waiting};
 ghost use Rattle.proxy_engine.specs.Happenings.{Overdues};
 ghost use Rattle.proxy_engine.specs.Reading.{origin_timeout_of_link, wait_timeout_of_client, wait_timeout_of_exchange};
-ghost use Rattle.proxy_engine.specs.Room.{HappeningFindsMemory, NextHappeningFindsMemory, ClientRoomIsGivenBack};
-ghost use Rattle.proxy_engine.specs.State.{State, EngineRepresents, EngineTakesHappening, IsFaultOfTaking};
+ghost use Rattle.proxy_engine.specs.Room.{HappeningFindsMemory, NextHappeningFindsMemory, ClientRoomIsReleased};
+ghost use Rattle.proxy_engine.specs.State.{State, EngineRepresents, EngineTakesHappening, IsFaultOfTakingHappening};
 ghost use Rattle.proxy_engine.specs.State.{new_engine_model};
 
 use crate::endpoints::connections::Connections;
@@ -96,7 +96,7 @@ impl<S: Shelf + Drop> Drop for Engine<S> {
 
 impl<S: Shelf> Model for Engine<S> {
     ghost use Rattle.proxy_engine.specs.State.{State, engine_state};
-    ghost use Rattle.proxy_engine.specs.Pairing.{StateIsPaired};
+    ghost use Rattle.proxy_engine.specs.Pairing.{ConnectionsAndLinksOfStateArePaired};
 
     ghost Value = { State };
 
@@ -108,7 +108,7 @@ impl<S: Shelf> Model for Engine<S> {
       room = e.ends.connections.has_room;
     } };
 
-    ghost invariant = { λ e. StateIsPaired
+    ghost invariant = { λ e. ConnectionsAndLinksOfStateArePaired
         (engine_state e.ends.connections.items e.ends.links.items e.core e.ends.first_link) };
 }
 
@@ -145,7 +145,7 @@ impl<S: Shelf> Engine<S> {
         first_serial: u64,
         first_link: u64,
     ) -> Self
-        requires { StartStands (bounds_of config (S.limit shelf)) (Some first_serial) (S.entries shelf) }
+        requires { StartIsValid (bounds_of config (S.limit shelf)) (Some first_serial) (S.entries shelf) }
         ensures { EngineRepresents result (new_engine_model
             (initial_state config (record { limit = S.limit shelf; entries = S.entries shelf }) first_serial)
             first_link) }
@@ -181,15 +181,15 @@ impl<S: Shelf> Engine<S> {
     /// Takes what happened. An `Err` changes nothing, and says out of memory only where no other refusal stands.
     pub fn take(&mut self, alloc: Global, happening: Happening<'_>) -> Result<(), EngineFault>
         ensures ok { OnOk result ((s : EngineModel) → EngineRepresents self.old s → EngineTakesHappening s
-            (plain_happening happening.entry) self.new) }
+            (model_of_happening happening.entry) self.new) }
         ensures fault { IfErr result (λ fault. (s : EngineModel) → EngineRepresents self.old s
-            → IsFaultOfTaking s (plain_happening happening.entry) fault) }
+            → IsFaultOfTakingHappening s (model_of_happening happening.entry) fault) }
         // Only connections and bytes allocate, and bytes only of an end that is still read.
         ensures memory { result ≡ Err EngineFault.OutOfMemory → happening_takes_memory
-            (plain_happening happening.entry) ≡ true }
+            (model_of_happening happening.entry) ≡ true }
         ensures kept { result ≡ Err EngineFault.OutOfMemory → (s : EngineModel) → EngineRepresents self.old s
-            → happening_is_kept s (plain_happening happening.entry) ≡ true }
-        ensures reserved { HappeningFindsMemory self.old (plain_happening happening.entry)
+            → happening_adds_connection_or_bytes s (model_of_happening happening.entry) ≡ true }
+        ensures reserved { HappeningFindsMemory self.old (model_of_happening happening.entry)
             → result ≢ Err EngineFault.OutOfMemory }
         ensures unchanged { OnErr result (self.new ≡ self.old) }
     {
@@ -209,12 +209,16 @@ impl<S: Shelf> Engine<S> {
                 l,
                 bytes,
             ),
-            Happening::End(n) => takes::finish_client(&mut self.ends.connections, n),
+            Happening::End(n) => takes::note_end_of_client_input(&mut self.ends.connections, n),
             Happening::Gone(n) => takes::disconnect_client(&mut self.ends.connections, n),
             Happening::Retire(n) => takes::retire_client(&mut self.ends.connections, n),
             Happening::Overdue(n) => self.overdue(n),
-            Happening::Shut(l) => takes::shut_link(&mut self.ends.links, self.ends.first_link, l),
-            Happening::Fail(l, kind) => takes::break_link(
+            Happening::Shut(l) => takes::note_end_of_link_input(
+                &mut self.ends.links,
+                self.ends.first_link,
+                l,
+            ),
+            Happening::Fail(l, kind) => takes::note_link_failure(
                 &mut self.ends.links,
                 self.ends.first_link,
                 l,
@@ -228,7 +232,7 @@ impl<S: Shelf> Engine<S> {
         ensures ok { OnOk result ((s : EngineModel) → EngineRepresents self.old s → EngineTakesHappening s
             (Overdues n) self.new) }
         ensures fault { IfErr result (λ fault. (s : EngineModel) → EngineRepresents self.old s
-            → IsFaultOfTaking s (Overdues n) fault) }
+            → IsFaultOfTakingHappening s (Overdues n) fault) }
         ensures memory { IfErr result (λ fault. fault ≡ EngineFault.NotWaiting) }
         ensures unchanged { OnErr result (self.new ≡ self.old) }
     {
@@ -275,7 +279,7 @@ impl<S: Shelf> Engine<S> {
     /// Gives back the room for the bytes of a client of which none waits, as `reserve` made it: who is idle keeps
     /// none. Its next bytes find their memory after a `reserve` again.
     pub fn release_room(&mut self, alloc: Global, n: u64)
-        ensures given { ClientRoomIsGivenBack self.new n }
+        ensures given { ClientRoomIsReleased self.new n }
         ensures represents { (s : EngineModel) → EngineRepresents self.old s → EngineRepresents self.new s }
     {
         self.ends
@@ -342,7 +346,7 @@ impl<S: Shelf> Engine<S> {
 
     /// The place of the client whose request is open on a link.
     fn owner_of_link(&self, l: u64) -> Option<ConnectionPlace>
-        ensures { result ≡ owner_kept self.now l }
+        ensures { result ≡ owner_of_link_number self.now l }
     {
         let first = self.ends.first_link;
         if first <= l {

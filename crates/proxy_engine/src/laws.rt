@@ -3,15 +3,18 @@ ghost use Rattle.std.specs.Prelude.{◌≡◌, Option};
 ghost use Rattle.proxy_engine.specs.EngineModel.{EngineModel};
 ghost use Rattle.proxy_engine.specs.Due.{Act, IsDueFirst};
 ghost use Rattle.proxy_engine.specs.Drops.{ActHasFewEffects, EachDroppedLinkIsEmitted, HappeningsDropNoLink};
-ghost use Rattle.proxy_engine.specs.Executions.{ActIsDoneInOneWay, StepsHaveOneTrace, ExecutionsAreRuns};
-ghost use Rattle.proxy_engine.specs.FinalAnswers.{EachActIsSpelled, EachAnswerIsFinal, EachAnswerWasRead};
-ghost use Rattle.proxy_engine.specs.Exhausted.{MemoryHidesNoExhaustedAnswer, MemoryHidesNoExhaustedWake};
-ghost use Rattle.proxy_engine.specs.Orderly.{NewModelIsOrderly, HappeningKeepsOrder, ActKeepsOrder};
-ghost use Rattle.proxy_engine.specs.Orderly.{HappeningKeepsEnded, ActKeepsEnded};
-ghost use Rattle.proxy_engine.specs.Retired.{RetirementMarksItsConnection, EachLaterRequestCloses};
-ghost use Rattle.proxy_engine.specs.Retired.{OtherRequestsComeAsTheyAreAsked};
+ghost use Rattle.proxy_engine.specs.Executions.{ActIsDoneInOneWay, StepsHaveOneTrace, CoreStepsOfExecutionsAreGoodRuns};
+ghost use Rattle.proxy_engine.specs.FinalAnswers.{EachDueActIsSpelledByItsStream, EachAnswerHasFinalStatus};
+ghost use Rattle.proxy_engine.specs.FinalAnswers.{EachAnswerWasReadFromAStream};
+ghost use Rattle.proxy_engine.specs.Exhausted.{OutOfMemoryNeverHidesExhaustedAnswer};
+ghost use Rattle.proxy_engine.specs.Exhausted.{OutOfMemoryNeverHidesExhaustedWake};
+ghost use Rattle.proxy_engine.specs.Orderly.{NewModelIsConsistent, HappeningKeepsModelConsistent};
+ghost use Rattle.proxy_engine.specs.Orderly.{ActKeepsModelConsistent};
+ghost use Rattle.proxy_engine.specs.Orderly.{EndedEndsStayEndedAfterHappening, EndedEndsStayEndedAfterAct};
+ghost use Rattle.proxy_engine.specs.Retired.{RetirementMarksItsConnection, EachRequestAfterRetirementCloses};
+ghost use Rattle.proxy_engine.specs.Retired.{UnretiredRequestsAreHandedOverUnchanged};
 ghost use Rattle.proxy_engine.specs.SendingEnds.{SendingEndHasNumber, ReadableEndsMaySend, SendingEndIsReadable};
-ghost use Rattle.proxy_engine.specs.SendingEnds.{AcceptAddsReadableEnd, AcceptKeepsSending};
+ghost use Rattle.proxy_engine.specs.SendingEnds.{AcceptAddsReadableEnd, EndsMaySendAsBeforeAccept};
 
 mod end_cases;
 mod model_cases;
@@ -22,13 +25,13 @@ pub use end_cases::{
     worked_numbers, worked_open_connections, worked_readable_ends, worked_waits_of_clients,
     worked_work_left,
 };
-use hx_framing::laws::response_laws::what_is_read_is_final;
-use hx_hop::laws::a_request_is_asked_in_one_way;
+use hx_framing::laws::response_laws::responses_read_are_final;
+use hx_hop::laws::asked_request_is_unique;
 pub use model_cases::{
     worked_addresses_of_outcomes, worked_due_acts, worked_effects_of_acts, worked_effects_of_steps,
     worked_faults_of_happenings, worked_happenings,
 };
-pub use run_laws::{a_run_refuses_what_was_not_done, replies_are_told_as_they_are};
+pub use run_laws::{a_run_refuses_what_was_not_done, replies_are_reported_truthfully};
 
 /// One act is due first, or none is: so `work` has no choice.
 pub fn one_act_is_due_first()
@@ -38,24 +41,24 @@ pub fn one_act_is_due_first()
 /// No effect names a connection after its close, or one that is gone; a link that ends is dropped once. It holds of
 /// each model that an engine lives through, from one whose core has no open exchange on.
 pub fn effects_name_open_ends()
-    ensures first { NewModelIsOrderly }
-    ensures takes { HappeningKeepsOrder }
-    ensures acts { ActKeepsOrder }
+    ensures first { NewModelIsConsistent }
+    ensures takes { HappeningKeepsModelConsistent }
+    ensures acts { ActKeepsModelConsistent }
 {}
 
 /// What is closed, gone, to end or dropped stays so, whatever happens and is done.
-pub fn what_ends_stays_ended()
-    ensures takes { HappeningKeepsEnded }
-    ensures acts { ActKeepsEnded }
+pub fn ended_connections_and_links_stay_ended()
+    ensures takes { EndedEndsStayEndedAfterHappening }
+    ensures acts { EndedEndsStayEndedAfterAct }
 {}
 
 /// `retire` marks its connection. From there each request that comes on it is handed to the core as one that closes it,
 /// and so its reply says `Connection: close` (RFC 9112, section 9.6): that is the headline's field on closing. On any
 /// other connection a request is handed over as it is asked.
-pub fn a_connection_that_is_to_end_ends()
+pub fn a_retired_connection_closes_at_its_next_request()
     ensures marks { RetirementMarksItsConnection }
-    ensures closes { EachLaterRequestCloses }
-    ensures others { OtherRequestsComeAsTheyAreAsked }
+    ensures closes { EachRequestAfterRetirementCloses }
+    ensures others { UnretiredRequestsAreHandedOverUnchanged }
 {}
 
 /// Bytes may come from the readable ends, and from no others; each of them is there. One more connection is one more of
@@ -65,7 +68,7 @@ pub fn readable_ends_may_send()
     ensures each { ReadableEndsMaySend }
     ensures no_other { SendingEndIsReadable }
     ensures accept { AcceptAddsReadableEnd }
-    ensures kept { AcceptKeepsSending }
+    ensures kept { EndsMaySendAsBeforeAccept }
 {}
 
 /// An act has three effects at most: it drops one link at most, and does so first.
@@ -83,14 +86,14 @@ pub fn each_drop_is_emitted()
 pub fn an_act_is_done_in_one_way()
     ensures { ActIsDoneInOneWay }
 {
-    a_request_is_asked_in_one_way();
+    asked_request_is_unique();
 }
 
 /// What an engine lives through has one trace: each act asks the core about one event, or about none.
 pub fn an_execution_has_one_trace()
     ensures { StepsHaveOneTrace }
 {
-    a_request_is_asked_in_one_way();
+    asked_request_is_unique();
 }
 
 /// Whatever takes happenings and does what is due, from an engine to which nothing has happened on: the steps of its
@@ -98,25 +101,25 @@ pub fn an_execution_has_one_trace()
 /// streams spell, the responses that the origins' streams spell, the failures and the clients that went away, each at
 /// its moment, and its effects are the texts of what the steps gave, in order. So whatever drives an engine, a script
 /// or sockets, has the promises of `proxy_core::run`.
-pub fn executions_are_runs()
-    ensures { ExecutionsAreRuns }
+pub fn core_steps_of_executions_are_good_runs()
+    ensures { CoreStepsOfExecutionsAreGoodRuns }
 {}
 
 /// The answer that an act hands to the core is the response that the stream of its own link spells, and the request
 /// that of its own connection after those that were served. So whatever an engine lives through, each answer in its
 /// trace is one that a stream spells as a response, and has a final status, from 200 to 599.
-pub fn answers_are_final()
-    ensures spelled { EachActIsSpelled }
-    ensures read { EachAnswerWasRead }
-    ensures status { EachAnswerIsFinal }
+pub fn answers_have_a_final_status()
+    ensures spelled { EachDueActIsSpelledByItsStream }
+    ensures read { EachAnswerWasReadFromAStream }
+    ensures status { EachAnswerHasFinalStatus }
 {
-    what_is_read_is_final();
+    responses_read_are_final();
 }
 
 /// Where a waiting request or an answer is the first that is due, the links that come before it are known, and no
 /// number is left for one more link, `work` doesn't say that memory ran out: `ReportsLinkNumbersExhausted`, which it
 /// ensures then, is false of such a state.
-pub fn memory_hides_no_lack_of_numbers()
-    ensures wakes { MemoryHidesNoExhaustedWake }
-    ensures answers { MemoryHidesNoExhaustedAnswer }
+pub fn out_of_memory_never_hides_exhausted_link_numbers()
+    ensures wakes { OutOfMemoryNeverHidesExhaustedWake }
+    ensures answers { OutOfMemoryNeverHidesExhaustedAnswer }
 {}

@@ -4,14 +4,14 @@ ghost use Rattle.std.specs.Prelude.{Contains, Some, is_some};
 ghost use Rattle.std.specs.Option.{option_copied};
 ghost use Rattle.std.specs.Ordering.{nat_cmp};
 ghost use Rattle.std.specs.BTreeMap.{get};
-ghost use Rattle.proxy_engine.specs.Held.{has_flag, is_kept, connection_may_send, link_may_send};
+ghost use Rattle.proxy_engine.specs.Held.{open_end_has_flag, holds_of_any_end, connection_may_send, link_may_send};
 ghost use Rattle.proxy_engine.specs.Held.{link_failed};
-ghost use Rattle.proxy_engine.specs.Marked.{DiffersInRoom, RelatesAtEachPlace, NoneIsBeyond};
+ghost use Rattle.proxy_engine.specs.Marked.{DiffersOnlyInSpareRoom, PlacesAreRelated, NoEndIsOpenBeyond};
 ghost use Rattle.proxy_engine.specs.ReadyList.{entries_below, PlacesAscend, PlacesAreBelow};
 ghost use Rattle.proxy_engine.specs.Reading.{places_with_flag, client_end_at, link_end_at, IsBetweenRequests};
-ghost use Rattle.proxy_engine.specs.State.{ConnectionHolds};
+ghost use Rattle.proxy_engine.specs.State.{ConnectionMatchesModel};
 ghost use Rattle.proxy_engine.specs.EngineModel.{ConnectionModel};
-ghost use Rattle.proxy_engine.specs.Room.{HasSpareBytes, RoomIsGivenBack, most_bytes_of_read};
+ghost use Rattle.proxy_engine.specs.Room.{HasSpareBytes, SpareRoomIsReleased, most_bytes_of_read};
 
 use crate::endpoints::boxed::Boxed;
 use crate::endpoints::endpoint::Endpoint;
@@ -33,7 +33,7 @@ pub(crate) fn reads(connection: &Connection) -> bool
 
 /// Whether the client is between two requests.
 pub(crate) fn client_is_between_requests(connection: &Connection) -> bool
-    ensures { (c : ConnectionModel) → ConnectionHolds connection.now c → result ≡ true → IsBetweenRequests c }
+    ensures { (c : ConnectionModel) → ConnectionMatchesModel connection.now c → result ≡ true → IsBetweenRequests c }
 {
     reads(connection) && connection.reader.is_between_requests()
 }
@@ -46,9 +46,9 @@ pub(crate) fn answers(link: &Link) -> bool
 }
 
 /// How many ends are at places below a count, where none is beyond: one may be at the count, where the next will be.
-pub(crate) fn kept_count(ends: &BTreeMap<u64, Boxed<Connection>>, count: u64) -> usize
-    requires { NoneIsBeyond count (get nat_cmp ends.now) }
-    ensures { result ≡ length (places_with_flag (has_flag is_kept) 0 (entries_below ends.now count)) }
+pub(crate) fn open_end_count(ends: &BTreeMap<u64, Boxed<Connection>>, count: u64) -> usize
+    requires { NoEndIsOpenBeyond count (get nat_cmp ends.now) }
+    ensures { result ≡ length (places_with_flag (open_end_has_flag holds_of_any_end) 0 (entries_below ends.now count)) }
 {
     let beyond = if ends.contains_key(&count) { 1 } else { 0 };
     ends.len().saturating_sub(beyond)
@@ -61,7 +61,8 @@ pub(crate) fn push_clients(
     list: &mut Vec<End>,
 ) -> Result<(), AllocError>
     ensures { OnOk result (list.new.items ≡ list.old.items
-        ++ map client_end_at (places_with_flag (has_flag connection_may_send) 0 (entries_below ends.now count))) }
+        ++ map client_end_at
+        (places_with_flag (open_end_has_flag connection_may_send) 0 (entries_below ends.now count))) }
 {
     for (i, connection) in ends {
         if *i < count && reads(connection.get()) {
@@ -79,7 +80,8 @@ pub(crate) fn push_links(
     list: &mut Vec<End>,
 ) -> Result<(), AllocError>
     ensures { OnOk result (first + count ≤ 2 ^ 64 → list.new.items ≡ list.old.items
-        ++ map (link_end_at first) (places_with_flag (has_flag link_may_send) 0 (entries_below ends.now count))) }
+        ++ map (link_end_at first)
+        (places_with_flag (open_end_has_flag link_may_send) 0 (entries_below ends.now count))) }
 {
     for (j, link) in ends {
         if *j < count && answers(link.get()) {
@@ -91,7 +93,7 @@ pub(crate) fn push_links(
 
 /// Whether a link is at a place that has failed.
 fn has_failed_at(ends: &BTreeMap<u64, Boxed<Link>>, place: u64) -> bool
-    ensures { result ≡ has_flag link_failed (get nat_cmp ends.now place) }
+    ensures { result ≡ open_end_has_flag link_failed (get nat_cmp ends.now place) }
 {
     match end_at(ends, place) {
         Some(link) => link.failed.is_some(),
@@ -113,7 +115,8 @@ pub(crate) fn push_failed(
     requires marked { (j : ℕ) (link : Link) → get nat_cmp ends.now j ≡ Some link → link_failed link ≡ true
         → Contains places.now j }
     ensures { OnOk result (first + count ≤ 2 ^ 64 → list.new.items ≡ list.old.items
-        ++ map (link_end_at first) (places_with_flag (has_flag link_failed) 0 (entries_below ends.now count))) }
+        ++ map (link_end_at first)
+        (places_with_flag (open_end_has_flag link_failed) 0 (entries_below ends.now count))) }
 {
     for place in places {
         if has_failed_at(ends, *place) {
@@ -134,7 +137,7 @@ pub(crate) fn end_at<E>(ends: &BTreeMap<u64, Boxed<E>>, place: u64) -> Option<&E
 }
 
 /// Puts an end into the box at a place.
-pub(crate) fn put_at<E: Drop>(ends: &mut BTreeMap<u64, Boxed<E>>, place: u64, end: E)
+pub(crate) fn put_end_in_box_at<E: Drop>(ends: &mut BTreeMap<u64, Boxed<E>>, place: u64, end: E)
     requires { is_some (get nat_cmp ends.old place) ≡ true }
     ensures here { get nat_cmp ends.new place ≡ Some end }
     ensures others { (q : ℕ) → q ≢ place → get nat_cmp ends.new q ≡ get nat_cmp ends.old q }
@@ -146,11 +149,11 @@ pub(crate) fn put_at<E: Drop>(ends: &mut BTreeMap<u64, Boxed<E>>, place: u64, en
 }
 
 /// Makes room for one piece at a place, if an end is there.
-pub(crate) fn reserve_at<E: Endpoint>(
+pub(crate) fn reserve_piece_at<E: Endpoint>(
     ends: &mut BTreeMap<u64, Boxed<E>>,
     place: u64,
 ) -> Result<(), AllocError>
-    ensures grows { RelatesAtEachPlace (DiffersInRoom E.LooksLike E.may_show) (get nat_cmp ends.old)
+    ensures grows { PlacesAreRelated (DiffersOnlyInSpareRoom E.LooksLike E.may_show) (get nat_cmp ends.old)
         (get nat_cmp ends.new) }
     ensures others { (q : ℕ) → q ≢ place → get nat_cmp ends.new q ≡ get nat_cmp ends.old q }
     ensures size { length ends.new.entries ≡ length ends.old.entries }
@@ -164,12 +167,16 @@ pub(crate) fn reserve_at<E: Endpoint>(
 }
 
 /// Gives back the room of the end at a place, if one is there and no byte waits.
-pub(crate) fn release_at<E: Endpoint>(ends: &mut BTreeMap<u64, Boxed<E>>, place: u64, alloc: Global)
-    ensures alike { RelatesAtEachPlace (DiffersInRoom E.LooksLike E.may_show) (get nat_cmp ends.old)
+pub(crate) fn release_room_of_end_at<E: Endpoint>(
+    ends: &mut BTreeMap<u64, Boxed<E>>,
+    place: u64,
+    alloc: Global,
+)
+    ensures alike { PlacesAreRelated (DiffersOnlyInSpareRoom E.LooksLike E.may_show) (get nat_cmp ends.old)
         (get nat_cmp ends.new) }
     ensures others { (q : ℕ) → q ≢ place → get nat_cmp ends.new q ≡ get nat_cmp ends.old q }
     ensures size { length ends.new.entries ≡ length ends.old.entries }
-    ensures given { RoomIsGivenBack E.unread E.spare (get nat_cmp ends.new place) }
+    ensures given { SpareRoomIsReleased E.unread E.spare (get nat_cmp ends.new place) }
 {
     if let Some(end) = ends.get_mut(&place) {
         end.get_mut().release_room(alloc);

@@ -8,14 +8,15 @@ ghost use Rattle.proxy_engine.specs.Happenings.{Accepts, Sends, Hears, Ends, Lea
 ghost use Rattle.proxy_engine.specs.EngineModel.{EngineModel, ConnectionModel, LinkModel, connection_after_bytes};
 ghost use Rattle.proxy_engine.specs.EngineModel.{connection_after_end, connection_after_disconnect};
 ghost use Rattle.proxy_engine.specs.EngineModel.{connection_after_retirement, link_after_bytes};
-ghost use Rattle.proxy_engine.specs.EngineModel.{link_after_shut, link_after_failure};
+ghost use Rattle.proxy_engine.specs.EngineModel.{link_after_end, link_after_its_failure};
 ghost use Rattle.proxy_engine.specs.Activities.{has_exchange};
-ghost use Rattle.proxy_engine.specs.Pairing.{activities_of, owners_of};
-ghost use Rattle.proxy_engine.specs.Room.{ConnectionHasSpare, LinkHasSpare};
+ghost use Rattle.proxy_engine.specs.Pairing.{activities_of_connections, owners_of_links};
+ghost use Rattle.proxy_engine.specs.Room.{ConnectionReaderHasSpareBytes, LinkReaderHasSpareBytes};
 ghost use Rattle.proxy_engine.specs.State.{EngineRepresents, ConnectionRepresents, LinkRepresents, engine_state};
 ghost use Rattle.proxy_engine.specs.State.{EngineTakesHappening};
-ghost use Rattle.proxy_engine.specs.EndChanges.{ConnectionsTake, ConnectionsRefuse, ConnectionsKeep};
-ghost use Rattle.proxy_engine.specs.EndChanges.{LinksTake, LinksRefuse, LinksKeep};
+ghost use Rattle.proxy_engine.specs.EndChanges.{ConnectionsTakeHappening, ConnectionsRefuseHappening};
+ghost use Rattle.proxy_engine.specs.EndChanges.{ConnectionsStoreBytesOfHappening};
+ghost use Rattle.proxy_engine.specs.EndChanges.{LinksTakeHappening, LinksRefuseHappening, LinksStoreBytesOfHappening};
 
 use crate::endpoints::activities::Activity;
 use crate::endpoints::connections::Connections;
@@ -67,7 +68,7 @@ fn feed_connection(connection: &mut Connection, bytes: &[u8]) -> Result<(), Allo
         return Ok(());
     }
     connection.reader.inner.feed(bytes)?;
-    connection.reader.ask_again();
+    connection.reader.forget_quiet_lookahead();
     Ok(())
 }
 
@@ -83,7 +84,7 @@ fn feed_link(link: &mut Link, bytes: &[u8]) -> Result<(), AllocError>
         return Ok(());
     }
     link.reader.inner.feed(bytes)?;
-    link.reader.ask_again();
+    link.reader.forget_quiet_lookahead();
     Ok(())
 }
 
@@ -94,7 +95,7 @@ fn end(connection: &mut Connection)
 {
     if !connection.gone {
         connection.reader.inner.finish();
-        connection.reader.ask_again();
+        connection.reader.forget_quiet_lookahead();
         connection.ended = true;
     }
 }
@@ -120,19 +121,19 @@ fn retire(connection: &mut Connection)
 
 fn close_link(link: &mut Link)
     ensures represents { (s : LinkModel) → LinkRepresents (Some link.old) s → LinkRepresents (Some link.new)
-        (link_after_shut s) }
+        (link_after_end s) }
     ensures connection { link.new.connection ≡ link.old.connection }
 {
     if link.failed.is_none() {
         link.reader.inner.finish();
-        link.reader.ask_again();
+        link.reader.forget_quiet_lookahead();
         link.ended = true;
     }
 }
 
 fn fail_link(link: &mut Link, kind: FailKind)
     ensures represents { (s : LinkModel) → LinkRepresents (Some link.old) s
-        → LinkRepresents (Some link.new) (link_after_failure kind s) }
+        → LinkRepresents (Some link.new) (link_after_its_failure kind s) }
     ensures connection { link.new.connection ≡ link.old.connection }
 {
     if link.failed.is_none() {
@@ -156,9 +157,10 @@ pub(crate) fn accept(
     ensures ok { OnOk result ((s : EngineModel) → (links : List (Option Link)) → (core : CoreState) → (first : ℕ)
         → core.table.max_body ≡ max_body → EngineRepresents (engine_state connections.old.items links core first) s
         → EngineTakesHappening s (Accepts n) (engine_state connections.new.items links core first)) }
-    ensures fault { IfErr result (ConnectionsRefuse connections.old.items (Accepts n)) }
+    ensures fault { IfErr result (ConnectionsRefuseHappening connections.old.items (Accepts n)) }
     ensures activities { OnOk result
-        (activities_of connections.new.items ≡ activities_of connections.old.items ++ Activity.Free ∷ []) }
+        (activities_of_connections connections.new.items ≡ activities_of_connections connections.old.items
+        ++ Activity.Free ∷ []) }
     ensures reserved { connections.old.has_room ≡ true → result ≢ Err EngineFault.OutOfMemory }
     ensures err { OnErr result (connections.new ≡ connections.old) }
 {
@@ -184,13 +186,16 @@ pub(crate) fn take_client_bytes(
     n: u64,
     bytes: &[u8],
 ) -> Result<(), EngineFault>
-    ensures ok { OnOk result (ConnectionsTake connections.old.items connections.new.items (Sends n bytes.now)) }
-    ensures fault { IfErr result (ConnectionsRefuse connections.old.items (Sends n bytes.now)) }
-    ensures kept { result ≡ Err EngineFault.OutOfMemory → ConnectionsKeep connections.old.items (Sends n bytes.now) }
-    ensures reserved { ConnectionHasSpare (slice_index_or connections.old.items (connection_place n) None)
+    ensures ok { OnOk result
+        (ConnectionsTakeHappening connections.old.items connections.new.items (Sends n bytes.now)) }
+    ensures fault { IfErr result (ConnectionsRefuseHappening connections.old.items (Sends n bytes.now)) }
+    ensures kept { result ≡ Err EngineFault.OutOfMemory
+        → ConnectionsStoreBytesOfHappening connections.old.items (Sends n bytes.now) }
+    ensures reserved { ConnectionReaderHasSpareBytes (slice_index_or connections.old.items (connection_place n) None)
         (length bytes.now)
         → result ≢ Err EngineFault.OutOfMemory }
-    ensures activities { activities_of connections.new.items ≡ activities_of connections.old.items }
+    ensures activities { activities_of_connections connections.new.items
+        ≡ activities_of_connections connections.old.items }
     ensures err { OnErr result (connections.new ≡ connections.old) }
 {
     let Some(i) = find_connection(connections, n) else {
@@ -205,11 +210,15 @@ pub(crate) fn take_client_bytes(
     }
 }
 
-pub(crate) fn finish_client(connections: &mut Connections, n: u64) -> Result<(), EngineFault>
-    ensures ok { OnOk result (ConnectionsTake connections.old.items connections.new.items (Ends n)) }
-    ensures fault { IfErr result (ConnectionsRefuse connections.old.items (Ends n)) }
+pub(crate) fn note_end_of_client_input(
+    connections: &mut Connections,
+    n: u64,
+) -> Result<(), EngineFault>
+    ensures ok { OnOk result (ConnectionsTakeHappening connections.old.items connections.new.items (Ends n)) }
+    ensures fault { IfErr result (ConnectionsRefuseHappening connections.old.items (Ends n)) }
     ensures memory { IfErr result (λ e. e ≡ EngineFault.NotAccepted) }
-    ensures activities { activities_of connections.new.items ≡ activities_of connections.old.items }
+    ensures activities { activities_of_connections connections.new.items
+        ≡ activities_of_connections connections.old.items }
     ensures err { OnErr result (connections.new ≡ connections.old) }
 {
     let Some(i) = find_connection(connections, n) else {
@@ -222,10 +231,11 @@ pub(crate) fn finish_client(connections: &mut Connections, n: u64) -> Result<(),
 }
 
 pub(crate) fn disconnect_client(connections: &mut Connections, n: u64) -> Result<(), EngineFault>
-    ensures ok { OnOk result (ConnectionsTake connections.old.items connections.new.items (Leaves n)) }
-    ensures fault { IfErr result (ConnectionsRefuse connections.old.items (Leaves n)) }
+    ensures ok { OnOk result (ConnectionsTakeHappening connections.old.items connections.new.items (Leaves n)) }
+    ensures fault { IfErr result (ConnectionsRefuseHappening connections.old.items (Leaves n)) }
     ensures memory { IfErr result (λ e. e ≡ EngineFault.NotAccepted) }
-    ensures activities { activities_of connections.new.items ≡ activities_of connections.old.items }
+    ensures activities { activities_of_connections connections.new.items
+        ≡ activities_of_connections connections.old.items }
     ensures err { OnErr result (connections.new ≡ connections.old) }
 {
     let Some(i) = find_connection(connections, n) else {
@@ -240,10 +250,11 @@ pub(crate) fn disconnect_client(connections: &mut Connections, n: u64) -> Result
 }
 
 pub(crate) fn retire_client(connections: &mut Connections, n: u64) -> Result<(), EngineFault>
-    ensures ok { OnOk result (ConnectionsTake connections.old.items connections.new.items (Retires n)) }
-    ensures fault { IfErr result (ConnectionsRefuse connections.old.items (Retires n)) }
+    ensures ok { OnOk result (ConnectionsTakeHappening connections.old.items connections.new.items (Retires n)) }
+    ensures fault { IfErr result (ConnectionsRefuseHappening connections.old.items (Retires n)) }
     ensures memory { IfErr result (λ e. e ≡ EngineFault.NotAccepted) }
-    ensures activities { activities_of connections.new.items ≡ activities_of connections.old.items }
+    ensures activities { activities_of_connections connections.new.items
+        ≡ activities_of_connections connections.old.items }
     ensures err { OnErr result (connections.new ≡ connections.old) }
 {
     let Some(i) = find_connection(connections, n) else {
@@ -261,12 +272,14 @@ pub(crate) fn take_link_bytes(
     l: u64,
     bytes: &[u8],
 ) -> Result<(), EngineFault>
-    ensures ok { OnOk result (LinksTake first links.old.items links.new.items (Hears l bytes.now)) }
-    ensures fault { IfErr result (LinksRefuse first links.old.items (Hears l bytes.now)) }
-    ensures kept { result ≡ Err EngineFault.OutOfMemory → LinksKeep first links.old.items (Hears l bytes.now) }
-    ensures reserved { LinkHasSpare (slice_index_or links.old.items (link_place first l) None) (length bytes.now)
+    ensures ok { OnOk result (LinksTakeHappening first links.old.items links.new.items (Hears l bytes.now)) }
+    ensures fault { IfErr result (LinksRefuseHappening first links.old.items (Hears l bytes.now)) }
+    ensures kept { result ≡ Err EngineFault.OutOfMemory
+        → LinksStoreBytesOfHappening first links.old.items (Hears l bytes.now) }
+    ensures reserved { LinkReaderHasSpareBytes (slice_index_or links.old.items (link_place first l) None)
+        (length bytes.now)
         → result ≢ Err EngineFault.OutOfMemory }
-    ensures owners { owners_of links.new.items ≡ owners_of links.old.items }
+    ensures owners { owners_of_links links.new.items ≡ owners_of_links links.old.items }
     ensures err { OnErr result (links.new.items ≡ links.old.items) }
 {
     let Some(j) = find_link(links, first, l) else {
@@ -281,11 +294,15 @@ pub(crate) fn take_link_bytes(
     }
 }
 
-pub(crate) fn shut_link(links: &mut Links, first: u64, l: u64) -> Result<(), EngineFault>
-    ensures ok { OnOk result (LinksTake first links.old.items links.new.items (Shuts l)) }
-    ensures fault { IfErr result (LinksRefuse first links.old.items (Shuts l)) }
+pub(crate) fn note_end_of_link_input(
+    links: &mut Links,
+    first: u64,
+    l: u64,
+) -> Result<(), EngineFault>
+    ensures ok { OnOk result (LinksTakeHappening first links.old.items links.new.items (Shuts l)) }
+    ensures fault { IfErr result (LinksRefuseHappening first links.old.items (Shuts l)) }
     ensures memory { IfErr result (λ e. e ≡ EngineFault.WrongNumber) }
-    ensures owners { owners_of links.new.items ≡ owners_of links.old.items }
+    ensures owners { owners_of_links links.new.items ≡ owners_of_links links.old.items }
     ensures err { OnErr result (links.new.items ≡ links.old.items) }
 {
     let Some(j) = find_link(links, first, l) else {
@@ -297,16 +314,16 @@ pub(crate) fn shut_link(links: &mut Links, first: u64, l: u64) -> Result<(), Eng
     Ok(())
 }
 
-pub(crate) fn break_link(
+pub(crate) fn note_link_failure(
     links: &mut Links,
     first: u64,
     l: u64,
     kind: FailKind,
 ) -> Result<(), EngineFault>
-    ensures ok { OnOk result (LinksTake first links.old.items links.new.items (Fails l kind)) }
-    ensures fault { IfErr result (LinksRefuse first links.old.items (Fails l kind)) }
+    ensures ok { OnOk result (LinksTakeHappening first links.old.items links.new.items (Fails l kind)) }
+    ensures fault { IfErr result (LinksRefuseHappening first links.old.items (Fails l kind)) }
     ensures memory { IfErr result (λ e. e ≡ EngineFault.WrongNumber) }
-    ensures owners { owners_of links.new.items ≡ owners_of links.old.items }
+    ensures owners { owners_of_links links.new.items ≡ owners_of_links links.old.items }
     ensures err { OnErr result (links.new.items ≡ links.old.items) }
 {
     let Some(j) = find_link(links, first, l) else {

@@ -26,7 +26,7 @@ use Rattle.proxy_core.specs.declared.event.Event.TheVariants as events
 use Rattle.proxy_core.specs.declared.open.exchange.Exchange.{Exchange}
 use Rattle.proxy_core.specs.declared.outcome.Outcome.{Outcome}
 use Rattle.proxy_core.specs.declared.outcome.Outcome.TheVariants as outcomes
-use Rattle.proxy_core.specs.Driving.{KeepsThePromises}
+use Rattle.proxy_core.specs.Driving.{TraceKeepsThePromises}
 use Rattle.proxy_core.specs.Histories.{open_exchanges}
 use Rattle.proxy_core.specs.AnsweredRequests.{request_of_exchange}
 use Rattle.proxy_core.specs.Outcomes.{find_exchange, exchange_id_of_event}
@@ -36,35 +36,35 @@ use Rattle.proxy_core.specs.Traces.{Item, initial_state as core_begun}
 use Rattle.proxy_core.proofs.Driven.{promises_of_a_driven_core}
 use Rattle.proxy_script.specs.declared.effect_list.Effect.{Effect}
 use Rattle.proxy_script.specs.declared.effect_list.Effect.TheVariants as effects
-use Rattle.proxy_core_laws.specs.SentMessages.{EventsWereRead, OutcomeIsOneMessage, BytesAreOneResponse, event_is_to_head}
+use Rattle.proxy_core_laws.specs.SentMessages.{MessagesOfTraceWereRead, OutcomeIsOneMessage, BytesAreOneResponse, event_is_to_head}
 use Rattle.hx_allow.specs.Tables.{TableWasRead}
 use Rattle.proxy_core_laws.proofs.SentMessages.{one_refusal, sends_one_message_each_time}
 use Rattle.proxy_engine.specs.Admitted.{Refusal, RequestIsAdmittedOrRefused, asked_on_connection}
 use Rattle.proxy_engine.specs.EngineModel.{EngineModel, connection_at, link_at}
 use Rattle.proxy_engine.specs.Due.{Act, Abandons, Finishes, Wakes, Serves, Gives, Breaks, IsDueFirst}
 use Rattle.proxy_engine.specs.Questions.{question_of, request_of_event}
-use Rattle.proxy_engine.specs.Acts.{RequestArrives, RequestIsRefused as IsRefused, ConnectionIsServed, origin_address_of_line, asks_head, outcome_by_table, drop_effects, effects_of_outcome, next_link_number}
+use Rattle.proxy_engine.specs.Acts.{RequestArrives, RequestIsRefused as IsRefused, ConnectionIsServed, origin_address_of_line, request_is_head, outcome_with_origin_address, effects_of_link_drop, effects_of_outcome, next_link_number}
 use Rattle.proxy_engine.specs.State.{new_engine_model}
-use Rattle.proxy_engine.specs.Executions.{ExecutionStep, Took, Worked, IsCoreEventOfAct, IsItemOfAct, StepLeads, StepsLead, drop_effects_of_act, connection_place_of_act, effects_of_steps}
+use Rattle.proxy_engine.specs.Executions.{ExecutionStep, Took, Worked, IsCoreEventOfAct, IsItemOfAct, StepLeadsToModel, StepsLeadToModel, link_drop_effects_of_act, connection_place_of_act, effects_of_steps}
 use Rattle.proxy_engine.proofs.Living.{Runs, executes, step_emitted}
-use Rattle.proxy_engine_laws.specs.OneMessageEach.{StartCanBeServed, EachReplyIsOneResponse, ActsAreInTime, EachForwardIsOneRequest, ClientsGetOneResponseEach, ReplyIsOneResponse, ForwardIsOneRequest, act_answers_head}
+use Rattle.proxy_engine_laws.specs.OneMessageEach.{StartCanBeServed, EachReplyIsOneResponse, ActsAreBeforeYear10000, EachForwardIsOneRequest, ClientsGetOneResponseEach, ReplyIsOneResponse, ForwardIsOneRequest, act_is_of_head_request}
 use Rattle.proxy_engine_laws.proofs.HandedOver.{event_read, hands_what_was_read}
 
 -- ---- whether a HEAD is answered
 
-answer_head : (o : Option Exchange) (now id : ℕ) (r : Response) → event_is_to_head o (events.Answer now id r) ≡ asks_head (request_of_exchange o)
+answer_head : (o : Option Exchange) (now id : ℕ) (r : Response) → event_is_to_head o (events.Answer now id r) ≡ request_is_head (request_of_exchange o)
 answer_head None now id r = refl
 answer_head (Some x) now id r = refl
 
-fail_head : (o : Option Exchange) (now id : ℕ) (kind : FailKind) → event_is_to_head o (events.Fail now id kind) ≡ asks_head (request_of_exchange o)
+fail_head : (o : Option Exchange) (now id : ℕ) (kind : FailKind) → event_is_to_head o (events.Fail now id kind) ≡ request_is_head (request_of_exchange o)
 fail_head None now id kind = refl
 fail_head (Some x) now id kind = refl
 
-wake_head : (o : Option Exchange) (now id : ℕ) → event_is_to_head o (events.Wake now id) ≡ asks_head (request_of_exchange o)
+wake_head : (o : Option Exchange) (now id : ℕ) → event_is_to_head o (events.Wake now id) ≡ request_is_head (request_of_exchange o)
 wake_head None now id = refl
 wake_head (Some x) now id = refl
 
-abandon_head : (o : Option Exchange) (id : ℕ) → event_is_to_head o (events.Abandon id) ≡ asks_head (request_of_exchange o)
+abandon_head : (o : Option Exchange) (id : ℕ) → event_is_to_head o (events.Abandon id) ≡ request_is_head (request_of_exchange o)
 abandon_head None id = refl
 abandon_head (Some x) id = refl
 
@@ -75,7 +75,7 @@ asked_head r asked (Ok target) same = ap is_head one
     one = cc
 asked_head r asked (Err fault) same = absurd cc
 
-about_act : (s : EngineModel) (now : ℕ) (act : Act) (event : Event) → IsCoreEventOfAct s now act event → event_is_to_head (find_exchange (exchange_id_of_event event) s.core.exchanges) event ≡ act_answers_head s act
+about_act : (s : EngineModel) (now : ℕ) (act : Act) (event : Event) → IsCoreEventOfAct s now act event → event_is_to_head (find_exchange (exchange_id_of_event event) s.core.exchanges) event ≡ act_is_of_head_request s act
 about_act s now (Abandons i l) event is =
     ap (λ (v : Event). event_is_to_head (find_exchange (exchange_id_of_event v) s.core.exchanges) v) is ∙ abandon_head (find_exchange (i + 1) s.core.exchanges) (i + 1)
 about_act s now (Finishes j (Gives r)) event is =
@@ -101,11 +101,11 @@ record IsSent (name : List ℕ) (now : ℕ) (h : Bool) (e : Effect) : Type 0 whe
   answered : now < END_OF_TIME → ReplyIsOneResponse h e
 
 module _ (table : Table) (now : ℕ) (h : Bool) where
-  drops_sent : (first : ℕ) (o : Option ℕ) → All (IsSent table.name now h) (drop_effects first o)
+  drops_sent : (first : ℕ) (o : Option ℕ) → All (IsSent table.name now h) (effects_of_link_drop first o)
   drops_sent first None = All-nil (IsSent table.name now h)
   drops_sent first (Some l) = All-cons (IsSent table.name now h) (effects.Drop (first + l)) [] (record { forwarded = tt; answered = λ early. tt }) (All-nil (IsSent table.name now h))
 
-  drops_of_act : (s : EngineModel) (act : Act) → All (IsSent table.name now h) (drop_effects_of_act s act)
+  drops_of_act : (s : EngineModel) (act : Act) → All (IsSent table.name now h) (link_drop_effects_of_act s act)
   drops_of_act s (Abandons i l) = drops_sent s.first l
   drops_of_act s (Finishes j finish) = drops_sent s.first (Some j)
   drops_of_act s (Wakes i) = All-nil (IsSent table.name now h)
@@ -118,7 +118,7 @@ module _ (table : Table) (now : ℕ) (h : Bool) where
   closes_or_not n true = close_sent n
   closes_or_not n false = All-nil (IsSent table.name now h)
 
-  came_sent : (i number : ℕ) (question : Option Question) (outcome : Outcome) → OutcomeIsOneMessage table.name h outcome → All (IsSent table.name now h) (effects_of_outcome i number question (outcome_by_table table outcome))
+  came_sent : (i number : ℕ) (question : Option Question) (outcome : Outcome) → OutcomeIsOneMessage table.name h outcome → All (IsSent table.name now h) (effects_of_outcome i number question (outcome_with_origin_address table outcome))
   came_sent i number question (outcomes.Reply r) one =
       All-cons (IsSent table.name now h) (effects.Client (i + 1) r.bytes (Some (record { about = r.about; question = question }))) (cond r.close (effects.Close (i + 1) ∷ []) []) (record { forwarded = tt; answered = λ early. inr one }) (closes_or_not (i + 1) r.close)
   came_sent i number question (outcomes.Forward line bytes) one =
@@ -145,25 +145,25 @@ module _ (table : Table) (now : ℕ) (h : Bool) where
 
 -- ---- acts
 
-module _ (table : Table) (read : TableWasRead table) (start : StoreAtStart) (first link : ℕ) (sound : StartCanBeServed table start first) (past : List ExecutionStep) (s : EngineModel) (executed : StepsLead (new_engine_model (core_begun table start first) link) past s) where
+module _ (table : Table) (read : TableWasRead table) (start : StoreAtStart) (first link : ℕ) (sound : StartCanBeServed table start first) (past : List ExecutionStep) (s : EngineModel) (executed : StepsLeadToModel (new_engine_model (core_begun table start first) link) past s) where
   run : Runs table start first (new_engine_model (core_begun table start first) link) past s
   run = executes table start first (new_engine_model (core_begun table start first) link) sound.stands refl past s executed
 
-  keeps : KeepsThePromises table start first run.trace s.core
+  keeps : TraceKeepsThePromises table start first run.trace s.core
   keeps = promises_of_a_driven_core table start first run.trace s.core run.has_run
 
   module _ (now : ℕ) (emitted : List Effect) (t : EngineModel) where
-    by_item : (act : Act) → IsDueFirst s (Some act) → (item : Item) × IsItemOfAct table s now act item emitted t → All (IsSent table.name now (act_answers_head s act)) emitted
+    by_item : (act : Act) → IsDueFirst s (Some act) → (item : Item) × IsItemOfAct table s now act item emitted t → All (IsSent table.name now (act_is_of_head_request s act)) emitted
     by_item act due (item, is) =
         let promises = promises_of_a_driven_core table start first (item ∷ run.trace) t.core (s.core, run.has_run, is.steps) in
-        let handed : EventsWereRead (item ∷ run.trace) = (event_read s now act item.event due is.event_is, hands_what_was_read table (new_engine_model (core_begun table start first) link) s past run.trace run.has_trace) in
+        let handed : MessagesOfTraceWereRead (item ∷ run.trace) = (event_read s now act item.event due is.event_is, hands_what_was_read table (new_engine_model (core_begun table start first) link) s past run.trace run.has_trace) in
         let one = sends_one_message_each_time table start first item run.trace read promises.good sound.can_be_sent handed in
-        let head : event_is_to_head (find_exchange (exchange_id_of_event item.event) (open_exchanges table start run.trace)) item.event ≡ act_answers_head s act =
+        let head : event_is_to_head (find_exchange (exchange_id_of_event item.event) (open_exchanges table start run.trace)) item.event ≡ act_is_of_head_request s act =
         ap (λ (xs : List Exchange). event_is_to_head (find_exchange (exchange_id_of_event item.event) xs) item.event) (sym keeps.exchanges_are) ∙ about_act s now act item.event is.event_is in
-        subst (All (IsSent table.name now (act_answers_head s act))) (sym is.emitted_is)
-        (All-append (IsSent table.name now (act_answers_head s act)) (drop_effects_of_act s act) (effects_of_outcome (connection_place_of_act s act) (next_link_number s) (option_map question_of (request_of_event s.core.exchanges item.event)) (outcome_by_table table item.outcome))
-        (drops_of_act table now (act_answers_head s act) s act)
-        (came_sent table now (act_answers_head s act) (connection_place_of_act s act) (next_link_number s) (option_map question_of (request_of_event s.core.exchanges item.event)) item.outcome (subst (λ (h : Bool). OutcomeIsOneMessage table.name h item.outcome) head one)))
+        subst (All (IsSent table.name now (act_is_of_head_request s act))) (sym is.emitted_is)
+        (All-append (IsSent table.name now (act_is_of_head_request s act)) (link_drop_effects_of_act s act) (effects_of_outcome (connection_place_of_act s act) (next_link_number s) (option_map question_of (request_of_event s.core.exchanges item.event)) (outcome_with_origin_address table item.outcome))
+        (drops_of_act table now (act_is_of_head_request s act) s act)
+        (came_sent table now (act_is_of_head_request s act) (connection_place_of_act s act) (next_link_number s) (option_map question_of (request_of_event s.core.exchanges item.event)) item.outcome (subst (λ (h : Bool). OutcomeIsOneMessage table.name h item.outcome) head one)))
 
     arrives : (i : ℕ) (r : Request) (judged : Result Asked Refusal) → IsDueFirst s (Some (Serves i (next.Message r))) → RequestIsAdmittedOrRefused r judged → RequestArrives s now i r judged emitted t
         → All (IsSent table.name now (bytes_eq r.method (codes "HEAD"))) emitted
@@ -185,7 +185,7 @@ module _ (table : Table) (read : TableWasRead table) (start : StoreAtStart) (fir
     framed i frame.Expect h = refused i (cause.Frame frame.Expect) h
     framed i frame.Status h = refused i (cause.Frame frame.Status) h
 
-    sent_by : (act : Act) → StepLeads s (Worked now act emitted) t → All (IsSent table.name now (act_answers_head s act)) emitted
+    sent_by : (act : Act) → StepLeadsToModel s (Worked now act emitted) t → All (IsSent table.name now (act_is_of_head_request s act)) emitted
     sent_by (Abandons i l) leads = by_item (Abandons i l) leads.0 (step_emitted table now (Abandons i l) s _ _ _ emitted t run.config refl refl leads.1)
     sent_by (Finishes j (Gives r)) leads = by_item (Finishes j (Gives r)) leads.0 (step_emitted table now (Finishes j (Gives r)) s _ _ _ emitted t run.config refl refl leads.1.1)
     sent_by (Finishes j (Breaks kind)) leads = by_item (Finishes j (Breaks kind)) leads.0 (step_emitted table now (Finishes j (Breaks kind)) s _ _ _ emitted t run.config refl refl leads.1)
@@ -202,12 +202,12 @@ contained : {X : Type 0} (P : X → Type 0) (xs : List X) (x : X) → All P xs �
 contained P xs x all has = subst P has.2 (all has.0 x has.1)
 
 module _ (table : Table) (read : TableWasRead table) (start : StoreAtStart) (first link : ℕ) (sound : StartCanBeServed table start first) where
-  all_forwarded : (steps : List ExecutionStep) (t : EngineModel) → StepsLead (new_engine_model (core_begun table start first) link) steps t → All (ForwardIsOneRequest table.name) (effects_of_steps steps)
+  all_forwarded : (steps : List ExecutionStep) (t : EngineModel) → StepsLeadToModel (new_engine_model (core_begun table start first) link) steps t → All (ForwardIsOneRequest table.name) (effects_of_steps steps)
   all_forwarded [] t h = All-nil (ForwardIsOneRequest table.name)
   all_forwarded (Took happening ∷ past) t (s, executed, leads) = all_forwarded past s executed
   all_forwarded (Worked now act emitted ∷ past) t (s, executed, leads) =
       All-append (ForwardIsOneRequest table.name) (effects_of_steps past) emitted (all_forwarded past s executed)
-      (All-weaker (IsSent table.name now (act_answers_head s act)) (ForwardIsOneRequest table.name) (λ e is. is.forwarded) emitted (sent_by table read start first link sound past s executed now emitted t act leads))
+      (All-weaker (IsSent table.name now (act_is_of_head_request s act)) (ForwardIsOneRequest table.name) (λ e is. is.forwarded) emitted (sent_by table read start first link sound past s executed now emitted t act leads))
 
   -- a continue, or one response to a HEAD or not
   abbrev Gets : Effect → Type 0
@@ -223,12 +223,12 @@ module _ (table : Table) (read : TableWasRead table) (start : StoreAtStart) (fir
   gets h (effects.Close n) is = tt
   gets h (effects.Drop l) is = tt
 
-  all_got : (steps : List ExecutionStep) (t : EngineModel) → StepsLead (new_engine_model (core_begun table start first) link) steps t → ActsAreInTime steps → All Gets (effects_of_steps steps)
+  all_got : (steps : List ExecutionStep) (t : EngineModel) → StepsLeadToModel (new_engine_model (core_begun table start first) link) steps t → ActsAreBeforeYear10000 steps → All Gets (effects_of_steps steps)
   all_got [] t h early = All-nil Gets
   all_got (Took happening ∷ past) t (s, executed, leads) early = all_got past s executed early
   all_got (Worked now act emitted ∷ past) t (s, executed, leads) early =
       All-append Gets (effects_of_steps past) emitted (all_got past s executed early.1)
-      (All-weaker (IsSent table.name now (act_answers_head s act)) Gets (λ e is. gets (act_answers_head s act) e (is.answered early.0)) emitted (sent_by table read start first link sound past s executed now emitted t act leads))
+      (All-weaker (IsSent table.name now (act_is_of_head_request s act)) Gets (λ e is. gets (act_is_of_head_request s act) e (is.answered early.0)) emitted (sent_by table read start first link sound past s executed now emitted t act leads))
 
 pub forwards_one_request_each : EachForwardIsOneRequest
 forwards_one_request_each table start first link steps t read sound executed l address bytes has =
@@ -236,7 +236,7 @@ forwards_one_request_each table start first link steps t read sound executed l a
 
 pub answers_one_response_each : EachReplyIsOneResponse
 answers_one_response_each table start first link now past s t act emitted read sound executed early leads =
-    All-weaker (IsSent table.name now (act_answers_head s act)) (ReplyIsOneResponse (act_answers_head s act)) (λ e is. is.answered early) emitted
+    All-weaker (IsSent table.name now (act_is_of_head_request s act)) (ReplyIsOneResponse (act_is_of_head_request s act)) (λ e is. is.answered early) emitted
     (sent_by table read start first link sound past s executed now emitted t act leads)
 
 pub gets_one_response_each : ClientsGetOneResponseEach

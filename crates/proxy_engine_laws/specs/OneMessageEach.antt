@@ -2,9 +2,9 @@
 -- each answer to a client. The messages themselves, `BytesAreOneRequest` and `BytesAreOneResponse`, stand in
 -- `proxy_core_laws/specs/SentMessages.antt`.
 --
--- ActsAreInTime: moments that `work` takes          act_answers_head: an act answers a HEAD
+-- ActsAreBeforeYear10000: moments that `work` takes          act_is_of_head_request: an act answers a HEAD
 -- ForwardIsOneRequest, ReplyIsOneResponse: an effect that is one message
--- CoreIsHandedWhatWasRead: what its core is handed
+-- CoreIsHandedReadMessages: what its core is handed
 -- EachForwardIsOneRequest, EachReplyIsOneResponse, ClientsGetOneResponseEach: the statements
 use Rattle.std.specs.Prelude.{◌≡◌, ◌⊎◌, ℕ, ◌+◌, ◌<◌, Bool, false, bytes_eq, List, [], ◌∷◌, codes, All, Contains}
 use Rattle.std.specs.Prelude.{Option, Some}
@@ -13,41 +13,43 @@ use Rattle.hx_fields.specs.declared.limits.TheConstants.{END_OF_TIME}
 use Rattle.hx_allow.specs.TableLines.{Table}
 use Rattle.hx_framing.specs.declared.messages.Next.TheVariants as next
 use Rattle.hx_framing.specs.Text.{continue_text}
-use Rattle.hx_status.specs.declared.about.Replied.{Replied}
+use Rattle.hx_status.specs.declared.about.ReplyData.{ReplyData}
 use Rattle.proxy_core.specs.AnsweredRequests.{request_of_exchange}
 use Rattle.proxy_core.specs.Outcomes.{find_exchange}
 use Rattle.proxy_core.specs.State.{bounds_of}
 use Rattle.proxy_core.specs.Traces.{Item, initial_state as core_begun}
-use Rattle.proxy_core.specs.Starts.{StoreAtStart, StartStands, EachHeldAtFirst}
-use Rattle.proxy_core_laws.specs.SentMessages.{CanBeSent, EventsWereRead, BytesAreOneRequest, BytesAreOneResponse}
+use Rattle.proxy_core.specs.Starts.{StoreAtStart, StartIsValid, HoldsForEachResponseAtStart}
+use Rattle.proxy_core_laws.specs.SentMessages.{CanBeSent, MessagesOfTraceWereRead, BytesAreOneRequest}
+use Rattle.proxy_core_laws.specs.SentMessages.{BytesAreOneResponse}
 use Rattle.hx_allow.specs.Tables.{TableWasRead}
 use Rattle.proxy_script.specs.declared.effect_list.Effect.{Effect}
 use Rattle.proxy_script.specs.declared.effect_list.Effect.TheVariants as effects
 use Rattle.proxy_engine.specs.EngineModel.{EngineModel, link_at}
 use Rattle.proxy_engine.specs.Due.{Act, Abandons, Finishes, Wakes, Serves}
-use Rattle.proxy_engine.specs.Acts.{asks_head}
+use Rattle.proxy_engine.specs.Acts.{request_is_head}
 use Rattle.proxy_engine.specs.State.{new_engine_model}
-use Rattle.proxy_engine.specs.Executions.{ExecutionStep, Took, Worked, StepLeads, StepsLead, StepsHaveTrace}
+use Rattle.proxy_engine.specs.Executions.{ExecutionStep, Took, Worked, StepLeadsToModel, StepsLeadToModel}
+use Rattle.proxy_engine.specs.Executions.{StepsHaveTrace}
 use Rattle.proxy_engine.specs.Executions.{effects_of_steps}
 
 -- each act was done before the year 10000, as `work` asks
-abbrev pub ActsAreInTime : List ExecutionStep → Type 0
-ActsAreInTime [] = Unit {0}
-ActsAreInTime (Took happening ∷ past) = ActsAreInTime past
-ActsAreInTime (Worked now act emitted ∷ past) = (now < END_OF_TIME) × ActsAreInTime past
+abbrev pub ActsAreBeforeYear10000 : List ExecutionStep → Type 0
+ActsAreBeforeYear10000 [] = Unit {0}
+ActsAreBeforeYear10000 (Took happening ∷ past) = ActsAreBeforeYear10000 past
+ActsAreBeforeYear10000 (Worked now act emitted ∷ past) = (now < END_OF_TIME) × ActsAreBeforeYear10000 past
 
 -- the request that an act is about is a HEAD: that of the exchange that is open on its connection, or the one that its
 -- stream spells
-abbrev pub act_answers_head : EngineModel → Act → Bool
-act_answers_head s (Abandons i l) = asks_head (request_of_exchange (find_exchange (i + 1) s.core.exchanges))
-act_answers_head s (Finishes j finish) =
-    asks_head (request_of_exchange (find_exchange ((link_at s j).connection + 1) s.core.exchanges))
-act_answers_head s (Wakes i) = asks_head (request_of_exchange (find_exchange (i + 1) s.core.exchanges))
-act_answers_head s (Serves i (next.Message request)) = bytes_eq request.method (codes "HEAD")
-act_answers_head s (Serves i next.More) = false
-act_answers_head s (Serves i next.NeedsContinue) = false
-act_answers_head s (Serves i (next.Refused fault)) = false
-act_answers_head s (Serves i next.End) = false
+abbrev pub act_is_of_head_request : EngineModel → Act → Bool
+act_is_of_head_request s (Abandons i l) = request_is_head (request_of_exchange (find_exchange (i + 1) s.core.exchanges))
+act_is_of_head_request s (Finishes j finish) =
+    request_is_head (request_of_exchange (find_exchange ((link_at s j).connection + 1) s.core.exchanges))
+act_is_of_head_request s (Wakes i) = request_is_head (request_of_exchange (find_exchange (i + 1) s.core.exchanges))
+act_is_of_head_request s (Serves i (next.Message request)) = bytes_eq request.method (codes "HEAD")
+act_is_of_head_request s (Serves i next.More) = false
+act_is_of_head_request s (Serves i next.NeedsContinue) = false
+act_is_of_head_request s (Serves i (next.Refused fault)) = false
+act_is_of_head_request s (Serves i next.End) = false
 
 -- a forward is one request, by a proxy of this name
 abbrev pub ForwardIsOneRequest : List ℕ → Effect → Type 0
@@ -66,16 +68,16 @@ ReplyIsOneResponse to_head (effects.Drop l) = Unit {0}
 
 -- what its store may hold at first, and can be sent
 pub record StartCanBeServed (table : Table) (start : StoreAtStart) (first : ℕ) : Type 0 where
-  pub stands : StartStands (bounds_of table start.limit) (Some first) start.entries
-  pub can_be_sent : EachHeldAtFirst CanBeSent start
+  pub stands : StartIsValid (bounds_of table start.limit) (Some first) start.entries
+  pub can_be_sent : HoldsForEachResponseAtStart CanBeSent start
 
 -- ---- the statements
 
 -- whatever an engine lives through, its core is handed requests and answers that were read
-abbrev pub CoreIsHandedWhatWasRead : Type 0
-CoreIsHandedWhatWasRead =
+abbrev pub CoreIsHandedReadMessages : Type 0
+CoreIsHandedReadMessages =
     (table : Table) (begin last : EngineModel) (steps : List ExecutionStep) (trace : List Item)
-    → StepsHaveTrace table begin steps last trace → EventsWereRead trace
+    → StepsHaveTrace table begin steps last trace → MessagesOfTraceWereRead trace
 
 -- Whatever an engine with a table that was read lives through, each request that it forwards is one: within the limits
 -- of a reader it is read back as it was sent, and what stands behind it is left.
@@ -83,7 +85,8 @@ abbrev pub EachForwardIsOneRequest : Type 0
 EachForwardIsOneRequest =
     (table : Table) (start : StoreAtStart) (first link : ℕ) (steps : List ExecutionStep) (t : EngineModel)
     → TableWasRead table
-    → StartCanBeServed table start first → StepsLead (new_engine_model (core_begun table start first) link) steps t
+    → StartCanBeServed table start first
+    → StepsLeadToModel (new_engine_model (core_begun table start first) link) steps t
     → (l : ℕ) (address : SocketAddrV4) (bytes : List ℕ)
     → Contains (effects_of_steps steps) (effects.Forward l address bytes)
     → BytesAreOneRequest table.name bytes
@@ -96,17 +99,18 @@ EachReplyIsOneResponse =
     (act : Act)
     (emitted : List Effect)
     → TableWasRead table → StartCanBeServed table start first
-    → StepsLead (new_engine_model (core_begun table start first) link) past s → now < END_OF_TIME
-    → StepLeads s (Worked now act emitted) t
-    → All (ReplyIsOneResponse (act_answers_head s act)) emitted
+    → StepsLeadToModel (new_engine_model (core_begun table start first) link) past s → now < END_OF_TIME
+    → StepLeadsToModel s (Worked now act emitted) t
+    → All (ReplyIsOneResponse (act_is_of_head_request s act)) emitted
 
 -- so it is of all that clients ever got
 abbrev pub ClientsGetOneResponseEach : Type 0
 ClientsGetOneResponseEach =
     (table : Table) (start : StoreAtStart) (first link : ℕ) (steps : List ExecutionStep) (t : EngineModel)
     → TableWasRead table
-    → StartCanBeServed table start first → StepsLead (new_engine_model (core_begun table start first) link) steps t
-    → ActsAreInTime steps
-    → (n : ℕ) (bytes : List ℕ) (replied : Option Replied)
+    → StartCanBeServed table start first
+    → StepsLeadToModel (new_engine_model (core_begun table start first) link) steps t
+    → ActsAreBeforeYear10000 steps
+    → (n : ℕ) (bytes : List ℕ) (replied : Option ReplyData)
     → Contains (effects_of_steps steps) (effects.Client n bytes replied)
     → (bytes ≡ continue_text) ⊎ ((to_head : Bool) × BytesAreOneResponse to_head bytes)

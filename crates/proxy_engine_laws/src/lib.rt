@@ -3,12 +3,12 @@
 #![tactic(auto)]
 
 ghost use Rattle.proxy_engine_laws.specs.OneMessageEach.{EachReplyIsOneResponse, EachForwardIsOneRequest};
-ghost use Rattle.proxy_engine_laws.specs.OneMessageEach.{ClientsGetOneResponseEach, CoreIsHandedWhatWasRead};
+ghost use Rattle.proxy_engine_laws.specs.OneMessageEach.{ClientsGetOneResponseEach, CoreIsHandedReadMessages};
 
 /// Whatever an engine lives through, each request that its core is handed is one that a client's stream spells, asked
 /// for the target that it names, and each answer is one that an origin's stream spells.
 pub fn a_core_is_handed_what_was_read()
-    ensures { CoreIsHandedWhatWasRead }
+    ensures { CoreIsHandedReadMessages }
 {}
 
 /// Whatever an engine whose table was read lives through, each request that goes forward, at its arrival, when it is
@@ -16,14 +16,14 @@ pub fn a_core_is_handed_what_was_read()
 /// origin's that comes back as a condition, ends a line of it, and a reader with room for it reads what was sent, and
 /// leaves what stands behind it (RFC 9112, sections 6.3 and 11.2). This is the law against request smuggling, of what
 /// is really sent.
-pub fn what_goes_forward_is_one_request()
+pub fn each_forward_is_one_request()
     ensures { EachForwardIsOneRequest }
 {}
 
 /// So is what a client gets: an answer that is passed on, a stored response, and the proxy's own answer is one
 /// response, beside the 25 bytes of a continue (RFC 9112, sections 6.3 and 11.1). This is the law against response
 /// splitting, of what is really sent.
-pub fn what_a_client_gets_is_one_response()
+pub fn each_reply_is_one_response()
     ensures each_act { EachReplyIsOneResponse }
     ensures all { ClientsGetOneResponseEach }
 {}

@@ -17,25 +17,25 @@ use Rattle.proxy_figures.specs.declared.origins.Admission.TheVariants.{Yes, AsPr
 use Rattle.proxy_figures.specs.declared.origins.Origin.{Origin}
 use Rattle.proxy_figures.specs.declared.sorts.Cause.{Cause}
 use Rattle.proxy_figures.specs.declared.sorts.ReplySort.{ReplySort}
-use Rattle.proxy_figures.specs.Sorts.{is_covered}
-use Rattle.proxy_figures.specs.Origins.{is_crowded, IsNewOrigin, origin_changed_at, origin_with_link, origin_without_link, origin_with_admission, origin_with_reply, origin_with_cause, origin_with_failure, origin_with_covered, origin_with_answer}
-use Rattle.proxy_figures.specs.KnownOrigins.{addresses, OriginsAreCounted, AddressIsNew}
+use Rattle.proxy_figures.specs.Sorts.{is_failure_covered_by_store}
+use Rattle.proxy_figures.specs.Origins.{is_crowded, IsNewOrigin, origin_changed_at, origin_with_link_begun, origin_with_link_ended, origin_with_admission, origin_with_reply, origin_with_cause, origin_with_failure, origin_with_failure_covered_by_store, origin_with_answer}
+use Rattle.proxy_figures.specs.OriginsModel.{addresses, CrowdedCountAndAddressesAreValid, AddressIsOfNoOrigin}
 
 module _ (xs : List Origin) (place : ℕ) (old new : Origin) (within : place < length xs) (at : old ≡ get_or xs place old) where
   -- an origin gives way to one with its address; how many are crowded changes by these two
-  pub counted-set : (most crowded after : ℕ) → OriginsAreCounted most crowded xs → new.address ≡ old.address
-      → after + cond (is_crowded most old) 1 0 ≡ crowded + cond (is_crowded most new) 1 0 → OriginsAreCounted most after (set xs place new)
+  pub counted-set : (most crowded after : ℕ) → CrowdedCountAndAddressesAreValid most crowded xs → new.address ≡ old.address
+      → after + cond (is_crowded most old) 1 0 ≡ crowded + cond (is_crowded most new) 1 0 → CrowdedCountAndAddressesAreValid most after (set xs place new)
   counted-set most crowded after counted same numbers =
       let changed = sum_by-set (λ (o : Origin). cond (is_crowded most o) 1 0) xs place new old within in
-      let changed_to : count_by (is_crowded most) (set xs place new) + cond (is_crowded most old) 1 0 ≡ count_by (is_crowded most) xs + cond (is_crowded most new) 1 0 = rw (← at) at changed in
+      let with_origin_at : count_by (is_crowded most) (set xs place new) + cond (is_crowded most old) 1 0 ≡ count_by (is_crowded most) xs + cond (is_crowded most new) 1 0 = rw (← at) at changed in
       let e : crowded ≡ count_by (is_crowded most) xs = counted.counted in
       record {
-        counted = omega (arith, changed_to, e, numbers);
+        counted = omega (arith, with_origin_at, e, numbers);
         distinct = subst (λ (ys : List SocketAddrV4). AllPairs (λ (a b : SocketAddrV4). a ≢ b) ys) (sym (map-set_same (λ (o : Origin). o.address) xs place new old (same ∙ ap (λ (o : Origin). o.address) at))) counted.distinct;
       }
 
   -- what neither opens nor ends a link makes none crowded
-  pub same_counted : (most crowded : ℕ) → OriginsAreCounted most crowded xs → new.address ≡ old.address → new.open ≡ old.open → OriginsAreCounted most crowded (set xs place new)
+  pub same_counted : (most crowded : ℕ) → CrowdedCountAndAddressesAreValid most crowded xs → new.address ≡ old.address → new.open ≡ old.open → CrowdedCountAndAddressesAreValid most crowded (set xs place new)
   same_counted most crowded counted same links = counted-set most crowded crowded counted same
       (ap (λ (n : ℕ). crowded + cond (nat_le (most - most / 8) n) 1 0) (sym links))
 
@@ -81,8 +81,8 @@ other_so_far xs i o address within at other before k d below = below_more (λ (j
     (subst (λ (a : SocketAddrV4). a ≢ address) (sym (get_or_from_slice_get (addresses xs) i o.address d (address_at xs i o within at))) other) k below
 
 -- a new origin stands at the end
-pub counted-push : (most crowded after : ℕ) (xs : List Origin) (address : SocketAddrV4) (o : Origin) → OriginsAreCounted most crowded xs → AddressIsNew address xs → IsNewOrigin address o
-    → after ≡ crowded + cond (is_crowded most o) 1 0 → OriginsAreCounted most after (xs ++ o ∷ [])
+pub counted-push : (most crowded after : ℕ) (xs : List Origin) (address : SocketAddrV4) (o : Origin) → CrowdedCountAndAddressesAreValid most crowded xs → AddressIsOfNoOrigin address xs → IsNewOrigin address o
+    → after ≡ crowded + cond (is_crowded most o) 1 0 → CrowdedCountAndAddressesAreValid most after (xs ++ o ∷ [])
 counted-push most crowded after xs address o counted other new numbers = record {
   counted = numbers ∙ ap (λ (n : ℕ). n + cond (is_crowded most o) 1 0) counted.counted ∙ sym (sum_by_push (λ (p : Origin). cond (is_crowded most p) 1 0) xs o);
   distinct = rw (map-append (λ (p : Origin). p.address) xs (o ∷ [])) (all_pairs_push (λ (a b : SocketAddrV4). a ≢ b) (addresses xs) o.address counted.distinct
@@ -105,10 +105,10 @@ admission-open AsProbe most o = refl
 admission-open No most o = cond_keeps (λ (p : Origin). p.open) (nat_le most o.open) _ _ o.open refl refl
 
 reply_keeps : {X : Type 0} (f : Origin → X) (status : ℕ) (sort : ReplySort) (cause : Option Cause) (o : Origin)
-    → ((c : Cause) → f (origin_with_failure c o) ≡ f o) → f (origin_with_covered o) ≡ f o → ((n : ℕ) → f (origin_with_answer n o) ≡ f o)
+    → ((c : Cause) → f (origin_with_failure c o) ≡ f o) → f (origin_with_failure_covered_by_store o) ≡ f o → ((n : ℕ) → f (origin_with_answer n o) ≡ f o)
     → f (origin_with_cause cause status sort o) ≡ f o
 reply_keeps f status sort (Some c) o failure covered answer = failure c
-reply_keeps f status sort None o failure covered answer = cond_keeps f (is_covered sort) _ _ (f o) covered (answer _)
+reply_keeps f status sort None o failure covered answer = cond_keeps f (is_failure_covered_by_store sort) _ _ (f o) covered (answer _)
 
 pub reply-address : (status : ℕ) (sort : ReplySort) (o : Origin) → (origin_with_reply status sort o).address ≡ o.address
 reply-address status sort o = reply_keeps (λ (p : Origin). p.address) status sort sort.cause o (λ c. refl) refl (λ n. refl)
@@ -116,12 +116,12 @@ reply-address status sort o = reply_keeps (λ (p : Origin). p.address) status so
 pub reply-open : (status : ℕ) (sort : ReplySort) (o : Origin) → (origin_with_reply status sort o).open ≡ o.open
 reply-open status sort o = reply_keeps (λ (p : Origin). p.open) status sort sort.cause o (λ c. refl) refl (λ n. refl)
 
-pub link-address : (admission : Admission) (o : Origin) → (origin_with_link admission o).address ≡ o.address
+pub link-address : (admission : Admission) (o : Origin) → (origin_with_link_begun admission o).address ≡ o.address
 link-address No o = refl
 link-address Yes o = refl
 link-address AsProbe o = refl
 
-pub ended-address : (admission : Admission) (lasted : ℕ) (o : Origin) → (origin_without_link admission lasted o).address ≡ o.address
+pub ended-address : (admission : Admission) (lasted : ℕ) (o : Origin) → (origin_with_link_ended admission lasted o).address ≡ o.address
 ended-address No lasted o = refl
 ended-address Yes lasted o = refl
 ended-address AsProbe lasted o = refl

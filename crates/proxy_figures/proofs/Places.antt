@@ -1,15 +1,15 @@
 -- No two reasons with their details share a place: each stands in the list of all at its own.
 use Rattle.std.proofs.Common.{◌≡◌, ℕ, ◌+◌, ◌*◌, ◌<◌, Some, refl, sym, ap, ◌∙◌, arith, List}
 use Rattle.std.specs.Prelude.{slice_get, unwrap_or}
-use Rattle.proxy_figures.specs.Counted.{ReasonsStandAtTheirPlaces, DetailsStandAtTheirPlaces, ReplyPlacesDiffer}
+use Rattle.proxy_figures.specs.Counted.{EachReasonIsListedAtItsRow, EachDetailIsListedAtItsColumn, ReplyPlacesDiffer}
 use Rattle.proxy_figures.specs.ReplyCounts.{reason_row, detail_column}
-use Rattle.proxy_figures.specs.declared.sorts.TheConstants.{ALL_DETAILS, ALL_REASONS, DETAILS}
+use Rattle.proxy_figures.specs.declared.sorts.TheConstants.{ALL_DETAILS, ALL_REASONS, DETAIL_COUNT}
 use Rattle.proxy_figures.specs.declared.sorts.Detail.{Detail}
 use Rattle.proxy_figures.specs.declared.sorts.Detail.TheVariants as detail
 use Rattle.proxy_figures.specs.declared.sorts.Reason.{Reason}
 use Rattle.proxy_figures.specs.declared.sorts.Reason.TheVariants as reason
 
-pub reason_at : ReasonsStandAtTheirPlaces
+pub reason_at : EachReasonIsListedAtItsRow
 reason_at reason.Hit = refl
 reason_at reason.UriMiss = refl
 reason_at reason.VaryMiss = refl
@@ -23,7 +23,7 @@ reason_at reason.OriginFailed = refl
 reason_at reason.Refused = refl
 reason_at reason.Purged = refl
 
-pub detail_at : DetailsStandAtTheirPlaces
+pub detail_at : EachDetailIsListedAtItsColumn
 detail_at detail.Nothing = refl
 detail_at detail.Operator = refl
 detail_at detail.Content = refl
@@ -44,7 +44,7 @@ detail_at detail.SessionCookie = refl
 detail_at detail.Other = refl
 
 -- the column of a detail is less than the width of a row
-pub column_within : (d : Detail) → detail_column d < DETAILS
+pub column_within : (d : Detail) → detail_column d < DETAIL_COUNT
 column_within detail.Nothing = omega arith
 column_within detail.Operator = omega arith
 column_within detail.Content = omega arith

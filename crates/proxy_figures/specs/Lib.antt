@@ -1,8 +1,8 @@
-pub mod AcceptCounts
+pub mod ConnectionAttemptCounts
 pub mod Counted
 pub mod Counts
 pub mod EndingCounts
-pub mod KnownOrigins
+pub mod OriginsModel
 pub mod LineOrigins
 pub mod NotStored
 pub mod Origins

@@ -1,6 +1,6 @@
 -- Answers that weren't stored, by the storing rule that they name (docs/LINE_OPTIONS.md, `explain`).
 --
--- storing_rule_place: where those of a rule are counted      not_stored_with: counts, with one answer more
+-- storing_rule_place: where those of a rule are counted      not_stored_counts_with: counts, with one answer more
 use Rattle.std.specs.Prelude.{ℕ, List, Option, None, Some}
 use Rattle.hx_storable.specs.declared.rule.StoreRule.{StoreRule}
 use Rattle.hx_storable.specs.declared.rule.StoreRule.TheVariants as storing
@@ -27,6 +27,6 @@ storing_rule_place storing.SetCookie = 16
 storing_rule_place storing.ErrorStatus = 17
 storing_rule_place storing.RequestCookie = 18
 
-abbrev pub not_stored_with : Option StoreRule → List ℕ → List ℕ
-not_stored_with None counts = counts
-not_stored_with (Some rule) counts = counts_with_one_more counts (storing_rule_place rule)
+abbrev pub not_stored_counts_with : Option StoreRule → List ℕ → List ℕ
+not_stored_counts_with None counts = counts
+not_stored_counts_with (Some rule) counts = counts_with_one_more counts (storing_rule_place rule)

@@ -1,15 +1,15 @@
 -- How replies are counted: by reason and detail, by cause, by status, and by the time that they took.
 --
 -- reply_place, cause_place: where replies of a reason with a detail, and of a cause, are counted
--- no_times: the times of no reply
--- causes_with, times_with: counts, with one reply more
+-- empty_reply_times: the times of no reply
+-- cause_counts_with, reply_times_with: counts, with one reply more
 -- store_times_with, origin_times_with, proxy_times_with: the times of a source, with one reply more of any
 use Rattle.std.specs.Prelude.{ℕ, ◌+◌, ◌*◌, List, replicate, Option, Some, None}
 use Rattle.proxy_figures.specs.Counts.{count_plus, counts_with_one_more}
 use Rattle.proxy_figures.specs.Times.{time_bucket_of}
 use Rattle.proxy_figures.specs.declared.reply_counts.ReplyTimes.{ReplyTimes}
-use Rattle.proxy_figures.specs.declared.reply_counts.TheConstants.{TIME_BUCKETS}
-use Rattle.proxy_figures.specs.declared.sorts.TheConstants.{DETAILS}
+use Rattle.proxy_figures.specs.declared.reply_counts.TheConstants.{TIME_BUCKET_COUNT}
+use Rattle.proxy_figures.specs.declared.sorts.TheConstants.{DETAIL_COUNT}
 use Rattle.proxy_figures.specs.declared.sorts.Reason.{Reason}
 use Rattle.proxy_figures.specs.declared.sorts.Reason.TheVariants as reason
 use Rattle.proxy_figures.specs.declared.sorts.Detail.{Detail}
@@ -57,7 +57,7 @@ detail_column detail.Other = 17
 
 -- where replies of a reason with a detail are counted: no two pairs have one place
 abbrev pub reply_place : Reason → Detail → ℕ
-reply_place reason detail = DETAILS * reason_row reason + detail_column detail
+reply_place reason detail = DETAIL_COUNT * reason_row reason + detail_column detail
 
 -- where replies of a cause are counted
 abbrev pub cause_place : Cause → ℕ
@@ -87,29 +87,29 @@ cause_place cause.Escape = 22
 cause_place cause.DotSegment = 23
 cause_place cause.TooLong = 24
 
-abbrev pub causes_with : Option Cause → List ℕ → List ℕ
-causes_with None causes = causes
-causes_with (Some cause) causes = counts_with_one_more causes (cause_place cause)
+abbrev pub cause_counts_with : Option Cause → List ℕ → List ℕ
+cause_counts_with None causes = causes
+cause_counts_with (Some cause) causes = counts_with_one_more causes (cause_place cause)
 
-abbrev pub no_times : ReplyTimes
-no_times = record { buckets = replicate TIME_BUCKETS 0; sum = 0 }
+abbrev pub empty_reply_times : ReplyTimes
+empty_reply_times = record { buckets = replicate TIME_BUCKET_COUNT 0; sum = 0 }
 
 -- one reply more that took so many milliseconds
-abbrev pub times_with : ℕ → ReplyTimes → ReplyTimes
-times_with took times = record {
+abbrev pub reply_times_with : ℕ → ReplyTimes → ReplyTimes
+reply_times_with took times = record {
   buckets = counts_with_one_more times.buckets (time_bucket_of took);
   sum = count_plus times.sum took;
 }
 
 -- the times of replies that come from a source, with those of one that comes from another
 abbrev pub store_times_with : Source → ℕ → ReplyTimes → ReplyTimes
-store_times_with source.Store took times = times_with took times
+store_times_with source.Store took times = reply_times_with took times
 store_times_with other took times = times
 
 abbrev pub origin_times_with : Source → ℕ → ReplyTimes → ReplyTimes
-origin_times_with source.Origin took times = times_with took times
+origin_times_with source.Origin took times = reply_times_with took times
 origin_times_with other took times = times
 
 abbrev pub proxy_times_with : Source → ℕ → ReplyTimes → ReplyTimes
-proxy_times_with source.Proxy took times = times_with took times
+proxy_times_with source.Proxy took times = reply_times_with took times
 proxy_times_with other took times = times

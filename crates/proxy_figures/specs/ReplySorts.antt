@@ -1,9 +1,9 @@
 -- What a reply counts as, by what it tells of itself: in Cache-Status (RFC 9211, section 2), in Refusal or in Purged.
 --
 -- reason_of_rule, detail_of_rule: of a rule that sent a request forward
--- detail_of_step: of a step behind it      detail_told: of the two, the one that is told
+-- detail_of_step: of a step behind it      detail_told_by_status: of the two, the one that is told
 -- reason_of_refusal, cause_of_refusal: of an answer of the proxy's own
--- sort_of_told: what a reply counts as
+-- reply_sort_of_told: what a reply counts as
 use Rattle.std.specs.Prelude.{Option, Some, None, false}
 use Rattle.hx_framing.specs.declared.frame_fault.FrameFault.{FrameFault}
 use Rattle.hx_framing.specs.declared.frame_fault.FrameFault.TheVariants as frame
@@ -101,18 +101,18 @@ abbrev pub detail_of_step_or_handling : Option StepDetail → How → Option Det
 detail_of_step_or_handling (Some step) how = Some (detail_of_step step)
 detail_of_step_or_handling None how = detail_of_handling how
 
-abbrev pub detail_told : Status → Option Detail
-detail_told status = detail_of_step_or_handling status.detail status.how
+abbrev pub detail_told_by_status : Status → Option Detail
+detail_told_by_status status = detail_of_step_or_handling status.detail status.how
 
 -- a storing rule is told where nothing else is; it counts among others there, and by a figure of its own
-abbrev pub detail_counted : Option Detail → Option StoreRule → Detail
-detail_counted (Some detail) rule = detail
-detail_counted None (Some rule) = detail.Other
-detail_counted None None = detail.Nothing
+abbrev pub detail_or_storing_rule : Option Detail → Option StoreRule → Detail
+detail_or_storing_rule (Some detail) rule = detail
+detail_or_storing_rule None (Some rule) = detail.Other
+detail_or_storing_rule None None = detail.Nothing
 
-abbrev pub storing_rule_counted : Option Detail → Option StoreRule → Option StoreRule
-storing_rule_counted (Some detail) rule = None
-storing_rule_counted None rule = rule
+abbrev pub storing_rule_if_no_detail : Option Detail → Option StoreRule → Option StoreRule
+storing_rule_if_no_detail (Some detail) rule = None
+storing_rule_if_no_detail None rule = rule
 
 -- how an origin failed
 abbrev pub cause_of_failure : FailKind → Cause
@@ -157,8 +157,8 @@ cause_of_refusal (refusal.Frame fault) = cause_of_message fault
 cause_of_refusal (refusal.Target fault) = cause_of_target fault
 
 -- a reply for this reason, of which nothing else is said
-abbrev pub plain_sort : Reason → ReplySort
-plain_sort why = record {
+abbrev pub reply_sort_without_detail : Reason → ReplySort
+reply_sort_without_detail why = record {
   reason = why;
   detail = detail.Nothing;
   cause = None;
@@ -169,22 +169,22 @@ plain_sort why = record {
 }
 
 -- an answer of an origin or of the store
-abbrev pub sort_of_handled : Status → ReplySort
-sort_of_handled status = record {
+abbrev pub reply_sort_of_handled : Status → ReplySort
+reply_sort_of_handled status = record {
   reason = reason_of_handling status.how;
-  detail = detail_counted (detail_told status) status.not_stored;
+  detail = detail_or_storing_rule (detail_told_by_status status) status.not_stored;
   cause = None;
   fwd_status = status.fwd_status;
   stored = status.stored;
   collapsed = status.collapsed;
-  not_stored = storing_rule_counted (detail_told status) status.not_stored;
+  not_stored = storing_rule_if_no_detail (detail_told_by_status status) status.not_stored;
 }
 
 -- an answer of the proxy's own
-abbrev pub sort_of_refusal : Refusal → ReplySort
-sort_of_refusal why = record (plain_sort (reason_of_refusal why)) { cause = cause_of_refusal why }
+abbrev pub reply_sort_of_refusal : Refusal → ReplySort
+reply_sort_of_refusal why = record (reply_sort_without_detail (reason_of_refusal why)) { cause = cause_of_refusal why }
 
-abbrev pub sort_of_told : Told → ReplySort
-sort_of_told (Handled status) = sort_of_handled status
-sort_of_told (Refused why) = sort_of_refusal why
-sort_of_told (Purged count) = plain_sort reason.Purged
+abbrev pub reply_sort_of_told : Told → ReplySort
+reply_sort_of_told (Handled status) = reply_sort_of_handled status
+reply_sort_of_told (Refused why) = reply_sort_of_refusal why
+reply_sort_of_told (Purged count) = reply_sort_without_detail reason.Purged

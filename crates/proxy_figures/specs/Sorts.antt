@@ -1,12 +1,14 @@
 -- The labels by which replies are counted, and who an answer comes from.
 --
 -- reason_name, detail_name, cause_name: the labels: words of Cache-Status (RFC 9211, section 2) and of Refusal
--- source_of: who an answer comes from      is_covered: whether it stands in for a failure of the origin
+-- source_of_reply_sort: who an answer comes from      is_failure_covered_by_store: whether it stands in for a failure
+-- of the
+-- origin
 use Rattle.std.specs.Prelude.{ℕ, List, [], ◌++◌, codes, Bool, true, false, not, ◌&&◌, if◌then◌else◌, is_some}
 use Rattle.hx_framing.specs.declared.frame_fault.FrameFault.TheVariants as frame
 use Rattle.hx_target.specs.declared.target_fault.TargetFault.TheVariants as target
 use Rattle.hx_status.specs.declared.cause.FailKind.TheVariants.{Refused, TimedOut, Closed, BadAnswer, TooLarge}
-use Rattle.hx_status.specs.Refusals.{fail_kind_word, frame_word, target_word}
+use Rattle.hx_status.specs.Refusals.{fail_kind_word, frame_fault_word, target_fault_word}
 use Rattle.proxy_figures.specs.declared.sorts.Reason.{Reason}
 use Rattle.proxy_figures.specs.declared.sorts.Reason.TheVariants as reason
 use Rattle.proxy_figures.specs.declared.sorts.Detail.{Detail}
@@ -62,22 +64,22 @@ cause_name cause.OriginTimedOut = codes "origin-" ++ fail_kind_word TimedOut
 cause_name cause.OriginClosed = codes "origin-" ++ fail_kind_word Closed
 cause_name cause.OriginBadAnswer = codes "origin-" ++ fail_kind_word BadAnswer
 cause_name cause.OriginTooLarge = codes "origin-" ++ fail_kind_word TooLarge
-cause_name cause.Head = frame_word frame.Head
-cause_name cause.Version = frame_word frame.Version
-cause_name cause.BothLengths = frame_word frame.BothLengths
-cause_name cause.Length = frame_word frame.Length
-cause_name cause.Coding = frame_word frame.Coding
-cause_name cause.Chunk = frame_word frame.Chunk
-cause_name cause.TooLarge = frame_word frame.TooLarge
-cause_name cause.Expect = frame_word frame.Expect
-cause_name cause.Form = target_word target.Form
-cause_name cause.Scheme = target_word target.Scheme
-cause_name cause.Host = target_word target.Host
-cause_name cause.Port = target_word target.Port
-cause_name cause.Userinfo = target_word target.Userinfo
-cause_name cause.Escape = target_word target.Escape
-cause_name cause.DotSegment = target_word target.DotSegment
-cause_name cause.TooLong = target_word target.TooLong
+cause_name cause.Head = frame_fault_word frame.Head
+cause_name cause.Version = frame_fault_word frame.Version
+cause_name cause.BothLengths = frame_fault_word frame.BothLengths
+cause_name cause.Length = frame_fault_word frame.Length
+cause_name cause.Coding = frame_fault_word frame.Coding
+cause_name cause.Chunk = frame_fault_word frame.Chunk
+cause_name cause.TooLarge = frame_fault_word frame.TooLarge
+cause_name cause.Expect = frame_fault_word frame.Expect
+cause_name cause.Form = target_fault_word target.Form
+cause_name cause.Scheme = target_fault_word target.Scheme
+cause_name cause.Host = target_fault_word target.Host
+cause_name cause.Port = target_fault_word target.Port
+cause_name cause.Userinfo = target_fault_word target.Userinfo
+cause_name cause.Escape = target_fault_word target.Escape
+cause_name cause.DotSegment = target_fault_word target.DotSegment
+cause_name cause.TooLong = target_fault_word target.TooLong
 
 -- who an answer comes from: the proxy itself, the store, also where another request had asked an origin, or an origin
 abbrev pub source_by_reason : Reason → Bool → Source
@@ -88,8 +90,8 @@ source_by_reason reason.Refused collapsed = source.Proxy
 source_by_reason reason.Purged collapsed = source.Proxy
 source_by_reason _ collapsed = if collapsed then source.Store else source.Origin
 
-abbrev pub source_of : ReplySort → Source
-source_of sort = source_by_reason sort.reason sort.collapsed
+abbrev pub source_of_reply_sort : ReplySort → Source
+source_of_reply_sort sort = source_by_reason sort.reason sort.collapsed
 
 -- a stored response was sent in place of a failure of the origin (RFC 5861, section 4): no status of an answer is named
 abbrev pub is_sent_after_failure : Detail → Bool
@@ -97,5 +99,5 @@ is_sent_after_failure detail.StaleIfError = true
 is_sent_after_failure detail.ReuseAfterError = true
 is_sent_after_failure _ = false
 
-abbrev pub is_covered : ReplySort → Bool
-is_covered sort = is_sent_after_failure sort.detail && not (is_some sort.fwd_status)
+abbrev pub is_failure_covered_by_store : ReplySort → Bool
+is_failure_covered_by_store sort = is_sent_after_failure sort.detail && not (is_some sort.fwd_status)

@@ -1,9 +1,12 @@
 //! How often connections were taken and begun, or couldn't be.
 ghost use Rattle.std.specs.Prelude.{◌≡◌};
 ghost use Rattle.std.specs.IoError.{raw_os_error};
-ghost use Rattle.proxy_figures.specs.AcceptCounts.{names_no_descriptor, accepts_with_refused, accepts_with_taken};
-ghost use Rattle.proxy_figures.specs.AcceptCounts.{accepts_with_full, accepts_without_link, accepts_without_port};
-ghost use Rattle.proxy_figures.specs.AcceptCounts.{names_no_port};
+ghost use Rattle.proxy_figures.specs.ConnectionAttemptCounts.{is_errno_of_no_descriptor, attempts_with_refused_accept};
+ghost use Rattle.proxy_figures.specs.ConnectionAttemptCounts.{attempts_with_accepted};
+ghost use Rattle.proxy_figures.specs.ConnectionAttemptCounts.{attempts_with_no_room};
+ghost use Rattle.proxy_figures.specs.ConnectionAttemptCounts.{attempts_with_link_without_descriptor};
+ghost use Rattle.proxy_figures.specs.ConnectionAttemptCounts.{attempts_with_link_without_port};
+ghost use Rattle.proxy_figures.specs.ConnectionAttemptCounts.{is_errno_of_no_port};
 
 use crate::counts::count_plus_one;
 use std::io;
@@ -11,21 +14,21 @@ use std::io::ErrorKind;
 
 /// Whether a call failed since the process, or the system, has no descriptor left (ENFILE and EMFILE).
 pub fn is_out_of_descriptors(error: &io::Error) -> bool
-    ensures { result ≡ names_no_descriptor (raw_os_error error.now) }
+    ensures { result ≡ is_errno_of_no_descriptor (raw_os_error error.now) }
 {
     matches!(error.raw_os_error(), Some(23 | 24))
 }
 
 /// Whether a connection couldn't be begun since no local port is left (EADDRNOTAVAIL).
 pub fn is_out_of_ports(error: &io::Error) -> bool
-    ensures { result ≡ names_no_port (raw_os_error error.now) }
+    ensures { result ≡ is_errno_of_no_port (raw_os_error error.now) }
 {
     matches!(error.raw_os_error(), Some(99))
 }
 
 /// How often connections were taken and begun, or couldn't be.
 #[derive(Clone, Copy)]
-pub struct AcceptCounts {
+pub struct ConnectionAttemptCounts {
     pub accepted: u64,
     /// As many as may be are open, and none is idle.
     pub full: u64,
@@ -40,8 +43,8 @@ pub struct AcceptCounts {
     pub no_port: u64,
 }
 
-impl AcceptCounts {
-    pub fn new() -> AcceptCounts
+impl ConnectionAttemptCounts {
+    pub fn new() -> ConnectionAttemptCounts
         ensures { result ≡ record {
           accepted = 0;
           full = 0;
@@ -52,7 +55,7 @@ impl AcceptCounts {
           no_port = 0;
         } }
     {
-        AcceptCounts {
+        ConnectionAttemptCounts {
             accepted: 0,
             full: 0,
             no_descriptor: 0,
@@ -64,8 +67,8 @@ impl AcceptCounts {
     }
 
     /// Counts a connection that couldn't be taken.
-    pub fn count_refused(&mut self, error: &io::Error)
-        ensures { self.new ≡ accepts_with_refused self.old error.now }
+    pub fn count_refused_accept(&mut self, error: &io::Error)
+        ensures { self.new ≡ attempts_with_refused_accept self.old error.now }
     {
         if is_out_of_descriptors(error) {
             self.no_descriptor = count_plus_one(self.no_descriptor);
@@ -77,29 +80,29 @@ impl AcceptCounts {
     }
 
     /// Counts a connection that was taken.
-    pub fn count_taken(&mut self)
-        ensures { self.new ≡ accepts_with_taken self.old }
+    pub fn count_accepted(&mut self)
+        ensures { self.new ≡ attempts_with_accepted self.old }
     {
         self.accepted = count_plus_one(self.accepted);
     }
 
     /// Counts that there was no room for one.
-    pub fn count_full(&mut self)
-        ensures { self.new ≡ accepts_with_full self.old }
+    pub fn count_no_room(&mut self)
+        ensures { self.new ≡ attempts_with_no_room self.old }
     {
         self.full = count_plus_one(self.full);
     }
 
     /// Counts a link for which no descriptor was left.
-    pub fn count_no_link(&mut self)
-        ensures { self.new ≡ accepts_without_link self.old }
+    pub fn count_link_without_descriptor(&mut self)
+        ensures { self.new ≡ attempts_with_link_without_descriptor self.old }
     {
         self.no_link = count_plus_one(self.no_link);
     }
 
     /// Counts a link for which no local port was left.
-    pub fn count_no_port(&mut self)
-        ensures { self.new ≡ accepts_without_port self.old }
+    pub fn count_link_without_port(&mut self)
+        ensures { self.new ≡ attempts_with_link_without_port self.old }
     {
         self.no_port = count_plus_one(self.no_port);
     }
@@ -107,7 +110,7 @@ impl AcceptCounts {
 
 /// What an operator is to know at once.
 #[derive(Clone, Copy)]
-pub struct Troubles {
+pub struct TroubleCounts {
     /// How often nobody could be taken since as many connections are open as may be, and none is idle.
     pub full: u64,
     /// How often no descriptor was left for a connection of a client, and for one to an origin.

@@ -1,7 +1,7 @@
 //! Why connections of clients were cut, and how many bytes they received and were sent.
 ghost use Rattle.std.specs.Prelude.{◌≡◌};
-ghost use Rattle.proxy_figures.specs.EndingCounts.{endings_with_cut, endings_with_lateness};
-ghost use Rattle.proxy_figures.specs.EndingCounts.{endings_with_received_bytes, endings_with_written_bytes};
+ghost use Rattle.proxy_figures.specs.EndingCounts.{end_counts_with_cut, end_counts_with_lateness};
+ghost use Rattle.proxy_figures.specs.EndingCounts.{end_counts_with_received_bytes, end_counts_with_written_bytes};
 
 use crate::counts::{count_plus, count_plus_one};
 
@@ -28,7 +28,7 @@ pub enum Lateness {
 
 /// Counts of endings.
 #[derive(Clone, Copy)]
-pub struct Endings {
+pub struct ClientEndCounts {
     pub for_room: u64,
     pub for_content: u64,
     pub for_memory: u64,
@@ -40,8 +40,8 @@ pub struct Endings {
     pub written: u64,
 }
 
-impl Endings {
-    pub fn new() -> Endings
+impl ClientEndCounts {
+    pub fn new() -> ClientEndCounts
         ensures { result ≡ record {
           for_room = 0;
           for_content = 0;
@@ -53,7 +53,7 @@ impl Endings {
           written = 0;
         } }
     {
-        Endings {
+        ClientEndCounts {
             for_room: 0,
             for_content: 0,
             for_memory: 0,
@@ -66,7 +66,7 @@ impl Endings {
     }
 
     pub fn count_cut(&mut self, cut: CutReason)
-        ensures { self.new ≡ endings_with_cut self.old cut }
+        ensures { self.new ≡ end_counts_with_cut self.old cut }
     {
         match cut {
             CutReason::Room => self.for_room = count_plus_one(self.for_room),
@@ -76,7 +76,7 @@ impl Endings {
     }
 
     pub fn count_lateness(&mut self, lateness: Lateness)
-        ensures { self.new ≡ endings_with_lateness self.old lateness }
+        ensures { self.new ≡ end_counts_with_lateness self.old lateness }
     {
         match lateness {
             Lateness::Client => self.client_timeouts = count_plus_one(self.client_timeouts),
@@ -87,14 +87,14 @@ impl Endings {
 
     /// So many bytes came from a client.
     pub fn add_received(&mut self, count: u64)
-        ensures { self.new ≡ endings_with_received_bytes self.old count }
+        ensures { self.new ≡ end_counts_with_received_bytes self.old count }
     {
         self.received = count_plus(self.received, count);
     }
 
     /// The system has taken so many bytes for a client.
     pub fn add_written(&mut self, count: u64)
-        ensures { self.new ≡ endings_with_written_bytes self.old count }
+        ensures { self.new ≡ end_counts_with_written_bytes self.old count }
     {
         self.written = count_plus(self.written, count);
     }

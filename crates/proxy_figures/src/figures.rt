@@ -4,15 +4,17 @@
 
 ghost use Rattle.std.specs.Prelude.{◌≡◌, true, false};
 
-use crate::accept_counts::AcceptCounts;
+use crate::accept_counts::ConnectionAttemptCounts;
 use crate::counted_shelf::StoreCounts;
-use crate::endings::Endings;
+use crate::endings::ClientEndCounts;
 use crate::link_timeouts::LinkTimeouts;
 use crate::not_stored::{ALL_STORING_RULES, storing_rule_name};
 use crate::origins::{FAILURE_KINDS, Origin, Origins, STATUS_CLASSES};
-use crate::page::{Kind, Page, Single};
+use crate::page::{Kind, Page, SingleSample};
 use crate::process::{ProcessFigures, push_process};
-use crate::reply_counts::{FIRST_STATUS, ReplyCounts, ReplyTimes, STATUSES, TIME_BOUNDS};
+use crate::reply_counts::{
+    FIRST_STATUS, ReplyCounts, ReplyTimes, STATUS_COUNT, TIME_BOUNDS_IN_SECONDS,
+};
 use crate::sorts::{ALL_CAUSES, ALL_DETAILS, ALL_REASONS, Detail, Reason};
 use crate::turn_counts::Turns;
 use crate::unanswered::{ALL_UNANSWERED_CAUSES, UnansweredCounts};
@@ -46,8 +48,8 @@ pub struct ClientFigures<'a> {
     pub closing: usize,
     /// The most that are open.
     pub limit: usize,
-    pub accepts: &'a AcceptCounts,
-    pub endings: &'a Endings,
+    pub accepts: &'a ConnectionAttemptCounts,
+    pub endings: &'a ClientEndCounts,
     /// Requests that were never answered.
     pub unanswered: &'a UnansweredCounts,
     /// Bytes of replies that wait for clients.
@@ -154,31 +156,31 @@ fn push_store_bounds(page: &mut Page<'_>, about: &ProgramFacts<'_>) -> Result<()
 /// What the store holds, and what went of it.
 fn push_store(page: &mut Page<'_>, store: &StoreCounts) -> Result<(), AllocError> {
     let families = [
-        Single {
+        SingleSample {
             name: "revcache_store_responses",
             kind: Kind::Gauge,
             help: "Responses that are stored.",
             n: store.held(),
         },
-        Single {
+        SingleSample {
             name: "revcache_store_bytes",
             kind: Kind::Gauge,
             help: "Bytes that they weigh together: contents, heads, targets, and 1200 each.",
             n: store.weight(),
         },
-        Single {
+        SingleSample {
             name: "revcache_store_evictions_total",
             kind: Kind::Counter,
             help: "Stored responses that went since the store was full.",
             n: store.evicted(),
         },
-        Single {
+        SingleSample {
             name: "revcache_store_evicted_seconds_total",
             kind: Kind::Counter,
             help: "Seconds for which those had been stored, since they were received or freshened.",
             n: store.evicted_seconds(),
         },
-        Single {
+        SingleSample {
             name: "revcache_store_removals_total",
             kind: Kind::Counter,
             help: "Stored responses that were replaced, invalidated, or not kept behind a 304.",
@@ -194,7 +196,7 @@ fn push_reason(
     reason: Reason,
 ) -> Result<(), AllocError> {
     for detail in ALL_DETAILS {
-        let n = replies.with_reason(reason, *detail);
+        let n = replies.count_with_reason(reason, *detail);
         if n > 0 || *detail == Detail::Nothing {
             page.sample_with_two_labels(
                 "revcache_requests_total",
@@ -244,7 +246,7 @@ fn push_storing_rules(page: &mut Page<'_>, replies: &ReplyCounts) -> Result<(), 
         "Answers of origins that were not stored, by storing rule, of lines that tell it.",
     )?;
     for rule in ALL_STORING_RULES {
-        let n = replies.with_storing_rule(*rule);
+        let n = replies.count_with_storing_rule(*rule);
         page.sample_with_label(name, "rule", storing_rule_name(*rule), n)?;
     }
     Ok(())
@@ -253,9 +255,9 @@ fn push_storing_rules(page: &mut Page<'_>, replies: &ReplyCounts) -> Result<(), 
 fn push_statuses(page: &mut Page<'_>, replies: &ReplyCounts) -> Result<(), AllocError> {
     let name = "revcache_responses_total";
     page.family(name, Kind::Counter, "Replies to clients by status.")?;
-    for i in 0..STATUSES {
+    for i in 0..STATUS_COUNT {
         let status = FIRST_STATUS + i as u16;
-        let n = replies.with_status(status);
+        let n = replies.count_with_status(status);
         if n > 0 {
             let mut digits = Buffer::new();
             page.sample_with_label(name, "code", digits.format(status), n)?;
@@ -272,7 +274,7 @@ fn push_causes(page: &mut Page<'_>, replies: &ReplyCounts) -> Result<(), AllocEr
         "Replies that the proxy made by itself, by cause.",
     )?;
     for cause in ALL_CAUSES {
-        let n = replies.with_cause(*cause);
+        let n = replies.count_with_cause(*cause);
         page.sample_with_label(name, "cause", cause.name(), n)?;
     }
     Ok(())
@@ -306,11 +308,11 @@ fn push_times(
     times: &ReplyTimes,
 ) -> Result<(), AllocError> {
     let mut sum = 0u64;
-    for i in 0..TIME_BOUNDS.len() {
+    for i in 0..TIME_BOUNDS_IN_SECONDS.len() {
         sum = sum.saturating_add(times.buckets[i]);
-        page.sample_with_two_labels(names.bucket, whose, ("le", TIME_BOUNDS[i]), sum)?;
+        page.sample_with_two_labels(names.bucket, whose, ("le", TIME_BOUNDS_IN_SECONDS[i]), sum)?;
     }
-    sum = sum.saturating_add(times.buckets[TIME_BOUNDS.len()]);
+    sum = sum.saturating_add(times.buckets[TIME_BOUNDS_IN_SECONDS.len()]);
     page.sample_with_two_labels(names.bucket, whose, ("le", "+Inf"), sum)?;
     page.time_with_label(names.sum, whose.0, whose.1, times.sum)?;
     page.sample_with_label(names.count, whose.0, whose.1, sum)
@@ -351,7 +353,7 @@ fn push_replies(page: &mut Page<'_>, replies: &ReplyCounts) -> Result<(), AllocE
     push_request_times(page, replies)
 }
 
-fn push_endings(page: &mut Page<'_>, endings: &Endings) -> Result<(), AllocError> {
+fn push_endings(page: &mut Page<'_>, endings: &ClientEndCounts) -> Result<(), AllocError> {
     let samples = [
         ("room", endings.for_room),
         ("content-limit", endings.for_content),
@@ -368,7 +370,7 @@ fn push_endings(page: &mut Page<'_>, endings: &Endings) -> Result<(), AllocError
 
 fn push_timeouts(
     page: &mut Page<'_>,
-    endings: &Endings,
+    endings: &ClientEndCounts,
     links: &LinkTimeouts,
 ) -> Result<(), AllocError> {
     let samples = [
@@ -410,7 +412,7 @@ fn push_states(page: &mut Page<'_>, clients: &ClientFigures<'_>) -> Result<(), A
 }
 
 /// How connections of clients were taken.
-fn push_accepted(page: &mut Page<'_>, accepts: &AcceptCounts) -> Result<(), AllocError> {
+fn push_accepted(page: &mut Page<'_>, accepts: &ConnectionAttemptCounts) -> Result<(), AllocError> {
     page.single_sample_family(
         "revcache_connections_accepted_total",
         Kind::Counter,
@@ -433,7 +435,10 @@ fn push_accepted(page: &mut Page<'_>, accepts: &AcceptCounts) -> Result<(), Allo
 }
 
 /// Links that could not be begun, for what the system lacks.
-fn push_links_not_begun(page: &mut Page<'_>, accepts: &AcceptCounts) -> Result<(), AllocError> {
+fn push_links_not_begun(
+    page: &mut Page<'_>,
+    accepts: &ConnectionAttemptCounts,
+) -> Result<(), AllocError> {
     page.single_sample_family(
         "revcache_links_without_descriptor_total",
         Kind::Counter,
@@ -465,31 +470,31 @@ fn push_unanswered(page: &mut Page<'_>, unanswered: &UnansweredCounts) -> Result
 /// Bytes of clients.
 fn push_bytes(page: &mut Page<'_>, figures: &Figures<'_>) -> Result<(), AllocError> {
     let families = [
-        Single {
+        SingleSample {
             name: "revcache_client_received_bytes_total",
             kind: Kind::Counter,
             help: "Bytes that were read from clients.",
             n: figures.clients.endings.received,
         },
-        Single {
+        SingleSample {
             name: "revcache_client_sent_bytes_total",
             kind: Kind::Counter,
             help: "Bytes for clients that the system took.",
             n: figures.clients.endings.written,
         },
-        Single {
+        SingleSample {
             name: "revcache_client_unsent_bytes",
             kind: Kind::Gauge,
             help: "Bytes of replies that wait for clients.",
             n: figures.clients.unsent as u64,
         },
-        Single {
+        SingleSample {
             name: "revcache_content_bytes",
             kind: Kind::Gauge,
             help: "Bytes of requests and answers in progress, and of replies that wait for clients.",
             n: figures.held as u64,
         },
-        Single {
+        SingleSample {
             name: "revcache_content_limit_bytes",
             kind: Kind::Gauge,
             help: "The most bytes of requests and answers in progress, and of replies that wait for clients.",

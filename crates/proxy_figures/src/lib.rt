@@ -22,15 +22,17 @@ mod sorts;
 mod turn_counts;
 mod unanswered;
 
-pub use crate::accept_counts::{AcceptCounts, Troubles, is_out_of_descriptors, is_out_of_ports};
+pub use crate::accept_counts::{
+    ConnectionAttemptCounts, TroubleCounts, is_out_of_descriptors, is_out_of_ports,
+};
 pub use crate::counted_shelf::{CountedShelf, StoreCounts};
-pub use crate::endings::{CutReason, Endings, Lateness};
+pub use crate::endings::{ClientEndCounts, CutReason, Lateness};
 pub use crate::figures::{ClientFigures, Figures, LinkFigures, ProgramFacts, RecordState};
 pub use crate::line_origins::LineOrigins;
-pub use crate::link_timeouts::{LinkTimeouts, Overtime};
+pub use crate::link_timeouts::{LinkOvertime, LinkTimeouts};
 pub use crate::origins::{Admission, Origin, Origins};
 pub use crate::process::ProcessFigures;
 pub use crate::reply_counts::ReplyCounts;
-pub use crate::sorts::{ReplySort, Source, sort_of};
+pub use crate::sorts::{ReplySort, Source, reply_sort_of};
 pub use crate::turn_counts::{TurnEnd, Turns};
 pub use crate::unanswered::{UnansweredCause, UnansweredCounts};

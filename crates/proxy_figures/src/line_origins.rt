@@ -1,8 +1,9 @@
 //! Where the origin of a line of the operator's table stands among the origins.
 ghost use Rattle.std.specs.Prelude.{◌≡◌, ◌∷◌, ◌++◌, List, Option, [], IfOk, OnErr, OnOk};
 ghost use Rattle.std.specs.declared.net.socket_addr.SocketAddrV4.{SocketAddrV4};
-ghost use Rattle.proxy_figures.specs.KnownOrigins.{KnownOrigins};
-ghost use Rattle.proxy_figures.specs.LineOrigins.{LinesArePlaced, NextLineIsPlaced, place_of_line};
+ghost use Rattle.proxy_figures.specs.OriginsModel.{OriginsModel};
+ghost use Rattle.proxy_figures.specs.LineOrigins.{LinesHavePlacesOfTheirOrigins, NextLineHasPlaceOfItsOrigin};
+ghost use Rattle.proxy_figures.specs.LineOrigins.{place_of_line};
 
 use crate::origins::Origins;
 use std::alloc::{AllocError, Global};
@@ -19,7 +20,7 @@ fn place_of(
     origins: &mut Origins,
     address: Option<SocketAddrV4>,
 ) -> Result<Option<usize>, AllocError>
-    ensures { IfOk result (λ place. NextLineIsPlaced address place origins.old origins.new) }
+    ensures { IfOk result (λ place. NextLineHasPlaceOfItsOrigin address place origins.old origins.new) }
 {
     match address {
         Some(address) => Ok(Some(origins.place(address)?)),
@@ -31,7 +32,7 @@ impl LineOrigins {
     /// Those of no line.
     pub fn new(alloc: Global) -> LineOrigins
         ensures empty { result.places.items ≡ [] }
-        ensures placed { (known : KnownOrigins) → LinesArePlaced [] result.places.items known }
+        ensures placed { (known : OriginsModel) → LinesHavePlacesOfTheirOrigins [] result.places.items known }
     {
         LineOrigins {
             places: Vec::new(alloc),
@@ -46,8 +47,8 @@ impl LineOrigins {
         address: Option<SocketAddrV4>,
     ) -> Result<(), AllocError>
         ensures placed { OnOk result ((lines : List (Option SocketAddrV4))
-            → LinesArePlaced lines self.old.places.items origins.old
-            → LinesArePlaced (lines ++ address ∷ []) self.new.places.items origins.new) }
+            → LinesHavePlacesOfTheirOrigins lines self.old.places.items origins.old
+            → LinesHavePlacesOfTheirOrigins (lines ++ address ∷ []) self.new.places.items origins.new) }
         ensures err { OnErr result (self.new.places.items ≡ self.old.places.items) }
     {
         let place = place_of(origins, address)?;

@@ -6,7 +6,7 @@ use crate::counts::count_plus_one;
 
 /// Which time of a link is over.
 #[derive(Clone, Copy, PartialEq, Eq)]
-pub enum Overtime {
+pub enum LinkOvertime {
     Connect,
     Silence,
     Exchange,
@@ -31,13 +31,13 @@ impl LinkTimeouts {
         }
     }
 
-    pub fn count(&mut self, overtime: Overtime)
+    pub fn count(&mut self, overtime: LinkOvertime)
         ensures { self.new ≡ link_timeouts_with self.old overtime }
     {
         match overtime {
-            Overtime::Connect => self.connect = count_plus_one(self.connect),
-            Overtime::Silence => self.silence = count_plus_one(self.silence),
-            Overtime::Exchange => self.exchange = count_plus_one(self.exchange),
+            LinkOvertime::Connect => self.connect = count_plus_one(self.connect),
+            LinkOvertime::Silence => self.silence = count_plus_one(self.silence),
+            LinkOvertime::Exchange => self.exchange = count_plus_one(self.exchange),
         }
     }
 }

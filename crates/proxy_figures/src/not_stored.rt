@@ -29,7 +29,7 @@ pub(crate) const ALL_STORING_RULES: &[StoreRule] = &[
 ];
 
 /// How many there are.
-pub(crate) const STORING_RULES: usize = ALL_STORING_RULES.len();
+pub(crate) const STORING_RULE_COUNT: usize = ALL_STORING_RULES.len();
 
 /// Where the answers of a storing rule are counted.
 pub(crate) fn storing_rule_place(rule: StoreRule) -> usize

@@ -3,14 +3,17 @@ ghost use Rattle.std.specs.Prelude.{◌≡◌, ◌≢◌, ◌<◌, ◌+◌, true
 ghost use Rattle.std.specs.Prelude.{OnErr, IfSome, IfNone};
 ghost use Rattle.std.specs.Option.{option_and_then};
 ghost use Rattle.proxy_figures.specs.Counts.{count_plus_one_if};
-ghost use Rattle.proxy_figures.specs.Origins.{is_silent, is_crowded, admission_of, origin_with_admission};
-ghost use Rattle.proxy_figures.specs.Origins.{origin_with_answer, origin_with_failure, origin_with_covered};
-ghost use Rattle.proxy_figures.specs.Origins.{origin_with_reply, name_of_origin, admission_where_known};
-ghost use Rattle.proxy_figures.specs.Origins.{origin_with_written, origin_heard, origin_with_link, IsNewOrigin};
-ghost use Rattle.proxy_figures.specs.Origins.{origin_without_link, origin_silent_once_more, origin_changed_at};
-ghost use Rattle.proxy_figures.specs.Origins.{falls_silent, falls_silent_where_known};
-ghost use Rattle.proxy_figures.specs.KnownOrigins.{some_is_crowded, addresses, AddressIsNew, AddressIsPlaced};
-ghost use Rattle.proxy_figures.specs.KnownOrigins.{refused_beyond_bound};
+ghost use Rattle.proxy_figures.specs.Origins.{is_silent, is_crowded, admission_of_origin, origin_with_admission};
+ghost use Rattle.proxy_figures.specs.Origins.{origin_with_answer, origin_with_failure};
+ghost use Rattle.proxy_figures.specs.Origins.{origin_with_failure_covered_by_store};
+ghost use Rattle.proxy_figures.specs.Origins.{origin_with_reply, name_of_origin, admission_of_known_origin};
+ghost use Rattle.proxy_figures.specs.Origins.{origin_with_written_bytes, origin_with_received_bytes};
+ghost use Rattle.proxy_figures.specs.Origins.{origin_with_link_begun, IsNewOrigin};
+ghost use Rattle.proxy_figures.specs.Origins.{origin_with_link_ended, origin_with_one_more_silence, origin_changed_at};
+ghost use Rattle.proxy_figures.specs.Origins.{falls_silent, known_origin_falls_silent};
+ghost use Rattle.proxy_figures.specs.OriginsModel.{some_origin_is_crowded, addresses, AddressIsOfNoOrigin};
+ghost use Rattle.proxy_figures.specs.OriginsModel.{PlaceIsOfOriginWithAddress};
+ghost use Rattle.proxy_figures.specs.OriginsModel.{connects_refused_beyond_bound};
 
 use crate::counts::{count, count_plus, count_plus_one, count_plus_one_if};
 use crate::limits::SILENT_EXCHANGES;
@@ -120,8 +123,8 @@ impl Origin {
 
     /// Whether a further link may be begun; where not, that is counted.
     fn admit(&mut self, most: u64, probes: bool) -> Admission
-        ensures admission { result ≡ admission_of most probes self.old }
-        ensures counted { self.new ≡ origin_with_admission (admission_of most probes self.old) most self.old }
+        ensures admission { result ≡ admission_of_origin most probes self.old }
+        ensures counted { self.new ≡ origin_with_admission (admission_of_origin most probes self.old) most self.old }
     {
         if self.open >= most {
             self.beyond_bound = count_plus_one(self.beyond_bound);
@@ -139,7 +142,7 @@ impl Origin {
 
     /// A link to it is begun, as it was admitted.
     fn begin(&mut self, admission: Admission)
-        ensures { self.new ≡ origin_with_link admission self.old }
+        ensures { self.new ≡ origin_with_link_begun admission self.old }
     {
         match admission {
             Admission::No => return,
@@ -152,7 +155,7 @@ impl Origin {
 
     /// A link to it has ended, which had been admitted so, so many milliseconds after it began.
     fn end(&mut self, admission: Admission, milliseconds: u64)
-        ensures { self.new ≡ origin_without_link admission milliseconds self.old }
+        ensures { self.new ≡ origin_with_link_ended admission milliseconds self.old }
     {
         match admission {
             Admission::No => return,
@@ -165,15 +168,15 @@ impl Origin {
 
     /// So many bytes came from it: it isn't silent.
     fn hear(&mut self, count: usize)
-        ensures { self.new ≡ origin_heard count self.old }
+        ensures { self.new ≡ origin_with_received_bytes count self.old }
     {
         self.silences = 0;
         self.received = count_plus(self.received, count as u64);
     }
 
     /// An exchange with it was timed out, or couldn't connect. Whether it became silent by this.
-    fn note_silence(&mut self) -> bool
-        ensures once_more { self.new ≡ origin_silent_once_more self.old }
+    fn count_silent_exchange(&mut self) -> bool
+        ensures once_more { self.new ≡ origin_with_one_more_silence self.old }
         ensures falls { result ≡ falls_silent self.old }
     {
         let was_silent = self.is_silent();
@@ -183,7 +186,7 @@ impl Origin {
 
     /// The system has taken so many bytes for it.
     fn add_written(&mut self, written: u64)
-        ensures { self.new ≡ origin_with_written written self.old }
+        ensures { self.new ≡ origin_with_written_bytes written self.old }
     {
         self.written = count_plus(self.written, written);
     }
@@ -208,7 +211,7 @@ impl Origin {
     }
 
     fn count_covered(&mut self)
-        ensures { self.new ≡ origin_with_covered self.old }
+        ensures { self.new ≡ origin_with_failure_covered_by_store self.old }
     {
         count(&mut self.failures, COVERED_FAILURES);
     }
@@ -219,7 +222,7 @@ impl Origin {
     {
         if let Some(cause) = sort.cause {
             self.count_failure(cause);
-        } else if sort.is_covered() {
+        } else if sort.is_failure_covered_by_store() {
             self.count_covered();
         } else {
             self.count_answer(sort.fwd_status.unwrap_or(status));
@@ -235,41 +238,41 @@ pub struct Origins {
     most: u64,
     items: Vec<Origin>,
     /// How often an origin became silent.
-    fallen_silent: u64,
+    times_fallen_silent: u64,
     /// Origins to which nearly as many links are open as may be.
     crowded: usize,
 }
 
 impl Model for Origins {
-    ghost use Rattle.proxy_figures.specs.KnownOrigins.{KnownOrigins, OriginsAreCounted};
+    ghost use Rattle.proxy_figures.specs.OriginsModel.{OriginsModel, CrowdedCountAndAddressesAreValid};
 
-    ghost Value = { KnownOrigins };
+    ghost Value = { OriginsModel };
 
     ghost view = { λ o. record {
       items = o.items.items;
       most = o.most;
-      fallen_silent = o.fallen_silent;
+      times_fallen_silent = o.times_fallen_silent;
     } };
 
-    ghost invariant = { λ o. OriginsAreCounted o.most o.crowded o.items.items };
+    ghost invariant = { λ o. CrowdedCountAndAddressesAreValid o.most o.crowded o.items.items };
 }
 
 impl Origins {
     pub fn new(alloc: Global, most: u64) -> Origins
-        ensures { result ≡ record { items = []; most = most; fallen_silent = 0 } }
+        ensures { result ≡ record { items = []; most = most; times_fallen_silent = 0 } }
     {
         Origins {
             alloc,
             most,
             items: Vec::new(alloc),
-            fallen_silent: 0,
+            times_fallen_silent: 0,
             crowded: 0,
         }
     }
 
     /// The place of an address, which is added where it is new.
     pub fn place(&mut self, address: SocketAddrV4) -> Result<usize, AllocError>
-        ensures placed { IfOk result (λ place. AddressIsPlaced address self.old place self.new) }
+        ensures placed { IfOk result (λ place. PlaceIsOfOriginWithAddress address self.old place self.new) }
         ensures err { OnErr result (self.new ≡ self.old) }
     {
         if let Some(place) = place_of(self.items.as_slice(), address) {
@@ -284,10 +287,10 @@ impl Origins {
     }
 
     /// How often an origin became silent.
-    pub fn fallen_silent(&self) -> u64
-        ensures { result ≡ self.now.fallen_silent }
+    pub fn times_fallen_silent(&self) -> u64
+        ensures { result ≡ self.now.times_fallen_silent }
     {
-        self.fallen_silent
+        self.times_fallen_silent
     }
 
     pub fn as_slice(&self) -> &[Origin]
@@ -310,18 +313,18 @@ impl Origins {
     }
 
     /// Whether nearly as many links to some origin are open as may be.
-    pub fn some_is_crowded(&self) -> bool
-        ensures { result ≡ some_is_crowded self.now }
+    pub fn some_origin_is_crowded(&self) -> bool
+        ensures { result ≡ some_origin_is_crowded self.now }
     {
         self.crowded > 0
     }
 
     /// Whether a further link to an origin may be begun; where not, that is counted.
     pub fn admit(&mut self, place: usize, probes: bool) -> Admission
-        ensures admission { result ≡ admission_where_known self.old.most probes
+        ensures admission { result ≡ admission_of_known_origin self.old.most probes
             (slice_get self.old.items place) }
         ensures counted { self.new.items ≡ origin_changed_at place
-            (λ origin. origin_with_admission (admission_of self.old.most probes origin) self.old.most origin)
+            (λ origin. origin_with_admission (admission_of_origin self.old.most probes origin) self.old.most origin)
             self.old.items }
         ensures rest { self.new ≡ record self.old { items = self.new.items } }
     {
@@ -335,7 +338,7 @@ impl Origins {
     /// A link is begun; one that isn't admitted is none.
     pub fn begin(&mut self, place: usize, admission: Admission)
         ensures at { admission ≢ Admission.No → self.new.items
-            ≡ origin_changed_at place (origin_with_link admission) self.old.items }
+            ≡ origin_changed_at place (origin_with_link_begun admission) self.old.items }
         ensures rest { self.new ≡ record self.old { items = self.new.items } }
         ensures refused { admission ≡ Admission.No → self.new ≡ self.old }
     {
@@ -353,7 +356,7 @@ impl Origins {
     /// A link has ended, so many milliseconds after it began.
     pub fn end(&mut self, place: usize, admission: Admission, milliseconds: u64)
         ensures at { admission ≢ Admission.No → self.new.items
-            ≡ origin_changed_at place (origin_without_link admission milliseconds) self.old.items }
+            ≡ origin_changed_at place (origin_with_link_ended admission milliseconds) self.old.items }
         ensures rest { self.new ≡ record self.old { items = self.new.items } }
         ensures refused { admission ≡ Admission.No → self.new ≡ self.old }
     {
@@ -369,8 +372,8 @@ impl Origins {
     }
 
     /// So many bytes came from an origin.
-    pub fn note_answer(&mut self, place: usize, count: usize)
-        ensures at { self.new.items ≡ origin_changed_at place (origin_heard count) self.old.items }
+    pub fn count_received_bytes(&mut self, place: usize, count: usize)
+        ensures at { self.new.items ≡ origin_changed_at place (origin_with_received_bytes count) self.old.items }
         ensures rest { self.new ≡ record self.old { items = self.new.items } }
     {
         if let Some(origin) = self.items.get_mut(place) {
@@ -379,21 +382,21 @@ impl Origins {
     }
 
     /// An exchange with an origin was timed out, or couldn't connect.
-    pub fn note_silence(&mut self, place: usize)
-        ensures at { self.new.items ≡ origin_changed_at place origin_silent_once_more self.old.items }
-        ensures fallen { self.new.fallen_silent ≡ count_plus_one_if
-            (falls_silent_where_known (slice_get self.old.items place)) self.old.fallen_silent }
+    pub fn count_silent_exchange(&mut self, place: usize)
+        ensures at { self.new.items ≡ origin_changed_at place origin_with_one_more_silence self.old.items }
+        ensures fallen { self.new.times_fallen_silent ≡ count_plus_one_if
+            (known_origin_falls_silent (slice_get self.old.items place)) self.old.times_fallen_silent }
         ensures most { self.new.most ≡ self.old.most }
     {
         if let Some(origin) = self.items.get_mut(place) {
-            let falls_silent = origin.note_silence();
-            self.fallen_silent = count_plus_one_if(falls_silent, self.fallen_silent);
+            let falls_silent = origin.count_silent_exchange();
+            self.times_fallen_silent = count_plus_one_if(falls_silent, self.times_fallen_silent);
         }
     }
 
     /// How often connects were refused at once since as many links were open as may be.
     pub fn beyond_bound(&self) -> u64
-        ensures { result ≡ refused_beyond_bound self.now.items }
+        ensures { result ≡ connects_refused_beyond_bound self.now.items }
     {
         let mut count = 0u64;
         for origin in &self.items {
@@ -405,7 +408,7 @@ impl Origins {
     /// The system has taken so many bytes for an origin.
     pub fn add_written(&mut self, place: usize, written: u64)
         ensures at { self.new.items
-            ≡ origin_changed_at place (origin_with_written written) self.old.items }
+            ≡ origin_changed_at place (origin_with_written_bytes written) self.old.items }
         ensures rest { self.new ≡ record self.old { items = self.new.items } }
     {
         if let Some(origin) = self.items.get_mut(place) {
@@ -427,7 +430,7 @@ impl Origins {
 /// The place of an address, if an origin has it.
 fn place_of(origins: &[Origin], address: SocketAddrV4) -> Option<usize>
     ensures known { IfSome result (λ place. slice_get (addresses origins.now) place ≡ Some address) }
-    ensures unknown { IfNone result (AddressIsNew address origins.now) }
+    ensures unknown { IfNone result (AddressIsOfNoOrigin address origins.now) }
 {
     for (place, origin) in origins.iter().enumerate() {
         if origin.address == address {

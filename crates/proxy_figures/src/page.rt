@@ -3,9 +3,10 @@
 //! A name, a help text and a label's value have no backslash, quote or LF here: so none of them is escaped.
 ghost use Rattle.std.specs.Prelude.{◌≡◌, ◌++◌, [], decimal, codes, OnOk};
 ghost use Rattle.proxy_log.specs.Seconds.{seconds_text};
-ghost use Rattle.proxy_figures.specs.Page.{kind_text, family_text, label_text, sample_name_text, further_label_text};
-ghost use Rattle.proxy_figures.specs.Page.{value_text};
-ghost use Rattle.proxy_figures.specs.Page.{sample_text, sample_with_label_text, sample_with_two_labels_text};
+ghost use Rattle.proxy_figures.specs.Page.{metric_kind_text, metric_family_header_text, metric_label_text};
+ghost use Rattle.proxy_figures.specs.Page.{sample_name_text, further_label_text};
+ghost use Rattle.proxy_figures.specs.Page.{metric_value_text};
+ghost use Rattle.proxy_figures.specs.Page.{metric_sample_text, sample_with_label_text, sample_with_two_labels_text};
 
 use itoa::Buffer;
 use proxy_log::push_seconds;
@@ -21,7 +22,7 @@ pub(crate) enum Kind {
 
 /// A family of one sample.
 #[derive(Clone, Copy)]
-pub(crate) struct Single<'a> {
+pub(crate) struct SingleSample<'a> {
     pub(crate) name: &'a str,
     pub(crate) kind: Kind,
     pub(crate) help: &'a str,
@@ -36,8 +37,8 @@ pub(crate) struct Page<'a> {
     listen: &'a str,
 }
 
-fn kind_text(kind: Kind) -> &'static str
-    ensures { result.now ≡ kind_text kind }
+fn metric_kind_text(kind: Kind) -> &'static str
+    ensures { result.now ≡ metric_kind_text kind }
 {
     match kind {
         Kind::Counter => "counter",
@@ -73,7 +74,8 @@ impl<'a> Page<'a> {
     /// Begins a family: its samples follow.
     pub(crate) fn family(&mut self, name: &str, kind: Kind, help: &str) -> Result<(), AllocError>
         ensures listen { self.new.listen ≡ self.old.listen }
-        ensures text { OnOk result (self.new.text.items ≡ self.old.text.items ++ family_text name.now kind help.now) }
+        ensures text { OnOk result (self.new.text.items ≡ self.old.text.items
+            ++ metric_family_header_text name.now kind help.now) }
     {
         self.push("# HELP ")?;
         self.push(name)?;
@@ -82,13 +84,13 @@ impl<'a> Page<'a> {
         self.push("\n# TYPE ")?;
         self.push(name)?;
         self.push(" ")?;
-        self.push(kind_text(kind))?;
+        self.push(metric_kind_text(kind))?;
         self.push("\n")
     }
 
     fn label(&mut self, key: &str, label: &str) -> Result<(), AllocError>
         ensures listen { self.new.listen ≡ self.old.listen }
-        ensures text { OnOk result (self.new.text.items ≡ self.old.text.items ++ label_text key.now label.now) }
+        ensures text { OnOk result (self.new.text.items ≡ self.old.text.items ++ metric_label_text key.now label.now) }
     {
         self.push(key)?;
         self.push("=\"")?;
@@ -120,7 +122,7 @@ impl<'a> Page<'a> {
     /// The value of a sample, and its end.
     fn value(&mut self, n: u64) -> Result<(), AllocError>
         ensures listen { self.new.listen ≡ self.old.listen }
-        ensures text { OnOk result (self.new.text.items ≡ self.old.text.items ++ value_text (decimal n)) }
+        ensures text { OnOk result (self.new.text.items ≡ self.old.text.items ++ metric_value_text (decimal n)) }
     {
         let mut digits = Buffer::new();
         self.push("} ")?;
@@ -132,7 +134,7 @@ impl<'a> Page<'a> {
     fn time_value(&mut self, milliseconds: u64) -> Result<(), AllocError>
         ensures listen { self.new.listen ≡ self.old.listen }
         ensures text { OnOk result (self.new.text.items ≡ self.old.text.items
-            ++ value_text (seconds_text milliseconds)) }
+            ++ metric_value_text (seconds_text milliseconds)) }
     {
         self.push("} ")?;
         push_seconds(&mut self.text, milliseconds)?;
@@ -143,7 +145,7 @@ impl<'a> Page<'a> {
     pub(crate) fn sample(&mut self, name: &str, n: u64) -> Result<(), AllocError>
         ensures listen { self.new.listen ≡ self.old.listen }
         ensures text { OnOk result (self.new.text.items ≡ self.old.text.items
-            ++ sample_text self.old.listen.now name.now (decimal n)) }
+            ++ metric_sample_text self.old.listen.now name.now (decimal n)) }
     {
         self.push_sample_name(name)?;
         self.value(n)
@@ -153,7 +155,7 @@ impl<'a> Page<'a> {
     pub(crate) fn time(&mut self, name: &str, milliseconds: u64) -> Result<(), AllocError>
         ensures listen { self.new.listen ≡ self.old.listen }
         ensures text { OnOk result (self.new.text.items ≡ self.old.text.items
-            ++ sample_text self.old.listen.now name.now (seconds_text milliseconds)) }
+            ++ metric_sample_text self.old.listen.now name.now (seconds_text milliseconds)) }
     {
         self.push_sample_name(name)?;
         self.time_value(milliseconds)
@@ -222,7 +224,8 @@ impl<'a> Page<'a> {
     ) -> Result<(), AllocError>
         ensures listen { self.new.listen ≡ self.old.listen }
         ensures text { OnOk result (self.new.text.items ≡ self.old.text.items
-            ++ (family_text name.now kind help.now ++ sample_text self.old.listen.now name.now (decimal n))) }
+            ++ (metric_family_header_text name.now kind help.now
+            ++ metric_sample_text self.old.listen.now name.now (decimal n))) }
     {
         self.family(name, kind, help)?;
         self.sample(name, n)
@@ -238,8 +241,8 @@ impl<'a> Page<'a> {
     ) -> Result<(), AllocError>
         ensures listen { self.new.listen ≡ self.old.listen }
         ensures text { OnOk result (self.new.text.items ≡ self.old.text.items
-            ++ (family_text name.now kind help.now
-            ++ sample_text self.old.listen.now name.now (seconds_text milliseconds))) }
+            ++ (metric_family_header_text name.now kind help.now
+            ++ metric_sample_text self.old.listen.now name.now (seconds_text milliseconds))) }
     {
         self.family(name, kind, help)?;
         self.time(name, milliseconds)
@@ -248,7 +251,7 @@ impl<'a> Page<'a> {
     /// Families of one sample each.
     pub(crate) fn single_sample_families(
         &mut self,
-        families: &[Single<'_>],
+        families: &[SingleSample<'_>],
     ) -> Result<(), AllocError> {
         for it in families {
             self.single_sample_family(it.name, it.kind, it.help, it.n)?;

@@ -1,18 +1,21 @@
 //! Counts of replies: by reason, status and cause, and how long they took.
 ghost use Rattle.std.specs.Prelude.{◌≡◌, ◌-◌, unwrap_or, slice_get, replicate};
 ghost use Rattle.proxy_figures.specs.Counts.{counts_with_one_more, count_plus_one_if};
-ghost use Rattle.proxy_figures.specs.NotStored.{not_stored_with, storing_rule_place};
-ghost use Rattle.proxy_figures.specs.ReplyCounts.{reply_place, cause_place, causes_with, no_times, times_with};
+ghost use Rattle.proxy_figures.specs.NotStored.{not_stored_counts_with, storing_rule_place};
+ghost use Rattle.proxy_figures.specs.ReplyCounts.{reply_place, cause_place, cause_counts_with, empty_reply_times};
+ghost use Rattle.proxy_figures.specs.ReplyCounts.{reply_times_with};
 ghost use Rattle.proxy_figures.specs.ReplyCounts.{store_times_with, origin_times_with, proxy_times_with};
-ghost use Rattle.proxy_figures.specs.Sorts.{source_of};
+ghost use Rattle.proxy_figures.specs.Sorts.{source_of_reply_sort};
 ghost use Rattle.proxy_figures.specs.Times.{time_bucket_of};
-ghost use Rattle.proxy_figures.specs.declared.not_stored.TheConstants.{STORING_RULES};
-ghost use Rattle.proxy_figures.specs.declared.reply_counts.TheConstants.{REPLY_PLACES, STATUSES};
-ghost use Rattle.proxy_figures.specs.declared.sorts.TheConstants.{CAUSES};
+ghost use Rattle.proxy_figures.specs.declared.not_stored.TheConstants.{STORING_RULE_COUNT};
+ghost use Rattle.proxy_figures.specs.declared.reply_counts.TheConstants.{REPLY_PLACE_COUNT, STATUS_COUNT};
+ghost use Rattle.proxy_figures.specs.declared.sorts.TheConstants.{CAUSE_COUNT};
 
 use crate::counts::{count, count_at, count_plus_one_if};
-use crate::not_stored::{STORING_RULES, storing_rule_place};
-use crate::sorts::{CAUSES, Cause, DETAILS, Detail, REASONS, Reason, ReplySort, Source};
+use crate::not_stored::{STORING_RULE_COUNT, storing_rule_place};
+use crate::sorts::{
+    CAUSE_COUNT, Cause, DETAIL_COUNT, Detail, REASON_COUNT, Reason, ReplySort, Source,
+};
 use hx_storable::StoreRule;
 
 /// The least status of a reply, the greatest, and how many there may be.
@@ -20,23 +23,23 @@ pub(crate) const FIRST_STATUS: u16 = 200;
 
 const LAST_STATUS: u16 = 599;
 
-pub(crate) const STATUSES: usize = (LAST_STATUS - FIRST_STATUS) as usize + 1;
+pub(crate) const STATUS_COUNT: usize = (LAST_STATUS - FIRST_STATUS) as usize + 1;
 
 /// Bounds of times, in seconds; behind the last one all that took longer is counted.
-pub(crate) const TIME_BOUNDS: &[&str] = &[
+pub(crate) const TIME_BOUNDS_IN_SECONDS: &[&str] = &[
     "0.001", "0.005", "0.01", "0.05", "0.1", "0.5", "1", "5", "10", "30", "60",
 ];
 
-const TIME_BUCKETS: usize = TIME_BOUNDS.len() + 1;
+const TIME_BUCKET_COUNT: usize = TIME_BOUNDS_IN_SECONDS.len() + 1;
 
 /// Of each reason and each detail.
-const REPLY_PLACES: usize = REASONS * DETAILS;
+const REPLY_PLACE_COUNT: usize = REASON_COUNT * DETAIL_COUNT;
 
 /// How many replies of one source, or links to one origin, took how long.
 #[derive(Clone, Copy)]
 pub struct ReplyTimes {
     /// By the first bound that isn't below it.
-    pub buckets: [u64; TIME_BUCKETS],
+    pub buckets: [u64; TIME_BUCKET_COUNT],
     /// Milliseconds of all together.
     pub sum: u64,
 }
@@ -45,11 +48,11 @@ pub struct ReplyTimes {
 #[derive(Clone, Copy)]
 pub struct ReplyCounts {
     /// By reason, and in a row of each by detail.
-    reasons: [u64; REPLY_PLACES],
-    causes: [u64; CAUSES],
+    reasons: [u64; REPLY_PLACE_COUNT],
+    causes: [u64; CAUSE_COUNT],
     /// Answers that weren't stored, by storing rule.
-    not_stored: [u64; STORING_RULES],
-    statuses: [u64; STATUSES],
+    not_stored: [u64; STORING_RULE_COUNT],
+    statuses: [u64; STATUS_COUNT],
     pub stored: u64,
     pub collapsed: u64,
     pub from_store: ReplyTimes,
@@ -80,21 +83,21 @@ fn time_bucket_of(milliseconds: u64) -> usize
 fn place_of(reason: Reason, detail: Detail) -> usize
     ensures { result ≡ reply_place reason detail }
 {
-    DETAILS * reason.row() + detail.column()
+    DETAIL_COUNT * reason.row() + detail.column()
 }
 
 impl ReplyTimes {
     pub(crate) fn new() -> ReplyTimes
-        ensures { result ≡ no_times }
+        ensures { result ≡ empty_reply_times }
     {
         ReplyTimes {
-            buckets: [0; TIME_BUCKETS],
+            buckets: [0; TIME_BUCKET_COUNT],
             sum: 0,
         }
     }
 
     pub(crate) fn add(&mut self, milliseconds: u64)
-        ensures { self.new ≡ times_with milliseconds self.old }
+        ensures { self.new ≡ reply_times_with milliseconds self.old }
     {
         count(&mut self.buckets, time_bucket_of(milliseconds));
         self.sum = self.sum.saturating_add(milliseconds);
@@ -103,20 +106,20 @@ impl ReplyTimes {
 
 impl ReplyCounts {
     pub fn new() -> ReplyCounts
-        ensures reasons { result.reasons ≡ replicate REPLY_PLACES 0 }
-        ensures causes { result.causes ≡ replicate CAUSES 0 }
-        ensures not_stored { result.not_stored ≡ replicate STORING_RULES 0 }
-        ensures statuses { result.statuses ≡ replicate STATUSES 0 }
+        ensures reasons { result.reasons ≡ replicate REPLY_PLACE_COUNT 0 }
+        ensures causes { result.causes ≡ replicate CAUSE_COUNT 0 }
+        ensures not_stored { result.not_stored ≡ replicate STORING_RULE_COUNT 0 }
+        ensures statuses { result.statuses ≡ replicate STATUS_COUNT 0 }
         ensures words { (result.stored ≡ 0) × (result.collapsed ≡ 0) }
-        ensures from_store { result.from_store ≡ no_times }
-        ensures from_origin { result.from_origin ≡ no_times }
-        ensures from_proxy { result.from_proxy ≡ no_times }
+        ensures from_store { result.from_store ≡ empty_reply_times }
+        ensures from_origin { result.from_origin ≡ empty_reply_times }
+        ensures from_proxy { result.from_proxy ≡ empty_reply_times }
     {
         ReplyCounts {
-            reasons: [0; REPLY_PLACES],
-            causes: [0; CAUSES],
-            not_stored: [0; STORING_RULES],
-            statuses: [0; STATUSES],
+            reasons: [0; REPLY_PLACE_COUNT],
+            causes: [0; CAUSE_COUNT],
+            not_stored: [0; STORING_RULE_COUNT],
+            statuses: [0; STATUS_COUNT],
             stored: 0,
             collapsed: 0,
             from_store: ReplyTimes::new(),
@@ -129,16 +132,16 @@ impl ReplyCounts {
     pub fn add(&mut self, status: u16, sort: &ReplySort, milliseconds: u64)
         ensures reasons { self.new.reasons ≡ counts_with_one_more self.old.reasons
             (reply_place sort.now.reason sort.now.detail) }
-        ensures causes { self.new.causes ≡ causes_with sort.now.cause self.old.causes }
-        ensures not_stored { self.new.not_stored ≡ not_stored_with sort.now.not_stored self.old.not_stored }
+        ensures causes { self.new.causes ≡ cause_counts_with sort.now.cause self.old.causes }
+        ensures not_stored { self.new.not_stored ≡ not_stored_counts_with sort.now.not_stored self.old.not_stored }
         ensures statuses { self.new.statuses ≡ counts_with_one_more self.old.statuses (status - 200) }
         ensures stored { self.new.stored ≡ count_plus_one_if sort.now.stored self.old.stored }
         ensures collapsed { self.new.collapsed ≡ count_plus_one_if sort.now.collapsed self.old.collapsed }
-        ensures from_store { self.new.from_store ≡ store_times_with (source_of sort.now) milliseconds
+        ensures from_store { self.new.from_store ≡ store_times_with (source_of_reply_sort sort.now) milliseconds
             self.old.from_store }
-        ensures from_origin { self.new.from_origin ≡ origin_times_with (source_of sort.now) milliseconds
+        ensures from_origin { self.new.from_origin ≡ origin_times_with (source_of_reply_sort sort.now) milliseconds
             self.old.from_origin }
-        ensures from_proxy { self.new.from_proxy ≡ proxy_times_with (source_of sort.now) milliseconds
+        ensures from_proxy { self.new.from_proxy ≡ proxy_times_with (source_of_reply_sort sort.now) milliseconds
             self.old.from_proxy }
     {
         count(&mut self.reasons, place_of(sort.reason, sort.detail));
@@ -161,25 +164,25 @@ impl ReplyCounts {
         }
     }
 
-    pub(crate) fn with_reason(&self, reason: Reason, detail: Detail) -> u64
+    pub(crate) fn count_with_reason(&self, reason: Reason, detail: Detail) -> u64
         ensures { result ≡ unwrap_or (slice_get self.now.reasons (reply_place reason detail)) 0 }
     {
         count_at(&self.reasons, place_of(reason, detail))
     }
 
-    pub(crate) fn with_cause(&self, cause: Cause) -> u64
+    pub(crate) fn count_with_cause(&self, cause: Cause) -> u64
         ensures { result ≡ unwrap_or (slice_get self.now.causes (cause_place cause)) 0 }
     {
         count_at(&self.causes, cause.place())
     }
 
-    pub(crate) fn with_storing_rule(&self, rule: StoreRule) -> u64
+    pub(crate) fn count_with_storing_rule(&self, rule: StoreRule) -> u64
         ensures { result ≡ unwrap_or (slice_get self.now.not_stored (storing_rule_place rule)) 0 }
     {
         count_at(&self.not_stored, storing_rule_place(rule))
     }
 
-    pub(crate) fn with_status(&self, status: u16) -> u64
+    pub(crate) fn count_with_status(&self, status: u16) -> u64
         ensures { result ≡ unwrap_or (slice_get self.now.statuses (status - 200)) 0 }
     {
         count_at(&self.statuses, status.saturating_sub(FIRST_STATUS) as usize)

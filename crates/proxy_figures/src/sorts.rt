@@ -4,11 +4,14 @@
 ghost use Rattle.std.specs.Prelude.{◌≡◌, ◌<◌};
 ghost use Rattle.proxy_figures.specs.ReplyCounts.{reason_row, detail_column, cause_place};
 ghost use Rattle.proxy_figures.specs.ReplySorts.{reason_of_rule, reason_of_handling, reason_of_refusal};
-ghost use Rattle.proxy_figures.specs.ReplySorts.{detail_of_rule, detail_of_step, detail_of_handling, detail_told};
+ghost use Rattle.proxy_figures.specs.ReplySorts.{detail_of_rule, detail_of_step, detail_of_handling};
+ghost use Rattle.proxy_figures.specs.ReplySorts.{detail_told_by_status};
 ghost use Rattle.proxy_figures.specs.ReplySorts.{cause_of_failure, cause_of_message, cause_of_target, cause_of_refusal};
-ghost use Rattle.proxy_figures.specs.ReplySorts.{plain_sort, sort_of_handled, sort_of_refusal, sort_of_told};
-ghost use Rattle.proxy_figures.specs.Sorts.{reason_name, detail_name, cause_name, source_of, is_covered};
-ghost use Rattle.proxy_figures.specs.declared.sorts.TheConstants.{REASONS, DETAILS, CAUSES};
+ghost use Rattle.proxy_figures.specs.ReplySorts.{reply_sort_without_detail, reply_sort_of_handled};
+ghost use Rattle.proxy_figures.specs.ReplySorts.{reply_sort_of_refusal, reply_sort_of_told};
+ghost use Rattle.proxy_figures.specs.Sorts.{reason_name, detail_name, cause_name, source_of_reply_sort};
+ghost use Rattle.proxy_figures.specs.Sorts.{is_failure_covered_by_store};
+ghost use Rattle.proxy_figures.specs.declared.sorts.TheConstants.{REASON_COUNT, DETAIL_COUNT, CAUSE_COUNT};
 
 use hx_framing::FrameFault;
 use hx_reuse::ReuseRule;
@@ -154,11 +157,11 @@ pub(crate) const ALL_CAUSES: &[Cause] = &[
 ];
 
 /// How many there are of each.
-pub(crate) const REASONS: usize = ALL_REASONS.len();
+pub(crate) const REASON_COUNT: usize = ALL_REASONS.len();
 
-pub(crate) const DETAILS: usize = ALL_DETAILS.len();
+pub(crate) const DETAIL_COUNT: usize = ALL_DETAILS.len();
 
-pub(crate) const CAUSES: usize = ALL_CAUSES.len();
+pub(crate) const CAUSE_COUNT: usize = ALL_CAUSES.len();
 
 impl Reason {
     pub(crate) fn name(self) -> &'static str
@@ -183,7 +186,7 @@ impl Reason {
     /// Its row among the counts.
     pub(crate) fn row(self) -> usize
         ensures place { result ≡ reason_row self }
-        ensures within { result < REASONS }
+        ensures within { result < REASON_COUNT }
     {
         match self {
             Reason::Hit => 0,
@@ -277,7 +280,7 @@ impl Detail {
     /// Its place in a row.
     pub(crate) fn column(self) -> usize
         ensures place { result ≡ detail_column self }
-        ensures within { result < DETAILS }
+        ensures within { result < DETAIL_COUNT }
     {
         match self {
             Detail::Nothing => 0,
@@ -348,7 +351,7 @@ impl Detail {
 
     /// What Cache-Status tells besides, but for a storing rule: that of a step stands in place of the rule's.
     fn told(status: &Status) -> Option<Detail>
-        ensures { result ≡ detail_told status.now }
+        ensures { result ≡ detail_told_by_status status.now }
     {
         match status.detail {
             Some(step) => Some(Detail::of_step(step)),
@@ -393,7 +396,7 @@ impl Cause {
     /// Its place among the counts.
     pub(crate) fn place(self) -> usize
         ensures place { result ≡ cause_place self }
-        ensures within { result < CAUSES }
+        ensures within { result < CAUSE_COUNT }
     {
         match self {
             Cause::Denied => 0,
@@ -516,7 +519,7 @@ pub enum Source {
 impl ReplySort {
     /// A reply for this reason, of which nothing else is said.
     fn plain(reason: Reason) -> ReplySort
-        ensures { result ≡ plain_sort reason }
+        ensures { result ≡ reply_sort_without_detail reason }
     {
         ReplySort {
             reason,
@@ -531,7 +534,7 @@ impl ReplySort {
 
     /// An answer of an origin or of the store. A storing rule is named where no other detail is.
     fn of_handled(status: &Status) -> ReplySort
-        ensures { result ≡ sort_of_handled status.now }
+        ensures { result ≡ reply_sort_of_handled status.now }
     {
         let (detail, not_stored) = match (Detail::told(status), status.not_stored) {
             (Some(detail), _) => (detail, None),
@@ -551,7 +554,7 @@ impl ReplySort {
 
     /// An answer of the proxy's own.
     fn of_refusal(cause: Refusal) -> ReplySort
-        ensures { result ≡ sort_of_refusal cause }
+        ensures { result ≡ reply_sort_of_refusal cause }
     {
         let mut sort = ReplySort::plain(Reason::of_refusal(cause));
         sort.cause = Cause::of_refusal(cause);
@@ -559,7 +562,7 @@ impl ReplySort {
     }
 
     pub fn source(&self) -> Source
-        ensures { result ≡ source_of self.now }
+        ensures { result ≡ source_of_reply_sort self.now }
     {
         match self.reason {
             Reason::Hit => Source::Store,
@@ -576,8 +579,8 @@ impl ReplySort {
     }
 
     /// Whether a stored response was sent in place of a failure of the origin.
-    pub fn is_covered(&self) -> bool
-        ensures { result ≡ is_covered self.now }
+    pub fn is_failure_covered_by_store(&self) -> bool
+        ensures { result ≡ is_failure_covered_by_store self.now }
     {
         let after_failure = match self.detail {
             Detail::StaleIfError => true,
@@ -589,8 +592,8 @@ impl ReplySort {
 }
 
 /// What a reply counts as, by what it tells of itself.
-pub fn sort_of(told: &Told) -> ReplySort
-    ensures { result ≡ sort_of_told told.now }
+pub fn reply_sort_of(told: &Told) -> ReplySort
+    ensures { result ≡ reply_sort_of_told told.now }
 {
     match told {
         Told::Handled(status) => ReplySort::of_handled(status),

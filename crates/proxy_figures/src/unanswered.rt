@@ -2,7 +2,7 @@
 ghost use Rattle.std.specs.Prelude.{◌≡◌, unwrap_or, slice_get, replicate};
 ghost use Rattle.proxy_figures.specs.Counts.{counts_with_one_more};
 ghost use Rattle.proxy_figures.specs.Unanswered.{unanswered_place, unanswered_name, cause_of_cut, cause_of_lateness};
-ghost use Rattle.proxy_figures.specs.declared.unanswered.TheConstants.{UNANSWERED_CAUSES};
+ghost use Rattle.proxy_figures.specs.declared.unanswered.TheConstants.{UNANSWERED_CAUSE_COUNT};
 
 use crate::counts::{count, count_at};
 use crate::endings::{CutReason, Lateness};
@@ -37,7 +37,7 @@ pub(crate) const ALL_UNANSWERED_CAUSES: &[UnansweredCause] = &[
 ];
 
 /// How many there are.
-const UNANSWERED_CAUSES: usize = ALL_UNANSWERED_CAUSES.len();
+const UNANSWERED_CAUSE_COUNT: usize = ALL_UNANSWERED_CAUSES.len();
 
 impl UnansweredCause {
     /// Its place among the counts.
@@ -96,15 +96,15 @@ impl UnansweredCause {
 /// How many requests were never answered, by cause.
 #[derive(Clone, Copy)]
 pub struct UnansweredCounts {
-    counts: [u64; UNANSWERED_CAUSES],
+    counts: [u64; UNANSWERED_CAUSE_COUNT],
 }
 
 impl UnansweredCounts {
     pub fn new() -> UnansweredCounts
-        ensures { result.counts ≡ replicate UNANSWERED_CAUSES 0 }
+        ensures { result.counts ≡ replicate UNANSWERED_CAUSE_COUNT 0 }
     {
         UnansweredCounts {
-            counts: [0; UNANSWERED_CAUSES],
+            counts: [0; UNANSWERED_CAUSE_COUNT],
         }
     }
 

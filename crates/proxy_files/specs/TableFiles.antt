@@ -1,11 +1,11 @@
 -- What is read of a table's file, and what is told of a table.
 --
 -- IsWholeOrTooLong: what is read of a file      BytesAreConfigOrFault: what comes of a table's bytes
--- NoTableIsCut: a law
+-- NoTableIsTruncated: a law
 use Rattle.std.specs.Prelude.{◌≡◌, ◌⊎◌, ◌<◌, ℕ, List, length, Option, Some, None, Result, Ok, Err}
 use Rattle.hx_allow.specs.declared.limits.TheConstants.{MOST_TABLE_BYTES}
 use Rattle.hx_allow.specs.TableLines.{Table}
-use Rattle.hx_allow.specs.Tables.{BytesReadAs}
+use Rattle.hx_allow.specs.Tables.{BytesReadAsTable}
 use Rattle.hx_allow.specs.declared.config_faults.ConfigFault.{ConfigFault}
 use Rattle.hx_allow.specs.declared.config_faults.ConfigFault.TheVariants.{OutOfMemory}
 use Rattle.proxy_files.specs.declared.command_fault.CommandFault.{CommandFault}
@@ -19,13 +19,13 @@ IsWholeOrTooLong text file = (text ≡ file) ⊎ (MOST_TABLE_BYTES < length text
 -- A table's bytes are read as this one, or have this fault, which is the first in the order of looking; or memory ran
 -- out.
 abbrev pub BytesAreConfigOrFault : List ℕ → Result Table CommandFault → Type 0
-BytesAreConfigOrFault text (Ok table) = BytesReadAs text (Ok table)
+BytesAreConfigOrFault text (Ok table) = BytesReadAsTable text (Ok table)
 BytesAreConfigOrFault text (Err (faults.Table (replay.Config OutOfMemory) place)) = Unit {0}
-BytesAreConfigOrFault text (Err (faults.Table (replay.Config fault) place)) = BytesReadAs text (Err fault)
+BytesAreConfigOrFault text (Err (faults.Table (replay.Config fault) place)) = BytesReadAsTable text (Err fault)
 BytesAreConfigOrFault text (Err other) = ⊥
 
 -- what was read of a file and is taken as a table is all of that file
-abbrev pub NoTableIsCut : Type 0
-NoTableIsCut =
-    (text file : List ℕ) (table : Table) → IsWholeOrTooLong text file → BytesReadAs text (Ok table)
-    → BytesReadAs file (Ok table) × (text ≡ file)
+abbrev pub NoTableIsTruncated : Type 0
+NoTableIsTruncated =
+    (text file : List ℕ) (table : Table) → IsWholeOrTooLong text file → BytesReadAsTable text (Ok table)
+    → BytesReadAsTable file (Ok table) × (text ≡ file)

@@ -1,6 +1,6 @@
 //! How many descriptors the process may have, and how many it may want.
 ghost use Rattle.std.specs.Prelude.{◌≡◌};
-ghost use Rattle.proxy_files.specs.Descriptors.{descriptors_wanted, connections_within};
+ghost use Rattle.proxy_files.specs.Descriptors.{descriptors_wanted, connections_within_descriptors};
 
 use crate::files::read_start;
 use std::rt::Files;
@@ -20,8 +20,8 @@ pub fn descriptors_wanted(connections: u64, links: u64) -> u64
 
 /// How many connections of clients there can be where so many descriptors are allowed: a quarter of them at most is for
 /// origins.
-pub fn connections_within(allows: u64, links: u64) -> u64
-    ensures { result ≡ connections_within allows links }
+pub fn connections_within_descriptors(allows: u64, links: u64) -> u64
+    ensures { result ≡ connections_within_descriptors allows links }
 {
     allows
         .saturating_sub(links.min(allows / 4))

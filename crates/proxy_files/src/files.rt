@@ -1,6 +1,6 @@
 //! The operator's table, from its file, and the front of a file of the system.
 ghost use Rattle.std.specs.Prelude.{IfOk, IfSome};
-ghost use Rattle.proxy_files.specs.TableFiles.{IsWholeOrTooLong, NoTableIsCut};
+ghost use Rattle.proxy_files.specs.TableFiles.{IsWholeOrTooLong, NoTableIsTruncated};
 
 use crate::command_fault::{CommandFault, fault_of, system_call_words};
 use hx_allow::MOST_TABLE_BYTES;
@@ -14,8 +14,8 @@ use std::{fs, io};
 const MOST_FILE_BYTES: u64 = MOST_TABLE_BYTES as u64 + 1;
 
 /// What was read of a file, and is taken as a table, is all of that file.
-pub fn no_table_is_cut()
-    ensures { NoTableIsCut }
+pub fn no_table_is_truncated()
+    ensures { NoTableIsTruncated }
 {
     a_table_is_toml_within_the_limit();
 }

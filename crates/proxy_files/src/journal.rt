@@ -8,23 +8,23 @@ use std::{fs, io};
 
 /// A log's file, or standard output.
 #[derive(Drop)]
-pub enum Target<F: Write + Drop, P: Write + Drop> {
+pub enum LogTarget<F: Write + Drop, P: Write + Drop> {
     File(F),
     Print(P),
 }
 
-impl<F: Write + Drop, P: Write + Drop> Target<F, P> {
+impl<F: Write + Drop, P: Write + Drop> LogTarget<F, P> {
     fn write_all(&mut self, bytes: &[u8]) -> io::Result<()> {
         match self {
-            Target::File(file) => file.write_all(bytes),
-            Target::Print(writer) => writer.write_all(bytes),
+            LogTarget::File(file) => file.write_all(bytes),
+            LogTarget::Print(writer) => writer.write_all(bytes),
         }
     }
 }
 
 /// A writer of lines.
 pub struct Journal<F: Write + Drop, P: Write + Drop> {
-    target: Target<F, P>,
+    target: LogTarget<F, P>,
     /// The lines that couldn't be written.
     lost: u64,
     /// The last write failed, and may have left a part of a line.
@@ -56,7 +56,7 @@ impl<F: Write + Drop, P: Write + Drop> Drop for Journal<F, P> {
 
 /// The file of a log, to whose end lines are added. A new one is read by its user and group alone: a query may have a
 /// password in it.
-pub fn log_file<R: Files>(rt: &R, path: &str) -> io::Result<R::File> {
+pub fn open_log_file<R: Files>(rt: &R, path: &str) -> io::Result<R::File> {
     let mut how = OpenOptions::new();
     how.append(true).create(true).mode(0o640);
     how.open(rt, path)
@@ -80,7 +80,7 @@ fn is_removed<R: Files>(_rt: &R, file: &R::File) -> bool {
 }
 
 impl<F: Write + Drop, P: Write + Drop> Journal<F, P> {
-    pub fn new(target: Target<F, P>) -> Journal<F, P> {
+    pub fn new(target: LogTarget<F, P>) -> Journal<F, P> {
         Journal {
             target,
             lost: 0,
@@ -119,11 +119,11 @@ impl<F: Write + Drop, P: Write + Drop> Journal<F, P> {
 
     /// Whether it is seen for the first time that another program adds lines to the file: it is longer than what stood
     /// there at the last look and the lines since.
-    pub fn finds_other_lines(&mut self) -> bool
+    pub fn finds_lines_of_another_program(&mut self) -> bool
     where
         F: OpenFile,
     {
-        let Target::File(file) = &self.target else {
+        let LogTarget::File(file) = &self.target else {
             return false;
         };
         let Ok(open) = file.metadata() else {
@@ -164,16 +164,16 @@ impl<F: Write + Drop, P: Write + Drop> Journal<F, P> {
     /// Opens the file anew where its path doesn't name it any more. Where that fails, lines go on into the old one, or
     /// are lost if that was removed.
     pub fn follow<R: Files<File = F>>(&mut self, rt: &R, path: &str) {
-        let Target::File(file) = &self.target else {
+        let LogTarget::File(file) = &self.target else {
             return;
         };
         if !has_moved(rt, path, file) {
             return;
         }
         let is_removed = is_removed(rt, file);
-        match log_file(rt, path) {
+        match open_log_file(rt, path) {
             Ok(file) => {
-                self.target = Target::File(file);
+                self.target = LogTarget::File(file);
                 self.torn = false;
                 self.is_gone = false;
                 self.length = None;

@@ -3,7 +3,7 @@
 //! It is renamed before it is read, and removed before the first request is. So no process reads it a second time:
 //! after a crash the store begins empty, and what was invalidated since never comes back.
 ghost use Rattle.std.specs.Prelude.{◌≡◌, [], IfOk, OnErr};
-ghost use Rattle.proxy_engine.specs.Beginnings.{MayBeHeldAtFirst};
+ghost use Rattle.proxy_engine.specs.Beginnings.{ResponsesMayBeHeldAtStart};
 
 use crate::command_fault::{CommandFault, fault_of, system_call_words};
 use crate::memory::megabytes;
@@ -199,7 +199,7 @@ impl<'a> KeptStore<'a> {
     ) -> Result<u64, StoreFault>
         requires empty { S.entries shelf.old ≡ [] }
         requires capacity { S.limit shelf.old ≡ config.now.capacity }
-        ensures may { IfOk result (λ first. MayBeHeldAtFirst config.now (S.entries shelf.new) first) }
+        ensures may { IfOk result (λ first. ResponsesMayBeHeldAtStart config.now (S.entries shelf.new) first) }
         ensures emptied { OnErr result (S.entries shelf.new ≡ []) }
         ensures limit { S.limit shelf.new ≡ S.limit shelf.old }
     {
@@ -240,7 +240,7 @@ impl<'a> KeptStore<'a> {
     ) -> Result<u64, CommandFault>
         requires empty { S.entries shelf.old ≡ [] }
         requires capacity { S.limit shelf.old ≡ config.now.capacity }
-        ensures may { IfOk result (λ first. MayBeHeldAtFirst config.now (S.entries shelf.new) first) }
+        ensures may { IfOk result (λ first. ResponsesMayBeHeldAtStart config.now (S.entries shelf.new) first) }
         ensures limit { S.limit shelf.new ≡ S.limit shelf.old }
     {
         a_server_may_begin_empty();

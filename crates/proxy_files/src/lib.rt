@@ -13,11 +13,13 @@ mod stats_file;
 
 pub use crate::command_fault::{CommandFault, fault_of, print_words, system_call_words};
 pub use crate::descriptors::{
-    connections_within, descriptors_allowed, descriptors_open, descriptors_wanted,
+    connections_within_descriptors, descriptors_allowed, descriptors_open, descriptors_wanted,
 };
-pub use crate::files::{no_table_is_cut, read_questions, read_start, read_table};
-pub use crate::journal::{Journal, Target, log_file};
+pub use crate::files::{no_table_is_truncated, read_questions, read_start, read_table};
+pub use crate::journal::{Journal, LogTarget, open_log_file};
 pub use crate::kept_store::KeptStore;
-pub use crate::memory::{megabytes, memory_allowed, most_held, most_stored, print_store};
+pub use crate::memory::{
+    megabytes, memory_allowed, most_held_bytes, most_store_bytes, print_store_memory,
+};
 pub use crate::mistakes::config_of;
 pub use crate::stats_file::{StatsFile, warn_of_other_writer};

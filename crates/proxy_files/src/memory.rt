@@ -1,6 +1,6 @@
 //! How much memory the bounds of a table and of a server allow, and how much there is.
 ghost use Rattle.std.specs.Prelude.{◌≡◌};
-ghost use Rattle.proxy_files.specs.Memory.{most_stored, most_held, megabytes};
+ghost use Rattle.proxy_files.specs.Memory.{most_store_bytes, most_held_bytes, megabytes};
 
 use crate::files::read_start;
 use hx_allow::Config;
@@ -33,8 +33,8 @@ pub fn megabytes(bytes: u64) -> u64
 }
 
 /// Bytes that the store takes, at most: by the number of its responses, and by what they weigh, where that is bounded.
-pub fn most_stored(config: &Config) -> u64
-    ensures { result ≡ most_stored config.now.capacity config.now.max_stored config.now.max_store }
+pub fn most_store_bytes(config: &Config) -> u64
+    ensures { result ≡ most_store_bytes config.now.capacity config.now.max_stored config.now.max_store }
 {
     let each = (config.max_stored() as u64).saturating_add(BESIDE_CONTENT);
     let by_number = each.saturating_mul(config.capacity() as u64);
@@ -46,8 +46,8 @@ pub fn most_stored(config: &Config) -> u64
 
 /// Bytes that are held beside the store, at most: what is in progress, whose room is up to twice its size, and
 /// connections.
-pub fn most_held(content: usize, connections: usize) -> u64
-    ensures { result ≡ most_held content connections }
+pub fn most_held_bytes(content: usize, connections: usize) -> u64
+    ensures { result ≡ most_held_bytes content connections }
 {
     let contents = (content as u64).saturating_mul(2);
     contents.saturating_add((connections as u64).saturating_mul(CONNECTION))
@@ -55,24 +55,24 @@ pub fn most_held(content: usize, connections: usize) -> u64
 
 /// Who bounds the memory of this process, and to how many bytes.
 #[derive(Clone, Copy)]
-pub enum Allowed {
+pub enum MemoryBound {
     Machine(u64),
     Cgroup(u64),
 }
 
-impl Allowed {
+impl MemoryBound {
     pub fn bytes(self) -> u64 {
         match self {
-            Allowed::Machine(bytes) => bytes,
-            Allowed::Cgroup(bytes) => bytes,
+            MemoryBound::Machine(bytes) => bytes,
+            MemoryBound::Cgroup(bytes) => bytes,
         }
     }
 
     /// Who it is, in words.
     pub fn owner(self) -> &'static str {
         match self {
-            Allowed::Machine(_) => "this machine has",
-            Allowed::Cgroup(_) => "this cgroup may have",
+            MemoryBound::Machine(_) => "this machine has",
+            MemoryBound::Cgroup(_) => "this cgroup may have",
         }
     }
 }
@@ -171,17 +171,20 @@ fn cgroup_memory<R: Files + AllocGlobal>(rt: &R) -> Option<u64> {
 }
 
 /// The memory that this process may have, as far as the system tells.
-pub fn memory_allowed<R: Files + AllocGlobal>(rt: &R) -> Option<Allowed> {
+pub fn memory_allowed<R: Files + AllocGlobal>(rt: &R) -> Option<MemoryBound> {
     let machine = machine_memory(rt);
     match cgroup_memory(rt) {
-        Some(bytes) if bytes < machine.unwrap_or(u64::MAX) => Some(Allowed::Cgroup(bytes)),
-        _ => Some(Allowed::Machine(machine?)),
+        Some(bytes) if bytes < machine.unwrap_or(u64::MAX) => Some(MemoryBound::Cgroup(bytes)),
+        _ => Some(MemoryBound::Machine(machine?)),
     }
 }
 
 /// Tells what the store of a table takes, and where that is more than there is.
-pub fn print_store<R: Print + Files + AllocGlobal>(rt: &R, config: &Config) -> io::Result<()> {
-    let most = most_stored(config);
+pub fn print_store_memory<R: Print + Files + AllocGlobal>(
+    rt: &R,
+    config: &Config,
+) -> io::Result<()> {
+    let most = most_store_bytes(config);
     println!(rt; "the store takes {} MB at most", megabytes(most))?;
     match memory_allowed(rt) {
         Some(allowed) if allowed.bytes() < most => println!(rt;

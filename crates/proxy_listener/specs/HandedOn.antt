@@ -8,6 +8,6 @@ abbrev pub IsNoSocketsDescriptor : ℤ → Type 0
 IsNoSocketsDescriptor (pos fd) = fd < 3
 IsNoSocketsDescriptor (negsuc k) = Unit {0}
 
-abbrev pub MustBeRefused : ListenAt → Type 0
-MustBeRefused (Address address) = ⊥
-MustBeRefused (Descriptor fd) = IsNoSocketsDescriptor fd
+abbrev pub ListenAtMustBeRefused : ListenAt → Type 0
+ListenAtMustBeRefused (Address address) = ⊥
+ListenAtMustBeRefused (Descriptor fd) = IsNoSocketsDescriptor fd

@@ -9,8 +9,8 @@ use Rattle.std.specs.Char.{is_ascii_digit}
 use Rattle.hx_framing.proofs.WrittenFields.{decimal_back}
 use Rattle.hx_target.specs.declared.keys.Key.{Key}
 use Rattle.proxy_log.specs.Asked.{port_suffix, uri_text}
-use Rattle.proxy_log.specs.Line.{LineWords, stands_for_itself, hex_digit, logged_byte, logged_text, logged_word, log_line_text, shown_uri, status_word}
-use Rattle.proxy_log.specs.OneLine.{TextIsOneLine, LineIsInRange, is_byte, is_visible, is_log_word}
+use Rattle.proxy_log.specs.Line.{LineWords, is_logged_unescaped, hex_digit, logged_byte, logged_text, logged_word, log_line_text, logged_uri, status_word}
+use Rattle.proxy_log.specs.OneLine.{TextIsOneLine, LogLineIsInRange, is_byte, is_visible, is_log_word}
 use Rattle.proxy_log.specs.Seconds.{seconds_text, three_digits}
 
 all_both : (p : ℕ → Bool) (xs ys : List ℕ) → list_all p xs ≡ true → list_all p ys ≡ true → list_all p (xs ++ ys) ≡ true
@@ -29,10 +29,10 @@ all_weaker p q weaker (x ∷ xs) all =
 hex_is_word : (d : ℕ) → d < 16 → (is_visible (hex_digit d) && not (hex_digit d == 32)) ≡ true
 hex_is_word d below = grind (arith, common_steps)
 
-shown_is_visible : (blanks : Bool) (b : ℕ) → stands_for_itself blanks b ≡ true → is_visible b ≡ true
+shown_is_visible : (blanks : Bool) (b : ℕ) → is_logged_unescaped blanks b ≡ true → is_visible b ≡ true
 shown_is_visible blanks b is = grind (arith, common_steps)
 
-shown_is_word : (b : ℕ) → stands_for_itself false b ≡ true → (is_visible b && not (b == 32)) ≡ true
+shown_is_word : (b : ℕ) → is_logged_unescaped false b ≡ true → (is_visible b && not (b == 32)) ≡ true
 shown_is_word b is = grind (arith, common_steps)
 
 digit_is_visible : (b : ℕ) → is_ascii_digit b ≡ true → is_visible b ≡ true
@@ -50,16 +50,16 @@ low_half b = grind (arith, common_steps)
 -- ---- bytes as they are shown
 
 byte_is_word : (b : ℕ) → is_byte b ≡ true → is_log_word (logged_byte false b) ≡ true
-byte_is_word b is = by_test (stands_for_itself false b) refl
+byte_is_word b is = by_test (is_logged_unescaped false b) refl
   where
-    by_test : (t : Bool) → stands_for_itself false b ≡ t → is_log_word (cond t (b ∷ []) (92 ∷ (120 ∷ (hex_digit (b / 16) ∷ (hex_digit (b % 16) ∷ []))))) ≡ true
+    by_test : (t : Bool) → is_logged_unescaped false b ≡ t → is_log_word (cond t (b ∷ []) (92 ∷ (120 ∷ (hex_digit (b / 16) ∷ (hex_digit (b % 16) ∷ []))))) ≡ true
     by_test true shown = rw (shown_is_word b shown) refl
     by_test false hidden = rw (hex_is_word (b / 16) (high_half b is), hex_is_word (b % 16) (low_half b)) refl
 
 byte_is_visible : (blanks : Bool) (b : ℕ) → is_byte b ≡ true → list_all is_visible (logged_byte blanks b) ≡ true
-byte_is_visible blanks b is = by_test (stands_for_itself blanks b) refl
+byte_is_visible blanks b is = by_test (is_logged_unescaped blanks b) refl
   where
-    by_test : (t : Bool) → stands_for_itself blanks b ≡ t → list_all is_visible (cond t (b ∷ []) (92 ∷ (120 ∷ (hex_digit (b / 16) ∷ (hex_digit (b % 16) ∷ []))))) ≡ true
+    by_test : (t : Bool) → is_logged_unescaped blanks b ≡ t → list_all is_visible (cond t (b ∷ []) (92 ∷ (120 ∷ (hex_digit (b / 16) ∷ (hex_digit (b % 16) ∷ []))))) ≡ true
     by_test true shown = rw (shown_is_visible blanks b shown) refl
     by_test false hidden =
         rw ((both (is_visible (hex_digit (b / 16))) _ (hex_is_word (b / 16) (high_half b is))).0, (both (is_visible (hex_digit (b % 16))) _ (hex_is_word (b % 16) (low_half b))).0) refl
@@ -118,7 +118,7 @@ word_behind : {xs ys : List ℕ} → AreVisible xs → AreVisible ys → AreVisi
 word_behind {xs} {ys} first second =
     record { are = all_both is_visible (xs ++ codes " ") ys (all_both is_visible xs (codes " ") first.are refl) second.are }
 
-words_are_visible : (line : LineWords) → LineIsInRange line
+words_are_visible : (line : LineWords) → LogLineIsInRange line
     → AreVisible (seconds_text line.moment ++ codes " " ++ logged_word line.client ++ codes " " ++ logged_word line.method ++ codes " " ++ logged_word line.target
     ++ codes " " ++ status_word line.status ++ codes " " ++ decimal line.length ++ codes " " ++ logged_text true line.reason ++ codes " "
     ++ seconds_text line.took ++ codes " " ++ logged_word line.origin)
@@ -134,7 +134,7 @@ words_are_visible line given =
     (record { are = time_is_visible line.took given.took }))
     (record { are = word_is_visible line.origin given.origin })
 
-pub line_is_one_line : (line : LineWords) → LineIsInRange line → TextIsOneLine (log_line_text line)
+pub line_is_one_line : (line : LineWords) → LogLineIsInRange line → TextIsOneLine (log_line_text line)
 line_is_one_line line given = record {
   front = _;
   is = refl;
@@ -143,20 +143,20 @@ line_is_one_line line given = record {
 
 -- ---- a target URI
 
-plain_is_shown : (blanks : Bool) (b : ℕ) → stands_for_itself false b ≡ true → stands_for_itself blanks b ≡ true
+plain_is_shown : (blanks : Bool) (b : ℕ) → is_logged_unescaped false b ≡ true → is_logged_unescaped blanks b ≡ true
 plain_is_shown blanks b is = grind (arith, common_steps)
 
-pub shown_all : (blanks : Bool) (bs : List ℕ) → list_all (stands_for_itself false) bs ≡ true → logged_text blanks bs ≡ bs
+pub shown_all : (blanks : Bool) (bs : List ℕ) → list_all (is_logged_unescaped false) bs ≡ true → logged_text blanks bs ≡ bs
 shown_all blanks [] all = refl
 shown_all blanks (b ∷ bs) all =
-    let parts = both (stands_for_itself false b) (list_all (stands_for_itself false) bs) all in
+    let parts = both (is_logged_unescaped false b) (list_all (is_logged_unescaped false) bs) all in
     rw (plain_is_shown blanks b parts.0) (ap (λ (text : List ℕ). b ∷ text) (shown_all blanks bs parts.1))
 
-digit_is_shown : (b : ℕ) → is_ascii_digit b ≡ true → stands_for_itself false b ≡ true
+digit_is_shown : (b : ℕ) → is_ascii_digit b ≡ true → is_logged_unescaped false b ≡ true
 digit_is_shown b is = grind (arith, common_steps)
 
 number_is_shown : (n : ℕ) → n < 2 ^ 64 → logged_text false (decimal n) ≡ decimal n
-number_is_shown n below = shown_all false (decimal n) (all_weaker is_ascii_digit (stands_for_itself false) digit_is_shown (decimal n) (decimal_back n below).1)
+number_is_shown n below = shown_all false (decimal n) (all_weaker is_ascii_digit (is_logged_unescaped false) digit_is_shown (decimal n) (decimal_back n below).1)
 
 pub port_shown : (port : ℕ) → port < 2 ^ 64 → logged_text false (port_suffix port) ≡ port_suffix port
 port_shown port below = by_test (port == 80)
@@ -170,8 +170,8 @@ shown_both [] ys = refl
 shown_both (x ∷ xs) ys = ap (λ (text : List ℕ). logged_byte false x ++ text) (shown_both xs ys) ∙ sym (append_assoc (logged_byte false x) (logged_text false xs) (logged_text false ys))
 
 -- part by part it is the word
-pub uri_shown : (key : Key) → logged_text false (port_suffix key.port) ≡ port_suffix key.port → shown_uri key ≡ logged_word (uri_text key) ++ codes " "
-unfolding shown_uri
+pub uri_shown : (key : Key) → logged_text false (port_suffix key.port) ≡ port_suffix key.port → logged_uri key ≡ logged_word (uri_text key) ++ codes " "
+unfolding logged_uri
 uri_shown key port = ap (λ (text : List ℕ). text ++ codes " ") (sym parts)
   where
     front : logged_text false (codes "http://" ++ key.host ++ port_suffix key.port) ≡ codes "http://" ++ logged_text false key.host ++ port_suffix key.port

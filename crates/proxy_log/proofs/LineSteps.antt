@@ -3,15 +3,15 @@ use Rattle.std.proofs.Common.{◌≡◌, ℕ, zero, suc, ◌+◌, ◌≤◌, ◌
 use Rattle.std.proofs.lemmas.Bool.{false_from_ne_true}
 use Rattle.std.specs.Option.{option_map}
 use Rattle.memchr.specs.Find.{IsFirstByte, is_byte}
-use Rattle.hx_fields.specs.Names.{cut_at}
+use Rattle.hx_fields.specs.Names.{split_at_first_byte}
 use Rattle.proxy_log.specs.TextLines.{whole_lines, byte_in_first_line}
 
-pub cut_found : (byte k : ℕ) (text : List ℕ) → IsFirstByte (is_byte byte) text (Some k) → cut_at byte text ≡ Some (take k text, drop (suc k) text)
+pub cut_found : (byte k : ℕ) (text : List ℕ) → IsFirstByte (is_byte byte) text (Some k) → split_at_first_byte byte text ≡ Some (take k text, drop (suc k) text)
 cut_found byte k [] found = absurd (omega (arith, found.0.high))
 cut_found byte zero (b ∷ bs) found = rw found.1 refl
 cut_found byte (suc k) (b ∷ bs) found =
     let other : (b == byte) ≡ false = false_from_ne_true (b == byte) (found.0.before 0 (omega arith) (omega arith)) in
-    let later : cut_at byte bs ≡ Some (take k bs, drop (suc k) bs) = cut_found byte k bs (
+    let later : split_at_first_byte byte bs ≡ Some (take k bs, drop (suc k) bs) = cut_found byte k bs (
       record {
         low = omega arith;
         high = omega (arith, found.0.high);
@@ -21,11 +21,11 @@ cut_found byte (suc k) (b ∷ bs) found =
     ) in
     rw (other, later) refl
 
-pub cut_none : (byte : ℕ) (text : List ℕ) → IsFirstByte (is_byte byte) text None → cut_at byte text ≡ None
+pub cut_none : (byte : ℕ) (text : List ℕ) → IsFirstByte (is_byte byte) text None → split_at_first_byte byte text ≡ None
 cut_none byte [] none = refl
 cut_none byte (b ∷ bs) none =
     let other : (b == byte) ≡ false = false_from_ne_true (b == byte) (none 0 (omega arith) (omega arith)) in
-    let later : cut_at byte bs ≡ None = cut_none byte bs (λ j low high. none (suc j) (omega arith) (omega arith)) in
+    let later : split_at_first_byte byte bs ≡ None = cut_none byte bs (λ j low high. none (suc j) (omega arith) (omega arith)) in
     rw (other, later) refl
 
 -- the lines that a cut of the first one leaves
@@ -33,7 +33,7 @@ abbrev pub lines_cut : Option (List ℕ × List ℕ) → List (List ℕ × List 
 lines_cut None = []
 lines_cut (Some p) = p ∷ whole_lines p.1
 
-pub lines_are_cut : (text : List ℕ) → whole_lines text ≡ lines_cut (cut_at 10 text)
+pub lines_are_cut : (text : List ℕ) → whole_lines text ≡ lines_cut (split_at_first_byte 10 text)
 lines_are_cut [] = refl
 lines_are_cut (b ∷ bs) = by_test (b == 10) (lines_are_cut bs)
   where
@@ -41,15 +41,15 @@ lines_are_cut (b ∷ bs) = by_test (b == 10) (lines_are_cut bs)
     in_front None = refl
     in_front (Some p) = refl
 
-    by_test : (t : Bool) → whole_lines bs ≡ lines_cut (cut_at 10 bs) → cond t (([], bs) ∷ whole_lines bs) (byte_in_first_line b (whole_lines bs)) ≡ lines_cut (cond t (Some ([], bs)) (option_map (λ p. (b ∷ p.0, p.1)) (cut_at 10 bs)))
+    by_test : (t : Bool) → whole_lines bs ≡ lines_cut (split_at_first_byte 10 bs) → cond t (([], bs) ∷ whole_lines bs) (byte_in_first_line b (whole_lines bs)) ≡ lines_cut (cond t (Some ([], bs)) (option_map (λ p. (b ∷ p.0, p.1)) (split_at_first_byte 10 bs)))
     by_test true later = refl
-    by_test false later = ap (byte_in_first_line b) later ∙ in_front (cut_at 10 bs)
+    by_test false later = ap (byte_in_first_line b) later ∙ in_front (split_at_first_byte 10 bs)
 
 -- a text whose first line was cut
-pub lines_at : (text : List ℕ) (p : List ℕ × List ℕ) → Some p ≡ cut_at 10 text → whole_lines text ≡ p ∷ whole_lines p.1
+pub lines_at : (text : List ℕ) (p : List ℕ × List ℕ) → Some p ≡ split_at_first_byte 10 text → whole_lines text ≡ p ∷ whole_lines p.1
 lines_at text p is = lines_are_cut text ∙ ap lines_cut (sym is)
 
-pub no_lines : (text : List ℕ) → None ≡ cut_at 10 text → whole_lines text ≡ []
+pub no_lines : (text : List ℕ) → None ≡ split_at_first_byte 10 text → whole_lines text ≡ []
 no_lines text is = lines_are_cut text ∙ ap lines_cut (sym is)
 
 pub take_all : (n : ℕ) (xs : List ℕ) → length xs ≤ n → take n xs ≡ xs

@@ -3,16 +3,16 @@
 -- uri_text, target_text: the text of a target
 -- request_line_of_head: method and target of the line with which a head begins that is no request
 -- AskedWords, asked_words: what a line names
--- words_of_question, words_of_head: of what a reply answers, and of a head that was refused, or isn't whole
+-- words_of_question, asked_words_of_head: of what a reply answers, and of a head that was refused, or isn't whole
 use Rattle.std.specs.Prelude.{ℕ, ◌==◌, not, Bool, ◌&&◌, nat_eq, nat_lt, if◌then◌else◌, List, [], ◌∷◌, ◌++◌, length}
 use Rattle.std.specs.Prelude.{slice_index, codes, decimal, Option, Some, None}
 use Rattle.std.specs.Option.{option_and_then}
 use Rattle.std.specs.List.{starts_with, list_all}
 use Rattle.std.specs.Char.{is_ascii_digit}
-use Rattle.hx_fields.specs.Names.{cut_at}
+use Rattle.hx_fields.specs.Names.{split_at_first_byte}
 use Rattle.hx_fields.specs.Tokens.{is_token}
 use Rattle.hx_framing.specs.HeadLines.{is_empty_line}
-use Rattle.hx_framing.specs.Version.{without_return}
+use Rattle.hx_framing.specs.Version.{without_trailing_cr}
 use Rattle.hx_status.specs.declared.question.AskedTarget.{AskedTarget}
 use Rattle.hx_status.specs.declared.question.AskedTarget.TheVariants as asked
 use Rattle.hx_status.specs.declared.question.Question.{Question}
@@ -38,7 +38,7 @@ target_text (logged.AsItCame target) = target.now
 -- the first line that isn't empty (RFC 9112, section 2.2); it has to be whole
 abbrev pub first_nonempty_line : List (List ℕ × List ℕ) → Option (List ℕ)
 first_nonempty_line [] = None
-first_nonempty_line (l ∷ ls) = if is_empty_line l.0 then first_nonempty_line ls else Some (without_return l.0)
+first_nonempty_line (l ∷ ls) = if is_empty_line l.0 then first_nonempty_line ls else Some (without_trailing_cr l.0)
 
 abbrev pub first_line : List ℕ → Option (List ℕ)
 first_line head = first_nonempty_line (whole_lines head)
@@ -60,8 +60,9 @@ is_target text = not (length text == 0) && list_all is_logged_target_byte text
 abbrev pub method_and_target : List ℕ → Option (List ℕ × List ℕ)
 method_and_target line =
     option_and_then (λ m. option_and_then
-    (λ t. if is_token m.0 && is_target t.0 && is_version t.1 then Some (m.0, t.0) else None) (cut_at 32 m.1))
-    (cut_at 32 line)
+    (λ t. if is_token m.0 && is_target t.0
+    && is_version t.1 then Some (m.0, t.0) else None) (split_at_first_byte 32 m.1))
+    (split_at_first_byte 32 line)
 
 -- the request line with which a head begins, where that line is whole and has no fault
 abbrev pub request_line_of_head : List ℕ → Option (List ℕ × List ℕ)
@@ -87,5 +88,5 @@ words_of_request_line None = record { method = []; target = [] }
 words_of_request_line (Some line) = record { method = line.0; target = line.1 }
 
 -- of a head that was refused, or whose content is to come; the target is as it came
-abbrev pub words_of_head : List ℕ → AskedWords
-words_of_head head = words_of_request_line (request_line_of_head head)
+abbrev pub asked_words_of_head : List ℕ → AskedWords
+asked_words_of_head head = words_of_request_line (request_line_of_head head)

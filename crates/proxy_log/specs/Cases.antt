@@ -9,8 +9,8 @@ use Rattle.proxy_log.specs.Asked.{AskedWords}
 use Rattle.proxy_log.specs.Line.{LineWords}
 
 -- a GET for a target URI that was answered 200 with five bytes, when, why, after how long and by which origin
-abbrev pub get_line : ℕ → List ℕ → ℕ → List ℕ → LineWords
-get_line moment reason took origin =
+abbrev pub log_words_of_get : ℕ → List ℕ → ℕ → List ℕ → LineWords
+log_words_of_get moment reason took origin =
     record {
       moment = moment;
       client = codes "127.0.0.1:40001";
@@ -54,8 +54,8 @@ refused_post_line target =
     }
 
 -- a target that is no URI
-abbrev pub line_with_target : List ℕ → LineWords
-line_with_target target =
+abbrev pub unread_request_line_with_target : List ℕ → LineWords
+unread_request_line_with_target target =
     record {
       moment = 7;
       client = codes "127.0.0.1:40001";
@@ -69,8 +69,8 @@ line_with_target target =
     }
 
 -- a stored response that is fresh for so many seconds
-abbrev pub told_of_hit : ℕ → Told
-told_of_hit seconds = Handled (record {
+abbrev pub report_of_hit : ℕ → Told
+report_of_hit seconds = Handled (record {
   how = Hit;
   fwd_status = None;
   ttl = Some (pos seconds);
@@ -81,8 +81,8 @@ told_of_hit seconds = Handled (record {
 })
 
 -- an answer to a request for whose key nothing was held; it is stored, and fresh for so many seconds
-abbrev pub told_of_stored_miss : ℕ → Told
-told_of_stored_miss seconds = Handled (record {
+abbrev pub report_of_stored_miss : ℕ → Told
+report_of_stored_miss seconds = Handled (record {
   how = Fwd UriMiss;
   fwd_status = None;
   ttl = Some (pos seconds);
@@ -97,5 +97,5 @@ abbrev pub key_of : List ℕ → ℕ → List ℕ → Key
 key_of host port path_query = record { host = host; port = port; path_query = path_query }
 
 -- a method and a target; or nothing that could be read
-abbrev pub asks_for : List ℕ → List ℕ → AskedWords
-asks_for method target = record { method = method; target = target }
+abbrev pub asked_words_if_read : List ℕ → List ℕ → AskedWords
+asked_words_if_read method target = record { method = method; target = target }

@@ -1,10 +1,10 @@
 -- The text of a line of the log: nine words with single spaces between them, and an LF. Only the reason, which is the
 -- last but two, has spaces of its own.
 --
--- stands_for_itself, logged_byte, logged_text: bytes as they stand in a line, so that none of them breaks it
+-- is_logged_unescaped, logged_byte, logged_text: bytes as they stand in a line, so that none of them breaks it
 -- logged_word: a word, which is never empty
 -- status_word: a status
--- LineWords, words_of: what a line says
+-- LineWords, log_words_of_line: what a line says
 -- log_line_text: the line
 -- unanswered_reason: what stands in the place of the reason where a request was never answered
 use Rattle.std.specs.Prelude.{ℕ, ◌+◌, ◌/◌, ◌%◌, ◌==◌, Bool, true, false, not, ◌&&◌, ◌||◌, nat_lt, if◌then◌else◌, List}
@@ -15,8 +15,8 @@ use Rattle.proxy_log.specs.Seconds.{seconds_text}
 use Rattle.proxy_log.specs.declared.line.Line.{Line}
 
 -- a byte that stands for itself: 21 to 7E (hex) but the backslash, and where blanks may stand the space
-abbrev pub stands_for_itself : Bool → ℕ → Bool
-stands_for_itself blanks b = (not (nat_lt b 0x21) && not (nat_lt 0x7E b) && not (b == 92)) || (blanks && (b == 32))
+abbrev pub is_logged_unescaped : Bool → ℕ → Bool
+is_logged_unescaped blanks b = (not (nat_lt b 0x21) && not (nat_lt 0x7E b) && not (b == 92)) || (blanks && (b == 32))
 
 -- a digit of a number to the base 16, in upper case
 abbrev pub hex_digit : ℕ → ℕ
@@ -25,7 +25,7 @@ hex_digit d = if nat_lt d 10 then 48 + d else 55 + d
 -- a byte as it stands in a line: itself, or \xHH
 abbrev pub logged_byte : Bool → ℕ → List ℕ
 logged_byte blanks b =
-    if stands_for_itself blanks b then b ∷ [] else 92 ∷ (120 ∷ (hex_digit (b / 16) ∷ (hex_digit (b % 16) ∷ [])))
+    if is_logged_unescaped blanks b then b ∷ [] else 92 ∷ (120 ∷ (hex_digit (b / 16) ∷ (hex_digit (b % 16) ∷ [])))
 
 abbrev pub logged_text : Bool → List ℕ → List ℕ
 logged_text blanks [] = []
@@ -49,8 +49,8 @@ pub record LineWords : Type 0 where
   pub took : ℕ
   pub origin : List ℕ
 
-abbrev pub words_of : Line → LineWords
-words_of line = record {
+abbrev pub log_words_of_line : Line → LineWords
+log_words_of_line line = record {
   moment = line.moment;
   client = line.client.now;
   method = line.asked.method.now;
@@ -80,8 +80,8 @@ abbrev pub unanswered_reason : List ℕ → List ℕ
 unanswered_reason cause = codes "left;cause=" ++ cause
 
 -- a target URI as it stands in a line: its scheme and its port are no words of a client
-unfoldable pub shown_uri : Key → List ℕ
-shown_uri key = codes "http://" ++ logged_text false key.host ++ port_suffix key.port
+unfoldable pub logged_uri : Key → List ℕ
+logged_uri key = codes "http://" ++ logged_text false key.host ++ port_suffix key.port
     ++ logged_text false key.path_query ++ codes " "
 
 -- the same in three parts: who asked for what, what it was told, and what that took

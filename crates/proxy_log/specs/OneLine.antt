@@ -21,7 +21,7 @@ abbrev pub is_log_word : List ℕ → Bool
 is_log_word text = list_all (λ b. is_visible b && not (b == 32)) text
 
 -- what was handed in are bytes, and numbers of 64 bits
-pub record LineIsInRange (line : LineWords) : Type 0 where
+pub record LogLineIsInRange (line : LineWords) : Type 0 where
   pub moment : line.moment < 2 ^ 64
   pub status : line.status < 2 ^ 64
   pub length : line.length < 2 ^ 64

@@ -4,13 +4,13 @@
 -- unanswered_words: of a request that was never answered, for a cause
 use Rattle.std.specs.Prelude.{ℕ, List}
 use Rattle.hx_status.specs.Abouts.{reason_text}
-use Rattle.hx_status.specs.declared.about.About.{About}
+use Rattle.hx_status.specs.declared.about.StatusAndReason.{StatusAndReason}
 use Rattle.proxy_log.specs.Asked.{AskedWords}
 use Rattle.proxy_log.specs.Line.{LineWords, unanswered_reason}
-use Rattle.proxy_log.specs.declared.seen.SeenOfReply.{SeenOfReply}
+use Rattle.proxy_log.specs.declared.seen.ReplyObservation.{ReplyObservation}
 
 -- what the reply tells of itself stands there, whatever its bytes say
-abbrev pub reply_words : AskedWords → About → ℕ → SeenOfReply → LineWords
+abbrev pub reply_words : AskedWords → StatusAndReason → ℕ → ReplyObservation → LineWords
 reply_words asked about content_length seen = record {
   moment = seen.moment;
   client = seen.client.now;
@@ -24,7 +24,7 @@ reply_words asked about content_length seen = record {
 }
 
 -- no status, and no byte was sent
-abbrev pub unanswered_words : AskedWords → List ℕ → SeenOfReply → LineWords
+abbrev pub unanswered_words : AskedWords → List ℕ → ReplyObservation → LineWords
 unanswered_words asked cause seen = record {
   moment = seen.moment;
   client = seen.client.now;

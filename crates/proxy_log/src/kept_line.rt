@@ -1,7 +1,7 @@
 //! What is kept of a head that may be refused: its request line, as it came.
 ghost use Rattle.std.specs.Prelude.{◌≡◌, ◌⊎◌, ℕ, List, [], ◌++◌, false, true, OnOk};
-ghost use Rattle.proxy_log.specs.Asked.{asked_words, words_of_head};
-ghost use Rattle.proxy_log.specs.KeptLine.{HeadIsKept, LineIsOver};
+ghost use Rattle.proxy_log.specs.Asked.{asked_words, asked_words_of_head};
+ghost use Rattle.proxy_log.specs.KeptLine.{RequestLineOfHeadIsKept, RequestLineIsDiscarded};
 
 use crate::logged_request::LoggedRequest;
 use crate::text_lines::{first_line_cut, is_empty_line};
@@ -22,7 +22,7 @@ pub struct RequestLine {
 impl RequestLine {
     /// Nothing has come.
     pub fn new(alloc: Global) -> RequestLine
-        ensures { HeadIsKept [] result }
+        ensures { RequestLineOfHeadIsKept [] result }
     {
         RequestLine {
             text: Vec::new(alloc),
@@ -32,7 +32,7 @@ impl RequestLine {
 
     /// A next head begins.
     pub fn clear(&mut self)
-        ensures begins { HeadIsKept [] self.new }
+        ensures begins { RequestLineOfHeadIsKept [] self.new }
         ensures empty { self.new.text.items ≡ [] }
     {
         self.text.clear();
@@ -41,8 +41,9 @@ impl RequestLine {
 
     /// Takes the next piece of what comes.
     pub fn take(&mut self, piece: &[u8])
-        ensures kept { (head : List ℕ) → HeadIsKept head self.old → HeadIsKept (head ++ piece.now) self.new
-            ⊎ LineIsOver self.new }
+        ensures kept { (head : List ℕ) → RequestLineOfHeadIsKept head self.old
+            → RequestLineOfHeadIsKept (head ++ piece.now) self.new
+            ⊎ RequestLineIsDiscarded self.new }
         ensures over { self.old.is_over ≡ true → self.new ≡ self.old }
     {
         if !self.is_over && self.keep(piece).is_err() {
@@ -65,8 +66,8 @@ impl RequestLine {
     /// Keeps of a piece what belongs to the line.
     fn keep(&mut self, piece: &[u8]) -> Result<(), AllocError>
         requires { self.old.is_over ≡ false }
-        ensures { OnOk result ((head : List ℕ) → HeadIsKept head self.old
-            → HeadIsKept (head ++ piece.now) self.new) }
+        ensures { OnOk result ((head : List ℕ) → RequestLineOfHeadIsKept head self.old
+            → RequestLineOfHeadIsKept (head ++ piece.now) self.new) }
     {
         let mut rest = piece;
         while let Some((line, behind)) = first_line_cut(rest) {
@@ -83,8 +84,9 @@ impl RequestLine {
 
     /// What it asks for.
     pub fn asked(&self) -> LoggedRequest<'_>
-        ensures kept { (head : List ℕ) → HeadIsKept head self.now → asked_words result ≡ words_of_head head }
-        ensures text { asked_words result ≡ words_of_head self.now.text.items }
+        ensures kept { (head : List ℕ) → RequestLineOfHeadIsKept head self.now → asked_words result
+            ≡ asked_words_of_head head }
+        ensures text { asked_words result ≡ asked_words_of_head self.now.text.items }
     {
         LoggedRequest::of_head(self.text.as_slice())
     }

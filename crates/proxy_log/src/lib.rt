@@ -23,4 +23,4 @@ pub use crate::line::Line;
 pub use crate::logged_request::{LoggedRequest, LoggedTarget};
 pub use crate::pending_lines::Lines;
 pub use crate::seconds::push_seconds;
-pub use crate::seen::SeenOfReply;
+pub use crate::seen::ReplyObservation;

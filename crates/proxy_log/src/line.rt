@@ -3,9 +3,9 @@ ghost use Rattle.std.specs.Prelude.{◌≡◌, ◌+◌, ◌<◌, ◌≤◌, ◌+
 ghost use Rattle.std.specs.Prelude.{OnErr, OnOk, IsTrue};
 ghost use Rattle.std.specs.List.{list_all};
 ghost use Rattle.proxy_log.specs.Asked.{port_suffix, target_text, uri_text};
-ghost use Rattle.proxy_log.specs.Line.{stands_for_itself, hex_digit, logged_byte, logged_text, logged_word};
-ghost use Rattle.proxy_log.specs.Line.{words_of, log_line_text, status_word};
-ghost use Rattle.proxy_log.specs.Line.{log_line_front, log_line_answer, log_line_end, shown_uri};
+ghost use Rattle.proxy_log.specs.Line.{is_logged_unescaped, hex_digit, logged_byte, logged_text, logged_word};
+ghost use Rattle.proxy_log.specs.Line.{log_words_of_line, log_line_text, status_word};
+ghost use Rattle.proxy_log.specs.Line.{log_line_front, log_line_answer, log_line_end, logged_uri};
 ghost use Rattle.proxy_log.specs.Seconds.{seconds_text};
 
 use crate::logged_request::{LoggedRequest, LoggedTarget};
@@ -58,14 +58,14 @@ static PLAIN_BYTES: [u8; 256] = [
 
 /// Whether a byte stands for itself in any word.
 fn is_plain(b: u8) -> bool
-    ensures { result ≡ stands_for_itself false b }
+    ensures { result ≡ is_logged_unescaped false b }
 {
     PLAIN_BYTES[usize::from(b)] == 1
 }
 
 /// Whether a byte stands for itself in a line.
-fn stands_for_itself(blanks: bool, b: u8) -> bool
-    ensures { result ≡ stands_for_itself blanks b }
+fn is_logged_unescaped(blanks: bool, b: u8) -> bool
+    ensures { result ≡ is_logged_unescaped blanks b }
 {
     (b >= 0x21 && b <= 0x7E && b != b'\\') || (blanks && b == b' ')
 }
@@ -84,7 +84,7 @@ fn push_byte(text: &mut Vec<u8>, blanks: bool, b: u8) -> Result<(), AllocError>
     ensures capacity { vec_capacity text.old ≤ vec_capacity text.new }
     ensures front { take (length text.old.items) text.new.items ≡ text.old.items }
 {
-    if stands_for_itself(blanks, b) {
+    if is_logged_unescaped(blanks, b) {
         return text.extend_from_slice(&[b]);
     }
     text.extend_from_slice(&[b'\\', b'x', hex_digit(b / 16), hex_digit(b % 16)])
@@ -92,7 +92,7 @@ fn push_byte(text: &mut Vec<u8>, blanks: bool, b: u8) -> Result<(), AllocError>
 
 /// Whether each of these bytes stands for itself in any word.
 fn are_plain(bytes: &[u8]) -> bool
-    ensures { result ≡ list_all (stands_for_itself false) bytes.now }
+    ensures { result ≡ list_all (is_logged_unescaped false) bytes.now }
 {
     for b in bytes {
         if !is_plain(*b) {
@@ -174,10 +174,10 @@ fn push_port(text: &mut Vec<u8>, port: u16) -> Result<(), AllocError>
 }
 
 /// A target URI, part by part.
-#[tactic(auto, unfolding(crate::specs::Line::shown_uri))]
+#[tactic(auto, unfolding(crate::specs::Line::logged_uri))]
 fn push_uri_parts(text: &mut Vec<u8>, key: &Key) -> Result<(), AllocError>
-    ensures ok { OnOk result (text.new.items ≡ text.old.items ++ shown_uri key.now) }
-    ensures full { OnErr result (vec_capacity text.old < length text.old.items + length (shown_uri key.now)) }
+    ensures ok { OnOk result (text.new.items ≡ text.old.items ++ logged_uri key.now) }
+    ensures full { OnErr result (vec_capacity text.old < length text.old.items + length (logged_uri key.now)) }
     ensures capacity { vec_capacity text.old ≤ vec_capacity text.new }
     ensures front { take (length text.old.items) text.new.items ≡ text.old.items }
 {
@@ -276,9 +276,9 @@ fn push_last(text: &mut Vec<u8>, bytes: &[u8]) -> Result<(), AllocError>
 /// Who asked for what, and when.
 #[tactic(auto, unfolding(crate::specs::Line::log_line_front))]
 fn push_front(text: &mut Vec<u8>, line: &Line<'_>) -> Result<(), AllocError>
-    ensures ok { OnOk result (text.new.items ≡ text.old.items ++ log_line_front (words_of line.now)) }
+    ensures ok { OnOk result (text.new.items ≡ text.old.items ++ log_line_front (log_words_of_line line.now)) }
     ensures full { OnErr result (vec_capacity text.old < length text.old.items + length
-        (log_line_front (words_of line.now))) }
+        (log_line_front (log_words_of_line line.now))) }
     ensures capacity { vec_capacity text.old ≤ vec_capacity text.new }
     ensures front { take (length text.old.items) text.new.items ≡ text.old.items }
 {
@@ -291,9 +291,9 @@ fn push_front(text: &mut Vec<u8>, line: &Line<'_>) -> Result<(), AllocError>
 /// What it was told.
 #[tactic(auto, unfolding(crate::specs::Line::log_line_answer))]
 fn push_answer(text: &mut Vec<u8>, line: &Line<'_>) -> Result<(), AllocError>
-    ensures ok { OnOk result (text.new.items ≡ text.old.items ++ log_line_answer (words_of line.now)) }
+    ensures ok { OnOk result (text.new.items ≡ text.old.items ++ log_line_answer (log_words_of_line line.now)) }
     ensures full { OnErr result (vec_capacity text.old < length text.old.items + length
-        (log_line_answer (words_of line.now))) }
+        (log_line_answer (log_words_of_line line.now))) }
     ensures capacity { vec_capacity text.old ≤ vec_capacity text.new }
     ensures front { take (length text.old.items) text.new.items ≡ text.old.items }
 {
@@ -306,9 +306,9 @@ fn push_answer(text: &mut Vec<u8>, line: &Line<'_>) -> Result<(), AllocError>
 /// How long that took, and which origin was asked.
 #[tactic(auto, unfolding(crate::specs::Line::log_line_end))]
 fn push_end(text: &mut Vec<u8>, line: &Line<'_>) -> Result<(), AllocError>
-    ensures ok { OnOk result (text.new.items ≡ text.old.items ++ log_line_end (words_of line.now)) }
+    ensures ok { OnOk result (text.new.items ≡ text.old.items ++ log_line_end (log_words_of_line line.now)) }
     ensures full { OnErr result (vec_capacity text.old < length text.old.items + length
-        (log_line_end (words_of line.now))) }
+        (log_line_end (log_words_of_line line.now))) }
     ensures capacity { vec_capacity text.old ≤ vec_capacity text.new }
     ensures front { take (length text.old.items) text.new.items ≡ text.old.items }
 {
@@ -318,11 +318,11 @@ fn push_end(text: &mut Vec<u8>, line: &Line<'_>) -> Result<(), AllocError>
 
 fn push_parts(text: &mut Vec<u8>, line: &Line<'_>) -> Result<(), AllocError>
     ensures ok { OnOk result (text.new.items ≡ text.old.items
-        ++ (log_line_front (words_of line.now)
-        ++ (log_line_answer (words_of line.now) ++ log_line_end (words_of line.now)))) }
+        ++ (log_line_front (log_words_of_line line.now)
+        ++ (log_line_answer (log_words_of_line line.now) ++ log_line_end (log_words_of_line line.now)))) }
     ensures full { OnErr result (vec_capacity text.old < length text.old.items + length
-        (log_line_front (words_of line.now)
-        ++ (log_line_answer (words_of line.now) ++ log_line_end (words_of line.now)))) }
+        (log_line_front (log_words_of_line line.now)
+        ++ (log_line_answer (log_words_of_line line.now) ++ log_line_end (log_words_of_line line.now)))) }
     ensures capacity { vec_capacity text.old ≤ vec_capacity text.new }
     ensures front { take (length text.old.items) text.new.items ≡ text.old.items }
 {
@@ -333,9 +333,9 @@ fn push_parts(text: &mut Vec<u8>, line: &Line<'_>) -> Result<(), AllocError>
 
 /// Adds the text of a line, with its LF. Its only error is out of memory, where there is no room for the text.
 pub(crate) fn push_line(text: &mut Vec<u8>, line: &Line<'_>) -> Result<(), AllocError>
-    ensures ok { OnOk result (text.new.items ≡ text.old.items ++ log_line_text (words_of line.now)) }
+    ensures ok { OnOk result (text.new.items ≡ text.old.items ++ log_line_text (log_words_of_line line.now)) }
     ensures full { OnErr result (vec_capacity text.old < length text.old.items + length
-        (log_line_text (words_of line.now))) }
+        (log_line_text (log_words_of_line line.now))) }
     ensures capacity { vec_capacity text.old ≤ vec_capacity text.new }
     ensures front { take (length text.old.items) text.new.items ≡ text.old.items }
 {

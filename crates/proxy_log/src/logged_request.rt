@@ -1,6 +1,6 @@
 //! What a client asked for, as a line of the log names it.
 ghost use Rattle.std.specs.Prelude.{◌≡◌};
-ghost use Rattle.proxy_log.specs.Asked.{asked_words, words_of_head, words_of_question};
+ghost use Rattle.proxy_log.specs.Asked.{asked_words, asked_words_of_head, words_of_question};
 
 use crate::request_line::request_line_of_head;
 use hx_status::{AskedTarget, Question};
@@ -40,7 +40,7 @@ impl<'a> LoggedRequest<'a> {
     /// What the request line says with which a head begins, where that line is whole and has no fault; the target is
     /// as it came. Nothing where it isn't.
     pub fn of_head(head: &'a [u8]) -> LoggedRequest<'a>
-        ensures { asked_words result ≡ words_of_head head.now }
+        ensures { asked_words result ≡ asked_words_of_head head.now }
     {
         let (method, target) = request_line_of_head(head).unwrap_or((b"", b""));
         LoggedRequest {

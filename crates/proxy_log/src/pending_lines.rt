@@ -2,14 +2,14 @@
 
 ghost use Rattle.std.specs.Prelude.{◌≡◌, ◌⊎◌, ◌+◌, ◌<◌, ◌++◌, [], length, vec_capacity, OnErr, OnOk};
 ghost use Rattle.proxy_log.specs.Asked.{asked_words};
-ghost use Rattle.proxy_log.specs.Line.{log_line_text, unanswered_reason, words_of};
+ghost use Rattle.proxy_log.specs.Line.{log_line_text, unanswered_reason, log_words_of_line};
 ghost use Rattle.proxy_log.specs.PendingLines.{HasNoRoomForLine, LineIsAdded, LineIsLost};
 ghost use Rattle.proxy_log.specs.Replies.{reply_words, unanswered_words};
 
 use crate::line::{Line, push_line};
 use crate::logged_request::LoggedRequest;
-use crate::seen::SeenOfReply;
-use hx_status::{About, push_reason};
+use crate::seen::ReplyObservation;
+use hx_status::{StatusAndReason, push_reason};
 use std::alloc::{AllocError, Global};
 use std::mem::replace;
 
@@ -53,12 +53,12 @@ impl Lines {
 
     /// Adds a line. Where there is neither room nor memory for it, it is lost, and counted.
     pub fn add(&mut self, line: &Line<'_>)
-        ensures { LineIsAdded (log_line_text (words_of line.now)) self.old self.new
-            ⊎ (LineIsLost self.old self.new × HasNoRoomForLine (log_line_text (words_of line.now)) self.old) }
+        ensures { LineIsAdded (log_line_text (log_words_of_line line.now)) self.old self.new
+            ⊎ (LineIsLost self.old self.new × HasNoRoomForLine (log_line_text (log_words_of_line line.now)) self.old) }
     {
         match self.write(line) {
             Ok(()) => self.added = self.added.saturating_add(1),
-            Err(AllocError) => self.lose_line(),
+            Err(AllocError) => self.count_lost_line(),
         }
     }
 
@@ -67,9 +67,9 @@ impl Lines {
     pub fn add_reply(
         &mut self,
         asked: &LoggedRequest<'_>,
-        about: &About,
+        about: &StatusAndReason,
         content_length: u64,
-        seen: &SeenOfReply<'_>,
+        seen: &ReplyObservation<'_>,
     )
         ensures { LineIsAdded (log_line_text (reply_words (asked_words asked.now) about.now content_length seen.now))
             self.old self.new ⊎ LineIsLost self.old self.new }
@@ -86,7 +86,7 @@ impl Lines {
                 took: seen.took,
                 origin: seen.origin,
             }),
-            Err(AllocError) => self.lose_line(),
+            Err(AllocError) => self.count_lost_line(),
         }
         self.reason = reason;
     }
@@ -97,7 +97,7 @@ impl Lines {
         &mut self,
         asked: &LoggedRequest<'_>,
         cause: &[u8],
-        seen: &SeenOfReply<'_>,
+        seen: &ReplyObservation<'_>,
     )
         ensures { LineIsAdded (log_line_text (unanswered_words (asked_words asked.now) cause.now seen.now)) self.old
             self.new
@@ -115,7 +115,7 @@ impl Lines {
                 took: seen.took,
                 origin: seen.origin,
             }),
-            Err(AllocError) => self.lose_line(),
+            Err(AllocError) => self.count_lost_line(),
         }
         self.reason = reason;
     }
@@ -132,9 +132,10 @@ impl Lines {
 
     /// Writes a line behind the others, or changes nothing.
     fn write(&mut self, line: &Line<'_>) -> Result<(), AllocError>
-        ensures ok { OnOk result (self.new.text.items ≡ self.old.text.items ++ log_line_text (words_of line.now)) }
+        ensures ok { OnOk result (self.new.text.items ≡ self.old.text.items
+            ++ log_line_text (log_words_of_line line.now)) }
         ensures err { OnErr result (self.new.text.items ≡ self.old.text.items) }
-        ensures full { OnErr result (HasNoRoomForLine (log_line_text (words_of line.now)) self.old) }
+        ensures full { OnErr result (HasNoRoomForLine (log_line_text (log_words_of_line line.now)) self.old) }
         ensures added { self.new.added ≡ self.old.added }
         ensures lost { self.new.lost ≡ self.old.lost }
     {
@@ -147,7 +148,7 @@ impl Lines {
     }
 
     /// Counts a line that is lost.
-    pub fn lose_line(&mut self)
+    pub fn count_lost_line(&mut self)
         ensures { LineIsLost self.old self.new }
     {
         self.lost = self.lost.saturating_add(1);

@@ -4,8 +4,8 @@ ghost use Rattle.std.specs.Prelude.{◌≡◌, ◌==◌};
 ghost use Rattle.std.specs.Option.{option_map};
 ghost use Rattle.proxy_log.specs.Asked.{first_line, is_target, is_version, method_and_target, request_line_of_head};
 
-use crate::text_lines::{first_line_cut, is_empty_line, without_return};
-use hx_fields::{cut_at, is_token};
+use crate::text_lines::{first_line_cut, is_empty_line, without_trailing_cr};
+use hx_fields::{is_token, split_at_first_byte};
 
 /// The first line that isn't empty (RFC 9112, section 2.2). It has to be whole.
 fn first_line(head: &[u8]) -> Option<&[u8]>
@@ -16,7 +16,7 @@ fn first_line(head: &[u8]) -> Option<&[u8]>
         if is_empty_line(line) {
             left = behind;
         } else {
-            return Some(without_return(line));
+            return Some(without_trailing_cr(line));
         }
     }
     None
@@ -48,8 +48,8 @@ fn is_target(text: &[u8]) -> bool
 fn method_and_target(line: &[u8]) -> Option<(&[u8], &[u8])>
     ensures { option_map (λ p. (p.0.now, p.1.now)) result ≡ method_and_target line.now }
 {
-    let (method, rest) = cut_at(b' ', line)?;
-    let (target, version) = cut_at(b' ', rest)?;
+    let (method, rest) = split_at_first_byte(b' ', line)?;
+    let (target, version) = split_at_first_byte(b' ', rest)?;
     if is_token(method) && is_target(target) && is_version(version) {
         Some((method, target))
     } else {

@@ -2,7 +2,7 @@
 
 /// What is known of a reply beside what it tells, or of a request that never had one.
 #[derive(Clone, Copy, Debug)]
-pub struct SeenOfReply<'a> {
+pub struct ReplyObservation<'a> {
     /// When it was written, or its client had gone, in milliseconds since 1970.
     pub moment: u64,
     /// The client's address and port.

@@ -1,8 +1,8 @@
 -- Queues of streams that were closed, by their stamps.
 --
 -- queue_of_streams: one of them       longest_waiting_in_queue: who has stood longest in it
--- QueueIsNow: so a queue is now, and the other one is as it was
--- first_from: the first in a queue from a stamp on
+-- QueueHasEntries: so a queue is now, and the other one is as it was
+-- first_entry_from: the first in a queue from a stamp on
 use Rattle.std.specs.Prelude.{◌≡◌, ℕ, List, Option, not, nat_lt, filter, slice_get}
 use Rattle.std.specs.Option.{option_map}
 use Rattle.std.specs.BTreeMap.{BTreeMap}
@@ -19,10 +19,10 @@ longest_waiting_in_queue line = option_map (λ e. e.1) (slice_get line.entries 0
 
 -- each stream with its stamp, the least first; and of the other queue, and of the stamp of who comes next, nothing
 -- changed
-abbrev pub QueueIsNow : StreamQueue → List (ℕ × ℕ) → StreamQueues → StreamQueues → Type 0
-QueueIsNow Leaving entries old new = (new.leaving.entries ≡ entries) × (new ≡ record old { leaving = new.leaving })
-QueueIsNow Lingering entries old new =
+abbrev pub QueueHasEntries : StreamQueue → List (ℕ × ℕ) → StreamQueues → StreamQueues → Type 0
+QueueHasEntries Leaving entries old new = (new.leaving.entries ≡ entries) × (new ≡ record old { leaving = new.leaving })
+QueueHasEntries Lingering entries old new =
     (new.lingering.entries ≡ entries) × (new ≡ record old { lingering = new.lingering })
 
-abbrev pub first_from : ℕ → List (ℕ × ℕ) → Option (ℕ × ℕ)
-first_from stamp entries = slice_get (filter (λ e. not (nat_lt e.0 stamp)) entries) 0
+abbrev pub first_entry_from : ℕ → List (ℕ × ℕ) → Option (ℕ × ℕ)
+first_entry_from stamp entries = slice_get (filter (λ e. not (nat_lt e.0 stamp)) entries) 0

@@ -2,5 +2,5 @@
 use Rattle.std.specs.Prelude.{◌==◌, ℕ, Bool, List, length}
 
 -- no byte is left
-abbrev pub is_nothing : List ℕ → Bool
-is_nothing bytes = length bytes == 0
+abbrev pub has_no_bytes : List ℕ → Bool
+has_no_bytes bytes = length bytes == 0

@@ -9,6 +9,6 @@ mod rest;
 mod stream_queues;
 
 pub use crate::moments::{Moment, Moments};
-pub use crate::pieces::{LEAST_HANDED_IN, head_end};
+pub use crate::pieces::{LEAST_PIECE_BYTES, head_end};
 pub use crate::rest::Rest;
 pub use crate::stream_queues::{StreamQueue, StreamQueues};

@@ -14,7 +14,7 @@ const VERSION: usize = 8;
 
 /// Inside a request a piece has at least this many bytes, if as many have come. They hold no more than a dozen
 /// requests.
-pub const LEAST_HANDED_IN: usize = 256;
+pub const LEAST_PIECE_BYTES: usize = 256;
 
 /// Whether a line ends in a version, as a request line does that isn't refused (RFC 9112, section 3).
 fn ends_in_version(line: &[u8]) -> bool {

@@ -1,6 +1,6 @@
 //! What a client sent behind the head of a request, in one read: it is handed in when that request was.
 ghost use Rattle.std.specs.Prelude.{◌≡◌, ◌<◌, ◌≤◌, ◌++◌, [], length, take, drop, OnOk, OnErr};
-ghost use Rattle.proxy_pacing.specs.RestBytes.{is_nothing};
+ghost use Rattle.proxy_pacing.specs.RestBytes.{has_no_bytes};
 
 use crate::pieces::head_end;
 use std::alloc::{AllocError, Global};
@@ -36,7 +36,7 @@ impl Rest {
 
     /// Whether nothing is left.
     pub fn is_empty(&self) -> bool
-        ensures { result ≡ is_nothing self.now }
+        ensures { result ≡ has_no_bytes self.now }
     {
         let left = &self.bytes[self.taken..];
         left.len() == 0

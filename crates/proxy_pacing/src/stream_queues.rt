@@ -4,7 +4,8 @@ ghost use Rattle.std.specs.Bool.{OnTrue, OnFalse};
 ghost use Rattle.std.specs.Ordering.{nat_cmp};
 ghost use Rattle.std.specs.BTreeMap.{btree_map_len, insert_entry, is_at};
 ghost use Rattle.std.specs.Map.{remove_entry};
-ghost use Rattle.proxy_pacing.specs.Queues.{queue_of_streams, longest_waiting_in_queue, QueueIsNow, first_from};
+ghost use Rattle.proxy_pacing.specs.Queues.{queue_of_streams, longest_waiting_in_queue, QueueHasEntries};
+ghost use Rattle.proxy_pacing.specs.Queues.{first_entry_from};
 
 use std::alloc::Global;
 use std::collections::BTreeMap;
@@ -70,10 +71,10 @@ impl StreamQueues {
     /// Puts a stream into a queue, by its stamp. Whether there was memory for it; if not, nothing changes.
     pub fn put(&mut self, queue: StreamQueue, stamp: u64, key: usize) -> bool
         ensures put { OnTrue result
-            (QueueIsNow queue (insert_entry nat_cmp (queue_of_streams queue self.old).entries stamp key)
+            (QueueHasEntries queue (insert_entry nat_cmp (queue_of_streams queue self.old).entries stamp key)
             self.old self.new) }
         ensures unchanged { OnFalse result
-            (QueueIsNow queue (queue_of_streams queue self.old).entries self.old self.new) }
+            (QueueHasEntries queue (queue_of_streams queue self.old).entries self.old self.new) }
     {
         let put = match queue {
             StreamQueue::Leaving => self.leaving.insert(stamp, key),
@@ -84,7 +85,7 @@ impl StreamQueues {
 
     /// Takes the stream of a stamp out of a queue, if it stands there.
     pub fn remove(&mut self, queue: StreamQueue, stamp: u64)
-        ensures { QueueIsNow queue (remove_entry (is_at (nat_cmp stamp)) (queue_of_streams queue self.old).entries)
+        ensures { QueueHasEntries queue (remove_entry (is_at (nat_cmp stamp)) (queue_of_streams queue self.old).entries)
             self.old self.new }
     {
         let _ = match queue {
@@ -105,7 +106,7 @@ impl StreamQueues {
 
     /// The first in a queue from a stamp on.
     pub fn next_from(&self, queue: StreamQueue, from: u64) -> Option<(u64, usize)>
-        ensures { result ≡ first_from from (queue_of_streams queue self.now).entries }
+        ensures { result ≡ first_entry_from from (queue_of_streams queue self.now).entries }
     {
         let (stamp, key) = self.queue(queue).range(from..).next()?;
         Some((*stamp, *key))

@@ -5,5 +5,5 @@ use Rattle.std.specs.RandomState.{initial_hasher}
 use Rattle.std.specs.declared.random_state.RandomState.{RandomState}
 
 -- what a hasher of some 128 bits of keys gives of nothing, whole: `RandomState::new` has the system draw them
-abbrev pub SeedIsOfKeys : ℕ → Type 0
-SeedIsOfKeys seed = (keys : RandomState) × (seed ≡ finish (initial_hasher keys))
+abbrev pub SeedIsHashOfRandomKeys : ℕ → Type 0
+SeedIsHashOfRandomKeys seed = (keys : RandomState) × (seed ≡ finish (initial_hasher keys))

@@ -2,7 +2,7 @@
 
 use clap::builder::ValueParser;
 use clap::{Arg, ArgAction, ArgMatches, Command, Error};
-use proxy_check::{Question, is_answer, question_of};
+use proxy_check::{Question, is_spelled_as_answer, question_of};
 use proxy_files::CommandFault;
 use proxy_server::{Limits, ListenAt};
 use std::alloc::Global;
@@ -30,7 +30,7 @@ static ON_AND_OFF: [&str; 2] = ["on", "off"];
 
 /// How a server is to serve.
 #[derive(Clone, Copy)]
-pub(crate) struct Service<'a> {
+pub(crate) struct ServeOptions<'a> {
     pub(crate) table: &'a str,
     pub(crate) listen: ListenAt,
     /// How many turns it serves; without it, it stays until it is stopped.
@@ -53,7 +53,7 @@ pub(crate) struct Service<'a> {
 
 /// How a table is to be checked.
 #[derive(Clone, Copy)]
-pub(crate) struct Checking<'a> {
+pub(crate) struct CheckOptions<'a> {
     pub(crate) table: &'a str,
     /// What a request meets.
     pub(crate) question: Option<Question<'a>>,
@@ -67,15 +67,15 @@ pub(crate) struct Checking<'a> {
 
 /// What the words ask for.
 #[derive(Clone, Copy)]
-pub(crate) enum Form<'a> {
+pub(crate) enum CommandForm<'a> {
     /// A script is replayed.
     Replay,
     /// A script is replayed over the store of this file, if one is named.
     ReplayOver(Option<&'a str>),
     /// A table is checked.
-    Check(Checking<'a>),
+    Check(CheckOptions<'a>),
     /// Clients are served.
-    Serve(Service<'a>),
+    Serve(ServeOptions<'a>),
 }
 
 fn command<'a>(alloc: Global, name: &'a str) -> Command<'a> {
@@ -485,8 +485,8 @@ fn limits_of(matches: &ArgMatches<'_>) -> Option<Limits> {
     })
 }
 
-fn service_of<'a>(matches: &ArgMatches<'a>, listen: ListenAt) -> Option<Service<'a>> {
-    Some(Service {
+fn service_of<'a>(matches: &ArgMatches<'a>, listen: ListenAt) -> Option<ServeOptions<'a>> {
+    Some(ServeOptions {
         table: matches.get_str("table")?,
         listen,
         turns: matches.get_one::<u32>("turns"),
@@ -509,7 +509,7 @@ fn address_fault(alloc: Global, text: &str) -> CommandFault {
 }
 
 /// The service that is asked for.
-fn serve_of<'a>(alloc: Global, matches: &ArgMatches<'a>) -> Result<Form<'a>, CommandFault> {
+fn serve_of<'a>(alloc: Global, matches: &ArgMatches<'a>) -> Result<CommandForm<'a>, CommandFault> {
     let Some(text) = matches.get_str("listen") else {
         return Err(CommandFault::Usage(None));
     };
@@ -517,13 +517,13 @@ fn serve_of<'a>(alloc: Global, matches: &ArgMatches<'a>) -> Result<Form<'a>, Com
         return Err(address_fault(alloc, text));
     };
     match service_of(matches, listen) {
-        Some(service) => Ok(Form::Serve(service)),
+        Some(service) => Ok(CommandForm::Serve(service)),
         None => Err(CommandFault::Usage(None)),
     }
 }
 
 /// What a check asks for.
-fn check_of<'a>(alloc: Global, matches: &ArgMatches<'a>) -> Result<Form<'a>, CommandFault> {
+fn check_of<'a>(alloc: Global, matches: &ArgMatches<'a>) -> Result<CommandForm<'a>, CommandFault> {
     let Some(path) = matches.get_str("table") else {
         return Err(CommandFault::Usage(None));
     };
@@ -541,11 +541,11 @@ fn check_of<'a>(alloc: Global, matches: &ArgMatches<'a>) -> Result<Form<'a>, Com
     };
     let answer = matches.get_str("answer");
     if let Some(text) = answer {
-        if !is_answer(text) {
+        if !is_spelled_as_answer(text) {
             return Err(answer_fault(alloc, text));
         }
     }
-    Ok(Form::Check(Checking {
+    Ok(CommandForm::Check(CheckOptions {
         table: path,
         question,
         questions: matches.get_str("ask-file"),
@@ -577,13 +577,13 @@ fn question_fault(alloc: Global, text: &str) -> CommandFault {
 }
 
 /// What the words ask for.
-pub(crate) fn form_of<'a>(
+pub(crate) fn command_form_of<'a>(
     alloc: Global,
     matches: &ArgMatches<'a>,
-) -> Result<Form<'a>, CommandFault> {
+) -> Result<CommandForm<'a>, CommandFault> {
     match matches.subcommand() {
-        None => Ok(Form::Replay),
-        Some(("replay", inner)) => Ok(Form::ReplayOver(inner.get_str("store"))),
+        None => Ok(CommandForm::Replay),
+        Some(("replay", inner)) => Ok(CommandForm::ReplayOver(inner.get_str("store"))),
         Some(("check", inner)) => check_of(alloc, inner),
         Some((_, inner)) => serve_of(alloc, inner),
     }

@@ -1,13 +1,15 @@
 //! What the command line asks for, done.
 
-use crate::command_line::{Checking, Form, Service, VERSION, form_of, read};
+use crate::command_line::{
+    CheckOptions, CommandForm, ServeOptions, VERSION, command_form_of, read,
+};
 use crate::commit::commit_of;
 use crate::fault::Fault;
 use crate::serving::serve;
 use clap::Error;
 use clap::error::ErrorKind;
 use hx_allow::Config;
-use proxy_check::{Trial, ask_all, print_checked, print_compared};
+use proxy_check::{Trial, ask_all, print_check_of_table, print_comparison_of_tables};
 use proxy_files::{
     CommandFault, config_of, fault_of, read_questions, read_table, system_call_words,
 };
@@ -35,7 +37,7 @@ fn table_in<R: Files + AllocGlobal>(rt: &R, path: &str) -> Result<Config, Comman
 /// Checks a table, and tells what it says, what it would change, and which questions it answers otherwise.
 fn check<R: Files + Print + Clock + AllocGlobal>(
     rt: &R,
-    checking: &Checking<'_>,
+    checking: &CheckOptions<'_>,
 ) -> Result<(), CommandFault> {
     let table = read_table(rt, checking.table)?;
     let config = config_of(rt.alloc(), table.as_slice())?;
@@ -49,9 +51,9 @@ fn check<R: Files + Print + Clock + AllocGlobal>(
     } else {
         None
     };
-    print_checked(rt, &config, checking.question.as_ref(), told)?;
+    print_check_of_table(rt, &config, checking.question.as_ref(), told)?;
     if let Some((old, log)) = checking.against {
-        print_compared(rt, &config, &table_in(rt, old)?, log)?;
+        print_comparison_of_tables(rt, &config, &table_in(rt, old)?, log)?;
     }
     match checking.questions {
         Some(path) => ask_all(rt, &config, read_questions(rt, path)?.as_str(), &trial),
@@ -123,7 +125,7 @@ impl From<CommandFault> for EndedEarly {
 
 fn checked<R: Files + Print + Clock + AllocGlobal>(
     rt: &R,
-    checking: &Checking<'_>,
+    checking: &CheckOptions<'_>,
 ) -> Result<(), EndedEarly> {
     match check(rt, checking) {
         Ok(()) => Ok(()),
@@ -134,7 +136,7 @@ fn checked<R: Files + Print + Clock + AllocGlobal>(
     }
 }
 
-fn served<R>(rt: &R, service: &Service<'_>) -> Result<(), EndedEarly>
+fn served<R>(rt: &R, service: &ServeOptions<'_>) -> Result<(), EndedEarly>
 where
     R: Files + Print + Eprint + AllocGlobal + Net + Clock + RandomSource,
 {
@@ -156,7 +158,7 @@ fn replayed<R: Files + Input + Print + Eprint + AllocGlobal>(
         return Ok(proxy_replay::program::run_script(rt));
     };
     match store_reader(rt, path) {
-        Ok(reader) => Ok(proxy_replay::program::run_script_over(rt, reader)),
+        Ok(reader) => Ok(proxy_replay::program::run_script_over_store(rt, reader)),
         Err(fault) => Err(EndedEarly {
             fault: Fault::Command(fault),
             is_quiet: true,
@@ -182,22 +184,22 @@ fn store_reader<R: Files + AllocGlobal>(
 }
 
 /// Does what is asked for; a replay tells its own exit status.
-fn do_form<R>(rt: &R, form: &Form<'_>) -> Result<ExitCode, EndedEarly>
+fn do_form<R>(rt: &R, form: &CommandForm<'_>) -> Result<ExitCode, EndedEarly>
 where
     R: Files + Env + Input + Print + Eprint + AllocGlobal + Net + Clock + RandomSource,
     <R as Input>::Reader: IsTerminal,
 {
     match form {
-        Form::Replay => {
+        CommandForm::Replay => {
             print_what_is_awaited(rt);
             return Ok(proxy_replay::program::run(rt));
         }
-        Form::ReplayOver(store) => {
+        CommandForm::ReplayOver(store) => {
             print_what_is_awaited(rt);
             return replayed(rt, *store);
         }
-        Form::Check(checking) => checked(rt, checking)?,
-        Form::Serve(service) => served(rt, service)?,
+        CommandForm::Check(checking) => checked(rt, checking)?,
+        CommandForm::Serve(service) => served(rt, service)?,
     }
     Ok(ExitCode::SUCCESS)
 }
@@ -209,7 +211,7 @@ where
     <R as Input>::Reader: IsTerminal,
 {
     match read(rt.alloc(), words) {
-        Ok(matches) => do_form(rt, &form_of(rt.alloc(), &matches)?),
+        Ok(matches) => do_form(rt, &command_form_of(rt.alloc(), &matches)?),
         Err(error) => {
             explain(rt, &error)?;
             Ok(ExitCode::SUCCESS)

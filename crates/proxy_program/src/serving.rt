@@ -1,22 +1,23 @@
 //! Serving: the table, the listener, the record and the log, and then turn after turn.
 ghost use Rattle.std.specs.Prelude.{◌≡◌, [], IfOk, None};
-ghost use Rattle.proxy_engine.specs.Beginnings.{MayBeHeldAtFirst};
-ghost use Rattle.proxy_program.specs.Seeds.{SeedIsOfKeys};
+ghost use Rattle.proxy_engine.specs.Beginnings.{ResponsesMayBeHeldAtStart};
+ghost use Rattle.proxy_program.specs.Seeds.{SeedIsHashOfRandomKeys};
 
-use crate::command_line::Service;
+use crate::command_line::ServeOptions;
 use crate::commit::commit_of;
 use crate::fault::Fault;
 use crate::figures::{Figures, FixedFacts};
 use crate::heap::keep_freed_memory;
 use crate::process::process_start;
 use crate::warnings::Warnings;
-use crate::watch::{ServerState, Watch};
+use crate::watch::{EndWatch, ServerState};
 use hx_allow::{Config, MOST_LINES};
 use hx_store::{IndexedShelf, Shelf};
 use proxy_files::{
-    CommandFault, Journal, KeptStore, StatsFile, Target, config_of, connections_within,
-    descriptors_allowed, descriptors_wanted, fault_of, log_file, megabytes, memory_allowed,
-    most_held, most_stored, read_table, system_call_words, warn_of_other_writer,
+    CommandFault, Journal, KeptStore, LogTarget, StatsFile, config_of,
+    connections_within_descriptors, descriptors_allowed, descriptors_wanted, fault_of, megabytes,
+    memory_allowed, most_held_bytes, most_store_bytes, open_log_file, read_table,
+    system_call_words, warn_of_other_writer,
 };
 use proxy_kept_store::a_server_may_begin_empty;
 use proxy_server::{
@@ -85,7 +86,7 @@ fn within_descriptors(limits: Limits, allows: Option<u64>) -> Limits {
         return limits;
     };
     let mut limits = limits;
-    let most = connections_within(allows, limits.origin_connections);
+    let most = connections_within_descriptors(allows, limits.origin_connections);
     limits.connections = limits
         .connections
         .min(usize::try_from(most).unwrap_or(usize::MAX));
@@ -157,7 +158,7 @@ fn warn_of_loops<R: Eprint>(rt: &R, config: &Config, address: SocketAddr) {
 fn serve_turns<'a, R, S: Shelf + Drop, P: Write + Drop>(
     rt: &R,
     turns: u64,
-    watch: Watch<'_>,
+    watch: EndWatch<'_>,
     server: &mut Server<'a, S, R, R::File>,
     journal: &mut Option<Journal<R::File, P>>,
     figures: &mut Option<Figures<'_>>,
@@ -223,9 +224,9 @@ fn journal_of<R: Files + AllocGlobal, P: Write + Drop>(
 ) -> Result<Option<Journal<R::File, P>>, CommandFault> {
     match path {
         None => Ok(None),
-        Some("-") => Ok(Some(Journal::new(Target::Print(print)))),
-        Some(path) => match log_file(rt, path) {
-            Ok(file) => Ok(Some(Journal::new(Target::File(file)))),
+        Some("-") => Ok(Some(Journal::new(LogTarget::Print(print)))),
+        Some(path) => match open_log_file(rt, path) {
+            Ok(file) => Ok(Some(Journal::new(LogTarget::File(file)))),
             Err(e) => {
                 let words = system_call_words(rt.alloc(), "the log ", path, " can't be opened", &e);
                 Err(fault_of(&e, CommandFault::Write(words)))
@@ -248,7 +249,7 @@ fn figures_of<'a, 'n, R: Net + Clock + Files + AllocGlobal>(
     let Ok(now) = rt.since_1970() else {
         return Err(Fault::from(ServeFault::Clock));
     };
-    sockets.keep_counts(config)?;
+    sockets.begin_counts(config)?;
     let whole = now.as_secs().saturating_mul(1000);
     let began = whole.saturating_add(u64::from(now.subsec_millis()));
     let file = StatsFile::new(rt, path)?;
@@ -265,7 +266,7 @@ fn figures_of<'a, 'n, R: Net + Clock + Files + AllocGlobal>(
 
 /// A number that nobody can foresee, for what tells variants apart before they are looked at.
 fn seed_of<R: RandomSource + AllocGlobal>(rt: &R) -> Result<u64, CommandFault>
-    ensures { IfOk result SeedIsOfKeys }
+    ensures { IfOk result SeedIsHashOfRandomKeys }
 {
     match RandomState::new(rt) {
         Ok(state) => Ok(state.build_hasher().finish()),
@@ -342,7 +343,7 @@ impl<'a, F: Write + Drop, P: Write + Drop> Drop for Reports<'a, F, P> {
 /// Opens the files of the log and the figures, and has the sockets count for them.
 fn reports_of<'a, 'n, R: Net + Clock + Files + AllocGlobal, P: Write + Drop>(
     rt: &R,
-    service: &Service<'a>,
+    service: &ServeOptions<'a>,
     config: &Config,
     store: &'a StoreCounts,
     sockets: &mut LiveSockets<'n, R>,
@@ -350,7 +351,7 @@ fn reports_of<'a, 'n, R: Net + Clock + Files + AllocGlobal, P: Write + Drop>(
 ) -> Result<Reports<'a, R::File, P>, Fault> {
     let journal = journal_of(rt, service.log, print)?;
     if journal.is_some() {
-        sockets.keep_log(config)?;
+        sockets.begin_log(config)?;
     }
     let figures = figures_of(rt, service.stats, config, store, sockets)?;
     Ok(Reports { journal, figures })
@@ -359,7 +360,7 @@ fn reports_of<'a, 'n, R: Net + Clock + Files + AllocGlobal, P: Write + Drop>(
 /// Serves until its end, and tells then how many lines of the log were lost.
 fn serve_to_its_end<'a, R, S: Shelf + Drop, P: Write + Drop>(
     rt: &R,
-    service: &Service<'_>,
+    service: &ServeOptions<'_>,
     server: &mut Server<'a, S, R, R::File>,
     reports: &mut Reports<'_, R::File, P>,
 ) -> Result<(), Fault>
@@ -367,7 +368,7 @@ where
     R: Net + Clock + Files + Print + Eprint + AllocGlobal,
 {
     let turns = service.turns.map_or(u64::MAX, u64::from);
-    let watch = Watch::new(service.drain, service.drain_timeout, service.log);
+    let watch = EndWatch::new(service.drain, service.drain_timeout, service.log);
     let served = serve_turns(
         rt,
         turns,
@@ -409,7 +410,7 @@ fn first_serial<R: Files + Eprint + AllocGlobal, S: Shelf>(
 ) -> Result<u64, CommandFault>
     requires empty { S.entries shelf.old ≡ [] }
     requires capacity { S.limit shelf.old ≡ config.now.capacity }
-    ensures may { IfOk result (λ first. MayBeHeldAtFirst config.now (S.entries shelf.new) first) }
+    ensures may { IfOk result (λ first. ResponsesMayBeHeldAtStart config.now (S.entries shelf.new) first) }
     ensures unasked { kept.now ≡ None → IfOk result (λ first. first ≡ 1) }
     ensures stays { kept.now ≡ None → S.entries shelf.new ≡ [] }
     ensures limit { S.limit shelf.new ≡ S.limit shelf.old }
@@ -464,7 +465,7 @@ fn server_of<'n, R: Net + Files + Eprint + AllocGlobal, S: Shelf + Drop>(
 /// Tells of a server at its start. What was read of a kept store is removed before the first request is read.
 fn open_doors<'n, R: Net + Files + Eprint + AllocGlobal, S: Shelf + Drop>(
     rt: &R,
-    service: &Service<'_>,
+    service: &ServeOptions<'_>,
     start: &Start<'_>,
     kept: &Option<KeptStore<'_>>,
     server: &Server<'n, S, R, R::File>,
@@ -484,7 +485,7 @@ fn open_doors<'n, R: Net + Files + Eprint + AllocGlobal, S: Shelf + Drop>(
 /// Runs a server from its start to its end, and keeps its store then.
 fn run_server<'n, R, S: Shelf + Drop, P: Write + Drop>(
     rt: &R,
-    service: &Service<'_>,
+    service: &ServeOptions<'_>,
     start: &Start<'_>,
     kept: &Option<KeptStore<'_>>,
     server: Server<'n, S, R, R::File>,
@@ -503,7 +504,7 @@ where
 /// Serves by a table over sockets, once its files are open.
 fn serve_table<'n, R: Net + Clock + Files + Print + Eprint + AllocGlobal + RandomSource>(
     rt: &'n R,
-    service: &Service<'_>,
+    service: &ServeOptions<'_>,
     config: Config,
     sockets: LiveSockets<'n, R>,
     record: Option<Recorder<R::File>>,
@@ -524,7 +525,7 @@ fn serve_table<'n, R: Net + Clock + Files + Print + Eprint + AllocGlobal + Rando
 /// Serves as the command line says.
 pub(crate) fn serve<R: Net + Clock + Files + Print + Eprint + AllocGlobal + RandomSource>(
     rt: &R,
-    service: &Service<'_>,
+    service: &ServeOptions<'_>,
 ) -> Result<(), Fault> {
     let table = read_table(rt, service.table)?;
     let config = config_of(rt.alloc(), table.as_slice())?;
@@ -539,8 +540,8 @@ pub(crate) fn serve<R: Net + Clock + Files + Print + Eprint + AllocGlobal + Rand
     let record = record_of(rt, name, table.as_slice())?;
     let start = Start {
         address: sockets.address(),
-        stored: most_stored(&config),
-        held: most_held(limits.content, limits.connections),
+        stored: most_store_bytes(&config),
+        held: most_held_bytes(limits.content, limits.connections),
         allows,
         record: name,
     };

@@ -2,7 +2,7 @@
 
 use crate::clock_watch::ClockWatch;
 use hx_store::Shelf;
-use proxy_server::{Server, Troubles, Turned};
+use proxy_server::{ServedTurn, Server, TroubleCounts};
 use std::io::Write;
 use std::net::Net;
 
@@ -80,7 +80,7 @@ impl Warnings {
         &mut self,
         rt: &R,
         server: &Server<'s, S, R, W>,
-        turned: &Turned,
+        turned: &ServedTurn,
     ) {
         let second = server.second();
         if let Err(fault) = &turned.reported {
@@ -130,7 +130,7 @@ impl Warnings {
     }
 
     /// Tells that no local port was left since the last look.
-    fn look_at_ports<R: Eprint>(&mut self, rt: &R, troubles: &Troubles, second: u64) {
+    fn look_at_ports<R: Eprint>(&mut self, rt: &R, troubles: &TroubleCounts, second: u64) {
         if troubles.no_port > self.without_port && self.no_port.is_due(second) {
             let _ = eprintln!(rt;
                 "warning: no local port is left for a connection to an origin: the request is answered 502"
@@ -140,7 +140,7 @@ impl Warnings {
     }
 
     /// Tells that connects to origins were refused at once since the last look.
-    fn look_at_origins<R: Eprint>(&mut self, rt: &R, troubles: &Troubles, second: u64) {
+    fn look_at_origins<R: Eprint>(&mut self, rt: &R, troubles: &TroubleCounts, second: u64) {
         if troubles.beyond_bound > self.refused_links && self.beyond_bound.is_due(second) {
             let _ = eprintln!(rt;
                 "warning: as many connections to an origin are open as may be: further requests for it are refused"

@@ -10,7 +10,7 @@ use std::{fs, io};
 
 /// How a server is watched, and since when it is to end.
 #[derive(Clone, Copy)]
-pub(crate) struct Watch<'a> {
+pub(crate) struct EndWatch<'a> {
     drain: Option<&'a str>,
     drain_timeout: u64,
     log: Option<&'a str>,
@@ -38,13 +38,13 @@ fn tell_of_other_lines<R: Eprint>(rt: &R, path: &str) {
     );
 }
 
-impl<'a> Watch<'a> {
+impl<'a> EndWatch<'a> {
     pub(crate) fn new(
         drain: Option<&'a str>,
         drain_timeout: u64,
         log: Option<&'a str>,
-    ) -> Watch<'a> {
-        Watch {
+    ) -> EndWatch<'a> {
+        EndWatch {
             drain,
             drain_timeout,
             log,
@@ -108,7 +108,7 @@ impl<'a> Watch<'a> {
         self.looked = Some(now);
         if let (Some(journal), Some(path)) = (journal, self.log) {
             journal.follow(rt, path);
-            if journal.finds_other_lines() {
+            if journal.finds_lines_of_another_program() {
                 tell_of_other_lines(rt, path);
             }
         }

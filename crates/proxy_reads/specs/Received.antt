@@ -4,7 +4,7 @@ use Rattle.proxy_reads.specs.declared.received.Received.{Received}
 use Rattle.proxy_reads.specs.declared.received.Received.TheVariants.{Nothing, Bytes, End}
 
 -- no more bytes than there is room for
-abbrev pub FitsTheBuffer : ℕ → Received → Type 0
-FitsTheBuffer room Nothing = Unit {0}
-FitsTheBuffer room (Bytes n) = n ≤ room
-FitsTheBuffer room End = Unit {0}
+abbrev pub ReceivedBytesAreAtMostRoom : ℕ → Received → Type 0
+ReceivedBytesAreAtMostRoom room Nothing = Unit {0}
+ReceivedBytesAreAtMostRoom room (Bytes n) = n ≤ room
+ReceivedBytesAreAtMostRoom room End = Unit {0}

@@ -2,20 +2,20 @@
 --
 -- happenings_of_steps: what steps took
 -- happenings_of_calls: what is recorded of calls
--- noted_at_moment: at one moment
+-- recorded_at_moment: at one moment
 -- TurnsAreRecorded: the law
 use Rattle.std.specs.Prelude.{◌≡◌, ℕ, List, [], ◌∷◌, ◌++◌, map, Option, None, Some}
 use Rattle.proxy_engine.specs.EngineModel.{EngineModel}
 use Rattle.proxy_engine.specs.Executions.{ExecutionStep, Took, Worked}
 use Rattle.proxy_engine.specs.declared.work.End.{End}
-use Rattle.proxy_script.specs.Happenings.{PlainHappening as Happening}
+use Rattle.proxy_script.specs.Happenings.{HappeningModel as Happening}
 use Rattle.proxy_turn.specs.Calls.{Call, AcceptOutcome}
-use Rattle.proxy_turn.specs.Turn.{EndRead, ActRound}
-use Rattle.proxy_turn.specs.Over.{TurnOverAsFarAsItCame, calls_of_turn_over}
-use Rattle.proxy_turn.specs.OverSteps.{steps_of_turn_over}
+use Rattle.proxy_turn.specs.Turn.{EndRead, ActWithEffectFates}
+use Rattle.proxy_turn.specs.Over.{TurnOverEndsIsDoneInOrder, calls_of_turn_over_ends}
+use Rattle.proxy_turn.specs.OverSteps.{steps_of_turn_over_ends}
 use Rattle.proxy_turn.specs.declared.bounds.TurnBounds.{TurnBounds}
-use Rattle.proxy_record.specs.Recorded.{happening_of_call, CallsAreNoted}
-use Rattle.proxy_record.specs.Records.{Record, NotedHappening, IsNotedOrEnds}
+use Rattle.proxy_record.specs.Recorded.{happening_of_call, CallsAreRecorded}
+use Rattle.proxy_record.specs.Records.{RecordSoFar, RecordedHappening, HappeningsAreRecordedOrRecordEnds}
 
 abbrev pub happening_as_list : Option Happening → List Happening
 happening_as_list None = []
@@ -31,19 +31,20 @@ abbrev pub happenings_of_calls : List Call → List Happening
 happenings_of_calls [] = []
 happenings_of_calls (made ∷ more) = happening_as_list (happening_of_call made) ++ happenings_of_calls more
 
-abbrev pub noted_at_moment : ℕ → List Happening → List NotedHappening
-noted_at_moment now [] = []
-noted_at_moment now (h ∷ hs) = record { moment = now; happening = h } ∷ noted_at_moment now hs
+abbrev pub recorded_at_moment : ℕ → List Happening → List RecordedHappening
+recorded_at_moment now [] = []
+recorded_at_moment now (h ∷ hs) = record { moment = now; happening = h } ∷ recorded_at_moment now hs
 
 -- Where the calls of a turn are recorded, the record takes each happening that the engine took in that turn, in that
 -- order and at the turn's moment, and nothing else: up to a call that failed, where it ends.
 abbrev pub TurnsAreRecorded : Type 0
 TurnsAreRecorded =
     (now : ℕ) (bounds : TurnBounds) (s : EngineModel) (given : List End) (accepts : List AcceptOutcome)
-    (reads : List EndRead) (rest : List End) (rounds : List ActRound) (t : EngineModel) (r : Record)
-    (new : Option Record)
-    → TurnOverAsFarAsItCame now bounds s given accepts reads rest rounds t
-    → CallsAreNoted now (calls_of_turn_over s accepts reads rounds) (Some r) new
-    → (later : Record) × (new ≡ Some later)
-    × IsNotedOrEnds r (noted_at_moment now (happenings_of_steps (steps_of_turn_over now s accepts reads rounds [])))
+    (reads : List EndRead) (rest : List End) (rounds : List ActWithEffectFates) (t : EngineModel) (r : RecordSoFar)
+    (new : Option RecordSoFar)
+    → TurnOverEndsIsDoneInOrder now bounds s given accepts reads rest rounds t
+    → CallsAreRecorded now (calls_of_turn_over_ends s accepts reads rounds) (Some r) new
+    → (later : RecordSoFar) × (new ≡ Some later)
+    × HappeningsAreRecordedOrRecordEnds r
+    (recorded_at_moment now (happenings_of_steps (steps_of_turn_over_ends now s accepts reads rounds [])))
     later

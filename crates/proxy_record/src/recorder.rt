@@ -1,8 +1,8 @@
 //! A record of what happens, as a script: the operator's table, and then each happening at its moment.
 ghost use Rattle.std.specs.Prelude.{◌≡◌, IfOk, OnOk};
 ghost use Rattle.std.specs.Io.KnownBytes.{Appends};
-ghost use Rattle.proxy_script.specs.Happenings.{plain_happening};
-ghost use Rattle.proxy_record.specs.Records.{TextIsAdded, RecordBegins, HappeningIsNoted, items_of_happening};
+ghost use Rattle.proxy_script.specs.Happenings.{model_of_happening};
+ghost use Rattle.proxy_record.specs.Records.{TextIsAdded, RecordBegins, HappeningIsRecorded, items_of_happening};
 ghost use Rattle.proxy_record.specs.Records.{text_of_items, ended_record};
 
 use proxy_script::{Happening, Item, MOST_SCRIPT_BYTES, item_text};
@@ -52,9 +52,9 @@ impl<W: Write + Drop> Drop for Recorder<W> {
 impl<W: Write + Drop> Model for Recorder<W> {
     ghost use Rattle.std.specs.Prelude.{◌≤◌};
     ghost use Rattle.proxy_script.specs.declared.limits.TheConstants.{MOST_SCRIPT_BYTES};
-    ghost use Rattle.proxy_record.specs.Records.{Record};
+    ghost use Rattle.proxy_record.specs.Records.{RecordSoFar};
 
-    ghost Value = { Record };
+    ghost Value = { RecordSoFar };
 
     ghost view = { λ r. record { held = W.contents r.writer; len = r.len; moment = r.moment; over = r.over } };
 
@@ -78,7 +78,7 @@ fn text_of_items(
     happening: Happening<'_>,
 ) -> Result<Vec<u8>, AllocError>
     ensures { IfOk result (λ text. text.items ≡ text_of_items
-        (items_of_happening last now (plain_happening happening.entry))) }
+        (items_of_happening last now (model_of_happening happening.entry))) }
 {
     let mut happens = item_text(alloc, Item::Happens(happening))?;
     if now == last {
@@ -139,7 +139,7 @@ impl<W: Write + Drop> Recorder<W> {
 
     /// Records what happens at a moment, unless the record has ended or ends here.
     pub fn happens(&mut self, now: u64, happening: Happening<'_>) -> Result<(), RecordFault>
-        ensures { OnOk result (HappeningIsNoted self.old now (plain_happening happening.entry) self.new) }
+        ensures { OnOk result (HappeningIsRecorded self.old now (model_of_happening happening.entry) self.new) }
     {
         if self.over {
             return Ok(());

@@ -8,20 +8,21 @@
 ghost use Rattle.std.specs.Prelude.{◌≡◌, ◌≤◌, List, [], ◌∷◌, ◌++◌, length, IfOk, true, false, refl, Some, None};
 ghost use Rattle.std.specs.Prelude.{is_some, is_ok, not, ◌||◌, cond, option_map};
 ghost use Rattle.std.proofs.Common.{◌∙◌};
-ghost use Rattle.proxy_record.specs.Records.{Record};
-ghost use Rattle.proxy_record.specs.Recorded.{CallsArePassedOn, passed_on_joined, HappeningIfAnyIsNoted, TurnIsNoted};
+ghost use Rattle.proxy_record.specs.Records.{RecordSoFar};
+ghost use Rattle.proxy_record.specs.Recorded.{CallsArePassedOn, passed_on_calls_concatenate, HappeningIfAnyIsRecorded};
+ghost use Rattle.proxy_record.specs.Recorded.{TurnIsRecorded};
 ghost use Rattle.proxy_record.specs.Recorded.{is_recording, may_be_taken_while_recording};
-ghost use Rattle.proxy_record.specs.Recorded.{record_has_ended, record_ends};
-ghost use Rattle.proxy_record.specs.Recorded.{turn_is_noted_with_no_call, turn_is_noted_joined};
+ghost use Rattle.proxy_record.specs.Recorded.{record_has_ended, record_ended_if_any};
+ghost use Rattle.proxy_record.specs.Recorded.{turn_with_no_call_is_recorded, recorded_turns_concatenate};
 ghost use Rattle.proxy_record.specs.Recorded.{recording_had_not_failed};
-ghost use Rattle.proxy_script.specs.Happenings.{plain_happening};
+ghost use Rattle.proxy_script.specs.Happenings.{model_of_happening};
 ghost use Rattle.proxy_turn.specs.Calls.{Call, read_outcome_of};
 ghost use Rattle.proxy_turn.specs.Turn.{happening_of_read};
 ghost use Rattle.proxy_turn.specs.Counts.{CountRisesBy, failed};
-ghost use Rattle.proxy_reads.specs.Received.{FitsTheBuffer};
+ghost use Rattle.proxy_reads.specs.Received.{ReceivedBytesAreAtMostRoom};
 
 use crate::recorder::{RecordFault, Recorder};
-use hx_status::Replied;
+use hx_status::ReplyData;
 use proxy_script::Happening;
 use proxy_turn::{End, Received, SocketFailed, Sockets, happening_of_read};
 use std::io::Write;
@@ -53,8 +54,8 @@ fn note<W: Write + Drop>(
 ) -> bool
     ensures reported { result ≡ false → is_some fault.new ≡ true }
     ensures kept { is_some fault.old ≡ true → is_some fault.new ≡ true }
-    ensures noted { is_some fault.new ≡ false → HappeningIfAnyIsNoted now
-        (Some (plain_happening happening.entry)) recorder.old recorder.new }
+    ensures noted { is_some fault.new ≡ false → HappeningIfAnyIsRecorded now
+        (Some (model_of_happening happening.entry)) recorder.old recorder.new }
 {
     if let Some(recorder) = recorder {
         if let Err(e) = recorder.happens(now, happening) {
@@ -145,14 +146,14 @@ impl<K: Sockets + Drop, W: Write + Drop> Recording<K, W> {
     }
 
     /// Whether an end was passed over in this turn that may have something.
-    pub fn has_passed(&self) -> bool
+    pub fn has_skipped_an_end(&self) -> bool
         ensures { result ≡ self.now.passed }
     {
         self.passed
     }
 
     /// Whether something may still happen in this turn.
-    pub fn may_happen(&self) -> bool
+    pub fn may_take_a_happening(&self) -> bool
         ensures { result ≡ may_be_taken_while_recording (is_some self.now.fault) self.now.taken
             (is_recording self.now.recorder) }
     {
@@ -160,12 +161,12 @@ impl<K: Sockets + Drop, W: Write + Drop> Recording<K, W> {
     }
 
     /// Records what happens between two turns, as the one thing that happens.
-    pub fn note_between(&mut self, happening: Happening<'_>) -> bool
+    pub fn record_between_turns(&mut self, happening: Happening<'_>) -> bool
         ensures reported { result ≡ false → is_some self.new.fault ≡ true }
         ensures kept { is_some self.old.fault ≡ true → is_some self.new.fault ≡ true }
         ensures noted { is_some self.new.fault ≡ false
-            → HappeningIfAnyIsNoted self.old.moment
-            (Some (plain_happening happening.entry)) self.old.recorder self.new.recorder }
+            → HappeningIfAnyIsRecorded self.old.moment
+            (Some (model_of_happening happening.entry)) self.old.recorder self.new.recorder }
         ensures rest { self.new ≡ record self.old {
           recorder = self.new.recorder;
           fault = self.new.fault;
@@ -184,7 +185,7 @@ impl<K: Sockets + Drop, W: Write + Drop> Recording<K, W> {
         ensures exact { result ≡ not (may_be_taken_while_recording (is_some self.now.fault) self.now.taken
             (is_recording self.now.recorder)) }
     {
-        !self.may_happen()
+        !self.may_take_a_happening()
     }
 
     /// Passes on what a call answered. One that failed is counted, and the record ends there.
@@ -195,7 +196,8 @@ impl<K: Sockets + Drop, W: Write + Drop> Recording<K, W> {
         ensures accepts { self.new.accepts ≡ self.old.accepts }
         ensures reads { self.new.reads ≡ self.old.reads }
         ensures failures { CountRisesBy self.old.failures self.new.failures (failed done) }
-        ensures noted { self.new.recorder ≡ cond (is_ok done) self.old.recorder (record_ends self.old.recorder) }
+        ensures noted { self.new.recorder
+            ≡ cond (is_ok done) self.old.recorder (record_ended_if_any self.old.recorder) }
         ensures now { self.new.moment ≡ self.old.moment }
         ensures taken { self.new.taken ≡ self.old.taken }
     {
@@ -212,7 +214,7 @@ impl<K: Sockets + Drop, W: Write + Drop> Recording<K, W> {
 impl<K: Sockets + Drop, W: Write + Drop> Sockets for Recording<K, W> {
     ghost Did = { λ s made t. (is_some s.fault ≡ true → is_some t.fault ≡ true) × (below : List Call)
         × K.Did s.sockets below t.sockets × CallsArePassedOn (is_some t.fault) made below
-        × (is_some t.fault ≡ false → TurnIsNoted s.moment s.recorder s.taken made t.moment t.recorder t.taken)
+        × (is_some t.fault ≡ false → TurnIsRecorded s.moment s.recorder s.taken made t.moment t.recorder t.taken)
         × (t.moment ≡ s.moment) };
 
     ghost accepts = { λ s. s.accepts };
@@ -226,7 +228,7 @@ impl<K: Sockets + Drop, W: Write + Drop> Sockets for Recording<K, W> {
       [],
       K.none s.sockets,
       refl,
-      λ ok. turn_is_noted_with_no_call s.moment s.recorder s.taken,
+      λ ok. turn_with_no_call_is_recorded s.moment s.recorder s.taken,
       refl,
     ) };
 
@@ -235,9 +237,10 @@ impl<K: Sockets + Drop, W: Write + Drop> Sockets for Recording<K, W> {
       first.1
           ++ then.1,
       K.joined s.sockets t.sockets u.sockets first.1 then.1 first.2 then.2,
-      passed_on_joined (is_some t.fault)
+      passed_on_calls_concatenate (is_some t.fault)
           (is_some u.fault) a b first.1 then.1 then.0 first.3 then.3,
-      λ ok. turn_is_noted_joined s.moment t.moment u.moment s.recorder t.recorder u.recorder s.taken t.taken u.taken a b
+      λ ok. recorded_turns_concatenate s.moment t.moment u.moment s.recorder t.recorder u.recorder s.taken t.taken
+          u.taken a b
           (first.4 (recording_had_not_failed (is_some t.fault) (is_some u.fault) then.0 ok)) (then.4 ok),
       then.5
           ∙ first.5,
@@ -245,7 +248,7 @@ impl<K: Sockets + Drop, W: Write + Drop> Sockets for Recording<K, W> {
 
     fn accept(&mut self, n: u64) -> Result<bool, SocketFailed> {
         self.accepts = self.accepts.saturating_add(1);
-        if !self.may_happen() {
+        if !self.may_take_a_happening() {
             self.passed = true;
             return Ok(false);
         }
@@ -289,7 +292,7 @@ impl<K: Sockets + Drop, W: Write + Drop> Sockets for Recording<K, W> {
         &mut self,
         end: End,
         bytes: &[u8],
-        replied: Option<&Replied>,
+        replied: Option<&ReplyData>,
     ) -> Result<(), SocketFailed> {
         let written = self.sockets.write(end, bytes, replied);
         self.pass_on(written)

@@ -2,30 +2,30 @@
 use Rattle.std.proofs.Common.{◌≡◌, inl, inr, ℕ, ◌==◌, List, [], ◌∷◌, ◌++◌, refl, sym, ap, ◌∙◌, subst, arith, append-nil, append_assoc, Bool, true, false, Option, None, Some}
 use Rattle.std.specs.Prelude.{if◌then◌else◌}
 use Rattle.std.proofs.lemmas.Bool.Decides.{nat_tests}
-use Rattle.proxy_script.specs.Happenings.{PlainHappening as Happening}
-use Rattle.proxy_script.specs.Script.{PlainItem as Item, Moment, Happens}
+use Rattle.proxy_script.specs.Happenings.{HappeningModel as Happening}
+use Rattle.proxy_script.specs.Script.{ItemModel as Item, Moment, Happens}
 use Rattle.proxy_script.specs.declared.effect_list.Effect.{Effect}
 use Rattle.proxy_engine.specs.EngineModel.{EngineModel, model_after_happening}
 use Rattle.proxy_engine.specs.Due.{Act, IsDueFirst}
 use Rattle.proxy_engine.specs.Acts.{ActIsDone}
 use Rattle.proxy_engine.specs.Executions.{ActIsDoneInOneWay}
-use Rattle.proxy_replay.specs.Played.{DoneAct, ActsAreDoneInOrder, effects_of_acts, HappeningIsPlayed, PlayState, play_state_over, ItemIsPlayed, ItemsArePlayed}
+use Rattle.proxy_replay.specs.Played.{DoneActWithEffects, ActsAreDoneInOrder, effects_of_acts, HappeningIsPlayed, PlayState, play_state_over, ItemIsPlayed, ItemsArePlayed}
 use Rattle.proxy_replay.specs.Runs.{ScriptHasOnePlay}
-use Rattle.proxy_record.specs.Records.{NotedHappening, items_of_happening, items_of_noted}
-use Rattle.proxy_record_laws.specs.PlaysOfARecord.{ThePlayGoesOn}
+use Rattle.proxy_record.specs.Records.{RecordedHappening, items_of_happening, items_of_recorded}
+use Rattle.proxy_record_laws.specs.PlaysOfARecord.{AWholePlayExtendsThePlaySoFar}
 
 -- ---- items
 
 -- the moment behind what was noted
-abbrev pub moment_behind : ℕ → List NotedHappening → ℕ
+abbrev pub moment_behind : ℕ → List RecordedHappening → ℕ
 moment_behind m [] = m
 moment_behind m (one ∷ more) = moment_behind one.moment more
 
-pub items_joined : (m : ℕ) (xs ys : List NotedHappening) → items_of_noted m (xs ++ ys) ≡ items_of_noted m xs ++ items_of_noted (moment_behind m xs) ys
+pub items_joined : (m : ℕ) (xs ys : List RecordedHappening) → items_of_recorded m (xs ++ ys) ≡ items_of_recorded m xs ++ items_of_recorded (moment_behind m xs) ys
 items_joined m [] ys = refl
 items_joined m (one ∷ xs) ys =
     ap (λ (is : List Item). items_of_happening m one.moment one.happening ++ is) (items_joined one.moment xs ys)
-    ∙ sym (append_assoc (items_of_happening m one.moment one.happening) (items_of_noted one.moment xs) (items_of_noted (moment_behind one.moment xs) ys))
+    ∙ sym (append_assoc (items_of_happening m one.moment one.happening) (items_of_recorded one.moment xs) (items_of_recorded (moment_behind one.moment xs) ys))
 
 abbrev PlayedInTwo : List Item → List Item → PlayState → PlayState → List Effect → Type 0
 PlayedInTwo xs ys a c all = (mid : PlayState) × (one : List Effect) × (two : List Effect) × ItemsArePlayed a xs one mid × ItemsArePlayed mid ys two c × (all ≡ one ++ two)
@@ -84,12 +84,12 @@ play_one false b now h effects t is plays =
       refl,
     )
 
-pub now_behind : (xs : List NotedHappening) (a c : PlayState) (all : List Effect) → ItemsArePlayed a (items_of_noted a.now xs) all c → c.now ≡ moment_behind a.now xs
+pub now_behind : (xs : List RecordedHappening) (a c : PlayState) (all : List Effect) → ItemsArePlayed a (items_of_recorded a.now xs) all c → c.now ≡ moment_behind a.now xs
 now_behind [] a c all plays = ap (λ (m : PlayState). m.now) plays.1
 now_behind (one ∷ xs) a c all plays =
-    let parts = played_in_two (items_of_happening a.now one.moment one.happening) (items_of_noted one.moment xs) a c all plays in
+    let parts = played_in_two (items_of_happening a.now one.moment one.happening) (items_of_recorded one.moment xs) a c all plays in
     let here = one_played (one.moment == a.now) a parts.0 one.moment one.happening parts.1 (same_number one.moment a.now) parts.3 in
-    let behind : ItemsArePlayed parts.0 (items_of_noted parts.0.now xs) parts.2 c = subst (λ (n : ℕ). ItemsArePlayed parts.0 (items_of_noted n xs) parts.2 c) (sym here.1) parts.4 in
+    let behind : ItemsArePlayed parts.0 (items_of_recorded parts.0.now xs) parts.2 c = subst (λ (n : ℕ). ItemsArePlayed parts.0 (items_of_recorded n xs) parts.2 c) (sym here.1) parts.4 in
     now_behind xs parts.0 c parts.2 behind ∙ ap (λ (n : ℕ). moment_behind n xs) here.1
 
 -- ---- acts
@@ -97,17 +97,17 @@ now_behind (one ∷ xs) a c all plays =
 none_some : {P : Type 0} (act : Act) → ◌≡◌ {A = Option Act} None (Some act) → P
 none_some {P} act h = absurd (cc)
 
-abbrev IsPrefix : List DoneAct → List DoneAct → EngineModel → Type 0
+abbrev IsPrefix : List DoneActWithEffects → List DoneActWithEffects → EngineModel → Type 0
 IsPrefix xs ys last = (rest : List Effect) × (effects_of_acts ys ≡ effects_of_acts xs ++ rest) × (IsDueFirst last None → rest ≡ [])
 
 module _ (due : (s : EngineModel) → (a b : Option Act) → IsDueFirst s a → IsDueFirst s b → a ≡ b) where
   -- where nothing is due none is done
-  pub no_act : (xs : List DoneAct) (s : EngineModel) (now : ℕ) (t : EngineModel) → IsDueFirst s None → ActsAreDoneInOrder s now xs t → (xs ≡ []) × (t ≡ s)
+  pub no_act : (xs : List DoneActWithEffects) (s : EngineModel) (now : ℕ) (t : EngineModel) → IsDueFirst s None → ActsAreDoneInOrder s now xs t → (xs ≡ []) × (t ≡ s)
   no_act [] s now t none h = (refl, h)
   no_act (x ∷ xs) s now t none h = none_some x.act (due s None (Some x.act) none h.1)
 
   module _ (done : ActIsDoneInOneWay) where
-    prefix : (xs ys : List DoneAct) (s : EngineModel) (now : ℕ) (last u : EngineModel) → ActsAreDoneInOrder s now xs last → ActsAreDoneInOrder s now ys u → IsDueFirst u None → IsPrefix xs ys last
+    prefix : (xs ys : List DoneActWithEffects) (s : EngineModel) (now : ℕ) (last u : EngineModel) → ActsAreDoneInOrder s now xs last → ActsAreDoneInOrder s now ys u → IsDueFirst u None → IsPrefix xs ys last
     prefix [] ys s now last u h k j = (
       effects_of_acts ys,
       refl,
@@ -127,22 +127,22 @@ module _ (due : (s : EngineModel) → (a b : Option Act) → IsDueFirst s a → 
 
     -- ---- the play of all that was noted
 
-    pub play_goes_on : ScriptHasOnePlay → ThePlayGoesOn
+    pub play_goes_on : ScriptHasOnePlay → AWholePlayExtendsThePlaySoFar
     play_goes_on once table held serial all_noted effects all_effects last now end (inl yet) plays =
-        let none : ItemsArePlayed (play_state_over table held serial) [] all_effects end = subst (λ (ns : List NotedHappening). ItemsArePlayed (play_state_over table held serial) (items_of_noted 0 ns) all_effects end) yet.0 plays in
+        let none : ItemsArePlayed (play_state_over table held serial) [] all_effects end = subst (λ (ns : List RecordedHappening). ItemsArePlayed (play_state_over table held serial) (items_of_recorded 0 ns) all_effects end) yet.0 plays in
         (all_effects, ap (λ (es : List Effect). es ++ all_effects) (sym yet.1), λ due_none. none.0)
     play_goes_on once table held serial all_noted effects all_effects last now end (inr so_far) plays =
         let begin = play_state_over table held serial in
         let front = so_far.front in
         let one = so_far.one in
         let before = so_far.before in
-        let both : ItemsArePlayed begin (items_of_noted 0 front ++ items_of_noted (moment_behind 0 front) (one ∷ [])) all_effects end =
-        subst (λ (is : List Item). ItemsArePlayed begin is all_effects end) (ap (items_of_noted 0) so_far.noted_are ∙ items_joined 0 front (one ∷ [])) plays in
-        let parts = played_in_two (items_of_noted 0 front) (items_of_noted (moment_behind 0 front) (one ∷ [])) begin end all_effects both in
-        let same = once begin (items_of_noted 0 front) so_far.first parts.1 before parts.0 so_far.plays parts.3 in
+        let both : ItemsArePlayed begin (items_of_recorded 0 front ++ items_of_recorded (moment_behind 0 front) (one ∷ [])) all_effects end =
+        subst (λ (is : List Item). ItemsArePlayed begin is all_effects end) (ap (items_of_recorded 0) so_far.noted_are ∙ items_joined 0 front (one ∷ [])) plays in
+        let parts = played_in_two (items_of_recorded 0 front) (items_of_recorded (moment_behind 0 front) (one ∷ [])) begin end all_effects both in
+        let same = once begin (items_of_recorded 0 front) so_far.first parts.1 before parts.0 so_far.plays parts.3 in
         let now_is : before.now ≡ moment_behind 0 front = now_behind front begin before so_far.first so_far.plays in
-        let from : ItemsArePlayed before (items_of_noted (moment_behind 0 front) (one ∷ [])) parts.2 end = subst (λ (m : PlayState). ItemsArePlayed m (items_of_noted (moment_behind 0 front) (one ∷ [])) parts.2 end) (sym same.1) parts.4 in
-        let at_moment : ItemsArePlayed before (items_of_noted before.now (one ∷ [])) parts.2 end = subst (λ (n : ℕ). ItemsArePlayed before (items_of_noted n (one ∷ [])) parts.2 end) (sym now_is) from in
+        let from : ItemsArePlayed before (items_of_recorded (moment_behind 0 front) (one ∷ [])) parts.2 end = subst (λ (m : PlayState). ItemsArePlayed m (items_of_recorded (moment_behind 0 front) (one ∷ [])) parts.2 end) (sym same.1) parts.4 in
+        let at_moment : ItemsArePlayed before (items_of_recorded before.now (one ∷ [])) parts.2 end = subst (λ (n : ℕ). ItemsArePlayed before (items_of_recorded n (one ∷ [])) parts.2 end) (sym now_is) from in
         let alone : ItemsArePlayed before (items_of_happening before.now one.moment one.happening) parts.2 end =
         subst (λ (is : List Item). ItemsArePlayed before is parts.2 end) (append-nil (items_of_happening before.now one.moment one.happening)) at_moment in
         let played = (one_played (one.moment == before.now) before end one.moment one.happening parts.2 (same_number one.moment before.now) alone).0 in

@@ -6,7 +6,7 @@ use Rattle.std.proofs.lemmas.Bool.{false≢true, true≢false}
 use Rattle.hx_status.specs.declared.cause.FailKind.{FailKind}
 use Rattle.hx_status.specs.declared.cause.FailKind.TheVariants as kinds
 use Rattle.std.specs.declared.net.socket_addr.SocketAddrV4.{SocketAddrV4}
-use Rattle.proxy_script.specs.Happenings.{PlainHappening as Happening, Accepts}
+use Rattle.proxy_script.specs.Happenings.{HappeningModel as Happening, Accepts}
 use Rattle.proxy_script.specs.declared.effect_list.Effect.{Effect}
 use Rattle.proxy_script.specs.declared.effect_list.Effect.TheVariants as effects
 use Rattle.proxy_engine.specs.EngineModel.{EngineModel, new_connection_model, model_after_happening, happening_fault}
@@ -15,14 +15,14 @@ use Rattle.proxy_engine.specs.Reading.{failed_links}
 use Rattle.proxy_engine.specs.declared.work.End.{End}
 use Rattle.proxy_replay.specs.Played.{ActsAreDoneInOrder}
 use Rattle.proxy_turn.specs.Calls.{Call, AcceptOutcome, Came, NoneCame, Failed}
-use Rattle.proxy_turn.specs.Turn.{HappeningIfAnyIsTaken, EndRead, ReadsAreTaken, EffectFate, Carried, Passed, Lost, EffectsAreCarriedOut, ActRound, ActsAreCarriedOut, happening_of_read, calls_of_reads, calls_of_failed_forward, calls_of_effect, calls_of_effects, calls_of_rounds}
-use Rattle.proxy_turn.specs.TurnSteps.{step_of_happening_if_any, steps_of_reads, steps_of_losses, steps_of_rounds}
-use Rattle.proxy_turn.specs.Over.{happening_of_answer, AcceptsAreTaken, calls_of_accepts}
-use Rattle.proxy_turn.specs.OverSteps.{steps_of_accepts, steps_of_turn_over}
-use Rattle.proxy_turn_laws.specs.ActsOfATurn.{EffectIsntLost, NothingIsLostAmid, done_acts_of, RoundsAreActsInOrder}
-use Rattle.proxy_record.specs.Recorded.{call_gave_something, AtMostOneThingIsTaken, NoEffectCallFailed}
+use Rattle.proxy_turn.specs.Turn.{HappeningIfAnyIsTaken, EndRead, ReadsAreTaken, EffectFate, Carried, Passed, Lost, EffectsAreCarriedOut, ActWithEffectFates, ActsAreCarriedOut, happening_of_read, calls_of_reads, calls_of_failed_forward, calls_of_effect, calls_of_effects, calls_of_rounds}
+use Rattle.proxy_turn.specs.TurnSteps.{step_of_happening_if_any, steps_of_reads, steps_of_lost_ends, steps_of_rounds}
+use Rattle.proxy_turn.specs.Over.{happening_of_accept_outcome, AcceptsAreTaken, calls_of_accepts}
+use Rattle.proxy_turn.specs.OverSteps.{steps_of_accepts, steps_of_turn_over_ends}
+use Rattle.proxy_turn_laws.specs.ActsOfATurn.{EffectDidNotFail, NoCallOfRoundsFailed, done_acts_of_rounds, RoundsAreActsInOrder}
+use Rattle.proxy_record.specs.Recorded.{call_gave_something, AtMostOneCallGaveSomething, NoEffectCallFailed}
 use Rattle.proxy_record.specs.RecordedTurns.{happening_as_list, happenings_of_steps}
-use Rattle.proxy_record_laws.specs.OneThing.{AtMostOneThingHappens, ATurnTakesOneThing, ATurnTakesNoSecondThing}
+use Rattle.proxy_record_laws.specs.OneThing.{AtMostOneHappeningIsTaken, ATurnTakesAtMostOneHappening, ATurnTakesNoSecondHappening}
 
 -- ---- at most one thing is taken
 
@@ -63,9 +63,9 @@ takes_one (Some h) taken s t free takes = inr (h, refl, free refl, takes.0, take
 -- ---- calls
 
 abbrev TakenInTwo : Bool → List Call → List Call → Bool → Type 0
-TakenInTwo taken a b later = (mid : Bool) × AtMostOneThingIsTaken taken a mid × AtMostOneThingIsTaken mid b later
+TakenInTwo taken a b later = (mid : Bool) × AtMostOneCallGaveSomething taken a mid × AtMostOneCallGaveSomething mid b later
 
-taken_in_two : (a b : List Call) (taken later : Bool) → AtMostOneThingIsTaken taken (a ++ b) later → TakenInTwo taken a b later
+taken_in_two : (a b : List Call) (taken later : Bool) → AtMostOneCallGaveSomething taken (a ++ b) later → TakenInTwo taken a b later
 taken_in_two [] b taken later h = (taken, refl, h)
 taken_in_two (c ∷ a) b taken later h =
     let rest = taken_in_two a b (cond (call_gave_something c) true taken) later h.1 in
@@ -79,7 +79,7 @@ none_failed_in_two (c ∷ a) b h = let rest = none_failed_in_two a b h.1 in ((h.
 
 abbrev happenings_of_accepts : ℕ → List AcceptOutcome → List Happening
 happenings_of_accepts n [] = []
-happenings_of_accepts n (a ∷ more) = happening_as_list (happening_of_answer n a) ++ happenings_of_accepts (n + 1) more
+happenings_of_accepts n (a ∷ more) = happening_as_list (happening_of_accept_outcome n a) ++ happenings_of_accepts (n + 1) more
 
 abbrev happenings_of_reads : List EndRead → List Happening
 happenings_of_reads [] = []
@@ -90,7 +90,7 @@ one_more s n is =
     let count = length-append s.connections (new_connection_model s.core.table.max_body ∷ []) in
     omega (arith, is, count)
 
-accepts_take : (most : ℕ) (accepts : List AcceptOutcome) (n : ℕ) (taken later : Bool) (s t : EngineModel) → n ≡ length s.connections + 1 → AcceptsAreTaken most s accepts t → AtMostOneThingIsTaken taken (calls_of_accepts n accepts) later
+accepts_take : (most : ℕ) (accepts : List AcceptOutcome) (n : ℕ) (taken later : Bool) (s t : EngineModel) → n ≡ length s.connections + 1 → AcceptsAreTaken most s accepts t → AtMostOneCallGaveSomething taken (calls_of_accepts n accepts) later
     → Takes taken s (happenings_of_accepts n accepts) t later
 accepts_take most [] n taken later s t is same some = inl (refl, same, some)
 accepts_take most (Came ∷ more) n taken later s t is takes some =
@@ -112,7 +112,7 @@ accepts_take most (Failed ∷ a ∷ more) n taken later s t is takes some = absu
     stopped (inl came) = absurd (cc)
     stopped (inr none) = absurd (cc)
 
-reads_take : (reads : List EndRead) (taken later : Bool) (s t : EngineModel) → ReadsAreTaken s reads t → AtMostOneThingIsTaken taken (calls_of_reads reads) later → Takes taken s (happenings_of_reads reads) t later
+reads_take : (reads : List EndRead) (taken later : Bool) (s t : EngineModel) → ReadsAreTaken s reads t → AtMostOneCallGaveSomething taken (calls_of_reads reads) later → Takes taken s (happenings_of_reads reads) t later
 reads_take [] taken later s t same some = inl (refl, same, some)
 reads_take (r ∷ rs) taken later s t takes some =
     let o = happening_of_read r.end r.given in
@@ -129,7 +129,7 @@ fine_forward l address bytes kinds.Closed h = true≢false h.1.0
 fine_forward l address bytes kinds.BadAnswer h = true≢false h.1.0
 fine_forward l address bytes kinds.TooLarge h = true≢false h.1.0
 
-fine_effect : (e : Effect) (f : EffectFate) → NoEffectCallFailed (calls_of_effect e f) → EffectIsntLost f
+fine_effect : (e : Effect) (f : EffectFate) → NoEffectCallFailed (calls_of_effect e f) → EffectDidNotFail f
 fine_effect e Carried h = tt
 fine_effect e Passed h = tt
 fine_effect (effects.Client n bytes replied) (Lost kind) h = true≢false h.0
@@ -137,7 +137,7 @@ fine_effect (effects.Close n) (Lost kind) h = true≢false h.0
 fine_effect (effects.Forward l address bytes) (Lost kind) h = fine_forward l address bytes kind h
 fine_effect (effects.Drop l) (Lost kind) h = true≢false h.0
 
-fine_effects : (es : List Effect) (fs : List EffectFate) (s : EngineModel) (gone : List End) (t : EngineModel) (more : List End) → EffectsAreCarriedOut s gone es fs t more → NoEffectCallFailed (calls_of_effects es fs) → AllByRecursion EffectIsntLost fs
+fine_effects : (es : List Effect) (fs : List EffectFate) (s : EngineModel) (gone : List End) (t : EngineModel) (more : List End) → EffectsAreCarriedOut s gone es fs t more → NoEffectCallFailed (calls_of_effects es fs) → AllByRecursion EffectDidNotFail fs
 fine_effects [] [] s gone t more out h = tt
 fine_effects [] (f ∷ fs) s gone t more out h = absurd out
 fine_effects (e ∷ es) [] s gone t more out h = absurd out
@@ -145,7 +145,7 @@ fine_effects (e ∷ es) (f ∷ fs) s gone t more out h =
     let both = none_failed_in_two (calls_of_effect e f) (calls_of_effects es fs) h in
     (fine_effect e f both.0, fine_effects es fs out.0 out.1 t more out.3 both.1)
 
-pub fine_rounds : (rs : List ActRound) (now : ℕ) (s : EngineModel) (gone : List End) (t : EngineModel) (more : List End) → ActsAreCarriedOut now s gone rs t more → NoEffectCallFailed (calls_of_rounds rs) → NothingIsLostAmid rs
+pub fine_rounds : (rs : List ActWithEffectFates) (now : ℕ) (s : EngineModel) (gone : List End) (t : EngineModel) (more : List End) → ActsAreCarriedOut now s gone rs t more → NoEffectCallFailed (calls_of_rounds rs) → NoCallOfRoundsFailed rs
 fine_rounds [] now s gone t more works h = tt
 fine_rounds (r ∷ rs) now s gone t more works h =
     let both = none_failed_in_two (calls_of_effects r.emitted r.fates) (calls_of_rounds rs) h in
@@ -181,11 +181,11 @@ effects_give [] fs = tt
 effects_give (e ∷ es) [] = tt
 effects_give (e ∷ es) (f ∷ fs) = none_given_joined (calls_of_effect e f) (calls_of_effects es fs) (effect_gives e f) (effects_give es fs)
 
-rounds_give : (rs : List ActRound) → AllByRecursion GivesNothing (calls_of_rounds rs)
+rounds_give : (rs : List ActWithEffectFates) → AllByRecursion GivesNothing (calls_of_rounds rs)
 rounds_give [] = tt
 rounds_give (r ∷ rs) = none_given_joined (calls_of_effects r.emitted r.fates) (calls_of_rounds rs) (effects_give r.emitted r.fates) (rounds_give rs)
 
-none_taken : (cs : List Call) (taken later : Bool) → AllByRecursion GivesNothing cs → AtMostOneThingIsTaken taken cs later → later ≡ taken
+none_taken : (cs : List Call) (taken later : Bool) → AllByRecursion GivesNothing cs → AtMostOneCallGaveSomething taken cs later → later ≡ taken
 none_taken [] taken later none some = some
 none_taken (c ∷ cs) taken later none some = none_taken cs (cond (call_gave_something c) true taken) later none.1 some.1 ∙ ap (λ (b : Bool). cond b true taken) none.0
 
@@ -198,45 +198,45 @@ took_one (Some h) past more = append_assoc (happenings_of_steps past) (h ∷ [])
 took_accepts : (accepts : List AcceptOutcome) (n : ℕ) (past : List ExecutionStep) → happenings_of_steps (steps_of_accepts n accepts past) ≡ happenings_of_steps past ++ happenings_of_accepts n accepts
 took_accepts [] n past = sym (append-nil (happenings_of_steps past))
 took_accepts (a ∷ more) n past =
-    took_accepts more (n + 1) (step_of_happening_if_any (happening_of_answer n a) past) ∙ took_one (happening_of_answer n a) past (happenings_of_accepts (n + 1) more)
+    took_accepts more (n + 1) (step_of_happening_if_any (happening_of_accept_outcome n a) past) ∙ took_one (happening_of_accept_outcome n a) past (happenings_of_accepts (n + 1) more)
 
 took_reads : (reads : List EndRead) (past : List ExecutionStep) → happenings_of_steps (steps_of_reads reads past) ≡ happenings_of_steps past ++ happenings_of_reads reads
 took_reads [] past = sym (append-nil (happenings_of_steps past))
 took_reads (r ∷ rs) past =
     took_reads rs (step_of_happening_if_any (happening_of_read r.end r.given) past) ∙ took_one (happening_of_read r.end r.given) past (happenings_of_reads rs)
 
-no_losses : (es : List Effect) (fs : List EffectFate) (past : List ExecutionStep) → AllByRecursion EffectIsntLost fs → steps_of_losses es fs past ≡ past
+no_losses : (es : List Effect) (fs : List EffectFate) (past : List ExecutionStep) → AllByRecursion EffectDidNotFail fs → steps_of_lost_ends es fs past ≡ past
 no_losses [] fs past fine = refl
 no_losses (e ∷ es) [] past fine = refl
 no_losses (e ∷ es) (Carried ∷ fs) past fine = no_losses es fs past fine.1
 no_losses (e ∷ es) (Passed ∷ fs) past fine = no_losses es fs past fine.1
 no_losses (e ∷ es) (Lost kind ∷ fs) past fine = absurd fine.0
 
-took_rounds : (now : ℕ) (rs : List ActRound) (past : List ExecutionStep) → NothingIsLostAmid rs → happenings_of_steps (steps_of_rounds now rs past) ≡ happenings_of_steps past
+took_rounds : (now : ℕ) (rs : List ActWithEffectFates) (past : List ExecutionStep) → NoCallOfRoundsFailed rs → happenings_of_steps (steps_of_rounds now rs past) ≡ happenings_of_steps past
 took_rounds now [] past fine = refl
 took_rounds now (r ∷ rs) past fine =
-    took_rounds now rs (steps_of_losses r.emitted r.fates (Worked now r.act r.emitted ∷ past)) fine.1 ∙ ap happenings_of_steps (no_losses r.emitted r.fates (Worked now r.act r.emitted ∷ past) fine.0)
+    took_rounds now rs (steps_of_lost_ends r.emitted r.fates (Worked now r.act r.emitted ∷ past)) fine.1 ∙ ap happenings_of_steps (no_losses r.emitted r.fates (Worked now r.act r.emitted ∷ past) fine.0)
 
 -- ---- the turn
 
-acts_behind : (taken later : Bool) (s read t : EngineModel) (now : ℕ) (hs : List Happening) (rs : List ActRound) → Takes taken s hs read later → ActsAreDoneInOrder read now (done_acts_of rs) t → AtMostOneThingHappens taken s now hs (done_acts_of rs) t later
+acts_behind : (taken later : Bool) (s read t : EngineModel) (now : ℕ) (hs : List Happening) (rs : List ActWithEffectFates) → Takes taken s hs read later → ActsAreDoneInOrder read now (done_acts_of_rounds rs) t → AtMostOneHappeningIsTaken taken s now hs (done_acts_of_rounds rs) t later
 acts_behind taken later s read t now hs rs (inl a) works =
-    inl (record { none = a.0; later_is = a.2; works = subst (λ (m : EngineModel). ActsAreDoneInOrder m now (done_acts_of rs) t) a.1 works })
+    inl (record { none = a.0; later_is = a.2; works = subst (λ (m : EngineModel). ActsAreDoneInOrder m now (done_acts_of_rounds rs) t) a.1 works })
 acts_behind taken later s read t now hs rs (inr a) works = inr (record {
   happening = a.0;
   one = a.1;
   first = a.2;
   later_is = a.5;
   free = a.3;
-  works = subst (λ (m : EngineModel). ActsAreDoneInOrder m now (done_acts_of rs) t) a.4 works;
+  works = subst (λ (m : EngineModel). ActsAreDoneInOrder m now (done_acts_of_rounds rs) t) a.4 works;
 })
 
-pub turn_takes_one_thing : RoundsAreActsInOrder → ATurnTakesOneThing
+pub turn_takes_one_thing : RoundsAreActsInOrder → ATurnTakesAtMostOneHappening
 turn_takes_one_thing in_order now bounds s given accepts reads rest rounds t taken later turn whole some =
     let number = length s.connections + 1 in
     let asked = calls_of_accepts number accepts in
     let read = calls_of_reads reads in
-    let fine : NothingIsLostAmid rounds =
+    let fine : NoCallOfRoundsFailed rounds =
     fine_rounds rounds now turn.read (failed_links turn.read) t turn.gone turn.works (none_failed_in_two read (calls_of_rounds rounds) (none_failed_in_two asked (read ++ calls_of_rounds rounds) whole).1).1 in
     let first = taken_in_two asked (read ++ calls_of_rounds rounds) taken later some in
     let second = taken_in_two read (calls_of_rounds rounds) first.0 later first.2 in
@@ -244,24 +244,24 @@ turn_takes_one_thing in_order now bounds s given accepts reads rest rounds t tak
     let came = accepts_take bounds.most_open accepts number taken first.0 s turn.begun refl turn.accepts_are first.1 in
     let gave = reads_take reads first.0 second.0 turn.begun turn.read turn.reads_are second.1 in
     let all = takes_joined taken first.0 second.0 s turn.begun turn.read (happenings_of_accepts number accepts) (happenings_of_reads reads) came gave in
-    let took : happenings_of_steps (steps_of_turn_over now s accepts reads rounds []) ≡ happenings_of_accepts number accepts ++ happenings_of_reads reads =
+    let took : happenings_of_steps (steps_of_turn_over_ends now s accepts reads rounds []) ≡ happenings_of_accepts number accepts ++ happenings_of_reads reads =
     took_rounds now rounds (steps_of_reads reads (steps_of_accepts number accepts [])) fine
     ∙ (took_reads reads (steps_of_accepts number accepts []) ∙ ap (λ (hs : List Happening). hs ++ happenings_of_reads reads) (took_accepts accepts number [])) in
-    let works : ActsAreDoneInOrder turn.read now (done_acts_of rounds) t = (in_order now turn.read t (failed_links turn.read) turn.gone rounds fine turn.works).0 in
-    let here : Takes taken s (happenings_of_steps (steps_of_turn_over now s accepts reads rounds [])) turn.read later =
+    let works : ActsAreDoneInOrder turn.read now (done_acts_of_rounds rounds) t = (in_order now turn.read t (failed_links turn.read) turn.gone rounds fine turn.works).0 in
+    let here : Takes taken s (happenings_of_steps (steps_of_turn_over_ends now s accepts reads rounds [])) turn.read later =
     subst (λ (hs : List Happening). Takes taken s hs turn.read later) (sym took)
     (subst (λ (b : Bool). Takes taken s (happenings_of_accepts number accepts ++ happenings_of_reads reads) turn.read b) (sym last) all) in
-    acts_behind taken later s turn.read t now (happenings_of_steps (steps_of_turn_over now s accepts reads rounds [])) rounds here works
+    acts_behind taken later s turn.read t now (happenings_of_steps (steps_of_turn_over_ends now s accepts reads rounds [])) rounds here works
 
-pub turn_takes_no_second_thing : RoundsAreActsInOrder → ATurnTakesNoSecondThing
+pub turn_takes_no_second_thing : RoundsAreActsInOrder → ATurnTakesNoSecondHappening
 turn_takes_no_second_thing in_order now bounds s given accepts reads rest rounds t taken later one other more turn whole some =
     let happens = turn_takes_one_thing in_order now bounds s given accepts reads rest rounds t taken later turn whole some in
-    (no_second (happenings_of_steps (steps_of_turn_over now s accepts reads rounds [])) happens, no_first (happenings_of_steps (steps_of_turn_over now s accepts reads rounds [])) happens)
+    (no_second (happenings_of_steps (steps_of_turn_over_ends now s accepts reads rounds [])) happens, no_first (happenings_of_steps (steps_of_turn_over_ends now s accepts reads rounds [])) happens)
   where
-    no_second : (hs : List Happening) → AtMostOneThingHappens taken s now hs (done_acts_of rounds) t later → hs ≢ one ∷ other ∷ more
+    no_second : (hs : List Happening) → AtMostOneHappeningIsTaken taken s now hs (done_acts_of_rounds rounds) t later → hs ≢ one ∷ other ∷ more
     no_second hs (inl a) are = let none : ◌≡◌ {A = List Happening} [] (one ∷ other ∷ more) = sym a.none ∙ are in absurd (cc)
     no_second hs (inr a) are = let single : a.happening ∷ [] ≡ one ∷ other ∷ more = sym a.one ∙ are in absurd (cc)
 
-    no_first : (hs : List Happening) → AtMostOneThingHappens taken s now hs (done_acts_of rounds) t later → taken ≡ true → hs ≢ one ∷ more
+    no_first : (hs : List Happening) → AtMostOneHappeningIsTaken taken s now hs (done_acts_of_rounds rounds) t later → taken ≡ true → hs ≢ one ∷ more
     no_first hs (inl a) is are = let none : ◌≡◌ {A = List Happening} [] (one ∷ more) = sym a.none ∙ are in absurd (cc)
     no_first hs (inr a) is are = false≢true (sym a.first ∙ is)

@@ -1,21 +1,23 @@
 //! Laws on what a server writes, and on what a replay of its record does.
-ghost use Rattle.proxy_record_laws.specs.LivesOfAServer.{AServerBegins, ANewServerBegins, ALifeIsExecuted};
-ghost use Rattle.proxy_record_laws.specs.LivesOfAServer.{ATurnIsLived, ASpentTurnIsLived};
+ghost use Rattle.proxy_record_laws.specs.LivesOfAServer.{AServerBegins, ANewServerBegins, ALifeIsAnExecution};
+ghost use Rattle.proxy_record_laws.specs.LivesOfAServer.{AServedTurnContinuesTheLife};
+ghost use Rattle.proxy_record_laws.specs.LivesOfAServer.{ATurnOutOfLinkNumbersContinuesTheLife};
 ghost use Rattle.proxy_record_laws.specs.LivesOfAServer.{ARecordedTurnWritesItsEffects};
 ghost use Rattle.proxy_record_laws.specs.LivesOfAServer.{ARecordReplaysWhatWasServed};
 ghost use Rattle.proxy_record_laws.specs.LivesOfAServer.{AnEndedRecordReplaysWhatWasServed};
 ghost use Rattle.proxy_record_laws.specs.MessagesOfAServer.{EachWriteOfAServerIsOneMessage};
 ghost use Rattle.proxy_record_laws.specs.MessagesOfAServer.{EachWriteOfALifeIsOneMessage};
 ghost use Rattle.proxy_record_laws.specs.MessagesOfAServer.{RepliesOfAServerFollowRequests};
-ghost use Rattle.proxy_record_laws.specs.OneThing.{ATurnTakesOneThing, ATurnTakesNoSecondThing};
-ghost use Rattle.proxy_record_laws.specs.PlaysOfARecord.{ATurnPlaysOn, ALossPlaysOn, ThePlayGoesOn};
+ghost use Rattle.proxy_record_laws.specs.OneThing.{ATurnTakesAtMostOneHappening, ATurnTakesNoSecondHappening};
+ghost use Rattle.proxy_record_laws.specs.PlaysOfARecord.{ATurnContinuesThePlay, AnEndLossContinuesThePlay};
+ghost use Rattle.proxy_record_laws.specs.PlaysOfARecord.{AWholePlayExtendsThePlaySoFar};
 
-use hx_allow::laws::a_table_is_read_in_one_way;
+use hx_allow::laws::reading_of_a_table_is_unique;
 use proxy_engine::laws::{an_act_is_done_in_one_way, one_act_is_due_first};
 use proxy_record::laws::{a_record_is_a_script, what_a_turn_takes_is_recorded};
 use proxy_replay::laws::a_script_has_one_play;
 use proxy_script::laws::items_are_found_as_they_are_spelled;
-use proxy_turn::laws::{engines_go_on, turns_are_executed};
+use proxy_turn::laws::{a_reachable_engine_stays_reachable, turns_execute_their_steps};
 use proxy_turn_laws::{
     a_turn_does_its_acts_in_order, a_turn_writes_its_effects, each_write_of_a_turn_is_one_message,
     replies_follow_requests,
@@ -23,28 +25,28 @@ use proxy_turn_laws::{
 
 /// A turn of whose calls one thing at most is taken, and none failed, takes it first, and then does acts one after
 /// another, each the first that was due: so as a script has a happening, and what is due behind it.
-pub fn a_turn_takes_one_thing()
-    ensures turn { ATurnTakesOneThing }
-    ensures second { ATurnTakesNoSecondThing }
+pub fn a_turn_takes_at_most_one_happening()
+    ensures turn { ATurnTakesAtMostOneHappening }
+    ensures second { ATurnTakesNoSecondHappening }
 {
     a_turn_does_its_acts_in_order();
 }
 
 /// The play of a record comes as far as the turns that were recorded, and the ends that were lost between them: all
 /// that was noted, each thing with what was due behind it at its moment, and of the last one as much as was done.
-pub fn a_record_is_played_on()
-    ensures turn { ATurnPlaysOn }
-    ensures loss { ALossPlaysOn }
+pub fn a_record_is_played_as_far_as_its_turns()
+    ensures turn { ATurnContinuesThePlay }
+    ensures loss { AnEndLossContinuesThePlay }
 {
     a_turn_does_its_acts_in_order();
     one_act_is_due_first();
-    turns_are_executed();
+    turns_execute_their_steps();
 }
 
 /// Whoever plays all that was noted has the effects of what was played of it so far first, in order, and then those of
 /// what was still due. Where nothing was due there are no others.
-pub fn a_play_of_a_record_goes_on()
-    ensures { ThePlayGoesOn }
+pub fn a_whole_play_extends_the_play_so_far()
+    ensures { AWholePlayExtendsThePlaySoFar }
 {
     a_script_has_one_play();
     one_act_is_due_first();
@@ -56,11 +58,11 @@ pub fn a_play_of_a_record_goes_on()
 pub fn a_server_lives_by_its_turns()
     ensures server { AServerBegins }
     ensures begins { ANewServerBegins }
-    ensures executed { ALifeIsExecuted }
-    ensures turn { ATurnIsLived }
-    ensures spent { ASpentTurnIsLived }
+    ensures executed { ALifeIsAnExecution }
+    ensures turn { AServedTurnContinuesTheLife }
+    ensures spent { ATurnOutOfLinkNumbersContinuesTheLife }
 {
-    engines_go_on();
+    a_reachable_engine_stays_reachable();
 }
 
 /// While a record is written, each turn of its server writes the effects of its acts: each reply to its client and each
@@ -70,8 +72,8 @@ pub fn a_recorded_turn_writes_its_effects()
 {
     a_turn_writes_its_effects();
     what_a_turn_takes_is_recorded();
-    turns_are_executed();
-    engines_go_on();
+    turns_execute_their_steps();
+    a_reachable_engine_stays_reachable();
 }
 
 /// Where a server that began with a record has served turns, a replay of the record writes what was served: the text of
@@ -87,10 +89,10 @@ pub fn a_record_replays_what_was_served()
     what_a_turn_takes_is_recorded();
     a_record_is_a_script();
     a_turn_does_its_acts_in_order();
-    turns_are_executed();
+    turns_execute_their_steps();
     one_act_is_due_first();
-    a_play_of_a_record_goes_on();
-    a_table_is_read_in_one_way();
+    a_whole_play_extends_the_play_so_far();
+    reading_of_a_table_is_unique();
     items_are_found_as_they_are_spelled();
 }
 
@@ -103,7 +105,7 @@ pub fn each_write_of_a_server_is_one_message()
     ensures life { EachWriteOfALifeIsOneMessage }
 {
     each_write_of_a_turn_is_one_message();
-    engines_go_on();
+    a_reachable_engine_stays_reachable();
     a_server_lives_by_its_turns();
 }
 

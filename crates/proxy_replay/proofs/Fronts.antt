@@ -3,19 +3,19 @@ use Rattle.std.proofs.Common.{◌≡◌, ◌≢◌, ℕ, ◌<◌, ◌==◌, List
 use Rattle.std.proofs.lemmas.List.{length-append}
 use Rattle.hx_fields.specs.declared.limits.TheConstants.{END_OF_TIME}
 use Rattle.hx_allow.specs.TableLines.{Table}
-use Rattle.hx_allow.specs.Tables.{BytesReadAs}
+use Rattle.hx_allow.specs.Tables.{BytesReadAsTable}
 use Rattle.hx_allow.specs.declared.config_faults.ConfigFault.{ConfigFault}
 use Rattle.hx_allow.specs.declared.config_faults.ConfigFault.TheVariants as config
 use Rattle.proxy_store_file.specs.declared.store_faults.StoreFault.{StoreFault}
 use Rattle.proxy_store_file.specs.declared.store_faults.StoreFault.TheVariants as store
 use Rattle.proxy_store_file.specs.Stores.{StoreReading}
 use Rattle.proxy_script.specs.ScriptLines.{is_config, line_text}
-use Rattle.proxy_script.specs.Script.{PlainItem as Item, item_spelling, line_of_item, block_of_item, ItemHasSpelling, ItemMayStandHere, ItemReading, Found, Cut, Wrong, leading_item}
+use Rattle.proxy_script.specs.Script.{ItemModel as Item, item_spelling, line_of_item, block_of_item, ItemHasSpelling, ItemIsAllowedAtPosition, ItemReading, Found, Cut, Wrong, leading_item}
 use Rattle.proxy_script.specs.Script as item
 use Rattle.proxy_script.proofs.ItemLaws.{item_found, item_again}
-use Rattle.proxy_replay.specs.Played.{moment_after}
-use Rattle.proxy_replay.specs.Replay.{BytesBeginWithItem, NoItemStandsInFront, ReplayEndsAt, ReplayFails}
-use Rattle.proxy_replay.specs.Steps.{replay_fault_of_config_fault, replay_fault_of_store_fault, TableIsReadFirst, TableIsNotRead, BeginningFails}
+use Rattle.proxy_replay.specs.Played.{moment_after_item}
+use Rattle.proxy_replay.specs.Replay.{BytesBeginWithItem, NoItemIsReadAtFront, ReplayEndsAtItemBoundary, ReplayFails}
+use Rattle.proxy_replay.specs.Steps.{replay_fault_of_config_fault, replay_fault_of_store_fault, TableIsReadFirst, TableIsNotRead, EngineBeginningFails}
 use Rattle.proxy_replay.specs.declared.replay_fault.ReplayFault.{ReplayFault}
 use Rattle.proxy_replay.specs.declared.replay_fault.ReplayFault.TheVariants as faults
 
@@ -32,7 +32,7 @@ found_by : (first : Bool) (rest : List ℕ) (h : Item) (more : List ℕ) → Byt
 found_by first rest h more represents = ap (leading_item first) represents.0 ∙ item_again first h more represents.1 represents.2
 
 -- where an item is wrong, none stands
-pub wrong_by : (first ended : Bool) (rest : List ℕ) → leading_item first rest ≡ Wrong → NoItemStandsInFront first ended rest
+pub wrong_by : (first ended : Bool) (rest : List ℕ) → leading_item first rest ≡ Wrong → NoItemIsReadAtFront first ended rest
 wrong_by first true rest e = (
   λ none. let cut : Wrong ≡ Cut = sym e ∙ (ap (leading_item first) none ∙ item_nil first) in cc,
   λ h more represents. let found : Wrong ≡ Found h more = sym e ∙ found_by first rest h more represents in cc,
@@ -40,15 +40,15 @@ wrong_by first true rest e = (
 wrong_by first false rest e = e
 
 -- nor where the script ends in the middle of one
-pub cut_by : (first : Bool) (rest : List ℕ) → leading_item first rest ≡ Cut → (rest ≡ [] → first ≡ true) → NoItemStandsInFront first true rest
+pub cut_by : (first : Bool) (rest : List ℕ) → leading_item first rest ≡ Cut → (rest ≡ [] → first ≡ true) → NoItemIsReadAtFront first true rest
 cut_by first rest e some = (some, λ h more represents. let found : Cut ≡ Found h more = sym e ∙ found_by first rest h more represents in cc)
 
 -- behind the table, where something is left
-pub short_by : (rest : List ℕ) (ended none : Bool) → ended ≡ true → none ≡ (length rest == 0) → none ≡ false → leading_item false rest ≡ Cut → NoItemStandsInFront false ended rest
+pub short_by : (rest : List ℕ) (ended none : Bool) → ended ≡ true → none ≡ (length rest == 0) → none ≡ false → leading_item false rest ≡ Cut → NoItemIsReadAtFront false ended rest
 short_by rest ended none whole is some cut =
-    subst (λ e. NoItemStandsInFront false e rest) (sym whole) (cut_by false rest cut (λ empty. sym some ∙ (is ∙ ap (λ (xs : List ℕ). length xs == 0) empty)))
+    subst (λ e. NoItemIsReadAtFront false e rest) (sym whole) (cut_by false rest cut (λ empty. sym some ∙ (is ∙ ap (λ (xs : List ℕ). length xs == 0) empty)))
 
-pub opens_by : (bytes rest text : List ℕ) (h : Item) (table : Table) → Found h rest ≡ leading_item true bytes → h ≡ item.Table text → BytesReadAs text (Ok table) → TableIsReadFirst bytes table rest
+pub opens_by : (bytes rest text : List ℕ) (h : Item) (table : Table) → Found h rest ≡ leading_item true bytes → h ≡ item.Table text → BytesReadAsTable text (Ok table) → TableIsReadFirst bytes table rest
 opens_by bytes rest text h table found is reads = record {
   text = text;
   represents = subst (λ h. BytesBeginWithItem true bytes h rest) is (item_found true bytes rest h (sym found));
@@ -56,14 +56,14 @@ opens_by bytes rest text h table found is reads = record {
 }
 
 -- a replay that ends in front of the table
-pub ends_first : (Opens : Table → StoreReading → Type 0) (P : Bool → List ℕ → ℕ → Type 0) (bytes : List ℕ) → P true bytes 1 → ReplayEndsAt Opens bytes [] P
+pub ends_first : (Opens : Table → StoreReading → Type 0) (P : Bool → List ℕ → ℕ → Type 0) (bytes : List ℕ) → P true bytes 1 → ReplayEndsAtItemBoundary Opens bytes [] P
 ends_first Opens P bytes holds = record { first = true; rest = bytes; line = 1; effects = []; reaches = (refl, refl, refl); emitted = refl; holds = holds }
 
-refused_with : (bytes rest text : List ℕ) (ended : Bool) (fault : ConfigFault) → BytesBeginWithItem true bytes (item.Table text) rest → ((◌≢◌ {A = Result Table ConfigFault} (Err fault) (Err config.OutOfMemory)) → BytesReadAs text (Err fault)) → TableIsNotRead bytes ended (replay_fault_of_config_fault fault)
+refused_with : (bytes rest text : List ℕ) (ended : Bool) (fault : ConfigFault) → BytesBeginWithItem true bytes (item.Table text) rest → ((◌≢◌ {A = Result Table ConfigFault} (Err fault) (Err config.OutOfMemory)) → BytesReadAsTable text (Err fault)) → TableIsNotRead bytes ended (replay_fault_of_config_fault fault)
 refused_with bytes rest text ended config.OutOfMemory represents reads = tt
 refused_with bytes rest text ended fault represents reads = (text, rest, represents, reads (λ e. cc))
 
-pub refused_by : (bytes rest text : List ℕ) (ended : Bool) (h : Item) (fault : ConfigFault) → Found h rest ≡ leading_item true bytes → h ≡ item.Table text → ((◌≢◌ {A = Result Table ConfigFault} (Err fault) (Err config.OutOfMemory)) → BytesReadAs text (Err fault)) → TableIsNotRead bytes ended (replay_fault_of_config_fault fault)
+pub refused_by : (bytes rest text : List ℕ) (ended : Bool) (h : Item) (fault : ConfigFault) → Found h rest ≡ leading_item true bytes → h ≡ item.Table text → ((◌≢◌ {A = Result Table ConfigFault} (Err fault) (Err config.OutOfMemory)) → BytesReadAsTable text (Err fault)) → TableIsNotRead bytes ended (replay_fault_of_config_fault fault)
 refused_by bytes rest text ended h fault found is reads =
     refused_with bytes rest text ended fault (subst (λ h. BytesBeginWithItem true bytes h rest) is (item_found true bytes rest h (sym found))) reads
 
@@ -82,11 +82,11 @@ pub other_by : (bytes rest : List ℕ) (h : Item) → Found h rest ≡ leading_i
 other_by bytes rest h found other = let placed = item_found true bytes rest h (sym found) in let same : true ≡ false = sym placed.2 ∙ other in cc
 
 -- the moment stays below the end of moments
-pub moment_fits : (now : ℕ) (h : Item) → now < END_OF_TIME → ItemHasSpelling h → moment_after now h < END_OF_TIME
+pub moment_fits : (now : ℕ) (h : Item) → now < END_OF_TIME → ItemHasSpelling h → moment_after_item now h < END_OF_TIME
 moment_fits now (item.Moment m) before fits = fits
 moment_fits now h before fits = before
 
 -- a replay whose store is refused
-pub store_refused : (Opens : Table → StoreReading → Type 0) (table : Table) (fault : StoreFault) → Opens table (Err fault) → BeginningFails Opens table (replay_fault_of_store_fault fault)
+pub store_refused : (Opens : Table → StoreReading → Type 0) (table : Table) (fault : StoreFault) → Opens table (Err fault) → EngineBeginningFails Opens table (replay_fault_of_store_fault fault)
 store_refused Opens table store.OutOfMemory refused = λ bytes rest ended opens. ends_first Opens _ bytes tt
 store_refused Opens table fault refused = λ bytes rest ended opens. (opens.text, rest, table, opens.represents, opens.reads, refused, refl)

@@ -3,12 +3,12 @@ use Rattle.std.proofs.Common.{◌≡◌, ℕ, List, [], ◌∷◌, ◌++◌, fal
 use Rattle.std.proofs.lemmas.Bool.{false≢true}
 use Rattle.proxy_script.specs.Script.{IsScript}
 use Rattle.proxy_script.specs.Effects.{effects_text}
-use Rattle.proxy_replay.specs.Replay.{opens_empty, BytesLeadToWhere, IsReplayed, ReplayHasOneText}
-use Rattle.proxy_replay.specs.OneReplay.{ReplayHasNoOtherText, NoWholeReplayBeforeTheEnd, NoReadFaultAtTheEnd, NothingIsWrittenForARefusedTable}
+use Rattle.proxy_replay.specs.Replay.{OpensEmptyStore, ScriptBytesLeadToStateWhere, IsReplayedOverEmptyStore, ReplayHasOneText}
+use Rattle.proxy_replay.specs.OneReplay.{WholeReplayHasOnlyThatText, NoWholeReplayBeforeTheEnd, NoReadFaultAtTheEnd, NothingIsWrittenForARefusedTable}
 use Rattle.proxy_replay.proofs.Playing.{begins_empty, runs_empty}
 
 -- bytes that lead to their end are a script
-replayed : (script written : List ℕ) → BytesLeadToWhere opens_empty script (λ items rest effects last. (rest ≡ []) × (written ≡ effects_text effects)) → IsReplayed script written
+replayed : (script written : List ℕ) → ScriptBytesLeadToStateWhere OpensEmptyStore script (λ items rest effects last. (rest ≡ []) × (written ≡ effects_text effects)) → IsReplayedOverEmptyStore script written
 replayed script written to =
     let whole : script ≡ to.leads.front = to.leads.bytes_are ∙ ap (λ (z : List ℕ). to.leads.front ++ z) to.holds.0 ∙ append-nil to.leads.front in
     record {
@@ -24,7 +24,7 @@ replayed script written to =
       emitted = to.holds.1;
     }
 
-pub no_other_text : ReplayHasOneText → ReplayHasNoOtherText
+pub no_other_text : ReplayHasOneText → WholeReplayHasOnlyThatText
 no_other_text one script written other h differ k = differ (one [] 1 script written other (replayed script written h.1) (replayed script other k.1))
 
 pub not_before_its_end : NoWholeReplayBeforeTheEnd

@@ -4,18 +4,18 @@ use Rattle.std.specs.Prelude.{nat_lt, nat_le}
 use Rattle.std.proofs.lemmas.Bool.{cases_lt, cases_Bool}
 use Rattle.std.proofs.lemmas.Bool.Decides.{nat_tests}
 use Rattle.std.proofs.lemmas.List.{append_assoc}
-use Rattle.proxy_script.specs.Script.{PlainItem as Item}
+use Rattle.proxy_script.specs.Script.{ItemModel as Item}
 use Rattle.proxy_script.specs.Script as item
 use Rattle.proxy_script.specs.declared.effect_list.Effect.{Effect}
 use Rattle.proxy_script.specs.declared.effect_list.Effect.TheVariants as effects
-use Rattle.proxy_engine.specs.Happenings.{PlainHappening as Happening, Leaves}
+use Rattle.proxy_engine.specs.Happenings.{HappeningModel as Happening, Leaves}
 use Rattle.proxy_engine.specs.Happenings as happening
 use Rattle.proxy_engine.specs.EngineModel.{EngineModel, ConnectionModel, LinkModel, model_after_happening, connection_at, link_at, no_connection, no_link, connection_after_disconnect, connection_fault, happening_fault}
 use Rattle.proxy_engine.specs.Acts.{next_link_number}
 use Rattle.proxy_engine.specs.Drops.{link_dropped_by_effect, EffectsDropNoLink, ActHasFewEffects, EachDroppedLinkIsEmitted, HappeningsDropNoLink}
-use Rattle.proxy_engine.specs.Orderly.{ModelIsOrderly, ConnectionIsOpen, ConnectionHasClosed, LinkIsDropped, EffectsNameOpenEnds, EndedStaysEnded, HappeningKeepsOrder, ActKeepsOrder, HappeningKeepsEnded, ActKeepsEnded}
-use Rattle.proxy_replay.specs.Played.{DoneAct, ActsAreDoneInOrder, effects_of_acts, PlayState, ItemsArePlayed, HappeningIfAnyIsPlayed, happening_of_item}
-use Rattle.proxy_replay.specs.Closes.{client_named_by_effect, link_named_by_effect, client_closed_by_effect, EffectsNeverName, EffectEndsWhatItNames, EffectsDropLink}
+use Rattle.proxy_engine.specs.Orderly.{ModelIsConsistent, ConnectionIsOpen, ConnectionHasClosed, LinkIsDropped, EffectsNameOpenEnds, EndedEndsStayEnded, HappeningKeepsModelConsistent, ActKeepsModelConsistent, EndedEndsStayEndedAfterHappening, EndedEndsStayEndedAfterAct}
+use Rattle.proxy_replay.specs.Played.{DoneActWithEffects, ActsAreDoneInOrder, effects_of_acts, PlayState, ItemsArePlayed, HappeningIfAnyIsPlayed, happening_of_item}
+use Rattle.proxy_replay.specs.Closes.{client_named_by_effect, link_named_by_effect, client_closed_by_effect, EffectsNeverName, NothingIsNamedAfterItsEnd, EffectsDropLink}
 use Rattle.proxy_replay.proofs.Behind.{IsAct, item_orderly, works_over, works_unnamed, plays_unnamed, plays_end}
 
 -- ---- connections
@@ -41,7 +41,7 @@ open_within s i h = by_order (cases_lt i (length s.connections))
     by_order (inl l) = l
     by_order (inr l) = let shut : (connection_at s i).closed ≡ true = ap (λ (c : ConnectionModel). c.closed) (beyond s.connections i l) in cc
 
-shut_later : (s t : EngineModel) (n : ℕ) → EndedStaysEnded s t → IsShut s n → IsShut t n
+shut_later : (s t : EngineModel) (n : ℕ) → EndedEndsStayEnded s t → IsShut s n → IsShut t n
 shut_later s t n stays h = record { place = h.place; number = h.number; within = omega (arith, h.within, stays.connections); over = by_way h.over }
   where
     by_way : ((connection_at s h.place).closed ≡ true) ⊎ ((connection_at s h.place).gone ≡ true) → ((connection_at t h.place).closed ≡ true) ⊎ ((connection_at t h.place).gone ≡ true)
@@ -69,8 +69,8 @@ shut_unnamed : (s after : EngineModel) (emitted : List Effect) (n : ℕ) → IsA
 shut_unnamed s after emitted n a shut = names_no_shut s after emitted n a.names shut
 
 -- an act that closes, and what is told behind it
-close_ends : (s after : EngineModel) (emitted rest : List Effect) → EffectsNameOpenEnds s after emitted → EndedStaysEnded s after → ((n : ℕ) → IsShut after n → EffectsNeverName client_named_by_effect n rest) → EffectEndsWhatItNames client_closed_by_effect client_named_by_effect rest →
-    EffectEndsWhatItNames client_closed_by_effect client_named_by_effect (emitted ++ rest)
+close_ends : (s after : EngineModel) (emitted rest : List Effect) → EffectsNameOpenEnds s after emitted → EndedEndsStayEnded s after → ((n : ℕ) → IsShut after n → EffectsNeverName client_named_by_effect n rest) → NothingIsNamedAfterItsEnd client_closed_by_effect client_named_by_effect rest →
+    NothingIsNamedAfterItsEnd client_closed_by_effect client_named_by_effect (emitted ++ rest)
 close_ends s after [] rest h stays behind ending = ending
 close_ends s after (effects.Client m bytes replied ∷ emitted) rest h stays behind ending = (tt, close_ends s after emitted rest h.1 stays behind ending)
 close_ends s after (effects.Forward l address bytes ∷ emitted) rest h stays behind ending = (tt, close_ends s after emitted rest h.1 stays behind ending)
@@ -79,7 +79,7 @@ close_ends s after (effects.Close m ∷ emitted) rest h stays behind ending =
     let opened : ConnectionIsOpen s m = h.0 in
     let before : opened.place < length s.connections = open_within s opened.place opened.closed in
     let shut : IsShut after m = record { place = closed.0; number = closed.1; within = omega (arith, before, opened.number, closed.1, stays.connections); over = inl closed.2 } in
-    subst (λ (es : List Effect). EffectEndsWhatItNames client_closed_by_effect client_named_by_effect (effects.Close m ∷ (es ++ rest))) (sym h.2) (behind m shut, ending)
+    subst (λ (es : List Effect). NothingIsNamedAfterItsEnd client_closed_by_effect client_named_by_effect (effects.Close m ∷ (es ++ rest))) (sym h.2) (behind m shut, ending)
 close_ends s after (effects.Drop l ∷ emitted) rest h stays behind ending = (tt, close_ends s after emitted rest h.1 stays behind ending)
 
 -- the connection that goes away was accepted
@@ -104,7 +104,7 @@ pub record IsOver (s : EngineModel) (l : ℕ) : Type 0 where
   pub within : place < length s.links
   pub dropped : (link_at s place).dropped ≡ true
 
-over_later : (s t : EngineModel) (l : ℕ) → EndedStaysEnded s t → IsOver s l → IsOver t l
+over_later : (s t : EngineModel) (l : ℕ) → EndedEndsStayEnded s t → IsOver s l → IsOver t l
 over_later s t l stays h = record {
   place = h.place;
   number = h.number ∙ ap (λ n. n + h.place) (sym stays.first);
@@ -152,7 +152,7 @@ never_more : (n : ℕ) (xs ys : List Effect) → EffectsNeverName link_named_by_
 never_more n [] ys h k = k
 never_more n (x ∷ xs) ys h k = (h.0, never_more n xs ys h.1 k)
 
-plain_ends : (emitted rest : List Effect) → EffectsDropNoLink emitted → EffectEndsWhatItNames link_dropped_by_effect link_named_by_effect rest → EffectEndsWhatItNames link_dropped_by_effect link_named_by_effect (emitted ++ rest)
+plain_ends : (emitted rest : List Effect) → EffectsDropNoLink emitted → NothingIsNamedAfterItsEnd link_dropped_by_effect link_named_by_effect rest → NothingIsNamedAfterItsEnd link_dropped_by_effect link_named_by_effect (emitted ++ rest)
 plain_ends [] rest none ending = ending
 plain_ends (effects.Client m bytes replied ∷ emitted) rest none ending = (tt, plain_ends emitted rest none.1 ending)
 plain_ends (effects.Forward l address bytes ∷ emitted) rest none ending = (tt, plain_ends emitted rest none.1 ending)
@@ -160,7 +160,7 @@ plain_ends (effects.Close m ∷ emitted) rest none ending = (tt, plain_ends emit
 plain_ends (effects.Drop l ∷ emitted) rest none ending = let some : ◌≡◌ {A = Option ℕ} (Some l) None = none.0 in absurd (cc)
 
 -- an act that drops a link, and what is told behind it
-drop_ends : (s after : EngineModel) (emitted rest : List Effect) → IsAct s after emitted → ((n : ℕ) → IsOver after n → EffectsNeverName link_named_by_effect n rest) → EffectEndsWhatItNames link_dropped_by_effect link_named_by_effect rest → EffectEndsWhatItNames link_dropped_by_effect link_named_by_effect (emitted ++ rest)
+drop_ends : (s after : EngineModel) (emitted rest : List Effect) → IsAct s after emitted → ((n : ℕ) → IsOver after n → EffectsNeverName link_named_by_effect n rest) → NothingIsNamedAfterItsEnd link_dropped_by_effect link_named_by_effect rest → NothingIsNamedAfterItsEnd link_dropped_by_effect link_named_by_effect (emitted ++ rest)
 drop_ends s after [] rest a behind ending = ending
 drop_ends s after (effects.Client m bytes replied ∷ emitted) rest a behind ending = (tt, plain_ends emitted rest a.drops ending)
 drop_ends s after (effects.Forward l address bytes ∷ emitted) rest a behind ending = (tt, plain_ends emitted rest a.drops ending)
@@ -180,9 +180,9 @@ drop_ends s after (effects.Drop l ∷ emitted) rest a behind ending =
 
 -- ---- plays
 
-module _ (takes_order : HappeningKeepsOrder) (acts_order : ActKeepsOrder) (takes_stay : HappeningKeepsEnded) (acts_stay : ActKeepsEnded) (acts_short : ActHasFewEffects) where
-  pub nothing_follows_a_close : (a : PlayState) (items : List Item) (emitted : List Effect) (c : PlayState) → ItemsArePlayed a items emitted c → ModelIsOrderly a.model → EffectEndsWhatItNames client_closed_by_effect client_named_by_effect emitted
-  nothing_follows_a_close a items emitted c h o =
+module _ (takes_order : HappeningKeepsModelConsistent) (acts_order : ActKeepsModelConsistent) (takes_stay : EndedEndsStayEndedAfterHappening) (acts_stay : EndedEndsStayEndedAfterAct) (acts_short : ActHasFewEffects) where
+  pub no_effect_follows_a_close : (a : PlayState) (items : List Item) (emitted : List Effect) (c : PlayState) → ItemsArePlayed a items emitted c → ModelIsConsistent a.model → NothingIsNamedAfterItsEnd client_closed_by_effect client_named_by_effect emitted
+  no_effect_follows_a_close a items emitted c h o =
       plays_end takes_order acts_order takes_stay acts_stay acts_short client_named_by_effect IsShut shut_later shut_unnamed client_closed_by_effect
       (λ s after emitted rest a behind ending. close_ends s after emitted rest a.names a.stays behind ending) a items emitted c h o
 
@@ -208,8 +208,8 @@ module _ (takes_order : HappeningKeepsOrder) (acts_order : ActKeepsOrder) (takes
         emitted_is = h.5 ∙ (ap (λ (es : List Effect). h.1 ++ es) rest.emitted_is ∙ sym (append_assoc h.1 rest.before rest.behind));
       }
 
-  plays_orderly : (items : List Item) (a : PlayState) (emitted : List Effect) (c : PlayState) → ItemsArePlayed a items emitted c → ModelIsOrderly a.model → ModelIsOrderly c.model
-  plays_orderly [] a emitted c h o = subst (λ (x : PlayState). ModelIsOrderly x.model) (sym h.1) o
+  plays_orderly : (items : List Item) (a : PlayState) (emitted : List Effect) (c : PlayState) → ItemsArePlayed a items emitted c → ModelIsConsistent a.model → ModelIsConsistent c.model
+  plays_orderly [] a emitted c h o = subst (λ (x : PlayState). ModelIsConsistent x.model) (sym h.1) o
   plays_orderly (item ∷ items) a emitted c h o =
       plays_orderly items h.0 h.2 c h.4 (item_orderly takes_order acts_order takes_stay acts_stay acts_short a.model h.0.now (happening_of_item item) h.1 h.0.model h.3.happened o)
 
@@ -236,9 +236,9 @@ module _ (takes_order : HappeningKeepsOrder) (acts_order : ActKeepsOrder) (takes
       by_closed true e same = inl (ap (λ (c : ConnectionModel). c.closed) same ∙ ap (λ b. (cond b (connection_at s (n - 1)) (record (connection_at s (n - 1)) { gone = true })).closed) e ∙ e)
       by_closed false e same = inr (ap (λ (c : ConnectionModel). c.gone) same ∙ ap (λ b. (cond b (connection_at s (n - 1)) (record (connection_at s (n - 1)) { gone = true })).gone) e)
 
-  pub nothing_follows_a_gone : (a : PlayState) (items more : List Item) (n : ℕ) (emitted : List Effect) (c : PlayState) → ItemsArePlayed a (items ++ item.Happens (Leaves n) ∷ more) emitted c → ModelIsOrderly a.model →
+  pub no_effect_follows_a_gone_client : (a : PlayState) (items more : List Item) (n : ℕ) (emitted : List Effect) (c : PlayState) → ItemsArePlayed a (items ++ item.Happens (Leaves n) ∷ more) emitted c → ModelIsConsistent a.model →
       (before behind : List Effect) × (there : PlayState) × ItemsArePlayed a items before there × (emitted ≡ before ++ behind) × EffectsNeverName client_named_by_effect n behind
-  nothing_follows_a_gone a items more n emitted c h o =
+  no_effect_follows_a_gone_client a items more n emitted c h o =
       let p = parted items (item.Happens (Leaves n) ∷ more) a emitted c h in
       let orderly = plays_orderly items a p.before p.there p.plays o in
       let one = p.others.3.happened in
@@ -261,7 +261,7 @@ module _ (takes_order : HappeningKeepsOrder) (acts_order : ActKeepsOrder) (takes
       both n [] ys h k = k
       both n (x ∷ xs) ys h k = (h.0, both n xs ys h.1 k)
 
-  pub each_ends_with_its_drop : (a : PlayState) (items : List Item) (emitted : List Effect) (c : PlayState) → ItemsArePlayed a items emitted c → ModelIsOrderly a.model → EffectEndsWhatItNames link_dropped_by_effect link_named_by_effect emitted
+  pub each_ends_with_its_drop : (a : PlayState) (items : List Item) (emitted : List Effect) (c : PlayState) → ItemsArePlayed a items emitted c → ModelIsConsistent a.model → NothingIsNamedAfterItsEnd link_dropped_by_effect link_named_by_effect emitted
   each_ends_with_its_drop a items emitted c h o =
       plays_end takes_order acts_order takes_stay acts_stay acts_short link_named_by_effect IsOver over_later over_unnamed link_dropped_by_effect drop_ends a items emitted c h o
 
@@ -296,7 +296,7 @@ as_many s (happening.Overdues n) = refl
 as_many s (happening.Shuts l) = set_many s.links (l - s.first) _
 as_many s (happening.Fails l kind) = set_many s.links (l - s.first) _
 
-module _ (takes_stay : HappeningKeepsEnded) (acts_stay : ActKeepsEnded) (acts_emit : EachDroppedLinkIsEmitted) (takes_none : HappeningsDropNoLink) where
+module _ (takes_stay : EndedEndsStayEndedAfterHappening) (acts_stay : EndedEndsStayEndedAfterAct) (acts_emit : EachDroppedLinkIsEmitted) (takes_none : HappeningsDropNoLink) where
   -- a link that is dropped in the end was dropped before, or that is told
   abbrev Writes : EngineModel → EngineModel → List Effect → Type 0
   Writes s t emitted = (j : ℕ) → IsLost t j → IsLost s j ⊎ EffectsDropLink (s.first + j) emitted
@@ -306,7 +306,7 @@ module _ (takes_stay : HappeningKeepsEnded) (acts_stay : ActKeepsEnded) (acts_em
     writes : Writes s t emitted
     first : t.first ≡ s.first
 
-  numbered_works : (done_acts : List DoneAct) (s : EngineModel) (now : ℕ) (t : EngineModel) → ActsAreDoneInOrder s now done_acts t → Numbered s t (effects_of_acts done_acts)
+  numbered_works : (done_acts : List DoneActWithEffects) (s : EngineModel) (now : ℕ) (t : EngineModel) → ActsAreDoneInOrder s now done_acts t → Numbered s t (effects_of_acts done_acts)
   numbered_works [] s now t h = record { writes = λ j d. inl (subst (λ (u : EngineModel). IsLost u j) h d); first = ap (λ (u : EngineModel). u.first) h }
   numbered_works (done_act ∷ done_acts) s now t h =
       let rest = numbered_works done_acts h.0 now t h.3 in
@@ -317,7 +317,7 @@ module _ (takes_stay : HappeningKeepsEnded) (acts_stay : ActKeepsEnded) (acts_em
       by_act j (inl before) = inl before
       by_act j (inr emitted) = inr (has_sooner (s.first + j) done_act.effects (effects_of_acts done_acts) ([], emitted.0, emitted.1))
 
-      by_rest : Numbered h.0 t (effects_of_acts done_acts) → EndedStaysEnded s h.0 → (j : ℕ) → IsLost h.0 j ⊎ EffectsDropLink (h.0.first + j) (effects_of_acts done_acts) → IsLost s j ⊎ EffectsDropLink (s.first + j) (done_act.effects ++ effects_of_acts done_acts)
+      by_rest : Numbered h.0 t (effects_of_acts done_acts) → EndedEndsStayEnded s h.0 → (j : ℕ) → IsLost h.0 j ⊎ EffectsDropLink (h.0.first + j) (effects_of_acts done_acts) → IsLost s j ⊎ EffectsDropLink (s.first + j) (done_act.effects ++ effects_of_acts done_acts)
       by_rest rest stays j (inl d) = by_act j (acts_emit s now done_act.act done_act.effects h.0 j h.2 d.0 d.1)
       by_rest rest stays j (inr emitted) =
           inr (has_later (s.first + j) done_act.effects (effects_of_acts done_acts) (has_same (s.first + j) (h.0.first + j) (effects_of_acts done_acts) (effects_of_acts done_acts) (ap (λ n. n + j) (sym stays.first)) refl emitted))
@@ -329,7 +329,7 @@ module _ (takes_stay : HappeningKeepsEnded) (acts_stay : ActKeepsEnded) (acts_em
       let stays = takes_stay s happening in
       record { writes = λ j d. by_works stays j (works.writes j d); first = works.first ∙ stays.first }
     where
-      by_works : EndedStaysEnded s (model_after_happening s happening) → (j : ℕ) → IsLost (model_after_happening s happening) j ⊎ EffectsDropLink ((model_after_happening s happening).first + j) (effects_of_acts h.done_acts) → IsLost s j ⊎ EffectsDropLink (s.first + j) emitted
+      by_works : EndedEndsStayEnded s (model_after_happening s happening) → (j : ℕ) → IsLost (model_after_happening s happening) j ⊎ EffectsDropLink ((model_after_happening s happening).first + j) (effects_of_acts h.done_acts) → IsLost s j ⊎ EffectsDropLink (s.first + j) emitted
       by_works stays j (inl d) = inl (same_links happening j d)
         where
           same_links : (happening : Happening) (j : ℕ) → IsLost (model_after_happening s happening) j → IsLost s j

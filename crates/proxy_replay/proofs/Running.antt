@@ -5,26 +5,26 @@ use Rattle.hx_allow.specs.TableLines.{Table}
 use Rattle.hx_store.specs.Stored.{Stored}
 use Rattle.proxy_core.proofs.Beginning.{nothing_stands}
 use Rattle.proxy_core.specs.State.{bounds_of}
-use Rattle.proxy_script.specs.Script.{PlainItem as Item}
+use Rattle.proxy_script.specs.Script.{ItemModel as Item}
 use Rattle.proxy_script.specs.declared.effect_list.Effect.{Effect}
-use Rattle.proxy_engine.specs.Beginnings.{MayBeHeldAtFirst, store_with}
-use Rattle.proxy_engine.specs.Happenings.{PlainHappening as Happening}
+use Rattle.proxy_engine.specs.Beginnings.{ResponsesMayBeHeldAtStart, store_holding}
+use Rattle.proxy_engine.specs.Happenings.{HappeningModel as Happening}
 use Rattle.proxy_engine.specs.EngineModel.{EngineModel, model_after_happening}
-use Rattle.proxy_engine.specs.Executions.{ExecutionStep, Took, Worked, StepsLead, effects_of_steps}
-use Rattle.proxy_engine.proofs.Living.{executions_are_runs}
-use Rattle.proxy_replay.specs.Played.{DoneAct, ActsAreDoneInOrder, effects_of_acts, PlayState, play_state_over, ItemsArePlayed, HappeningIfAnyIsPlayed, happening_of_item}
-use Rattle.proxy_replay.specs.Runs.{steps_of_acts, StepsFollowItem, StepsFollowItems, PlayIsAGoodRunOver}
+use Rattle.proxy_engine.specs.Executions.{ExecutionStep, Took, Worked, StepsLeadToModel, effects_of_steps}
+use Rattle.proxy_engine.proofs.Living.{core_steps_of_executions_are_good_runs}
+use Rattle.proxy_replay.specs.Played.{DoneActWithEffects, ActsAreDoneInOrder, effects_of_acts, PlayState, play_state_over, ItemsArePlayed, HappeningIfAnyIsPlayed, happening_of_item}
+use Rattle.proxy_replay.specs.Runs.{steps_of_acts, StepsFollowItem, StepsFollowItems, PlayIsAGoodRunOverAStore}
 
 module _ (begin : EngineModel) where
   -- steps that lead from the beginning, and what they told
   record Executed (steps : List ExecutionStep) (t : EngineModel) (emitted : List Effect) : Type 0 where
-    executes : StepsLead begin steps t
+    executes : StepsLeadToModel begin steps t
     emitted_is : effects_of_steps steps ≡ emitted
 
   same_end : (steps : List ExecutionStep) (s t : EngineModel) (emitted more : List Effect) → t ≡ s → more ≡ emitted → Executed steps s emitted → Executed steps t more
-  same_end steps s t emitted more e m h = record { executes = subst (λ (u : EngineModel). StepsLead begin steps u) (sym e) h.executes; emitted_is = h.emitted_is ∙ sym m }
+  same_end steps s t emitted more e m h = record { executes = subst (λ (u : EngineModel). StepsLeadToModel begin steps u) (sym e) h.executes; emitted_is = h.emitted_is ∙ sym m }
 
-  works : (steps : List ExecutionStep) (s : EngineModel) (now : ℕ) (done_acts : List DoneAct) (t : EngineModel) (emitted : List Effect) → ActsAreDoneInOrder s now done_acts t → Executed steps s emitted → Executed (steps_of_acts now done_acts steps) t (emitted ++ effects_of_acts done_acts)
+  works : (steps : List ExecutionStep) (s : EngineModel) (now : ℕ) (done_acts : List DoneActWithEffects) (t : EngineModel) (emitted : List Effect) → ActsAreDoneInOrder s now done_acts t → Executed steps s emitted → Executed (steps_of_acts now done_acts steps) t (emitted ++ effects_of_acts done_acts)
   works steps s now [] t emitted h executed = same_end steps s t emitted (emitted ++ []) h (append-nil emitted) executed
   works steps s now (done_act ∷ done_acts) t emitted h executed =
       let one : Executed (Worked now done_act.act done_act.effects ∷ steps) h.0 (emitted ++ done_act.effects) = record {
@@ -83,7 +83,7 @@ module _ (begin : EngineModel) where
         executed = same_end rest.steps last.model last.model ((emitted ++ h.1) ++ h.2) (emitted ++ effects) refl (ap (λ (es : List Effect). emitted ++ es) h.5 ∙ sym (append_assoc emitted h.1 h.2)) rest.executed;
       }
 
-pub plays_run : (table : Table) (held : List Stored) (first : ℕ) (items : List Item) (effects : List Effect) (last : PlayState) → MayBeHeldAtFirst table held first → ItemsArePlayed (play_state_over table held first) items effects last → PlayIsAGoodRunOver table held first items effects last
+pub plays_run : (table : Table) (held : List Stored) (first : ℕ) (items : List Item) (effects : List Effect) (last : PlayState) → ResponsesMayBeHeldAtStart table held first → ItemsArePlayed (play_state_over table held first) items effects last → PlayIsAGoodRunOverAStore table held first items effects last
 plays_run table held first items effects last may h =
     let begin = (play_state_over table held first).model in
     let whole = plays begin items [] (play_state_over table held first) effects last [] h (record { executes = refl; emitted_is = refl }) in
@@ -92,9 +92,9 @@ plays_run table held first items effects last may h =
       follows = whole.follows;
       executes = whole.executed.executes;
       emitted = whole.executed.emitted_is;
-      run = executions_are_runs table (store_with table held) first 1 whole.steps last.model may whole.executed.executes;
+      run = core_steps_of_executions_are_good_runs table (store_holding table held) first 1 whole.steps last.model may whole.executed.executes;
     }
 
 -- over an empty store
-pub nothing_is_held : (table : Table) (first : ℕ) → MayBeHeldAtFirst table [] first
+pub nothing_is_held : (table : Table) (first : ℕ) → ResponsesMayBeHeldAtStart table [] first
 nothing_is_held table first = nothing_stands (bounds_of table table.capacity) first

@@ -8,7 +8,7 @@ script_limit = 16777216
 
 -- At most so many bytes were read, and some more only where they are too many. They ended where the reader is at its
 -- end.
-pub record ReaderGave (most : ℕ) (bytes : List ℕ) (ended : Bool) (old new : Option (List ℕ)) : Type 0 where
+pub record ReaderGaveAtMost (most : ℕ) (bytes : List ℕ) (ended : Bool) (old new : Option (List ℕ)) : Type 0 where
   pub over : List ℕ
   pub consumes : Consumes old new (bytes ++ over)
   pub few : length bytes ≤ most

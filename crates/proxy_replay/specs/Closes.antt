@@ -8,7 +8,7 @@
 use Rattle.std.specs.Prelude.{◌≡◌, ◌≢◌, ℕ, ◌+◌, ◌<◌, List, [], ◌∷◌, ◌++◌, length, true, Option, None, Some}
 use Rattle.std.specs.List.{AllByRecursion}
 use Rattle.hx_allow.specs.TableLines.{Table}
-use Rattle.proxy_script.specs.Script.{PlainItem as Item}
+use Rattle.proxy_script.specs.Script.{ItemModel as Item}
 use Rattle.proxy_script.specs.Script as item
 use Rattle.proxy_script.specs.Happenings as happening
 use Rattle.proxy_script.specs.declared.effect_list.Effect.{Effect}
@@ -40,21 +40,21 @@ client_closed_by_effect (effects.Drop l) = None
 abbrev pub EffectsNeverName : (Effect → Option ℕ) → ℕ → List Effect → Type 0
 EffectsNeverName of n emitted = AllByRecursion (λ (e : Effect). of e ≢ Some n) emitted
 
-abbrev pub EffectsNeverNameIt : (Effect → Option ℕ) → Option ℕ → List Effect → Type 0
-EffectsNeverNameIt of None emitted = Unit {0}
-EffectsNeverNameIt of (Some n) emitted = EffectsNeverName of n emitted
+abbrev pub EffectsNeverNameEndIfAny : (Effect → Option ℕ) → Option ℕ → List Effect → Type 0
+EffectsNeverNameEndIfAny of None emitted = Unit {0}
+EffectsNeverNameEndIfAny of (Some n) emitted = EffectsNeverName of n emitted
 
 -- behind an effect that ends one, none names it
-abbrev pub EffectEndsWhatItNames : (ends of : Effect → Option ℕ) → List Effect → Type 0
-EffectEndsWhatItNames ends of [] = Unit {0}
-EffectEndsWhatItNames ends of (e ∷ emitted) = EffectsNeverNameIt of (ends e) emitted
-    × EffectEndsWhatItNames ends of emitted
+abbrev pub NothingIsNamedAfterItsEnd : (ends of : Effect → Option ℕ) → List Effect → Type 0
+NothingIsNamedAfterItsEnd ends of [] = Unit {0}
+NothingIsNamedAfterItsEnd ends of (e ∷ emitted) = EffectsNeverNameEndIfAny of (ends e) emitted
+    × NothingIsNamedAfterItsEnd ends of emitted
 
 abbrev pub NoEffectFollowsItsClose : List Effect → Type 0
-NoEffectFollowsItsClose emitted = EffectEndsWhatItNames client_closed_by_effect client_named_by_effect emitted
+NoEffectFollowsItsClose emitted = NothingIsNamedAfterItsEnd client_closed_by_effect client_named_by_effect emitted
 
 abbrev pub NoEffectFollowsItsDrop : List Effect → Type 0
-NoEffectFollowsItsDrop emitted = EffectEndsWhatItNames link_dropped_by_effect link_named_by_effect emitted
+NoEffectFollowsItsDrop emitted = NothingIsNamedAfterItsEnd link_dropped_by_effect link_named_by_effect emitted
 
 -- what is told behind the items in front names no more the connection that then goes away
 pub record PlayIsSilentAboutGoneClient (table : Table) (items : List Item) (n : ℕ)
@@ -73,7 +73,7 @@ EffectsDropLink l emitted = (before behind : List Effect) × (emitted ≡ before
 -- each link that is dropped in the end has a drop, and behind that nothing names it
 pub record EachDroppedLinkIsNamedLast (emitted : List Effect) (last : EngineModel) : Type 0 where
   pub once : NoEffectFollowsItsDrop emitted
-  pub emitted_of_each : (j : ℕ) → j < length last.links → (link_at last j).dropped ≡ true
+  pub each_has_a_drop : (j : ℕ) → j < length last.links → (link_at last j).dropped ≡ true
       → EffectsDropLink (last.first + j) emitted
 
 -- ---- the statements

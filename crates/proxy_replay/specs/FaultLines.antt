@@ -1,6 +1,6 @@
 -- The line on standard error that names a fault, and the exit status.
 use Rattle.std.specs.Prelude.{ℕ, List, ◌++◌, map, ◌&&◌, nat_le, if◌then◌else◌, codes, decimal}
-use Rattle.hx_allow.specs.Keys.{key_text, word_key}
+use Rattle.hx_allow.specs.Keys.{key_text, key_of_line_option}
 use Rattle.hx_allow.specs.declared.config_faults.ConfigFault.{ConfigFault}
 use Rattle.hx_allow.specs.declared.config_faults.ConfigFault.TheVariants.{NotToml, UnknownKey, BadName, BadNumber}
 use Rattle.hx_allow.specs.declared.config_faults.ConfigFault.TheVariants.{BadHost}
@@ -35,7 +35,7 @@ config_fault_line (BadOrigin line) = codes "config fault 8 line " ++ decimal lin
 config_fault_line NoLines = codes "config fault 9"
 config_fault_line OutOfMemory = codes "no memory"
 config_fault_line (BadCache line) = codes "config fault 11 line " ++ decimal line
-config_fault_line (BadWord line word) = codes "config fault 12 line " ++ (decimal line ++ (codes " key " ++ word_key word))
+config_fault_line (BadWord line word) = codes "config fault 12 line " ++ (decimal line ++ (codes " key " ++ key_of_line_option word))
 config_fault_line (MethodInLowerCase line) = codes "config fault 13 line " ++ decimal line
 config_fault_line (StarInPath line) = codes "config fault 14 line " ++ decimal line
 

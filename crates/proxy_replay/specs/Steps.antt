@@ -2,29 +2,29 @@
 use Rattle.std.specs.Prelude.{◌≡◌, ℕ, List, [], take, Bool, true, false, Option, None, Some, Ok, Err}
 use Rattle.std.specs.Io.KnownBytes.{Appends}
 use Rattle.hx_allow.specs.TableLines.{Table}
-use Rattle.hx_allow.specs.Tables.{BytesReadAs}
+use Rattle.hx_allow.specs.Tables.{BytesReadAsTable}
 use Rattle.hx_allow.specs.declared.config_faults.ConfigFault.{ConfigFault}
 use Rattle.hx_allow.specs.declared.config_faults.ConfigFault.TheVariants as config
 use Rattle.hx_store.specs.Stored.{Stored}
 use Rattle.proxy_store_file.specs.declared.store_faults.StoreFault.{StoreFault}
 use Rattle.proxy_store_file.specs.declared.store_faults.StoreFault.TheVariants as store
 use Rattle.proxy_store_file.specs.Stores.{StoreReading}
-use Rattle.proxy_store_file.specs.Streams.{contents_of}
-use Rattle.proxy_script.specs.Script.{PlainItem as Item, Cut, leading_item}
+use Rattle.proxy_store_file.specs.Streams.{store_contents_of}
+use Rattle.proxy_script.specs.Script.{ItemModel as Item, Cut, leading_item}
 use Rattle.proxy_script.specs.Script as item
 use Rattle.proxy_script.specs.Effects.{effects_text}
 use Rattle.proxy_script.specs.declared.effect_list.Effect.{Effect}
-use Rattle.proxy_engine.specs.Beginnings.{MayBeHeldAtFirst}
-use Rattle.proxy_engine.specs.Happenings.{PlainHappening as Happening}
+use Rattle.proxy_engine.specs.Beginnings.{ResponsesMayBeHeldAtStart}
+use Rattle.proxy_engine.specs.Happenings.{HappeningModel as Happening}
 use Rattle.proxy_engine.specs.EngineModel.{EngineModel}
 use Rattle.proxy_engine.specs.Due.{IsDueFirst}
 use Rattle.proxy_engine.specs.State.{State, EngineRepresents}
 use Rattle.proxy_engine.specs.declared.work.EngineFault.{EngineFault}
 use Rattle.proxy_engine.specs.declared.work.EngineFault.TheVariants as engine
-use Rattle.proxy_replay.specs.Played.{DoneAct, ActsAreDoneInOrder}
+use Rattle.proxy_replay.specs.Played.{DoneActWithEffects, ActsAreDoneInOrder}
 use Rattle.proxy_replay.specs.Played.{effects_of_acts, HappeningIfAnyIsPlayed, play_state_over}
 use Rattle.proxy_replay.specs.Played.{EngineRefusesHappening}
-use Rattle.proxy_replay.specs.Replay.{BytesBeginWithItem, NoItemStandsInFront, ReplayFails}
+use Rattle.proxy_replay.specs.Replay.{BytesBeginWithItem, NoItemIsReadAtFront, ReplayFails}
 use Rattle.proxy_replay.specs.declared.replay_fault.ReplayFault.{ReplayFault}
 use Rattle.proxy_replay.specs.declared.replay_fault.ReplayFault.TheVariants as faults
 
@@ -50,13 +50,13 @@ replay_fault_of_store_fault fault = faults.Store fault
 pub record TableIsReadFirst (bytes : List ℕ) (table : Table) (rest : List ℕ) : Type 0 where
   pub text : List ℕ
   pub represents : BytesBeginWithItem true bytes (item.Table text) rest
-  pub reads : BytesReadAs text (Ok table)
+  pub reads : BytesReadAsTable text (Ok table)
 
 -- or it isn't, for this fault, whatever a store would hold
 abbrev pub TableIsNotRead : List ℕ → Bool → ReplayFault → Type 0
 TableIsNotRead bytes ended (faults.Config fault) =
-    (text rest : List ℕ) × BytesBeginWithItem true bytes (item.Table text) rest × BytesReadAs text (Err fault)
-TableIsNotRead bytes ended (faults.Line n) = NoItemStandsInFront true ended bytes × (n ≡ 1)
+    (text rest : List ℕ) × BytesBeginWithItem true bytes (item.Table text) rest × BytesReadAsTable text (Err fault)
+TableIsNotRead bytes ended (faults.Line n) = NoItemIsReadAtFront true ended bytes × (n ≡ 1)
 TableIsNotRead bytes ended faults.Read = (ended ≡ false) × (leading_item true bytes ≡ Cut)
 TableIsNotRead bytes ended faults.OutOfMemory = Unit {0}
 TableIsNotRead bytes ended (faults.Store fault) = ⊥
@@ -64,33 +64,34 @@ TableIsNotRead bytes ended (faults.Engine fault) = ⊥
 TableIsNotRead bytes ended faults.Write = ⊥
 
 -- an engine begins over a store that was opened so, by this table
-pub record EngineBegins (Opens : Table → StoreReading → Type 0) (table : Table) (e : State) : Type 0 where
+pub record EngineBeginsOverOpenedStore (Opens : Table → StoreReading
+    → Type 0) (table : Table) (e : State) : Type 0 where
   pub held : List Stored
   pub first : ℕ
-  pub opens : Opens table (Ok (contents_of held first))
-  pub may : MayBeHeldAtFirst table held first
+  pub opens : Opens table (Ok (store_contents_of held first))
+  pub may : ResponsesMayBeHeldAtStart table held first
   pub represents : EngineRepresents e (play_state_over table held first).model
 
 -- or it doesn't, wherever its table was read, for this fault
-abbrev pub BeginningFails : (Table → StoreReading → Type 0) → Table → ReplayFault → Type 0
-BeginningFails Opens table fault = (bytes rest : List ℕ) (ended : Bool) → TableIsReadFirst bytes table rest
+abbrev pub EngineBeginningFails : (Table → StoreReading → Type 0) → Table → ReplayFault → Type 0
+EngineBeginningFails Opens table fault = (bytes rest : List ℕ) (ended : Bool) → TableIsReadFirst bytes table rest
     → ReplayFails Opens bytes ended [] fault
 
 -- an engine did what was due, with these effects
 pub record EngineDidDueActs (s : EngineModel) (now : ℕ) (effects : List Effect) (e : State) : Type 0 where
-  pub done_acts : List DoneAct
+  pub done_acts : List DoneActWithEffects
   pub last : EngineModel
   pub works : ActsAreDoneInOrder s now done_acts last
   pub emitted : effects ≡ effects_of_acts done_acts
   pub represents : EngineRepresents e last
 
 -- and nothing is due
-pub record EngineIsSettled (s : EngineModel) (now : ℕ) (effects : List Effect) (e : State) : Type 0 where
+pub record EngineDidAllDueActs (s : EngineModel) (now : ℕ) (effects : List Effect) (e : State) : Type 0 where
   pub worked : EngineDidDueActs s now effects e
   pub idle : IsDueFirst worked.last None
 
 -- what an item tells the engine was done and written
-pub record ItemWasPlayed (s : EngineModel) (now : ℕ) (h : Option Happening) (e : State)
+pub record ItemWasPlayedAndWritten (s : EngineModel) (now : ℕ) (h : Option Happening) (e : State)
     (old new : Option (List ℕ)) : Type 0 where
   pub effects : List Effect
   pub last : EngineModel

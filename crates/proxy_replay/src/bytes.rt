@@ -3,7 +3,7 @@
 //! Our own loops over `read` and `write`: after an error of `write_all` or of a buffer nobody knows what went out.
 ghost use Rattle.std.specs.Prelude.{◌≡◌, ℕ, List, take, IfOk, OnOk, OnErr};
 ghost use Rattle.std.specs.Io.KnownBytes.{Consumes, Appends};
-ghost use Rattle.proxy_replay.specs.Bytes.{ReaderGave, script_limit};
+ghost use Rattle.proxy_replay.specs.Bytes.{ReaderGaveAtMost, script_limit};
 
 use proxy_script::MOST_SCRIPT_BYTES;
 use std::alloc::{AllocError, Global};
@@ -17,7 +17,7 @@ pub(crate) fn read_script<R: Read>(
     alloc: Global,
     reader: &mut R,
 ) -> Result<(Vec<u8>, bool), AllocError>
-    ensures ok { IfOk result (λ r. ReaderGave script_limit r.0.items r.1 (R.remaining reader.old)
+    ensures ok { IfOk result (λ r. ReaderGaveAtMost script_limit r.0.items r.1 (R.remaining reader.old)
         (R.remaining reader.new)) }
     ensures err { OnErr result ((read : List ℕ) × Consumes (R.remaining reader.old) (R.remaining reader.new) read) }
 {

@@ -1,10 +1,10 @@
 //! What a replay begins over: an empty store, or one that was kept.
 ghost use Rattle.std.specs.Prelude.{◌≡◌, ℕ, [], Ok, Err, IfOk, IfErr};
 ghost use Rattle.hx_allow.specs.TableLines.{Table};
-ghost use Rattle.proxy_engine.specs.Beginnings.{MayBeHeldAtFirst};
+ghost use Rattle.proxy_engine.specs.Beginnings.{ResponsesMayBeHeldAtStart};
 ghost use Rattle.proxy_store_file.specs.Stores.{StoreReading};
-ghost use Rattle.proxy_store_file.specs.Streams.{contents_of};
-ghost use Rattle.proxy_replay.specs.Replay.{opens_empty, StoreIsRead};
+ghost use Rattle.proxy_store_file.specs.Streams.{store_contents_of};
+ghost use Rattle.proxy_replay.specs.Replay.{OpensEmptyStore, ReplayStoreIsRead};
 
 use hx_allow::Config;
 use hx_store::Shelf;
@@ -14,7 +14,7 @@ use std::alloc::Global;
 use std::io::Read;
 
 /// What fills the store of a replay before anything happens.
-pub(crate) trait Opening {
+pub(crate) trait StoreOpening {
     /// What the store of a table holds then, with the serial that the next stored response gets, or why it isn't
     /// opened.
     ghost opens: { Self → Table → StoreReading → Type 0 };
@@ -29,18 +29,18 @@ pub(crate) trait Opening {
         requires empty { S.entries shelf.old ≡ [] }
         requires capacity { S.limit shelf.old ≡ config.now.capacity }
         ensures opens { IfOk result (λ first. opens self.old config.now
-            (Ok (contents_of (S.entries shelf.new) first))) }
-        ensures may { IfOk result (λ first. MayBeHeldAtFirst config.now (S.entries shelf.new) first) }
+            (Ok (store_contents_of (S.entries shelf.new) first))) }
+        ensures may { IfOk result (λ first. ResponsesMayBeHeldAtStart config.now (S.entries shelf.new) first) }
         ensures refused { IfErr result (λ fault. opens self.old config.now (Err fault)) }
         ensures limit { S.limit shelf.new ≡ S.limit shelf.old };
 }
 
 /// Nothing is held at first, and serials begin at 1.
 #[derive(Clone, Copy)]
-pub(crate) struct Empty;
+pub(crate) struct EmptyStoreOpening;
 
-impl Opening for Empty {
-    ghost opens = { λ empty. opens_empty };
+impl StoreOpening for EmptyStoreOpening {
+    ghost opens = { λ empty. OpensEmptyStore };
 
     fn open<S: Shelf>(
         &mut self,
@@ -55,12 +55,12 @@ impl Opening for Empty {
 
 /// What the file of a store says, which a reader gives.
 #[derive(Drop)]
-pub(crate) struct Kept<Q: Read + Drop> {
+pub(crate) struct KeptStoreOpening<Q: Read + Drop> {
     pub(crate) reader: Q,
 }
 
-impl<Q: Read + Drop> Opening for Kept<Q> {
-    ghost opens = { λ kept. StoreIsRead (Q.remaining kept.reader) };
+impl<Q: Read + Drop> StoreOpening for KeptStoreOpening<Q> {
+    ghost opens = { λ kept. ReplayStoreIsRead (Q.remaining kept.reader) };
 
     fn open<S: Shelf>(
         &mut self,

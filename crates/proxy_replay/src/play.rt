@@ -1,15 +1,17 @@
 //! The replay of a script: its table is read, and its items are played one by one.
 ghost use Rattle.std.specs.Prelude.{◌≡◌, ◌≤◌, length, false, [], IfOk, IfErr, MatchOption};
 ghost use Rattle.proxy_script.specs.ScriptLines.{is_config};
-ghost use Rattle.proxy_script.specs.Script.{plain_item, line_of_item, Table};
+ghost use Rattle.proxy_script.specs.Script.{model_of_item, line_of_item, Table};
 ghost use Rattle.proxy_replay.specs.Bytes.{script_limit};
-ghost use Rattle.proxy_replay.specs.Replay.{ReplayWrites, IsReplay, IsReplayOver, StoreIsRead};
-ghost use Rattle.proxy_replay.specs.Steps.{TableIsReadFirst, TableIsNotRead, EngineBegins, BeginningFails};
+ghost use Rattle.proxy_replay.specs.Replay.{ReplayWrites, IsReplayOverEmptyStore, IsReplayOverAStore};
+ghost use Rattle.proxy_replay.specs.Replay.{ReplayStoreIsRead};
+ghost use Rattle.proxy_replay.specs.Steps.{TableIsReadFirst, TableIsNotRead, EngineBeginsOverOpenedStore};
+ghost use Rattle.proxy_replay.specs.Steps.{EngineBeginningFails};
 
 use crate::bytes::read_script;
 use crate::new_shelf::NewShelf;
-use crate::openings::{Empty, Kept, Opening};
-use crate::playing_items::{moment_after, play_item};
+use crate::openings::{EmptyStoreOpening, KeptStoreOpening, StoreOpening};
+use crate::playing_items::{moment_after_item, play_item};
 use crate::replay_fault::ReplayFault;
 use hx_allow::Config;
 use hx_store::{IndexedShelf, ListShelf};
@@ -20,8 +22,8 @@ use std::io::{Read, Write};
 
 /// The bytes of a table, where the item is one.
 fn table_of_item(item: Item<'_>) -> Option<&[u8]>
-    ensures { MatchOption result (is_config (line_of_item (plain_item item.entry)) ≡ false)
-        (λ table. plain_item item.entry ≡ Table table.now) }
+    ensures { MatchOption result (is_config (line_of_item (model_of_item item.entry)) ≡ false)
+        (λ table. model_of_item item.entry ≡ Table table.now) }
 {
     match item {
         Item::Config(table) => Some(table),
@@ -49,13 +51,13 @@ fn read_table(alloc: Global, bytes: &[u8], ended: bool) -> Result<(Config, &[u8]
 }
 
 /// The engine of a table, to which nothing has happened, over a store that is opened.
-fn begin<S: NewShelf + Drop, O: Opening>(
+fn begin<S: NewShelf + Drop, O: StoreOpening>(
     alloc: Global,
     config: Config,
     opening: &mut O,
 ) -> Result<Engine<S>, ReplayFault>
-    ensures ok { IfOk result (EngineBegins (O.opens opening.old) config) }
-    ensures fault { IfErr result (BeginningFails (O.opens opening.old) config) }
+    ensures ok { IfOk result (EngineBeginsOverOpenedStore (O.opens opening.old) config) }
+    ensures fault { IfErr result (EngineBeginningFails (O.opens opening.old) config) }
 {
     let mut shelf = match S::with_capacity(alloc, config.capacity()) {
         Ok(shelf) => shelf,
@@ -68,7 +70,7 @@ fn begin<S: NewShelf + Drop, O: Opening>(
 }
 
 /// Plays a script, or the part of it that was read.
-fn play<S: NewShelf + Drop, O: Opening, W: Write>(
+fn play<S: NewShelf + Drop, O: StoreOpening, W: Write>(
     alloc: Global,
     bytes: &[u8],
     ended: bool,
@@ -92,7 +94,7 @@ fn play<S: NewShelf + Drop, O: Opening, W: Write>(
     'items: loop {
         match read_item(false, rest) {
             LeadingItem::Found(item, more) => {
-                now = moment_after(now, item);
+                now = moment_after_item(now, item);
                 match play_item(alloc, &mut engine, now, item, writer) {
                     Ok(()) => {}
                     Err(fault) => return Err(fault),
@@ -115,13 +117,13 @@ fn play<S: NewShelf + Drop, O: Opening, W: Write>(
 }
 
 /// Replays a script over a shelf of this kind, and a store that is opened.
-fn replay_on<S: NewShelf + Drop, O: Opening, R: Read, W: Write>(
+fn replay_on<S: NewShelf + Drop, O: StoreOpening, R: Read, W: Write>(
     alloc: Global,
     opening: &mut O,
     reader: &mut R,
     writer: &mut W,
 ) -> Result<(), ReplayFault>
-    ensures { IsReplayOver (O.opens opening.old) (R.remaining reader.old) (R.remaining reader.new)
+    ensures { IsReplayOverAStore (O.opens opening.old) (R.remaining reader.old) (R.remaining reader.new)
         (W.contents writer.old) (W.contents writer.new) result }
 {
     match read_script(alloc, reader) {
@@ -139,10 +141,15 @@ pub fn replay<R: Read, W: Write>(
     reader: &mut R,
     writer: &mut W,
 ) -> Result<(), ReplayFault>
-    ensures { IsReplay (R.remaining reader.old) (R.remaining reader.new) (W.contents writer.old)
+    ensures { IsReplayOverEmptyStore (R.remaining reader.old) (R.remaining reader.new) (W.contents writer.old)
         (W.contents writer.new) result }
 {
-    replay_on::<IndexedShelf, Empty, R, W>(alloc, &mut Empty, reader, writer)
+    replay_on::<IndexedShelf, EmptyStoreOpening, R, W>(
+        alloc,
+        &mut EmptyStoreOpening,
+        reader,
+        writer,
+    )
 }
 
 /// The same over a shelf that is a list, to compare what both give.
@@ -151,24 +158,25 @@ pub fn replay_on_list<R: Read, W: Write>(
     reader: &mut R,
     writer: &mut W,
 ) -> Result<(), ReplayFault>
-    ensures { IsReplay (R.remaining reader.old) (R.remaining reader.new) (W.contents writer.old)
+    ensures { IsReplayOverEmptyStore (R.remaining reader.old) (R.remaining reader.new) (W.contents writer.old)
         (W.contents writer.new) result }
 {
-    replay_on::<ListShelf, Empty, R, W>(alloc, &mut Empty, reader, writer)
+    replay_on::<ListShelf, EmptyStoreOpening, R, W>(alloc, &mut EmptyStoreOpening, reader, writer)
 }
 
 /// The same over the store that another reader gives, as a server that read it begins: what the file of the store
 /// holds is held at first, and serials go on from there. It is read after the table, within its bounds. Where it is
 /// refused nothing is played.
-pub fn replay_over<Q: Read + Drop, R: Read, W: Write>(
+pub fn replay_over_store<Q: Read + Drop, R: Read, W: Write>(
     alloc: Global,
     store: Q,
     reader: &mut R,
     writer: &mut W,
 ) -> Result<(), ReplayFault>
-    ensures { IsReplayOver (StoreIsRead (Q.remaining store)) (R.remaining reader.old) (R.remaining reader.new)
+    ensures { IsReplayOverAStore (ReplayStoreIsRead (Q.remaining store)) (R.remaining reader.old)
+        (R.remaining reader.new)
         (W.contents writer.old) (W.contents writer.new) result }
 {
-    let mut kept = Kept { reader: store };
-    replay_on::<IndexedShelf, Kept<Q>, R, W>(alloc, &mut kept, reader, writer)
+    let mut kept = KeptStoreOpening { reader: store };
+    replay_on::<IndexedShelf, KeptStoreOpening<Q>, R, W>(alloc, &mut kept, reader, writer)
 }

@@ -1,12 +1,12 @@
 //! One step of a replay: what an item tells the engine, and what is then done and written.
 ghost use Rattle.std.specs.Prelude.{◌≡◌, ◌<◌, ◌++◌, IfOk, IfErr, OnOk, Some, option_map};
 ghost use Rattle.hx_fields.specs.declared.limits.TheConstants.{END_OF_TIME};
-ghost use Rattle.proxy_engine.specs.Happenings.{plain_happening};
+ghost use Rattle.proxy_engine.specs.Happenings.{model_of_happening};
 ghost use Rattle.proxy_engine.specs.EngineModel.{EngineModel};
 ghost use Rattle.proxy_engine.specs.State.{EngineRepresents};
-ghost use Rattle.proxy_script.specs.Script.{plain_item as item_said};
-ghost use Rattle.proxy_replay.specs.Played.{happening_of_item, moment_after, PlayBreaksOff};
-ghost use Rattle.proxy_replay.specs.Steps.{EngineIsSettled, ItemWasPlayed, ItemWasNotPlayed};
+ghost use Rattle.proxy_script.specs.Script.{model_of_item as item_said};
+ghost use Rattle.proxy_replay.specs.Played.{happening_of_item, moment_after_item, DueActsStopAtFault};
+ghost use Rattle.proxy_replay.specs.Steps.{EngineDidAllDueActs, ItemWasPlayedAndWritten, ItemWasNotPlayed};
 
 use crate::bytes::put;
 use crate::replay_fault::ReplayFault;
@@ -18,7 +18,7 @@ use std::io::Write;
 
 /// What an item says has happened.
 fn happening_of_item(item: Item<'_>) -> Option<Happening<'_>>
-    ensures { option_map plain_happening result ≡ happening_of_item (item_said item.entry) }
+    ensures { option_map model_of_happening result ≡ happening_of_item (item_said item.entry) }
 {
     match item {
         Item::Happens(happening) => Some(happening),
@@ -27,8 +27,8 @@ fn happening_of_item(item: Item<'_>) -> Option<Happening<'_>>
 }
 
 /// The moment behind an item, where this one stands before it.
-pub(crate) fn moment_after(now: u64, item: Item<'_>) -> u64
-    ensures { result ≡ moment_after now (item_said item.entry) }
+pub(crate) fn moment_after_item(now: u64, item: Item<'_>) -> u64
+    ensures { result ≡ moment_after_item now (item_said item.entry) }
 {
     match item {
         Item::At(moment) => moment,
@@ -56,9 +56,9 @@ fn settle<S: Shelf>(
 ) -> Result<Vec<Effect>, EngineFault>
     requires { now < END_OF_TIME }
     ensures ok { IfOk result (λ effects. (s : EngineModel) → EngineRepresents engine.old s
-        → EngineIsSettled s now effects.items engine.new) }
+        → EngineDidAllDueActs s now effects.items engine.new) }
     ensures fault { IfErr result (λ fault. (s : EngineModel) → EngineRepresents engine.old s
-        → PlayBreaksOff s now fault) }
+        → DueActsStopAtFault s now fault) }
 {
     let mut done = Vec::new(alloc);
     'acts: loop {
@@ -83,10 +83,10 @@ fn write<S: Shelf, W: Write>(
 ) -> Result<(), ReplayFault>
     requires { now < END_OF_TIME }
     ensures ok { OnOk result ((s : EngineModel) → EngineRepresents engine.old s
-        → ItemWasPlayed s now (Some (plain_happening happening.entry)) engine.new (W.contents writer.old)
+        → ItemWasPlayedAndWritten s now (Some (model_of_happening happening.entry)) engine.new (W.contents writer.old)
         (W.contents writer.new)) }
     ensures fault { IfErr result (λ fault. (s : EngineModel) → EngineRepresents engine.old s
-        → ItemWasNotPlayed s now (Some (plain_happening happening.entry)) fault (W.contents writer.old)
+        → ItemWasNotPlayed s now (Some (model_of_happening happening.entry)) fault (W.contents writer.old)
         (W.contents writer.new)) }
 {
     match engine.take(alloc, happening) {
@@ -117,7 +117,7 @@ pub(crate) fn play_item<S: Shelf, W: Write>(
 ) -> Result<(), ReplayFault>
     requires { now < END_OF_TIME }
     ensures ok { OnOk result ((s : EngineModel) → EngineRepresents engine.old s
-        → ItemWasPlayed s now (happening_of_item (item_said item.entry)) engine.new (W.contents writer.old)
+        → ItemWasPlayedAndWritten s now (happening_of_item (item_said item.entry)) engine.new (W.contents writer.old)
         (W.contents writer.new)) }
     ensures fault { IfErr result (λ fault. (s : EngineModel) → EngineRepresents engine.old s
         → ItemWasNotPlayed s now (happening_of_item (item_said item.entry)) fault (W.contents writer.old)

@@ -2,7 +2,7 @@
 //!
 //! One line on standard error names a fault, and the exit status tells its kind.
 
-use crate::play::{replay, replay_over};
+use crate::play::{replay, replay_over_store};
 use crate::replay_fault::ReplayFault;
 use std::env::FillError;
 use std::io;
@@ -44,13 +44,16 @@ pub fn run_script<R: Input + Print + Eprint + AllocGlobal>(rt: &R) -> ExitCode {
 }
 
 /// The same over the store that a reader gives.
-pub fn run_script_over<R: Input + Print + Eprint + AllocGlobal, Q: Read + Drop>(
+pub fn run_script_over_store<R: Input + Print + Eprint + AllocGlobal, Q: Read + Drop>(
     rt: &R,
     store: Q,
 ) -> ExitCode {
     let mut reader = rt.reader();
     let mut writer = io::writer(rt);
-    ended(rt, replay_over(rt.alloc(), store, &mut reader, &mut writer))
+    ended(
+        rt,
+        replay_over_store(rt.alloc(), store, &mut reader, &mut writer),
+    )
 }
 
 /// Does what the command line asks for: without a word, replays standard input to standard output.

@@ -6,26 +6,27 @@ ghost use Rattle.proxy_script.specs.declared.effect_list.Effect.TheVariants as e
 ghost use Rattle.proxy_engine.specs.Happenings.{Accepts};
 ghost use Rattle.proxy_engine.specs.Due.{Wakes};
 ghost use Rattle.proxy_engine.specs.Executions.{Took, Worked};
-ghost use Rattle.proxy_replay.specs.Played.{initial_play_state, effects_of_acts, happening_of_item, moment_after};
+ghost use Rattle.proxy_replay.specs.Played.{initial_play_state, effects_of_acts, happening_of_item, moment_after_item};
 ghost use Rattle.proxy_replay.specs.Runs.{steps_of_acts};
-ghost use Rattle.proxy_replay.specs.OneReplay.{ReplayHasNoOtherText, NoWholeReplayBeforeTheEnd, NoReadFaultAtTheEnd};
+ghost use Rattle.proxy_replay.specs.OneReplay.{WholeReplayHasOnlyThatText, NoWholeReplayBeforeTheEnd};
+ghost use Rattle.proxy_replay.specs.OneReplay.{NoReadFaultAtTheEnd};
 ghost use Rattle.proxy_replay.specs.OneReplay.{NothingIsWrittenForARefusedTable};
 
-use hx_allow::laws::a_table_is_read_in_one_way;
+use hx_allow::laws::reading_of_a_table_is_unique;
 use proxy_engine::laws::{an_act_is_done_in_one_way, one_act_is_due_first};
 use proxy_script::laws::items_are_found_as_they_are_spelled;
 
 /// A whole script is replayed with no other text than that of its play, and not before its end; no read fails at the
 /// end; and nothing is written where the table is refused.
-pub fn a_replay_refuses_other_texts()
-    ensures text { ReplayHasNoOtherText }
+pub fn a_replay_writes_no_altered_text()
+    ensures text { WholeReplayHasOnlyThatText }
     ensures whole { NoWholeReplayBeforeTheEnd }
     ensures read { NoReadFaultAtTheEnd }
     ensures refused { NothingIsWrittenForARefusedTable }
 {
     one_act_is_due_first();
     an_act_is_done_in_one_way();
-    a_table_is_read_in_one_way();
+    reading_of_a_table_is_unique();
     items_are_found_as_they_are_spelled();
 }
 
@@ -33,9 +34,9 @@ pub fn a_replay_refuses_other_texts()
 /// stand in order, and as steps the latest first, at the moment that stands. A play begins with the room of its table,
 /// at moment 0.
 pub fn worked_items()
-    ensures moment { moment_after 5 (item.Moment 9) ≡ 9 }
-    ensures stays { moment_after 5 (item.Happens (Accepts 1)) ≡ 5 }
-    ensures of_the_table { moment_after 5 (item.Table []) ≡ 5 }
+    ensures moment { moment_after_item 5 (item.Moment 9) ≡ 9 }
+    ensures stays { moment_after_item 5 (item.Happens (Accepts 1)) ≡ 5 }
+    ensures of_the_table { moment_after_item 5 (item.Table []) ≡ 5 }
     ensures happens { happening_of_item (item.Happens (Accepts 1)) ≡ Some (Accepts 1) }
     ensures table_says_nothing { happening_of_item (item.Table []) ≡ None }
     ensures moment_says_nothing { happening_of_item (item.Moment 9) ≡ None }

@@ -7,9 +7,9 @@ use Rattle.std.specs.Str.{bytes_eq}
 use Rattle.std.proofs.lemmas.Bool.{ltb-true, lt-ltb}
 use Rattle.std.proofs.lemmas.Slice.Eq.{bytes_eq-Decides}
 use Rattle.hx_fields.specs.declared.limits.TheConstants.{END_OF_TIME}
-use Rattle.hx_fields.specs.Names.{cut_at}
+use Rattle.hx_fields.specs.Names.{split_at_first_byte}
 use Rattle.proxy_script.specs.DecimalNumbers.{number_of}
-use Rattle.proxy_script.specs.ScriptLines.{word_text, words, link_failures, IsLinkFailure, word_of_line, text_behind_word, line_text, LineHasSpelling, moment_in_range, both_present, failure_of, two_numbers, number_and_failure, line_behind_word, word_of_text, line_of_word_and_rest, line_of_text, is_config, same_truth, line_if_it_may_stand_here, line_that_may_stand_here}
+use Rattle.proxy_script.specs.ScriptLines.{word_text, words, link_failures, IsLinkFailure, word_of_line, text_behind_word, line_text, LineHasSpelling, moment_in_range, pair_if_both_present, failure_of, two_numbers_of_text, number_and_failure, line_behind_word, word_of_text, line_of_word_and_rest, line_of_text, is_config, same_truth, line_if_allowed_at_position, line_allowed_at_position}
 use Rattle.proxy_script.specs.declared.first_words.Word.{Word}
 use Rattle.proxy_script.specs.declared.first_words.Word.TheVariants as word
 use Rattle.hx_status.specs.Refusals.{fail_kind_word}
@@ -116,11 +116,11 @@ rest_one_line (Fail n f) fits = lacks-append 10 (decimal n) (32 ∷ fail_kind_wo
 pub line_one_line : (h : ItemLine) → LineHasSpelling h → lacks 10 (line_text h) ≡ true
 line_one_line h fits = lacks-append 10 (word_text (word_of_line h)) (32 ∷ text_behind_word h) (word_one_line (word_of_line h)) (rest_one_line h fits)
 
-two_again : (n len : ℕ) → n < 2 ^ 64 → len < 2 ^ 64 → two_numbers (decimal n ++ 32 ∷ decimal len) ≡ Some (n, len)
+two_again : (n len : ℕ) → n < 2 ^ 64 → len < 2 ^ 64 → two_numbers_of_text (decimal n ++ 32 ∷ decimal len) ≡ Some (n, len)
 two_again n len small few = rw (cut_again 32 (decimal n) (decimal len) (lacks_decimal 32 n (omega arith) small), number_again n small, number_again len few) refl
 
 failing_again : (l : ℕ) (f : FailKind) → l < 2 ^ 64 → IsLinkFailure f → number_and_failure (decimal l ++ 32 ∷ fail_kind_word f) ≡ Some (l, f)
-failing_again l f small of_link = ap (option_and_then (λ p. both_present (number_of p.0) (failure_of p.1))) (cut_again 32 (decimal l) (fail_kind_word f) (lacks_decimal 32 l (omega arith) small)) ∙ (ap (λ o. both_present o (failure_of (fail_kind_word f))) (number_again l small) ∙ ap (both_present (Some l)) (failure_again f of_link))
+failing_again l f small of_link = ap (option_and_then (λ p. pair_if_both_present (number_of p.0) (failure_of p.1))) (cut_again 32 (decimal l) (fail_kind_word f) (lacks_decimal 32 l (omega arith) small)) ∙ (ap (λ o. pair_if_both_present o (failure_of (fail_kind_word f))) (number_again l small) ∙ ap (pair_if_both_present (Some l)) (failure_again f of_link))
 
 with_again : (h : ItemLine) → LineHasSpelling h → line_behind_word (word_of_line h) (text_behind_word h) ≡ Some h
 with_again (Config n) fits = rw (number_again n fits) refl
@@ -149,9 +149,9 @@ placed_if false false h e = refl
 placed_if true false h e = cc
 placed_if false true h e = cc
 
-pub placed_again : (first : Bool) (h : ItemLine) → LineHasSpelling h → is_config h ≡ first → line_that_may_stand_here first (line_text h) ≡ Some h
+pub placed_again : (first : Bool) (h : ItemLine) → LineHasSpelling h → is_config h ≡ first → line_allowed_at_position first (line_text h) ≡ Some h
 placed_again first h fits here =
-    ap (option_and_then (line_if_it_may_stand_here first)) (line_again h fits) ∙ placed_if (is_config h) first h here
+    ap (option_and_then (line_if_allowed_at_position first)) (line_again h fits) ∙ placed_if (is_config h) first h here
 
 -- lines that are read
 
@@ -180,7 +180,7 @@ moment_found (Some n) bs h is e = of_moment (moment_in_range n) refl e
         let text : line_text (At m) ≡ codes "at" ++ 32 ∷ bs = ap (λ k. codes "at" ++ 32 ∷ decimal k) (sym parts.1) ∙ ap (λ ds. codes "at" ++ 32 ∷ ds) (sym found.0) in
         (subst (λ g. line_text g ≡ codes "at" ++ 32 ∷ bs) this text, subst LineHasSpelling this (subst (λ k. k < END_OF_TIME) parts.1 small))
 
-two_found_by : (o q : Option ℕ) (a b : List ℕ) (n len : ℕ) → number_of a ≡ o → number_of b ≡ q → both_present o q ≡ Some (n, len) → (a ≡ decimal n) × (b ≡ decimal len) × (n < 2 ^ 64) × (len < 2 ^ 64)
+two_found_by : (o q : Option ℕ) (a b : List ℕ) (n len : ℕ) → number_of a ≡ o → number_of b ≡ q → pair_if_both_present o q ≡ Some (n, len) → (a ≡ decimal n) × (b ≡ decimal len) × (n < 2 ^ 64) × (len < 2 ^ 64)
 two_found_by None q a b n len is also e = cc
 two_found_by (Some k) None a b n len is also e = cc
 two_found_by (Some k) (Some m) a b n len is also e =
@@ -189,20 +189,20 @@ two_found_by (Some k) (Some m) a b n len is also e =
     let second = number_found b m also in
     (first.0 ∙ ap decimal parts.0, second.0 ∙ ap decimal parts.1, subst (λ x. x < 2 ^ 64) parts.0 first.1, subst (λ x. x < 2 ^ 64) parts.1 second.1)
 
-two_found : (o : Option (List ℕ × List ℕ)) (bs : List ℕ) (n len : ℕ) → cut_at 32 bs ≡ o → option_and_then (λ p. both_present (number_of p.0) (number_of p.1)) o ≡ Some (n, len) → (bs ≡ decimal n ++ 32 ∷ decimal len) × (n < 2 ^ 64) × (len < 2 ^ 64)
+two_found : (o : Option (List ℕ × List ℕ)) (bs : List ℕ) (n len : ℕ) → split_at_first_byte 32 bs ≡ o → option_and_then (λ p. pair_if_both_present (number_of p.0) (number_of p.1)) o ≡ Some (n, len) → (bs ≡ decimal n ++ 32 ∷ decimal len) × (n < 2 ^ 64) × (len < 2 ^ 64)
 two_found None bs n len is e = cc
 two_found (Some p) bs n len is e =
     let parts = two_found_by (number_of p.0) (number_of p.1) p.0 p.1 n len refl refl e in
     (cut_found 32 bs p.0 p.1 is ∙ rw (parts.0, parts.1) refl, parts.2, parts.3)
 
-pair_found : (v : ℕ → ℕ → ItemLine) (w : Word) (o : Option (ℕ × ℕ)) (bs : List ℕ) (h : ItemLine) → two_numbers bs ≡ o → ((n len : ℕ) → line_text (v n len) ≡ word_text w ++ 32 ∷ (decimal n ++ 32 ∷ decimal len)) → ((n len : ℕ) → n < 2 ^ 64 → len < 2 ^ 64 → LineHasSpelling (v n len)) → option_map (λ p. v p.0 p.1) o ≡ Some h → (line_text h ≡ word_text w ++ 32 ∷ bs) × LineHasSpelling h
+pair_found : (v : ℕ → ℕ → ItemLine) (w : Word) (o : Option (ℕ × ℕ)) (bs : List ℕ) (h : ItemLine) → two_numbers_of_text bs ≡ o → ((n len : ℕ) → line_text (v n len) ≡ word_text w ++ 32 ∷ (decimal n ++ 32 ∷ decimal len)) → ((n len : ℕ) → n < 2 ^ 64 → len < 2 ^ 64 → LineHasSpelling (v n len)) → option_map (λ p. v p.0 p.1) o ≡ Some h → (line_text h ≡ word_text w ++ 32 ∷ bs) × LineHasSpelling h
 pair_found v w None bs h is text fits e = cc
 pair_found v w (Some p) bs h is text fits e =
     let this : v p.0 p.1 ≡ h = cc in
-    let found = two_found (cut_at 32 bs) bs p.0 p.1 refl is in
+    let found = two_found (split_at_first_byte 32 bs) bs p.0 p.1 refl is in
     (subst (λ g. line_text g ≡ word_text w ++ 32 ∷ bs) this (text p.0 p.1 ∙ ap (λ r. word_text w ++ 32 ∷ r) (sym found.0)), subst LineHasSpelling this (fits p.0 p.1 found.1 found.2))
 
-failing_by : (o : Option ℕ) (q : Option FailKind) (a b : List ℕ) (l : ℕ) (f : FailKind) → number_of a ≡ o → failure_of b ≡ q → both_present o q ≡ Some (l, f) → (a ≡ decimal l) × (b ≡ fail_kind_word f) × ((l < 2 ^ 64) × IsLinkFailure f)
+failing_by : (o : Option ℕ) (q : Option FailKind) (a b : List ℕ) (l : ℕ) (f : FailKind) → number_of a ≡ o → failure_of b ≡ q → pair_if_both_present o q ≡ Some (l, f) → (a ≡ decimal l) × (b ≡ fail_kind_word f) × ((l < 2 ^ 64) × IsLinkFailure f)
 failing_by None q a b l f is also e = cc
 failing_by (Some k) None a b l f is also e = cc
 failing_by (Some k) (Some g) a b l f is also e =
@@ -212,9 +212,9 @@ failing_by (Some k) (Some g) a b l f is also e =
 
 failing_found : (o : Option (ℕ × FailKind)) (bs : List ℕ) (h : ItemLine) → number_and_failure bs ≡ o → option_map (λ p. Fail p.0 p.1) o ≡ Some h → (line_text h ≡ codes "fail" ++ 32 ∷ bs) × LineHasSpelling h
 failing_found None bs h is e = cc
-failing_found (Some p) bs h is e = of_cut (cut_at 32 bs) refl is
+failing_found (Some p) bs h is e = of_cut (split_at_first_byte 32 bs) refl is
   where
-    of_cut : (o : Option (List ℕ × List ℕ)) → cut_at 32 bs ≡ o → option_and_then (λ q. both_present (number_of q.0) (failure_of q.1)) o ≡ Some p → (line_text h ≡ codes "fail" ++ 32 ∷ bs) × LineHasSpelling h
+    of_cut : (o : Option (List ℕ × List ℕ)) → split_at_first_byte 32 bs ≡ o → option_and_then (λ q. pair_if_both_present (number_of q.0) (failure_of q.1)) o ≡ Some p → (line_text h ≡ codes "fail" ++ 32 ∷ bs) × LineHasSpelling h
     of_cut None cut k = cc
     of_cut (Some q) cut k =
         let this : Fail p.0 p.1 ≡ h = cc in
@@ -226,8 +226,8 @@ with_found : (w : Word) (bs : List ℕ) (h : ItemLine) → line_behind_word w bs
 with_found word.Config bs h e = one_found Config (number_of bs) bs word.Config h refl (λ n. refl) (λ n k. k) e
 with_found word.At bs h e = moment_found (number_of bs) bs h refl e
 with_found word.Accept bs h e = one_found Accept (number_of bs) bs word.Accept h refl (λ n. refl) (λ n k. k) e
-with_found word.Client bs h e = pair_found Client word.Client (two_numbers bs) bs h refl (λ n len. refl) (λ n len a b. (a, b)) e
-with_found word.Link bs h e = pair_found Link word.Link (two_numbers bs) bs h refl (λ n len. refl) (λ n len a b. (a, b)) e
+with_found word.Client bs h e = pair_found Client word.Client (two_numbers_of_text bs) bs h refl (λ n len. refl) (λ n len a b. (a, b)) e
+with_found word.Link bs h e = pair_found Link word.Link (two_numbers_of_text bs) bs h refl (λ n len. refl) (λ n len a b. (a, b)) e
 with_found word.End bs h e = one_found End (number_of bs) bs word.End h refl (λ n. refl) (λ n k. k) e
 with_found word.Gone bs h e = one_found Gone (number_of bs) bs word.Gone h refl (λ n. refl) (λ n k. k) e
 with_found word.Retire bs h e = one_found Retire (number_of bs) bs word.Retire h refl (λ n. refl) (λ n k. k) e
@@ -241,7 +241,7 @@ by_found (Some w) p h is e =
     let found = with_found w p.1 h e in
     (found.0 ∙ ap (λ text. text ++ 32 ∷ p.1) (sym (word_found p.0 w is)), found.1)
 
-line_found_by : (o : Option (List ℕ × List ℕ)) (line : List ℕ) (h : ItemLine) → cut_at 32 line ≡ o → option_and_then line_of_word_and_rest o ≡ Some h → (line ≡ line_text h) × LineHasSpelling h
+line_found_by : (o : Option (List ℕ × List ℕ)) (line : List ℕ) (h : ItemLine) → split_at_first_byte 32 line ≡ o → option_and_then line_of_word_and_rest o ≡ Some h → (line ≡ line_text h) × LineHasSpelling h
 line_found_by None line h is e = cc
 line_found_by (Some p) line h is e =
     let found = by_found (word_of_text p.0) p h refl e in
@@ -249,7 +249,7 @@ line_found_by (Some p) line h is e =
 
 pub line_found : (line : List ℕ) (h : ItemLine) → line_of_text line ≡ Some h → (line ≡ line_text h) × LineHasSpelling h
 unfolding line_of_text
-line_found line h e = line_found_by (cut_at 32 line) line h refl e
+line_found line h e = line_found_by (split_at_first_byte 32 line) line h refl e
 
 placed_by : (t first : Bool) (g h : ItemLine) → cond (same_truth t first) (Some g) None ≡ Some h → (t ≡ first) × (g ≡ h)
 placed_by true true g h e = (refl, cc)
@@ -257,10 +257,10 @@ placed_by false false g h e = (refl, cc)
 placed_by true false g h e = cc
 placed_by false true g h e = cc
 
-pub placed_found : (first : Bool) (line : List ℕ) (h : ItemLine) → line_that_may_stand_here first line ≡ Some h → (line ≡ line_text h) × LineHasSpelling h × (is_config h ≡ first)
+pub placed_found : (first : Bool) (line : List ℕ) (h : ItemLine) → line_allowed_at_position first line ≡ Some h → (line ≡ line_text h) × LineHasSpelling h × (is_config h ≡ first)
 placed_found first line h e = of_header (line_of_text line) refl e
   where
-    of_header : (o : Option ItemLine) → line_of_text line ≡ o → option_and_then (line_if_it_may_stand_here first) o ≡ Some h → (line ≡ line_text h) × LineHasSpelling h × (is_config h ≡ first)
+    of_header : (o : Option ItemLine) → line_of_text line ≡ o → option_and_then (line_if_allowed_at_position first) o ≡ Some h → (line ≡ line_text h) × LineHasSpelling h × (is_config h ≡ first)
     of_header None is k = cc
     of_header (Some g) is k =
         let parts = placed_by (is_config g) first g h k in

@@ -9,8 +9,8 @@ use Rattle.std.specs.Str.{all_ascii_digits}
 use Rattle.std.specs.Char.{is_ascii_digit}
 use Rattle.std.specs.Fmt.{decimal}
 use Rattle.std.proofs.lemmas.Fmt.{decimal-digits_value, digits_decimal, digits_value-decimal, decimal_nonempty, first_decimal, decimal_digit}
-use Rattle.hx_fields.specs.Names.{cut_at}
-use Rattle.proxy_script.specs.DecimalNumbers.{value_of, number_of}
+use Rattle.hx_fields.specs.Names.{split_at_first_byte}
+use Rattle.proxy_script.specs.DecimalNumbers.{value_of_digits, number_of}
 
 -- the parts of equal pairs
 pub same_pair : {A B : Type 0} {x y : A} {u v : B} → ◌≡◌ {A = Option (A × B)} (Some (x, u)) (Some (y, v)) → (x ≡ y) × (u ≡ v)
@@ -29,9 +29,9 @@ cut_by false (Some p) c b bs x y test ih e =
     rw (← parts.0, ← parts.1) (ap (λ z. b ∷ z) (ih p.0 p.1 refl))
 
 -- what is cut was there
-pub cut_found : (c : ℕ) (bs x y : List ℕ) → cut_at c bs ≡ Some (x, y) → bs ≡ x ++ c ∷ y
+pub cut_found : (c : ℕ) (bs x y : List ℕ) → split_at_first_byte c bs ≡ Some (x, y) → bs ≡ x ++ c ∷ y
 cut_found c [] x y e = cc
-cut_found c (b ∷ bs) x y e = cut_by (b == c) (cut_at c bs) c b bs x y (eqb-true b c) (λ u v h. cut_found c bs u v h) e
+cut_found c (b ∷ bs) x y e = cut_by (b == c) (split_at_first_byte c bs) c b bs x y (eqb-true b c) (λ u v h. cut_found c bs u v h) e
 
 -- it isn't among them
 abbrev pub lacks : ℕ → List ℕ → Bool
@@ -39,7 +39,7 @@ lacks c [] = true
 lacks c (x ∷ xs) = not (x == c) && lacks c xs
 
 -- what is cut at its first place
-pub cut_again : (c : ℕ) (x y : List ℕ) → lacks c x ≡ true → cut_at c (x ++ c ∷ y) ≡ Some (x, y)
+pub cut_again : (c : ℕ) (x y : List ℕ) → lacks c x ≡ true → split_at_first_byte c (x ++ c ∷ y) ≡ Some (x, y)
 cut_again c [] y none = rw (eq-eqb c c refl) refl
 cut_again c (b ∷ x) y none =
     let parts = and_parts (not (b == c)) (lacks c x) none in
@@ -67,14 +67,14 @@ small_by true false k m e = cc
 small_by false u k m e = cc
 
 -- what a number says of its digits
-pub value_found : (ds : List ℕ) (m : ℕ) → value_of ds ≡ Some m → (all_ascii_digits ds ≡ true) × (m ≡ digits_value 10 ds) × (m < 2 ^ 64)
+pub value_found : (ds : List ℕ) (m : ℕ) → value_of_digits ds ≡ Some m → (all_ascii_digits ds ≡ true) × (m ≡ digits_value 10 ds) × (m < 2 ^ 64)
 value_found ds m e =
     let parts = small_by (list_all is_ascii_digit ds) (nat_le (digits_value 10 ds) (2 ^ 64 - 1)) (digits_value 10 ds) m e in
     let small = leb-true (digits_value 10 ds) (2 ^ 64 - 1) parts.1 in
     (parts.0, parts.2, omega (arith, small, parts.2))
 
 -- digits of a number below 2 ^ 64
-pub value_again : (ds : List ℕ) → all_ascii_digits ds ≡ true → digits_value 10 ds < 2 ^ 64 → value_of ds ≡ Some (digits_value 10 ds)
+pub value_again : (ds : List ℕ) → all_ascii_digits ds ≡ true → digits_value 10 ds < 2 ^ 64 → value_of_digits ds ≡ Some (digits_value 10 ds)
 value_again ds digits small =
     ap (λ t. cond t (cond (nat_le (digits_value 10 ds) (2 ^ 64 - 1)) (Some (digits_value 10 ds)) None) None) digits
     ∙ ap (λ t. cond t (Some (digits_value 10 ds)) None) (le-leb (digits_value 10 ds) (2 ^ 64 - 1) (omega (arith, small)))
@@ -88,7 +88,7 @@ pub number_found : (bs : List ℕ) (m : ℕ) → number_of bs ≡ Some m → (bs
 unfolding number_of
 number_found [] m e = cc
 number_found (c ∷ cs) m e =
-    let parts = led_by (c == 48) (nat_lt 0 (length cs)) (value_of (c ∷ cs)) m e in
+    let parts = led_by (c == 48) (nat_lt 0 (length cs)) (value_of_digits (c ∷ cs)) m e in
     let is = value_found (c ∷ cs) m parts.0 in
     let small : digits_value 10 (c ∷ cs) < 2 ^ 64 = omega (arith, is.1, is.2) in
     (sym (ap decimal is.1 ∙ decimal-digits_value digits_model (c ∷ cs) is.0 (omega arith) (λ zero_first. let one = ltb-false 0 (length cs) (parts.1 (eq-eqb c 48 zero_first)) in omega (arith, one)) small), is.2)

@@ -6,10 +6,10 @@ use Rattle.std.specs.Str.Parse.{digits_value}
 use Rattle.hx_fields.specs.SpelledNumbers.{number_at_most}
 
 -- the number that digits spell, below 2 ^ 64
-abbrev pub value_of : List ℕ → Option ℕ
-value_of text = if list_all is_ascii_digit text then number_at_most (2 ^ 64 - 1) (digits_value 10 text) else None
+abbrev pub value_of_digits : List ℕ → Option ℕ
+value_of_digits text = if list_all is_ascii_digit text then number_at_most (2 ^ 64 - 1) (digits_value 10 text) else None
 
 -- digits without a leading zero, of a number below 2 ^ 64
 unfoldable pub number_of : List ℕ → Option ℕ
 number_of [] = None
-number_of (c ∷ cs) = if c == 48 && nat_lt 0 (length cs) then None else value_of (c ∷ cs)
+number_of (c ∷ cs) = if c == 48 && nat_lt 0 (length cs) then None else value_of_digits (c ∷ cs)

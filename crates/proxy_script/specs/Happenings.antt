@@ -4,24 +4,24 @@ use Rattle.hx_status.specs.declared.cause.FailKind.{FailKind}
 use Rattle.proxy_script.specs.declared.happening.Happening.{Happening}
 use Rattle.proxy_script.specs.declared.happening.Happening.TheVariants as happenings
 
-pub data PlainHappening : Type 0 where
-  Accepts : (n : ℕ) → PlainHappening
-  Sends : (n : ℕ) (bytes : List ℕ) → PlainHappening
-  Hears : (l : ℕ) (bytes : List ℕ) → PlainHappening
-  Ends : (n : ℕ) → PlainHappening
-  Leaves : (n : ℕ) → PlainHappening
-  Retires : (n : ℕ) → PlainHappening
-  Overdues : (n : ℕ) → PlainHappening
-  Shuts : (l : ℕ) → PlainHappening
-  Fails : (l : ℕ) (kind : FailKind) → PlainHappening
+pub data HappeningModel : Type 0 where
+  Accepts : (n : ℕ) → HappeningModel
+  Sends : (n : ℕ) (bytes : List ℕ) → HappeningModel
+  Hears : (l : ℕ) (bytes : List ℕ) → HappeningModel
+  Ends : (n : ℕ) → HappeningModel
+  Leaves : (n : ℕ) → HappeningModel
+  Retires : (n : ℕ) → HappeningModel
+  Overdues : (n : ℕ) → HappeningModel
+  Shuts : (l : ℕ) → HappeningModel
+  Fails : (l : ℕ) (kind : FailKind) → HappeningModel
 
-abbrev pub plain_happening : Happening → PlainHappening
-plain_happening (happenings.Accept n) = Accepts n
-plain_happening (happenings.Client n bytes) = Sends n bytes.now
-plain_happening (happenings.Link l bytes) = Hears l bytes.now
-plain_happening (happenings.End n) = Ends n
-plain_happening (happenings.Gone n) = Leaves n
-plain_happening (happenings.Retire n) = Retires n
-plain_happening (happenings.Overdue n) = Overdues n
-plain_happening (happenings.Shut l) = Shuts l
-plain_happening (happenings.Fail l kind) = Fails l kind
+abbrev pub model_of_happening : Happening → HappeningModel
+model_of_happening (happenings.Accept n) = Accepts n
+model_of_happening (happenings.Client n bytes) = Sends n bytes.now
+model_of_happening (happenings.Link l bytes) = Hears l bytes.now
+model_of_happening (happenings.End n) = Ends n
+model_of_happening (happenings.Gone n) = Leaves n
+model_of_happening (happenings.Retire n) = Retires n
+model_of_happening (happenings.Overdue n) = Overdues n
+model_of_happening (happenings.Shut l) = Shuts l
+model_of_happening (happenings.Fail l kind) = Fails l kind

@@ -1,14 +1,14 @@
 -- The grammar of scripts: how an item is spelled, and what stands at the front of bytes.
 --
--- PlainItem: what an item says       item_spelling: how it is spelled      ItemHasSpelling: what has a spelling
+-- ItemModel: what an item says       item_spelling: how it is spelled      ItemHasSpelling: what has a spelling
 -- leading_item: the item at the front, less than a whole one, or none
 -- IsScript: the bytes are the spelling of a table and of items
 use Rattle.std.specs.Prelude.{◌≡◌, ℕ, ◌+◌, ◌==◌, nat_le, List, [], ◌∷◌, ◌++◌, length, Bool, false, Option, None, Some}
 use Rattle.std.specs.Prelude.{if◌then◌else◌, slice_index, take, drop}
 use Rattle.std.specs.List.{flat_map, AllByRecursion}
-use Rattle.hx_fields.specs.Names.{cut_at}
-use Rattle.proxy_script.specs.ScriptLines.{line_text, LineHasSpelling, is_config, line_that_may_stand_here}
-use Rattle.proxy_script.specs.Happenings.{PlainHappening as Happening}
+use Rattle.hx_fields.specs.Names.{split_at_first_byte}
+use Rattle.proxy_script.specs.ScriptLines.{line_text, LineHasSpelling, is_config, line_allowed_at_position}
+use Rattle.proxy_script.specs.Happenings.{HappeningModel as Happening}
 use Rattle.proxy_script.specs.Happenings as happening
 use Rattle.proxy_script.specs.declared.line_parser.ItemLine.{ItemLine}
 use Rattle.proxy_script.specs.declared.line_parser.ItemLine.TheVariants.{Config, At, Accept, Client, Link, End, Gone}
@@ -21,12 +21,12 @@ use Rattle.proxy_script.specs.declared.parser.Block.{Block}
 use Rattle.proxy_script.specs.declared.parser.Block.TheVariants as block
 
 -- what an item says: the table, the moment, or what happens
-pub data PlainItem : Type 0 where
-  Table : (bytes : List ℕ) → PlainItem
-  Moment : (m : ℕ) → PlainItem
-  Happens : (happening : Happening) → PlainItem
+pub data ItemModel : Type 0 where
+  Table : (bytes : List ℕ) → ItemModel
+  Moment : (m : ℕ) → ItemModel
+  Happens : (happening : Happening) → ItemModel
 
-abbrev pub line_of_item : PlainItem → ItemLine
+abbrev pub line_of_item : ItemModel → ItemLine
 line_of_item (Table bytes) = Config (length bytes)
 line_of_item (Moment m) = At m
 line_of_item (Happens (happening.Accepts n)) = Accept n
@@ -40,7 +40,7 @@ line_of_item (Happens (happening.Shuts l)) = Shut l
 line_of_item (Happens (happening.Fails l kind)) = Fail l kind
 
 -- the block behind a line, with its LF
-abbrev pub block_of_item : PlainItem → List ℕ
+abbrev pub block_of_item : ItemModel → List ℕ
 block_of_item (Table bytes) = bytes ++ 10 ∷ []
 block_of_item (Moment m) = []
 block_of_item (Happens (happening.Accepts n)) = []
@@ -54,20 +54,20 @@ block_of_item (Happens (happening.Shuts l)) = []
 block_of_item (Happens (happening.Fails l kind)) = []
 
 -- how an item is spelled: its line, LF, and its block
-abbrev pub item_spelling : PlainItem → List ℕ
+abbrev pub item_spelling : ItemModel → List ℕ
 item_spelling h = line_text (line_of_item h) ++ 10 ∷ block_of_item h
 
 -- what has a spelling
-abbrev pub ItemHasSpelling : PlainItem → Type 0
+abbrev pub ItemHasSpelling : ItemModel → Type 0
 ItemHasSpelling h = LineHasSpelling (line_of_item h)
 
 -- the item stands first, as the table does, or later
-abbrev pub ItemMayStandHere : Bool → PlainItem → Type 0
-ItemMayStandHere first h = is_config (line_of_item h) ≡ first
+abbrev pub ItemIsAllowedAtPosition : Bool → ItemModel → Type 0
+ItemIsAllowedAtPosition first h = is_config (line_of_item h) ≡ first
 
 -- what stands at the front: an item and what follows it, less than a whole one, or none
 pub data ItemReading : Type 0 where
-  Found : (h : PlainItem) (rest : List ℕ) → ItemReading
+  Found : (h : ItemModel) (rest : List ℕ) → ItemReading
   Cut : ItemReading
   Wrong : ItemReading
 
@@ -84,7 +84,7 @@ leading_block len rest =
     else if slice_index rest len == 10 then Whole (take len rest) (drop (len + 1) rest)
     else Bad
 
-abbrev pub item_reading_with_block : (List ℕ → PlainItem) → BlockReading → ItemReading
+abbrev pub item_reading_with_block : (List ℕ → ItemModel) → BlockReading → ItemReading
 item_reading_with_block says (Whole bytes rest) = Found (says bytes) rest
 item_reading_with_block says Short = Cut
 item_reading_with_block says Bad = Wrong
@@ -110,31 +110,31 @@ item_of_line_if_any rest (Some header) = item_of_line header rest
 
 abbrev pub item_after_line_end : Bool → Option (List ℕ × List ℕ) → ItemReading
 item_after_line_end first None = Cut
-item_after_line_end first (Some p) = item_of_line_if_any p.1 (line_that_may_stand_here first p.0)
+item_after_line_end first (Some p) = item_of_line_if_any p.1 (line_allowed_at_position first p.0)
 
 -- the item at the front, the table where it is the first
 unfoldable pub leading_item : Bool → List ℕ → ItemReading
-leading_item first bytes = item_after_line_end first (cut_at 10 bytes)
+leading_item first bytes = item_after_line_end first (split_at_first_byte 10 bytes)
 
 -- the bytes are a script of this table and these items
-pub record IsScript (bytes table : List ℕ) (items : List PlainItem) : Type 0 where
+pub record IsScript (bytes table : List ℕ) (items : List ItemModel) : Type 0 where
   pub script : bytes ≡ item_spelling (Table table) ++ flat_map item_spelling items
   pub table_fits : ItemHasSpelling (Table table)
   pub items_fit : AllByRecursion ItemHasSpelling items
-  pub one_table : AllByRecursion (ItemMayStandHere false) items
+  pub one_table : AllByRecursion (ItemIsAllowedAtPosition false) items
 
 -- what the code's items say
-abbrev pub plain_item : Item → PlainItem
-plain_item (item.Config bytes) = Table bytes.now
-plain_item (item.At m) = Moment m
-plain_item (item.Happens h) = Happens (happening.plain_happening h)
+abbrev pub model_of_item : Item → ItemModel
+model_of_item (item.Config bytes) = Table bytes.now
+model_of_item (item.At m) = Moment m
+model_of_item (item.Happens h) = Happens (happening.model_of_happening h)
 
-abbrev pub plain_reading : LeadingItem → ItemReading
-plain_reading (front.Found h rest) = Found (plain_item h) rest.now
-plain_reading front.Cut = Cut
-plain_reading front.Wrong = Wrong
+abbrev pub model_of_leading_item : LeadingItem → ItemReading
+model_of_leading_item (front.Found h rest) = Found (model_of_item h) rest.now
+model_of_leading_item front.Cut = Cut
+model_of_leading_item front.Wrong = Wrong
 
-abbrev pub plain_block : Block → BlockReading
-plain_block (block.Whole bytes rest) = Whole bytes.now rest.now
-plain_block block.Cut = Short
-plain_block block.Wrong = Bad
+abbrev pub model_of_leading_block : Block → BlockReading
+model_of_leading_block (block.Whole bytes rest) = Whole bytes.now rest.now
+model_of_leading_block block.Cut = Short
+model_of_leading_block block.Wrong = Bad

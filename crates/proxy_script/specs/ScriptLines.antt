@@ -3,7 +3,7 @@ use Rattle.std.specs.Prelude.{ℕ, ◌^◌, ◌<◌, List, [], ◌∷◌, ◌++�
 use Rattle.std.specs.Prelude.{Some, if◌then◌else◌, codes, decimal, bytes_eq}
 use Rattle.std.specs.Option.{option_map, option_and_then}
 use Rattle.hx_fields.specs.declared.limits.TheConstants.{END_OF_TIME}
-use Rattle.hx_fields.specs.Names.{cut_at}
+use Rattle.hx_fields.specs.Names.{split_at_first_byte}
 use Rattle.proxy_script.specs.DecimalNumbers.{number_of}
 use Rattle.proxy_script.specs.declared.first_words.Word.{Word}
 use Rattle.proxy_script.specs.declared.first_words.Word.TheVariants as word
@@ -94,27 +94,29 @@ moment_in_range m = if nat_lt m END_OF_TIME then Some m else None
 abbrev pub moment_of : List ℕ → Option ℕ
 moment_of text = option_and_then moment_in_range (number_of text)
 
-abbrev pub both_present : {A B : Type 0} → Option A → Option B → Option (A × B)
-both_present None y = None
-both_present (Some x) None = None
-both_present (Some x) (Some y) = Some (x, y)
+abbrev pub pair_if_both_present : {A B : Type 0} → Option A → Option B → Option (A × B)
+pair_if_both_present None y = None
+pair_if_both_present (Some x) None = None
+pair_if_both_present (Some x) (Some y) = Some (x, y)
 
 abbrev pub failure_of : List ℕ → Option FailKind
 failure_of text = find (λ kind. bytes_eq text (fail_kind_word kind)) link_failures
 
-abbrev pub two_numbers : List ℕ → Option (ℕ × ℕ)
-two_numbers text = option_and_then (λ p. both_present (number_of p.0) (number_of p.1)) (cut_at 32 text)
+abbrev pub two_numbers_of_text : List ℕ → Option (ℕ × ℕ)
+two_numbers_of_text text =
+    option_and_then (λ p. pair_if_both_present (number_of p.0) (number_of p.1)) (split_at_first_byte 32 text)
 
 abbrev pub number_and_failure : List ℕ → Option (ℕ × FailKind)
-number_and_failure text = option_and_then (λ p. both_present (number_of p.0) (failure_of p.1)) (cut_at 32 text)
+number_and_failure text =
+    option_and_then (λ p. pair_if_both_present (number_of p.0) (failure_of p.1)) (split_at_first_byte 32 text)
 
 -- what a line says behind its first word
 abbrev pub line_behind_word : Word → List ℕ → Option ItemLine
 line_behind_word word.Config rest = option_map Config (number_of rest)
 line_behind_word word.At rest = option_map At (moment_of rest)
 line_behind_word word.Accept rest = option_map Accept (number_of rest)
-line_behind_word word.Client rest = option_map (λ p. Client p.0 p.1) (two_numbers rest)
-line_behind_word word.Link rest = option_map (λ p. Link p.0 p.1) (two_numbers rest)
+line_behind_word word.Client rest = option_map (λ p. Client p.0 p.1) (two_numbers_of_text rest)
+line_behind_word word.Link rest = option_map (λ p. Link p.0 p.1) (two_numbers_of_text rest)
 line_behind_word word.End rest = option_map End (number_of rest)
 line_behind_word word.Gone rest = option_map Gone (number_of rest)
 line_behind_word word.Retire rest = option_map Retire (number_of rest)
@@ -130,7 +132,7 @@ line_of_word_and_rest p = option_and_then (λ word. line_behind_word word p.1) (
 
 -- what a line says: its first word, a space, and the rest
 unfoldable pub line_of_text : List ℕ → Option ItemLine
-line_of_text line = option_and_then line_of_word_and_rest (cut_at 32 line)
+line_of_text line = option_and_then line_of_word_and_rest (split_at_first_byte 32 line)
 
 abbrev pub is_config : ItemLine → Bool
 is_config (Config len) = true
@@ -140,9 +142,9 @@ abbrev pub same_truth : Bool → Bool → Bool
 same_truth true b = b
 same_truth false b = not b
 
-abbrev pub line_if_it_may_stand_here : Bool → ItemLine → Option ItemLine
-line_if_it_may_stand_here first header = if same_truth (is_config header) first then Some header else None
+abbrev pub line_if_allowed_at_position : Bool → ItemLine → Option ItemLine
+line_if_allowed_at_position first header = if same_truth (is_config header) first then Some header else None
 
 -- what a line says, where an item of its kind stands here: the table first, and first alone
-abbrev pub line_that_may_stand_here : Bool → List ℕ → Option ItemLine
-line_that_may_stand_here first line = option_and_then (line_if_it_may_stand_here first) (line_of_text line)
+abbrev pub line_allowed_at_position : Bool → List ℕ → Option ItemLine
+line_allowed_at_position first line = option_and_then (line_if_allowed_at_position first) (line_of_text line)

@@ -2,7 +2,7 @@
 ghost use Rattle.std.specs.Prelude.{◌≡◌};
 ghost use Rattle.std.specs.List.{list_all};
 ghost use Rattle.std.specs.Char.{is_ascii_digit};
-ghost use Rattle.proxy_script.specs.DecimalNumbers.{value_of, number_of};
+ghost use Rattle.proxy_script.specs.DecimalNumbers.{value_of_digits, number_of};
 
 use hx_fields::number_up_to;
 
@@ -12,8 +12,8 @@ fn are_digits(bytes: &[u8]) -> bool
     bytes.iter().all(|b| b.is_ascii_digit())
 }
 
-fn value_of(bytes: &[u8]) -> Option<u64>
-    ensures { result ≡ value_of bytes.now }
+fn value_of_digits(bytes: &[u8]) -> Option<u64>
+    ensures { result ≡ value_of_digits bytes.now }
 {
     if are_digits(bytes) {
         number_up_to(u64::MAX, 10, bytes)
@@ -33,5 +33,5 @@ pub fn number_of(bytes: &[u8]) -> Option<u64>
     if bytes[0] == b'0' && bytes.len() > 1 {
         return None;
     }
-    value_of(bytes)
+    value_of_digits(bytes)
 }

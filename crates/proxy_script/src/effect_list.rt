@@ -4,7 +4,7 @@ ghost use Rattle.std.specs.Net.Text.{socket_v4_text};
 ghost use Rattle.proxy_script.specs.Effects.{block_text, effect_text, effects_text};
 
 use hx_fields::Bytes;
-use hx_status::Replied;
+use hx_status::ReplyData;
 use itoa::Buffer;
 use std::alloc::{AllocError, Global};
 use std::net::SocketAddrV4;
@@ -20,7 +20,7 @@ const MOST_ADDRESS: usize = 21;
 pub enum Effect {
     /// Bytes go to a client, with what reply they are and what it answers; none for an interim response (RFC 9110,
     /// section 15.2), which is no reply. Nothing of it is in the text.
-    Client(u64, Bytes, Option<Replied>),
+    Client(u64, Bytes, Option<ReplyData>),
     /// A link is opened to an address, and bytes go to it.
     Forward(u64, SocketAddrV4, Bytes),
     /// A client's connection is closed.

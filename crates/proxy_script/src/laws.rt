@@ -1,18 +1,19 @@
 //! What the grammar and the reading of scripts say of each other.
 ghost use Rattle.std.specs.Prelude.{◌≡◌, ◌++◌, List, ℕ, Bool};
-ghost use Rattle.proxy_script.specs.Script.{PlainItem, item_spelling, ItemHasSpelling, ItemMayStandHere, leading_item};
+ghost use Rattle.proxy_script.specs.Script.{ItemModel, item_spelling, ItemHasSpelling, ItemIsAllowedAtPosition};
+ghost use Rattle.proxy_script.specs.Script.{leading_item};
 ghost use Rattle.proxy_script.specs.Script.{Found};
 
 pub use crate::script_cases::{
-    unfinished_items_wait, worked_effects_are_spelled, worked_items_are_read,
-    worked_items_are_spelled, wrong_items_are_refused,
+    worked_effects_are_spelled, worked_items_are_read, worked_items_are_spelled,
+    worked_unfinished_items, wrong_items_are_refused,
 };
 
 /// What is found is spelled so and stands here, and what is spelled so and stands here is found, whatever
 /// follows it.
 pub fn items_are_found_as_they_are_spelled()
-    ensures found { (first : Bool) (bytes rest : List ℕ) (h : PlainItem) → leading_item first bytes ≡ Found h rest
-        → (bytes ≡ item_spelling h ++ rest) × ItemHasSpelling h × ItemMayStandHere first h }
-    ensures again { (first : Bool) (h : PlainItem) (rest : List ℕ) → ItemHasSpelling h → ItemMayStandHere first h
+    ensures found { (first : Bool) (bytes rest : List ℕ) (h : ItemModel) → leading_item first bytes ≡ Found h rest
+        → (bytes ≡ item_spelling h ++ rest) × ItemHasSpelling h × ItemIsAllowedAtPosition first h }
+    ensures again { (first : Bool) (h : ItemModel) (rest : List ℕ) → ItemHasSpelling h → ItemIsAllowedAtPosition first h
         → leading_item first (item_spelling h ++ rest) ≡ Found h rest }
 {}

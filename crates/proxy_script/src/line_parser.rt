@@ -1,12 +1,12 @@
 //! The lines of a script.
 ghost use Rattle.std.specs.Prelude.{◌≡◌};
-ghost use Rattle.proxy_script.specs.ScriptLines.{moment_of, two_numbers, number_and_failure, line_behind_word};
+ghost use Rattle.proxy_script.specs.ScriptLines.{moment_of, two_numbers_of_text, number_and_failure, line_behind_word};
 ghost use Rattle.proxy_script.specs.ScriptLines.{line_of_text};
 ghost use Rattle.proxy_script.specs.ScriptLines.{is_config};
 
 use crate::digits::number_of;
 use crate::first_words::{Word, failure_of, word_of};
-use hx_fields::{END_OF_TIME, cut_at};
+use hx_fields::{END_OF_TIME, split_at_first_byte};
 use hx_status::FailKind;
 
 /// The line of an item, with the length of the block that follows where one does.
@@ -34,10 +34,10 @@ fn moment_of(text: &[u8]) -> Option<u64>
     }
 }
 
-fn two_numbers(text: &[u8]) -> Option<(u64, u64)>
-    ensures { result ≡ two_numbers text.now }
+fn two_numbers_of_text(text: &[u8]) -> Option<(u64, u64)>
+    ensures { result ≡ two_numbers_of_text text.now }
 {
-    let (first, second) = cut_at(b' ', text)?;
+    let (first, second) = split_at_first_byte(b' ', text)?;
     let first = number_of(first)?;
     let second = number_of(second)?;
     Some((first, second))
@@ -46,7 +46,7 @@ fn two_numbers(text: &[u8]) -> Option<(u64, u64)>
 fn number_and_failure(text: &[u8]) -> Option<(u64, FailKind)>
     ensures { result ≡ number_and_failure text.now }
 {
-    let (number, kind) = cut_at(b' ', text)?;
+    let (number, kind) = split_at_first_byte(b' ', text)?;
     let number = number_of(number)?;
     let kind = failure_of(kind)?;
     Some((number, kind))
@@ -61,11 +61,11 @@ fn line_behind_word(word: Word, rest: &[u8]) -> Option<ItemLine>
         Word::At => ItemLine::At(moment_of(rest)?),
         Word::Accept => ItemLine::Accept(number_of(rest)?),
         Word::Client => {
-            let (n, len) = two_numbers(rest)?;
+            let (n, len) = two_numbers_of_text(rest)?;
             ItemLine::Client(n, len)
         }
         Word::Link => {
-            let (l, len) = two_numbers(rest)?;
+            let (l, len) = two_numbers_of_text(rest)?;
             ItemLine::Link(l, len)
         }
         Word::End => ItemLine::End(number_of(rest)?),
@@ -85,7 +85,7 @@ fn line_behind_word(word: Word, rest: &[u8]) -> Option<ItemLine>
 pub fn line_of_text(line: &[u8]) -> Option<ItemLine>
     ensures { result ≡ line_of_text line.now }
 {
-    let (word, rest) = cut_at(b' ', line)?;
+    let (word, rest) = split_at_first_byte(b' ', line)?;
     let word = word_of(word)?;
     line_behind_word(word, rest)
 }

@@ -1,14 +1,15 @@
 //! The item at the front of a script.
 ghost use Rattle.std.specs.Prelude.{◌≡◌};
 ghost use Rattle.std.specs.Option.{option_map};
-ghost use Rattle.proxy_script.specs.ScriptLines.{line_that_may_stand_here};
-ghost use Rattle.proxy_script.specs.Happenings.{plain_happening};
-ghost use Rattle.proxy_script.specs.Script.{Found, Happens, leading_block, item_of_line, leading_item, plain_reading};
-ghost use Rattle.proxy_script.specs.Script.{plain_block};
+ghost use Rattle.proxy_script.specs.ScriptLines.{line_allowed_at_position};
+ghost use Rattle.proxy_script.specs.Happenings.{model_of_happening};
+ghost use Rattle.proxy_script.specs.Script.{Found, Happens, leading_block, item_of_line, leading_item};
+ghost use Rattle.proxy_script.specs.Script.{model_of_leading_item};
+ghost use Rattle.proxy_script.specs.Script.{model_of_leading_block};
 
 use crate::line_parser::{ItemLine, is_config, line_of_text};
 use crate::{Happening, Item};
-use hx_fields::cut_at;
+use hx_fields::split_at_first_byte;
 
 /// What stands at the front of bytes.
 #[derive(Clone, Copy)]
@@ -29,7 +30,7 @@ enum Block<'a> {
 }
 
 fn leading_block(len: u64, rest: &[u8]) -> Block<'_>
-    ensures { plain_block result ≡ leading_block len rest.now }
+    ensures { model_of_leading_block result ≡ leading_block len rest.now }
 {
     if rest.len() as u64 <= len {
         return Block::Cut;
@@ -42,13 +43,13 @@ fn leading_block(len: u64, rest: &[u8]) -> Block<'_>
 }
 
 fn front_with_happening<'a>(happening: Happening<'a>, rest: &'a [u8]) -> LeadingItem<'a>
-    ensures { plain_reading result ≡ Found (Happens (plain_happening happening.entry)) rest.now }
+    ensures { model_of_leading_item result ≡ Found (Happens (model_of_happening happening.entry)) rest.now }
 {
     LeadingItem::Found(Item::Happens(happening), rest)
 }
 
 fn item_of_line(header: ItemLine, rest: &[u8]) -> LeadingItem<'_>
-    ensures { plain_reading result ≡ item_of_line header rest.now }
+    ensures { model_of_leading_item result ≡ item_of_line header rest.now }
 {
     match header {
         ItemLine::Config(len) => match leading_block(len, rest) {
@@ -78,8 +79,8 @@ fn item_of_line(header: ItemLine, rest: &[u8]) -> LeadingItem<'_>
 }
 
 /// What a line says, where an item of its kind stands here: the table first, and first alone.
-fn line_that_may_stand_here(first: bool, line: &[u8]) -> Option<ItemLine>
-    ensures { result ≡ line_that_may_stand_here first line.now }
+fn line_allowed_at_position(first: bool, line: &[u8]) -> Option<ItemLine>
+    ensures { result ≡ line_allowed_at_position first line.now }
 {
     match line_of_text(line) {
         Some(header) => {
@@ -96,11 +97,11 @@ fn line_that_may_stand_here(first: bool, line: &[u8]) -> Option<ItemLine>
 /// The item at the front of the bytes of a script; the first one is the operator's table, and no other is.
 #[tactic(auto, unfolding(crate::specs::Script::leading_item))]
 pub fn read_item(first: bool, bytes: &[u8]) -> LeadingItem<'_>
-    ensures { plain_reading result ≡ leading_item first bytes.now }
+    ensures { model_of_leading_item result ≡ leading_item first bytes.now }
 {
-    match cut_at(b'\n', bytes) {
+    match split_at_first_byte(b'\n', bytes) {
         None => LeadingItem::Cut,
-        Some((line, rest)) => match line_that_may_stand_here(first, line) {
+        Some((line, rest)) => match line_allowed_at_position(first, line) {
             None => LeadingItem::Wrong,
             Some(header) => item_of_line(header, rest),
         },

@@ -51,7 +51,7 @@ pub fn worked_items_are_read()
 
 /// A line without its LF and a block that isn't whole wait for the rest.
 #[tactic(auto, unfolding(crate::specs::Script::leading_item, crate::specs::ScriptLines::line_of_text, crate::specs::DecimalNumbers::number_of))]
-pub fn unfinished_items_wait()
+pub fn worked_unfinished_items()
     ensures nothing { leading_item false [] ≡ Cut }
     ensures line { leading_item false (codes "end 1") ≡ Cut }
     ensures wrong_line { leading_item false (codes "no such word") ≡ Cut }

@@ -2,7 +2,7 @@
 ghost use Rattle.std.specs.Prelude.{◌≡◌, ◌++◌, ◌∷◌, [], OnOk, IfOk};
 ghost use Rattle.hx_status.specs.Refusals.{fail_kind_word};
 ghost use Rattle.proxy_script.specs.ScriptLines.{word_text, word_of_line, text_behind_word, line_text};
-ghost use Rattle.proxy_script.specs.Script.{plain_item, line_of_item, block_of_item, item_spelling};
+ghost use Rattle.proxy_script.specs.Script.{model_of_item, line_of_item, block_of_item, item_spelling};
 
 use crate::effect_list::push_number;
 use crate::first_words::Word;
@@ -102,7 +102,7 @@ fn push_line(text: &mut Vec<u8>, header: ItemLine) -> Result<(), AllocError>
 
 /// The line of an item.
 fn line_of_item(item: Item<'_>) -> ItemLine
-    ensures { result ≡ line_of_item (plain_item item.entry) }
+    ensures { result ≡ line_of_item (model_of_item item.entry) }
 {
     match item {
         Item::Config(table) => ItemLine::Config(table.len() as u64),
@@ -130,7 +130,7 @@ fn push_block(text: &mut Vec<u8>, bytes: &[u8]) -> Result<(), AllocError>
 
 /// Writes the block behind the line of an item, where one stands.
 fn push_block_of(text: &mut Vec<u8>, item: Item<'_>) -> Result<(), AllocError>
-    ensures { OnOk result (text.new.items ≡ text.old.items ++ block_of_item (plain_item item.entry)) }
+    ensures { OnOk result (text.new.items ≡ text.old.items ++ block_of_item (model_of_item item.entry)) }
 {
     match item {
         Item::Config(table) => push_block(text, table),
@@ -143,7 +143,7 @@ fn push_block_of(text: &mut Vec<u8>, item: Item<'_>) -> Result<(), AllocError>
 /// The text of an item, which `read_item` reads as that item. A moment is below 253402300800, and the kind of a link's
 /// failure is one that can happen by itself. Its only error is out of memory.
 pub fn item_text(alloc: Global, item: Item<'_>) -> Result<Vec<u8>, AllocError>
-    ensures { IfOk result (λ text. text.items ≡ item_spelling (plain_item item.entry)) }
+    ensures { IfOk result (λ text. text.items ≡ item_spelling (model_of_item item.entry)) }
 {
     let mut text = Vec::new(alloc);
     push_line(&mut text, line_of_item(item))?;

@@ -3,23 +3,23 @@ use Rattle.std.proofs.Common.{◌≡◌, ℕ, List, refl, sym, ap, ◌∙◌, su
 use Rattle.std.specs.Prelude.{◌<◌, ◌||◌, not, cond, true, false, Option}
 use Rattle.hx_fields.specs.declared.limits.TheConstants.{END_OF_TIME}
 use Rattle.proxy_engine.specs.EngineModel.{EngineModel}
-use Rattle.proxy_engine.specs.Orderly.{ModelIsOrderly}
+use Rattle.proxy_engine.specs.Orderly.{ModelIsConsistent}
 use Rattle.proxy_engine.specs.State.{State, EngineRepresents}
 use Rattle.proxy_engine.specs.declared.work.End.{End}
-use Rattle.proxy_turn.specs.Over.{EngineTurnsOverWithCalls}
-use Rattle.proxy_turn.specs.Served.{EngineGoesOn, EngineServesTurn, EngineGoesOnByNothing, EngineGoesOnByTurn, LossesKeepOrder}
+use Rattle.proxy_turn.specs.Over.{EngineTurnsOverEndsWithCalls}
+use Rattle.proxy_turn.specs.Served.{EngineContinues, EngineServesTurn, EngineContinuesByNothing, EngineContinuesByTurn, EndLossesKeepModelConsistent}
 use Rattle.proxy_turn.specs.Counts.{Calls}
-use Rattle.proxy_record.specs.Records.{Record}
+use Rattle.proxy_record.specs.Records.{RecordSoFar}
 use Rattle.proxy_record.specs.Recorded.{is_recording}
 use Rattle.proxy_turn.specs.declared.report.Report.{Report}
 use Rattle.proxy_turn.specs.declared.report.TurnFault.{TurnFault}
 use Rattle.proxy_turn.specs.declared.report.TurnFault.TheVariants as faults
-use Rattle.proxy_server.specs.ServerState.{ServerState, turn_begun, OwnSocketsDid}
-use Rattle.proxy_server.specs.Losses.{ServerTakesLosses}
-use Rattle.proxy_server.specs.Serving.{server_bounds, turn_settles, ServerServesTurn, TurnIsServed, TurnIsServedAndSettled, ServeTurnAnswers}
-use Rattle.proxy_server.specs.Paces.{next_turn_must_not_wait}
-use Rattle.proxy_server.specs.declared.pace.Pace.{Pace}
-use Rattle.proxy_server.specs.declared.server.Turned.{Turned}
+use Rattle.proxy_server.specs.ServerState.{ServerState, state_at_turn_start, ServerSocketsMadeCalls}
+use Rattle.proxy_server.specs.Losses.{ServerTakesEndLosses}
+use Rattle.proxy_server.specs.Serving.{server_bounds, turn_left_nothing_due, ServerServesTurn, TurnIsServed, TurnIsServedAndSettled, ServeTurnAnswers}
+use Rattle.proxy_server.specs.Paces.{pace_after_turn}
+use Rattle.proxy_server.specs.declared.pace.WorkLeftForNextTurn.{WorkLeftForNextTurn}
+use Rattle.proxy_server.specs.declared.server.ServedTurn.{ServedTurn}
 use Rattle.proxy_server.specs.declared.server.ServeFault.{ServeFault}
 use Rattle.proxy_server.specs.declared.server.ServeFault.TheVariants as fault
 
@@ -39,26 +39,26 @@ engine_turns a b reported serves s represents orderly =
       turn = turn.turn.turns;
     }
 
-pub goes_by_turn : EngineGoesOnByTurn → (a b : ServerState) (reported : Result Report TurnFault) → ServerServesTurn a b reported → EngineGoesOn a.engine b.engine
+pub goes_by_turn : EngineContinuesByTurn → (a b : ServerState) (reported : Result Report TurnFault) → ServerServesTurn a b reported → EngineContinues a.engine b.engine
 goes_by_turn turns a b reported serves = turns a.engine b.engine a.moment server_bounds reported (engine_turns a b reported serves)
 
-served_on : EngineGoesOnByTurn → (a b : ServerState) (reported : Result Report TurnFault) → TurnIsServed a b reported → EngineGoesOn a.engine b.engine
-served_on turns a b reported served = goes_by_turn turns (turn_begun served.now a) b reported served.serves
+served_on : EngineContinuesByTurn → (a b : ServerState) (reported : Result Report TurnFault) → TurnIsServed a b reported → EngineContinues a.engine b.engine
+served_on turns a b reported served = goes_by_turn turns (state_at_turn_start served.now a) b reported served.serves
 
-settled_on : EngineGoesOnByTurn → (a b : ServerState) (reported : Result Report TurnFault) → TurnIsServedAndSettled a b reported → EngineGoesOn a.engine b.engine
+settled_on : EngineContinuesByTurn → (a b : ServerState) (reported : Result Report TurnFault) → TurnIsServedAndSettled a b reported → EngineContinues a.engine b.engine
 settled_on turns a b reported did =
-    subst (λ (x : ServerState). EngineGoesOn a.engine x.engine) (sym did.settles) (served_on turns a did.last reported did.served)
+    subst (λ (x : ServerState). EngineContinues a.engine x.engine) (sym did.settles) (served_on turns a did.last reported did.served)
 
 -- whatever a call answers, the engine has gone on
-pub answered_on : EngineGoesOnByNothing → EngineGoesOnByTurn → (a b : ServerState) (result : Result Turned ServeFault) → ServeTurnAnswers a b result → EngineGoesOn a.engine b.engine
+pub answered_on : EngineContinuesByNothing → EngineContinuesByTurn → (a b : ServerState) (result : Result ServedTurn ServeFault) → ServeTurnAnswers a b result → EngineContinues a.engine b.engine
 answered_on stays turns a b (Ok turned) did = settled_on turns a b turned.reported did.1.0
-answered_on stays turns a b (Err fault.Socket) same = subst (λ (x : ServerState). EngineGoesOn a.engine x.engine) (sym same) (stays a.engine)
-answered_on stays turns a b (Err fault.Clock) same = subst (λ (x : ServerState). EngineGoesOn a.engine x.engine) (sym same) (stays a.engine)
+answered_on stays turns a b (Err fault.Socket) same = subst (λ (x : ServerState). EngineContinues a.engine x.engine) (sym same) (stays a.engine)
+answered_on stays turns a b (Err fault.Clock) same = subst (λ (x : ServerState). EngineContinues a.engine x.engine) (sym same) (stays a.engine)
 answered_on stays turns a b (Err (fault.Record why)) did = served_on turns a b did.1.0 did.1.1
 answered_on stays turns a b (Err fault.Spent) did = settled_on turns a b (Err faults.Spent) did
 
 -- what a turn leaves to the next
-pub settles : (p : Pace) (reported : Result Report TurnFault) (more : Bool) → (next_turn_must_not_wait p reported more).settled ≡ turn_settles reported
+pub settles : (p : WorkLeftForNextTurn) (reported : Result Report TurnFault) (more : Bool) → (pace_after_turn p reported more).settled ≡ turn_left_nothing_due reported
 settles p (Ok report) more = refl
 settles p (Err faults.Listener) more = refl
 settles p (Err faults.NoMemory) more = refl
@@ -70,9 +70,9 @@ begun_early end now was true early before = early
 begun_early end now was false early before = before
 
 -- What was lost was handed in, and then one turn was served over the sockets of the server.
-pub turned_over : LossesKeepOrder → (a seen b : ServerState) (now : ℕ) → now ≡ a.moment → (given left : List End) (reported : Result Report TurnFault)
-    → ServerTakesLosses a seen → b.settled ≡ seen.settled
-    → ((s : EngineModel) → EngineRepresents seen.engine s → ModelIsOrderly s → EngineTurnsOverWithCalls now server_bounds s given b.engine left (λ made. OwnSocketsDid seen made b) seen.calls b.calls reported)
+pub turned_over : EndLossesKeepModelConsistent → (a seen b : ServerState) (now : ℕ) → now ≡ a.moment → (given left : List End) (reported : Result Report TurnFault)
+    → ServerTakesEndLosses a seen → b.settled ≡ seen.settled
+    → ((s : EngineModel) → EngineRepresents seen.engine s → ModelIsConsistent s → EngineTurnsOverEndsWithCalls now server_bounds s given b.engine left (λ made. ServerSocketsMadeCalls seen made b) seen.calls b.calls reported)
     → ServerServesTurn a b reported
 turned_over order a seen b now is given left reported loses settled turns s represents orderly =
     let handed_in = loses s represents in
@@ -81,13 +81,13 @@ turned_over order a seen b now is given left reported loses settled turns s repr
       handed_in = handed_in;
       given = given;
       left = left;
-      turn = subst (λ (m : ℕ). EngineTurnsOverWithCalls m server_bounds handed_in.losses.after given b.engine left (λ made. OwnSocketsDid seen made b) seen.calls b.calls reported) is
+      turn = subst (λ (m : ℕ). EngineTurnsOverEndsWithCalls m server_bounds handed_in.losses.after given b.engine left (λ made. ServerSocketsMadeCalls seen made b) seen.calls b.calls reported) is
           (turns handed_in.losses.after handed_in.losses.represents (order s seen.engine handed_in.losses orderly));
       settled = settled ∙ handed_in.settled;
     }
 
 -- what is seen of a server, part for part
-abbrev pub server_state : State → Option Record → Bool → ℕ → Bool → Bool → Calls → ServerState
+abbrev pub server_state : State → Option RecordSoFar → Bool → ℕ → Bool → Bool → Calls → ServerState
 server_state engine recorder failed moment taken settled calls = record {
   engine = engine;
   recorder = recorder;
@@ -98,10 +98,10 @@ server_state engine recorder failed moment taken settled calls = record {
   calls = calls;
 }
 
-pub begun_from : (now : ℕ) (seen before a : ServerState) → before ≡ a → seen ≡ turn_begun now before → seen ≡ turn_begun now a
-begun_from now seen before a first begun = begun ∙ ap (turn_begun now) first
+pub begun_from : (now : ℕ) (seen before a : ServerState) → before ≡ a → seen ≡ state_at_turn_start now before → seen ≡ state_at_turn_start now a
+begun_from now seen before a first begun = begun ∙ ap (state_at_turn_start now) first
 
-pub served_behind : (now : ℕ) (seen a b : ServerState) (reported : Result Report TurnFault) → seen ≡ turn_begun now a → now < END_OF_TIME → a.moment < END_OF_TIME
+pub served_behind : (now : ℕ) (seen a b : ServerState) (reported : Result Report TurnFault) → seen ≡ state_at_turn_start now a → now < END_OF_TIME → a.moment < END_OF_TIME
     → ServerServesTurn seen b reported → TurnIsServed a b reported
 served_behind now seen a b reported begun early before serves = record {
   now = now;
@@ -109,8 +109,8 @@ served_behind now seen a b reported begun early before serves = record {
   serves = subst (λ (x : ServerState). ServerServesTurn x b reported) begun serves;
 }
 
-pub settled_behind : (now : ℕ) (seen a b last : ServerState) (reported : Result Report TurnFault) → seen ≡ turn_begun now a → now < END_OF_TIME → a.moment < END_OF_TIME
-    → ServerServesTurn seen b reported → last ≡ record b { settled = turn_settles reported } → TurnIsServedAndSettled a last reported
+pub settled_behind : (now : ℕ) (seen a b last : ServerState) (reported : Result Report TurnFault) → seen ≡ state_at_turn_start now a → now < END_OF_TIME → a.moment < END_OF_TIME
+    → ServerServesTurn seen b reported → last ≡ record b { settled = turn_left_nothing_due reported } → TurnIsServedAndSettled a last reported
 settled_behind now seen a b last reported begun early before serves settles = record {
   last = b;
   served = served_behind now seen a b reported begun early before serves;
@@ -118,9 +118,9 @@ settled_behind now seen a b last reported begun early before serves settles = re
 }
 
 -- and the moment that it names is that of the turn
-pub answered_at : (now : ℕ) (seen a b last : ServerState) (reported : Result Report TurnFault) (moment : ℕ) → seen ≡ turn_begun now a → now < END_OF_TIME → a.moment < END_OF_TIME
-    → ServerServesTurn seen b reported → last ≡ record b { settled = turn_settles reported } → moment ≡ seen.moment
-    → (served : TurnIsServedAndSettled a last reported) × (moment ≡ (turn_begun served.served.now a).moment)
+pub answered_at : (now : ℕ) (seen a b last : ServerState) (reported : Result Report TurnFault) (moment : ℕ) → seen ≡ state_at_turn_start now a → now < END_OF_TIME → a.moment < END_OF_TIME
+    → ServerServesTurn seen b reported → last ≡ record b { settled = turn_left_nothing_due reported } → moment ≡ seen.moment
+    → (served : TurnIsServedAndSettled a last reported) × (moment ≡ (state_at_turn_start served.served.now a).moment)
 answered_at now seen a b last reported moment begun early before serves settles is = (
   record {
     last = b;

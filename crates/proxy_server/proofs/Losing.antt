@@ -5,29 +5,29 @@ use Rattle.std.specs.Prelude.{ℕ, option_map, unwrap_or}
 use Rattle.hx_status.specs.declared.cause.FailKind.{FailKind}
 use Rattle.proxy_script.specs.declared.happening.Happening.{Happening}
 use Rattle.proxy_engine.specs.Happenings as happened
-use Rattle.proxy_engine.specs.Happenings.{PlainHappening, plain_happening, happening_takes_memory}
+use Rattle.proxy_engine.specs.Happenings.{HappeningModel, model_of_happening, happening_takes_memory}
 use Rattle.proxy_engine.specs.EngineModel.{EngineModel, model_after_happening, happening_fault}
-use Rattle.proxy_engine.specs.State.{State, EngineRepresents, EngineTakesHappening, IsFaultOrOutOfMemory, IsFaultOfTaking}
+use Rattle.proxy_engine.specs.State.{State, EngineRepresents, EngineTakesHappening, IsFaultOrOutOfMemory, IsFaultOfTakingHappening}
 use Rattle.proxy_engine.specs.declared.work.EngineFault.{EngineFault}
 use Rattle.proxy_engine.specs.declared.work.EngineFault.TheVariants.{OutOfMemory}
 use Rattle.proxy_engine.specs.declared.work.End.{End}
 use Rattle.proxy_engine.specs.declared.work.End.TheVariants as ends
 use Rattle.proxy_turn.specs.Turn.{happening_of_loss}
-use Rattle.proxy_turn.specs.Served.{IsLostEnd, EngineTakesLosses, LossesAreTakenOneAfterAnother}
-use Rattle.proxy_record.specs.Records.{Record, EachIsNoted}
-use Rattle.proxy_record.specs.Recorded.{HappeningIfAnyIsNoted, is_recording, may_be_taken_while_recording, was_recording_before, recording_had_not_failed}
-use Rattle.proxy_record.specs.RecordedTurns.{noted_at_moment}
+use Rattle.proxy_turn.specs.Served.{IsLossOfAnEnd, EngineTakesEndLosses, EndLossesAreTakenInOrder}
+use Rattle.proxy_record.specs.Records.{RecordSoFar, EachHappeningIsRecorded}
+use Rattle.proxy_record.specs.Recorded.{HappeningIfAnyIsRecorded, is_recording, may_be_taken_while_recording, was_recording_before, recording_had_not_failed}
+use Rattle.proxy_record.specs.RecordedTurns.{recorded_at_moment}
 use Rattle.proxy_server.specs.ServerState.{ServerState, may_lose_an_end}
-use Rattle.proxy_server.specs.Losses.{LossIsTaken, LossIsRefused, LossIfAnyIsTaken, EndIsLost, LossesAreNoted, AtMostOneLoss, LossesAreTakenAndRecorded, ServerTakesLosses}
+use Rattle.proxy_server.specs.Losses.{EndLossIsTaken, EndLossIsRefused, EndLossIfAnyIsTaken, EndLossOfKindIsTaken, EndLossesAreRecorded, AtMostOneEndLossIsTaken, EndLossesAreTakenAndRecorded, ServerTakesEndLosses}
 
 -- ---- none
 
-notes_none : (now : ℕ) (r : Option Record) → LossesAreNoted now [] r r
+notes_none : (now : ℕ) (r : Option RecordSoFar) → EndLossesAreRecorded now [] r r
 notes_none now None = refl
 notes_none now (Some r) = (r, refl, refl)
 
 -- its engine stands for the same, and nothing else changes
-pub roomier : (a : ServerState) (e : State) → ((s : EngineModel) → EngineRepresents a.engine s → EngineRepresents e s) → ServerTakesLosses a (record a { engine = e })
+pub roomier : (a : ServerState) (e : State) → ((s : EngineModel) → EngineRepresents a.engine s → EngineRepresents e s) → ServerTakesEndLosses a (record a { engine = e })
 roomier a e same s represents = record {
   losses = record { lost = []; are_losses = tt; after = s; takes = refl; represents = same s represents };
   fails = λ is. is;
@@ -38,8 +38,8 @@ roomier a e same s represents = record {
   calls = refl;
 }
 
-pub none_on : (a b : ServerState) → b ≡ a → ServerTakesLosses a b
-none_on a b is = subst (ServerTakesLosses a) (sym is) (roomier a a.engine (λ s h. h))
+pub none_on : (a b : ServerState) → b ≡ a → ServerTakesEndLosses a b
+none_on a b is = subst (ServerTakesEndLosses a) (sym is) (roomier a a.engine (λ s h. h))
 
 -- ---- one
 
@@ -49,14 +49,14 @@ may_be_first false true true may is = absurd (false≢true may)
 may_be_first false true false may is = absurd (false≢true is)
 may_be_first true taken recording may is = absurd (false≢true may)
 
-notes_one : (now : ℕ) (h : PlainHappening) (old new : Option Record) → HappeningIfAnyIsNoted now (Some h) old new → LossesAreNoted now (h ∷ []) old new
+notes_one : (now : ℕ) (h : HappeningModel) (old new : Option RecordSoFar) → HappeningIfAnyIsRecorded now (Some h) old new → EndLossesAreRecorded now (h ∷ []) old new
 notes_one now h None new noted = noted
 notes_one now h (Some r) new noted = (noted.0, noted.1, (noted.0, noted.2, refl))
 
 abbrev may : ServerState → Type 0
 may a = may_lose_an_end a ≡ true
 
-one_on : (h : PlainHappening) (a b : ServerState) → IsLostEnd h → may a → LossIsTaken h a b → ServerTakesLosses a b
+one_on : (h : HappeningModel) (a b : ServerState) → IsLossOfAnEnd h → may a → EndLossIsTaken h a b → ServerTakesEndLosses a b
 one_on h a b loss free taken s represents =
     let took = taken.takes s represents in
     record {
@@ -72,7 +72,7 @@ one_on h a b loss free taken s represents =
       calls = taken.calls;
     }
 
-pub end_on : (end : End) (kind : FailKind) (a b : ServerState) → may a → EndIsLost end kind a b → ServerTakesLosses a b
+pub end_on : (end : End) (kind : FailKind) (a b : ServerState) → may a → EndLossOfKindIsTaken end kind a b → ServerTakesEndLosses a b
 end_on ends.Listener kind a b free is = none_on a b is
 end_on (ends.Client n) kind a b free (inl taken) = one_on _ a b tt free taken
 end_on (ends.Client n) kind a b free (inr refused) = none_on a b refused.same
@@ -81,31 +81,31 @@ end_on (ends.Link l) kind a b free (inr refused) = none_on a b refused.same
 
 -- ---- and then others
 
-each_on : (now : ℕ) (xs ys : List PlainHappening) (r mid new : Record) → EachIsNoted r (noted_at_moment now xs) mid → EachIsNoted mid (noted_at_moment now ys) new → EachIsNoted r (noted_at_moment now (xs ++ ys)) new
-each_on now [] ys r mid new same rest = subst (λ (k : Record). EachIsNoted k (noted_at_moment now ys) new) same rest
+each_on : (now : ℕ) (xs ys : List HappeningModel) (r mid new : RecordSoFar) → EachHappeningIsRecorded r (recorded_at_moment now xs) mid → EachHappeningIsRecorded mid (recorded_at_moment now ys) new → EachHappeningIsRecorded r (recorded_at_moment now (xs ++ ys)) new
+each_on now [] ys r mid new same rest = subst (λ (k : RecordSoFar). EachHappeningIsRecorded k (recorded_at_moment now ys) new) same rest
 each_on now (h ∷ xs) ys r mid new noted rest = (noted.0, noted.1, each_on now xs ys noted.0 mid new noted.2 rest)
 
-notes_on : (now : ℕ) (xs ys : List PlainHappening) (old mid new : Option Record) → LossesAreNoted now xs old mid → LossesAreNoted now ys mid new → LossesAreNoted now (xs ++ ys) old new
-notes_on now xs ys None mid new same rest = subst (λ (r : Option Record). LossesAreNoted now ys r new) same rest
+notes_on : (now : ℕ) (xs ys : List HappeningModel) (old mid new : Option RecordSoFar) → EndLossesAreRecorded now xs old mid → EndLossesAreRecorded now ys mid new → EndLossesAreRecorded now (xs ++ ys) old new
+notes_on now xs ys None mid new same rest = subst (λ (r : Option RecordSoFar). EndLossesAreRecorded now ys r new) same rest
 notes_on now xs ys (Some r) mid new noted rest =
-    let behind = subst (λ (k : Option Record). LossesAreNoted now ys k new) noted.1 rest in
+    let behind = subst (λ (k : Option RecordSoFar). EndLossesAreRecorded now ys k new) noted.1 rest in
     (behind.0, behind.1, each_on now xs ys r noted.0 behind.0 noted.2 behind.2)
 
-each_was_recorded : (now : ℕ) (xs : List PlainHappening) (r new : Record) → EachIsNoted r (noted_at_moment now xs) new → is_recording (Some new) ≡ true → is_recording (Some r) ≡ true
-each_was_recorded now [] r new same is = subst (λ (k : Record). is_recording (Some k) ≡ true) same is
+each_was_recorded : (now : ℕ) (xs : List HappeningModel) (r new : RecordSoFar) → EachHappeningIsRecorded r (recorded_at_moment now xs) new → is_recording (Some new) ≡ true → is_recording (Some r) ≡ true
+each_was_recorded now [] r new same is = subst (λ (k : RecordSoFar). is_recording (Some k) ≡ true) same is
 each_was_recorded now (h ∷ xs) r new noted is =
     was_recording_before now (Some h) (Some r) (Some noted.0) (noted.0, refl, noted.1) (each_was_recorded now xs noted.0 new noted.2 is)
 
-was_recorded : (now : ℕ) (xs : List PlainHappening) (old new : Option Record) → LossesAreNoted now xs old new → is_recording new ≡ true → is_recording old ≡ true
-was_recorded now xs None new same is = subst (λ (r : Option Record). is_recording r ≡ true) same is
+was_recorded : (now : ℕ) (xs : List HappeningModel) (old new : Option RecordSoFar) → EndLossesAreRecorded now xs old new → is_recording new ≡ true → is_recording old ≡ true
+was_recorded now xs None new same is = subst (λ (r : Option RecordSoFar). is_recording r ≡ true) same is
 was_recorded now xs (Some r) new noted is =
-    each_was_recorded now xs r noted.0 noted.2 (subst (λ (k : Option Record). is_recording k ≡ true) noted.1 is)
+    each_was_recorded now xs r noted.0 noted.2 (subst (λ (k : Option RecordSoFar). is_recording k ≡ true) noted.1 is)
 
-one_of_both : (taken some later : Bool) (xs ys : List PlainHappening) → AtMostOneLoss taken xs some → AtMostOneLoss some ys later → AtMostOneLoss taken (xs ++ ys) later
-one_of_both taken some later [] ys same rest = subst (λ (t : Bool). AtMostOneLoss t ys later) same rest
+one_of_both : (taken some later : Bool) (xs ys : List HappeningModel) → AtMostOneEndLossIsTaken taken xs some → AtMostOneEndLossIsTaken some ys later → AtMostOneEndLossIsTaken taken (xs ++ ys) later
+one_of_both taken some later [] ys same rest = subst (λ (t : Bool). AtMostOneEndLossIsTaken t ys later) same rest
 one_of_both taken some later (h ∷ xs) ys first rest = (first.0, one_of_both true some later xs ys first.1 rest)
 
-pub more_on : LossesAreTakenOneAfterAnother → (a mid b : ServerState) → ServerTakesLosses a mid → ServerTakesLosses mid b → ServerTakesLosses a b
+pub more_on : EndLossesAreTakenInOrder → (a mid b : ServerState) → ServerTakesEndLosses a mid → ServerTakesEndLosses mid b → ServerTakesEndLosses a b
 more_on joined a mid b first rest s represents =
     let one = first s represents in
     let other = rest one.losses.after one.losses.represents in
@@ -115,13 +115,13 @@ more_on joined a mid b first rest s represents =
       fails = λ is. other.fails (one.fails is);
       notes = λ ok.
           let before = one.notes (recording_had_not_failed mid.failed b.failed other.fails ok) in
-          let behind = subst (λ (now : ℕ). LossesAreNoted now other.losses.lost mid.recorder b.recorder) one.moment (other.notes ok) in
-          subst (λ (lost : List PlainHappening). LossesAreNoted a.moment lost a.recorder b.recorder) (sym both.1)
+          let behind = subst (λ (now : ℕ). EndLossesAreRecorded now other.losses.lost mid.recorder b.recorder) one.moment (other.notes ok) in
+          subst (λ (lost : List HappeningModel). EndLossesAreRecorded a.moment lost a.recorder b.recorder) (sym both.1)
           (notes_on a.moment one.losses.lost other.losses.lost a.recorder mid.recorder b.recorder before behind);
       takes = λ ok is.
           let free = recording_had_not_failed mid.failed b.failed other.fails ok in
           let was = was_recorded mid.moment other.losses.lost mid.recorder b.recorder (other.notes ok) is in
-          subst (λ (lost : List PlainHappening). AtMostOneLoss a.taken lost b.taken) (sym both.1)
+          subst (λ (lost : List HappeningModel). AtMostOneEndLossIsTaken a.taken lost b.taken) (sym both.1)
           (one_of_both a.taken mid.taken b.taken one.losses.lost other.losses.lost (one.takes free was) (other.takes ok is));
       moment = other.moment ∙ one.moment;
       settled = other.settled ∙ one.settled;
@@ -129,36 +129,36 @@ more_on joined a mid b first rest s represents =
     }
 
 -- from a state that is the one before
-pub on_from : LossesAreTakenOneAfterAnother → (a mid same b : ServerState) → same ≡ mid → ServerTakesLosses a mid → ServerTakesLosses same b → ServerTakesLosses a b
-on_from joined a mid same b is first rest = more_on joined a mid b first (subst (λ (x : ServerState). ServerTakesLosses x b) is rest)
+pub on_from : EndLossesAreTakenInOrder → (a mid same b : ServerState) → same ≡ mid → ServerTakesEndLosses a mid → ServerTakesEndLosses same b → ServerTakesEndLosses a b
+on_from joined a mid same b is first rest = more_on joined a mid b first (subst (λ (x : ServerState). ServerTakesEndLosses x b) is rest)
 
 -- of its engine they are losses, and nothing else
-pub engine_loses : (a b : ServerState) → ServerTakesLosses a b → EngineTakesLosses a.engine b.engine
+pub engine_loses : (a b : ServerState) → ServerTakesEndLosses a b → EngineTakesEndLosses a.engine b.engine
 engine_loses a b loses s represents = (loses s represents).losses
 
-pub engine_roomier : (e new : State) → ((s : EngineModel) → EngineRepresents e s → EngineRepresents new s) → EngineTakesLosses e new
+pub engine_roomier : (e new : State) → ((s : EngineModel) → EngineRepresents e s → EngineRepresents new s) → EngineTakesEndLosses e new
 engine_roomier e new same s represents = record { lost = []; are_losses = tt; after = s; takes = refl; represents = same s represents }
 
 -- whatever a state is seen as
-pub from_view : (seen a b : ServerState) → seen ≡ a → ServerTakesLosses seen b → ServerTakesLosses a b
-from_view seen a b is loses = subst (λ (x : ServerState). ServerTakesLosses x b) is loses
+pub from_view : (seen a b : ServerState) → seen ≡ a → ServerTakesEndLosses seen b → ServerTakesEndLosses a b
+from_view seen a b is loses = subst (λ (x : ServerState). ServerTakesEndLosses x b) is loses
 
 -- ---- what is handed in is what happened
 
-pub is_lost : (end : End) (kind : FailKind) (o : Option Happening) (h : Happening) (a b : ServerState) → o ≡ Some h → option_map plain_happening o ≡ happening_of_loss end kind → LossIsTaken (plain_happening h) a b → EndIsLost end kind a b
+pub is_lost : (end : End) (kind : FailKind) (o : Option Happening) (h : Happening) (a b : ServerState) → o ≡ Some h → option_map model_of_happening o ≡ happening_of_loss end kind → EndLossIsTaken (model_of_happening h) a b → EndLossOfKindIsTaken end kind a b
 is_lost end kind o h a b is says taken =
-    subst (λ (l : Option PlainHappening). LossIfAnyIsTaken l a b) (sym (ap (option_map plain_happening) is) ∙ says) (inl taken)
+    subst (λ (l : Option HappeningModel). EndLossIfAnyIsTaken l a b) (sym (ap (option_map model_of_happening) is) ∙ says) (inl taken)
 
-pub is_refused : (end : End) (kind : FailKind) (o : Option Happening) (h : Happening) (a b : ServerState) → o ≡ Some h → option_map plain_happening o ≡ happening_of_loss end kind → LossIsRefused (plain_happening h) a b → EndIsLost end kind a b
+pub is_refused : (end : End) (kind : FailKind) (o : Option Happening) (h : Happening) (a b : ServerState) → o ≡ Some h → option_map model_of_happening o ≡ happening_of_loss end kind → EndLossIsRefused (model_of_happening h) a b → EndLossOfKindIsTaken end kind a b
 is_refused end kind o h a b is says refused =
-    subst (λ (l : Option PlainHappening). LossIfAnyIsTaken l a b) (sym (ap (option_map plain_happening) is) ∙ says) (inr refused)
+    subst (λ (l : Option HappeningModel). EndLossIfAnyIsTaken l a b) (sym (ap (option_map model_of_happening) is) ∙ says) (inr refused)
 
-pub is_none : (end : End) (kind : FailKind) (o : Option Happening) (a b : ServerState) → o ≡ None → option_map plain_happening o ≡ happening_of_loss end kind → b ≡ a → EndIsLost end kind a b
+pub is_none : (end : End) (kind : FailKind) (o : Option Happening) (a b : ServerState) → o ≡ None → option_map model_of_happening o ≡ happening_of_loss end kind → b ≡ a → EndLossOfKindIsTaken end kind a b
 is_none end kind o a b is says same =
-    subst (λ (l : Option PlainHappening). LossIfAnyIsTaken l a b) (sym (ap (option_map plain_happening) is) ∙ says) same
+    subst (λ (l : Option HappeningModel). EndLossIfAnyIsTaken l a b) (sym (ap (option_map model_of_happening) is) ∙ says) same
 
 -- it takes no memory, so it is refused where the engine has no such end, and nowhere else
-loss_takes_none : (h : PlainHappening) → IsLostEnd h → happening_takes_memory h ≡ true → ⊥
+loss_takes_none : (h : HappeningModel) → IsLossOfAnEnd h → happening_takes_memory h ≡ true → ⊥
 loss_takes_none (happened.Accepts n) loss is = loss
 loss_takes_none (happened.Sends n bytes) loss is = loss
 loss_takes_none (happened.Hears l bytes) loss is = loss
@@ -173,46 +173,46 @@ stands : (o : Option EngineFault) (fault : EngineFault) → (fault ≡ OutOfMemo
 stands None fault fits is = absurd (fits is)
 stands (Some f) fault fits is = refl
 
-pub refused_where_gone : (h : PlainHappening) (a : ServerState) (r : Result (Unit {0}) EngineFault) (fault : EngineFault) → IsLostEnd h → r ≡ Err fault
-    → (r ≡ Err OutOfMemory → happening_takes_memory h ≡ true) → ((s : EngineModel) → EngineRepresents a.engine s → IsFaultOfTaking s h fault)
-    → LossIsRefused h a a
+pub refused_where_gone : (h : HappeningModel) (a : ServerState) (r : Result (Unit {0}) EngineFault) (fault : EngineFault) → IsLossOfAnEnd h → r ≡ Err fault
+    → (r ≡ Err OutOfMemory → happening_takes_memory h ≡ true) → ((s : EngineModel) → EngineRepresents a.engine s → IsFaultOfTakingHappening s h fault)
+    → EndLossIsRefused h a a
 refused_where_gone h a r fault loss is memory faults = record {
   same = refl;
   gone = λ s represents. stands (happening_fault s h) fault (λ wanting. loss_takes_none h loss (memory (is ∙ ap Err wanting))) (faults s represents);
 }
 
-some_inj : {x y : PlainHappening} → Some x ≡ Some y → x ≡ y
-some_inj {x} same = ap (λ (o : Option PlainHappening). unwrap_or o x) same
+some_inj : {x y : HappeningModel} → Some x ≡ Some y → x ≡ y
+some_inj {x} same = ap (λ (o : Option HappeningModel). unwrap_or o x) same
 
-loss_by_end : (e : End) (kind : FailKind) (h : PlainHappening) → Some h ≡ happening_of_loss e kind → IsLostEnd h
+loss_by_end : (e : End) (kind : FailKind) (h : HappeningModel) → Some h ≡ happening_of_loss e kind → IsLossOfAnEnd h
 loss_by_end ends.Listener kind h said = absurd cc
-loss_by_end (ends.Client n) kind h said = subst IsLostEnd (sym (some_inj said)) tt
-loss_by_end (ends.Link l) kind h said = subst IsLostEnd (sym (some_inj said)) tt
+loss_by_end (ends.Client n) kind h said = subst IsLossOfAnEnd (sym (some_inj said)) tt
+loss_by_end (ends.Link l) kind h said = subst IsLossOfAnEnd (sym (some_inj said)) tt
 
 -- an end that is lost is a loss
-pub loss_of_end : (end : End) (kind : FailKind) (o : Option Happening) (h : Happening) → o ≡ Some h → option_map plain_happening o ≡ happening_of_loss end kind → IsLostEnd (plain_happening h)
-loss_of_end end kind o h is says = loss_by_end end kind (plain_happening h) (sym (ap (option_map plain_happening) is) ∙ says)
+pub loss_of_end : (end : End) (kind : FailKind) (o : Option Happening) (h : Happening) → o ≡ Some h → option_map model_of_happening o ≡ happening_of_loss end kind → IsLossOfAnEnd (model_of_happening h)
+loss_of_end end kind o h is says = loss_by_end end kind (model_of_happening h) (sym (ap (option_map model_of_happening) is) ∙ says)
 
 -- what the engine took was recorded
-pub taken_here : (end : End) (kind : FailKind) (o : Option Happening) (h : Happening) (seen b : ServerState) (r : Result (Unit {0}) EngineFault) → is_ok r ≡ true → o ≡ Some h → option_map plain_happening o ≡ happening_of_loss end kind
-    → OnOk r ((s : EngineModel) → EngineRepresents seen.engine s → EngineTakesHappening s (plain_happening h) b.engine)
-    → (seen.failed ≡ true → b.failed ≡ true) → (b.failed ≡ false → HappeningIfAnyIsNoted seen.moment (Some (plain_happening h)) seen.recorder b.recorder)
-    → b.taken ≡ true → b.moment ≡ seen.moment → b.settled ≡ seen.settled → b.calls ≡ seen.calls → EndIsLost end kind seen b
+pub taken_here : (end : End) (kind : FailKind) (o : Option Happening) (h : Happening) (seen b : ServerState) (r : Result (Unit {0}) EngineFault) → is_ok r ≡ true → o ≡ Some h → option_map model_of_happening o ≡ happening_of_loss end kind
+    → OnOk r ((s : EngineModel) → EngineRepresents seen.engine s → EngineTakesHappening s (model_of_happening h) b.engine)
+    → (seen.failed ≡ true → b.failed ≡ true) → (b.failed ≡ false → HappeningIfAnyIsRecorded seen.moment (Some (model_of_happening h)) seen.recorder b.recorder)
+    → b.taken ≡ true → b.moment ≡ seen.moment → b.settled ≡ seen.settled → b.calls ≡ seen.calls → EndLossOfKindIsTaken end kind seen b
 taken_here end kind o h seen b (Ok done) ok is says takes fails notes taken moment settled calls =
     is_lost end kind o h seen b is says (record { takes = takes; fails = fails; notes = notes; taken = taken; moment = moment; settled = settled; calls = calls })
 taken_here end kind o h seen b (Err fault) ok is says takes fails notes taken moment settled calls = absurd (false≢true ok)
 
 -- the engine has no such end
-pub refused_here : (end : End) (kind : FailKind) (o : Option Happening) (h : Happening) (seen : ServerState) (e : State) (r : Result (Unit {0}) EngineFault) → is_ok r ≡ false → o ≡ Some h → option_map plain_happening o ≡ happening_of_loss end kind
-    → (r ≡ Err OutOfMemory → happening_takes_memory (plain_happening h) ≡ true) → IfErr r (λ (fault : EngineFault). (s : EngineModel) → EngineRepresents seen.engine s → IsFaultOfTaking s (plain_happening h) fault)
-    → OnErr r (e ≡ seen.engine) → EndIsLost end kind seen (record seen { engine = e })
+pub refused_here : (end : End) (kind : FailKind) (o : Option Happening) (h : Happening) (seen : ServerState) (e : State) (r : Result (Unit {0}) EngineFault) → is_ok r ≡ false → o ≡ Some h → option_map model_of_happening o ≡ happening_of_loss end kind
+    → (r ≡ Err OutOfMemory → happening_takes_memory (model_of_happening h) ≡ true) → IfErr r (λ (fault : EngineFault). (s : EngineModel) → EngineRepresents seen.engine s → IsFaultOfTakingHappening s (model_of_happening h) fault)
+    → OnErr r (e ≡ seen.engine) → EndLossOfKindIsTaken end kind seen (record seen { engine = e })
 refused_here end kind o h seen e (Ok done) failed is says memory faults same = absurd (true≢false failed)
 refused_here end kind o h seen e (Err fault) failed is says memory faults same =
-    subst (λ (x : State). EndIsLost end kind seen (record seen { engine = x })) (sym same)
-    (is_refused end kind o h seen seen is says (refused_where_gone (plain_happening h) seen (Err fault) fault (loss_of_end end kind o h is says) refl memory faults))
+    subst (λ (x : State). EndLossOfKindIsTaken end kind seen (record seen { engine = x })) (sym same)
+    (is_refused end kind o h seen seen is says (refused_where_gone (model_of_happening h) seen (Err fault) fault (loss_of_end end kind o h is says) refl memory faults))
 
-pub lost_from_view : (end : End) (kind : FailKind) (seen a b : ServerState) → seen ≡ a → EndIsLost end kind seen b → EndIsLost end kind a b
-lost_from_view end kind seen a b is lost = subst (λ (x : ServerState). EndIsLost end kind x b) is lost
+pub lost_from_view : (end : End) (kind : FailKind) (seen a b : ServerState) → seen ≡ a → EndLossOfKindIsTaken end kind seen b → EndLossOfKindIsTaken end kind a b
+lost_from_view end kind seen a b is lost = subst (λ (x : ServerState). EndLossOfKindIsTaken end kind x b) is lost
 
 -- what a call answered well did
 pub did_well : {T : Type 0} (r : Result (Unit {0}) EngineFault) → is_ok r ≡ true → OnOk r T → T
@@ -221,24 +221,24 @@ did_well (Err fault) ok did = absurd (false≢true ok)
 
 -- ---- one that is named
 
-pub one_taken : (h : PlainHappening) (seen a b : ServerState) (r : Result (Unit {0}) EngineFault) → seen ≡ a → is_ok r ≡ true
+pub one_taken : (h : HappeningModel) (seen a b : ServerState) (r : Result (Unit {0}) EngineFault) → seen ≡ a → is_ok r ≡ true
     → OnOk r ((s : EngineModel) → EngineRepresents seen.engine s → EngineTakesHappening s h b.engine)
-    → (seen.failed ≡ true → b.failed ≡ true) → (b.failed ≡ false → HappeningIfAnyIsNoted seen.moment (Some h) seen.recorder b.recorder)
-    → b.taken ≡ true → b.moment ≡ seen.moment → b.settled ≡ seen.settled → b.calls ≡ seen.calls → LossIfAnyIsTaken (Some h) a b
+    → (seen.failed ≡ true → b.failed ≡ true) → (b.failed ≡ false → HappeningIfAnyIsRecorded seen.moment (Some h) seen.recorder b.recorder)
+    → b.taken ≡ true → b.moment ≡ seen.moment → b.settled ≡ seen.settled → b.calls ≡ seen.calls → EndLossIfAnyIsTaken (Some h) a b
 one_taken h seen a b (Ok done) is ok takes fails notes taken moment settled calls =
-    subst (λ (x : ServerState). LossIfAnyIsTaken (Some h) x b) is
+    subst (λ (x : ServerState). EndLossIfAnyIsTaken (Some h) x b) is
     (inl (record { takes = takes; fails = fails; notes = notes; taken = taken; moment = moment; settled = settled; calls = calls }))
 one_taken h seen a b (Err fault) is ok takes fails notes taken moment settled calls = absurd (false≢true ok)
 
-pub one_refused : (h : PlainHappening) (seen a : ServerState) (e : State) (r : Result (Unit {0}) EngineFault) → seen ≡ a → is_ok r ≡ false → IsLostEnd h
-    → (r ≡ Err OutOfMemory → happening_takes_memory h ≡ true) → IfErr r (λ (fault : EngineFault). (s : EngineModel) → EngineRepresents seen.engine s → IsFaultOfTaking s h fault)
-    → OnErr r (e ≡ seen.engine) → LossIfAnyIsTaken (Some h) a (record seen { engine = e })
+pub one_refused : (h : HappeningModel) (seen a : ServerState) (e : State) (r : Result (Unit {0}) EngineFault) → seen ≡ a → is_ok r ≡ false → IsLossOfAnEnd h
+    → (r ≡ Err OutOfMemory → happening_takes_memory h ≡ true) → IfErr r (λ (fault : EngineFault). (s : EngineModel) → EngineRepresents seen.engine s → IsFaultOfTakingHappening s h fault)
+    → OnErr r (e ≡ seen.engine) → EndLossIfAnyIsTaken (Some h) a (record seen { engine = e })
 one_refused h seen a e (Ok done) is failed loss memory faults same = absurd (true≢false failed)
 one_refused h seen a e (Err fault) is failed loss memory faults same =
-    subst (λ (x : ServerState). LossIfAnyIsTaken (Some h) x (record seen { engine = e })) is
-    (subst (λ (x : State). LossIfAnyIsTaken (Some h) seen (record seen { engine = x })) (sym same)
+    subst (λ (x : ServerState). EndLossIfAnyIsTaken (Some h) x (record seen { engine = e })) is
+    (subst (λ (x : State). EndLossIfAnyIsTaken (Some h) seen (record seen { engine = x })) (sym same)
     (inr (refused_where_gone h seen (Err fault) fault loss refl memory faults)))
 
-pub one_taken_on : (h : PlainHappening) (a b : ServerState) → IsLostEnd h → may a → LossIfAnyIsTaken (Some h) a b → ServerTakesLosses a b
+pub one_taken_on : (h : HappeningModel) (a b : ServerState) → IsLossOfAnEnd h → may a → EndLossIfAnyIsTaken (Some h) a b → ServerTakesEndLosses a b
 one_taken_on h a b loss free (inl taken) = one_on h a b loss free taken
 one_taken_on h a b loss free (inr refused) = none_on a b refused.same

@@ -1,6 +1,6 @@
 -- Whether the next turn waits, and at which moment it is.
 --
--- next_turn_must_not_wait: what a turn leaves to the next     turn_end_of: how it counts
+-- pace_after_turn: what a turn leaves to the next     turn_end_of: how it counts
 -- moment_and_milliseconds, milliseconds_of_duration: what a clock tells      milliseconds_of_moment: the same moment
 use Rattle.std.specs.Prelude.{ℕ, ◌+◌, ◌-◌, ◌*◌, ◌/◌, ◌%◌, min, nat_lt, Bool, true, false, not, ◌||◌, Result, Ok}
 use Rattle.std.specs.Prelude.{Err}
@@ -9,25 +9,25 @@ use Rattle.std.specs.declared.time.Duration.{Duration}
 use Rattle.hx_fields.specs.declared.limits.TheConstants.{END_OF_TIME}
 use Rattle.proxy_figures.specs.declared.turn_counts.TurnEnd.{TurnEnd}
 use Rattle.proxy_figures.specs.declared.turn_counts.TurnEnd.TheVariants as ends
-use Rattle.proxy_turn.specs.declared.limits.TheConstants.{MOST_WORKS}
+use Rattle.proxy_turn.specs.declared.limits.TheConstants.{MOST_ACTS_OF_A_TURN}
 use Rattle.proxy_turn.specs.declared.report.Report.{Report}
 use Rattle.proxy_turn.specs.declared.report.TurnFault.{TurnFault}
 use Rattle.proxy_turn.specs.declared.report.TurnFault.TheVariants as faults
-use Rattle.proxy_server.specs.declared.pace.Pace.{Pace}
+use Rattle.proxy_server.specs.declared.pace.WorkLeftForNextTurn.{WorkLeftForNextTurn}
 
 -- The next turn comes at once where something is due, where ends whose time may be over are still to be looked at, or
 -- where there is more to take; and where no connection could be accepted, or the last number of a link was used. Where
 -- memory was wanting it waits: there may be some a little later.
-abbrev pub next_turn_must_not_wait : Pace → Result Report TurnFault → Bool → Pace
-next_turn_must_not_wait p (Ok report) more =
+abbrev pub pace_after_turn : WorkLeftForNextTurn → Result Report TurnFault → Bool → WorkLeftForNextTurn
+pace_after_turn p (Ok report) more =
     record p {
-      settled = nat_lt report.works MOST_WORKS;
-      busy = not (nat_lt report.works MOST_WORKS) || p.sweeping || more;
+      settled = nat_lt report.works MOST_ACTS_OF_A_TURN;
+      busy = not (nat_lt report.works MOST_ACTS_OF_A_TURN) || p.sweeping || more;
       starved = false;
     }
-next_turn_must_not_wait p (Err faults.Listener) more = record p { settled = false; busy = true; starved = false }
-next_turn_must_not_wait p (Err faults.NoMemory) more = record p { settled = false; busy = false; starved = true }
-next_turn_must_not_wait p (Err faults.Spent) more = record p { settled = false; busy = true; starved = false }
+pace_after_turn p (Err faults.Listener) more = record p { settled = false; busy = true; starved = false }
+pace_after_turn p (Err faults.NoMemory) more = record p { settled = false; busy = false; starved = true }
+pace_after_turn p (Err faults.Spent) more = record p { settled = false; busy = true; starved = false }
 
 -- how a turn counts: that it could accept nobody, or found no memory, counts by itself
 abbrev pub turn_end_of : Result Report TurnFault → TurnEnd

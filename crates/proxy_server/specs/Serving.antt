@@ -7,25 +7,25 @@ use Rattle.std.specs.Prelude.{◌≡◌, ℕ, ◌<◌, nat_lt, List, Bool, false
 use Rattle.hx_fields.specs.declared.limits.TheConstants.{END_OF_TIME}
 use Rattle.proxy_engine.specs.State.{EngineRepresents}
 use Rattle.proxy_engine.specs.EngineModel.{EngineModel}
-use Rattle.proxy_engine.specs.Orderly.{ModelIsOrderly}
+use Rattle.proxy_engine.specs.Orderly.{ModelIsConsistent}
 use Rattle.proxy_engine.specs.declared.work.End.{End}
-use Rattle.proxy_turn.specs.Over.{EngineTurnsOverWithCalls}
-use Rattle.proxy_turn.specs.declared.limits.TheConstants.{MOST_WORKS}
+use Rattle.proxy_turn.specs.Over.{EngineTurnsOverEndsWithCalls}
+use Rattle.proxy_turn.specs.declared.limits.TheConstants.{MOST_ACTS_OF_A_TURN}
 use Rattle.proxy_turn.specs.declared.bounds.TurnBounds.{TurnBounds}
 use Rattle.proxy_turn.specs.declared.report.Report.{Report}
 use Rattle.proxy_turn.specs.declared.report.TurnFault.{TurnFault}
 use Rattle.proxy_turn.specs.declared.report.TurnFault.TheVariants as faults
-use Rattle.proxy_ends.specs.declared.limits.TheConstants.{MOST_OPEN, MOST_ACCEPTED}
-use Rattle.proxy_server.specs.ServerState.{ServerState, turn_begun, OwnSocketsDid}
-use Rattle.proxy_server.specs.Losses.{LossesAreTakenAndRecorded}
-use Rattle.proxy_server.specs.declared.server.Turned.{Turned}
+use Rattle.proxy_ends.specs.declared.limits.TheConstants.{MOST_OPEN_CONNECTIONS, MOST_ACCEPTED_PER_TURN}
+use Rattle.proxy_server.specs.ServerState.{ServerState, state_at_turn_start, ServerSocketsMadeCalls}
+use Rattle.proxy_server.specs.Losses.{EndLossesAreTakenAndRecorded}
+use Rattle.proxy_server.specs.declared.server.ServedTurn.{ServedTurn}
 use Rattle.proxy_server.specs.declared.server.ServeFault.{ServeFault}
 use Rattle.proxy_server.specs.declared.server.ServeFault.TheVariants.{Socket, Clock, Record, Spent}
 
 -- How many connections an engine has open at a time, and how often a turn asks for one. The sockets of a server may
 -- have fewer: they tell that none waits.
 abbrev pub server_bounds : TurnBounds
-server_bounds = record { most_open = MOST_OPEN; most_accepts = MOST_ACCEPTED }
+server_bounds = record { most_open = MOST_OPEN_CONNECTIONS; most_accepts = MOST_ACCEPTED_PER_TURN }
 
 -- no number of a link was wanted that is used up
 abbrev pub TurnHadLinkNumbersLeft : Result Report TurnFault → Type 0
@@ -35,45 +35,45 @@ TurnHadLinkNumbersLeft (Err faults.NoMemory) = Unit {0}
 TurnHadLinkNumbersLeft (Err faults.Spent) = ⊥
 
 -- what a turn leaves to the next: nothing, where it told of fewer acts than it may do
-abbrev pub turn_settles : Result Report TurnFault → Bool
-turn_settles (Ok report) = nat_lt report.works MOST_WORKS
-turn_settles (Err fault) = false
+abbrev pub turn_left_nothing_due : Result Report TurnFault → Bool
+turn_left_nothing_due (Ok report) = nat_lt report.works MOST_ACTS_OF_A_TURN
+turn_left_nothing_due (Err fault) = false
 
 -- What was lost was handed in, and then one turn was served, at the moment that had begun: with the engine of the
 -- server, over its own sockets, and within its bounds. It told this. Nothing else was taken or done.
 pub record ServerTurn (s : EngineModel) (a b : ServerState) (reported : Result Report TurnFault) : Type 0 where
   pub mid : ServerState
-  pub handed_in : LossesAreTakenAndRecorded s a mid
+  pub handed_in : EndLossesAreTakenAndRecorded s a mid
   pub given : List End
   pub left : List End
-  pub turn : EngineTurnsOverWithCalls a.moment server_bounds handed_in.losses.after given b.engine left
-      (λ made. OwnSocketsDid mid made b) mid.calls b.calls reported
+  pub turn : EngineTurnsOverEndsWithCalls a.moment server_bounds handed_in.losses.after given b.engine left
+      (λ made. ServerSocketsMadeCalls mid made b) mid.calls b.calls reported
   pub settled : b.settled ≡ a.settled
 
 -- from each orderly model that its engine stood for
 abbrev pub ServerServesTurn : ServerState → ServerState → Result Report TurnFault → Type 0
-ServerServesTurn a b reported = (s : EngineModel) → EngineRepresents a.engine s → ModelIsOrderly s
+ServerServesTurn a b reported = (s : EngineModel) → EngineRepresents a.engine s → ModelIsConsistent s
     → ServerTurn s a b reported
 
 -- A turn began at some moment up to the end of the year 9999, and was served.
 pub record TurnIsServed (a b : ServerState) (reported : Result Report TurnFault) : Type 0 where
   pub now : ℕ
-  pub early : (turn_begun now a).moment < END_OF_TIME
-  pub serves : ServerServesTurn (turn_begun now a) b reported
+  pub early : (state_at_turn_start now a).moment < END_OF_TIME
+  pub serves : ServerServesTurn (state_at_turn_start now a) b reported
 
 -- the same, with what it leaves to the next
 pub record TurnIsServedAndSettled (a b : ServerState) (reported : Result Report TurnFault) : Type 0 where
   pub last : ServerState
   pub served : TurnIsServed a last reported
-  pub settles : b ≡ record last { settled = turn_settles reported }
+  pub settles : b ≡ record last { settled = turn_left_nothing_due reported }
 
 -- One turn was served, behind what was lost, at the moment that it names, and told what it says. Where the system can't
 -- tell what is ready, or a clock can't be read, nothing was taken or done. Where the record failed, a turn was served
 -- as far as it came; and where the last number of a link is used, by a turn that ended so.
-abbrev pub ServeTurnAnswers : ServerState → ServerState → Result Turned ServeFault → Type 0
+abbrev pub ServeTurnAnswers : ServerState → ServerState → Result ServedTurn ServeFault → Type 0
 ServeTurnAnswers a b (Ok turned) = TurnHadLinkNumbersLeft turned.reported
     × ((served : TurnIsServedAndSettled a b turned.reported)
-    × (turned.moment ≡ (turn_begun served.served.now a).moment))
+    × (turned.moment ≡ (state_at_turn_start served.served.now a).moment))
 ServeTurnAnswers a b (Err Socket) = b ≡ a
 ServeTurnAnswers a b (Err Clock) = b ≡ a
 ServeTurnAnswers a b (Err (Record fault)) = (b.failed ≡ true)

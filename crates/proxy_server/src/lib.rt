@@ -16,9 +16,9 @@ mod server_cases;
 mod sockets;
 mod stats;
 
-pub use crate::server::{ServeFault, Server, Turned};
+pub use crate::server::{ServeFault, ServedTurn, Server};
 pub use crate::sockets::live_sockets::LiveSockets;
 pub use proxy_ends::Limits;
-pub use proxy_figures::{CountedShelf, ProcessFigures, ProgramFacts, StoreCounts, Troubles};
+pub use proxy_figures::{CountedShelf, ProcessFigures, ProgramFacts, StoreCounts, TroubleCounts};
 pub use proxy_listener::ListenAt;
 pub use proxy_record::{RecordFault, Recorder, Recording};

@@ -1,19 +1,19 @@
 //! Whether the next turn waits, and what clocks tell.
 ghost use Rattle.std.specs.Prelude.{◌≡◌};
-ghost use Rattle.proxy_server.specs.Paces.{next_turn_must_not_wait, moment_and_milliseconds};
+ghost use Rattle.proxy_server.specs.Paces.{pace_after_turn, moment_and_milliseconds};
 ghost use Rattle.proxy_server.specs.Paces.{milliseconds_of_duration, turn_end_of};
 
 use hx_fields::END_OF_TIME;
 use proxy_figures::TurnEnd;
-use proxy_turn::{MOST_WORKS, Report, TurnFault};
+use proxy_turn::{MOST_ACTS_OF_A_TURN, Report, TurnFault};
 use std::time::Duration;
 
 /// The last moment.
-pub(crate) const LATEST: u64 = END_OF_TIME - 1;
+pub(crate) const LATEST_MOMENT: u64 = END_OF_TIME - 1;
 
 /// What a turn leaves to the next.
 #[derive(Clone, Copy, PartialEq, Eq)]
-pub(crate) struct Pace {
+pub(crate) struct WorkLeftForNextTurn {
     /// There may be something to do that no event will tell of.
     pub(crate) busy: bool,
     /// Nothing is due from the last turn.
@@ -24,15 +24,15 @@ pub(crate) struct Pace {
     pub(crate) starved: bool,
 }
 
-impl Pace {
+impl WorkLeftForNextTurn {
     /// Takes what a turn told. `more` says that there is something to take.
     pub(crate) fn note(&mut self, reported: Result<Report, TurnFault>, more: bool)
-        ensures { self.new ≡ next_turn_must_not_wait self.old reported more }
+        ensures { self.new ≡ pace_after_turn self.old reported more }
     {
         self.starved = false;
         match reported {
             Ok(report) => {
-                self.settled = report.works < MOST_WORKS;
+                self.settled = report.works < MOST_ACTS_OF_A_TURN;
                 self.busy = !self.settled || self.sweeping || more;
             }
             // Memory may be there a little later.
@@ -64,7 +64,10 @@ pub(crate) fn turn_end_of(reported: Result<Report, TurnFault>) -> TurnEnd
 pub(crate) fn moment_and_milliseconds(time: Duration) -> (u64, u64)
     ensures { result ≡ moment_and_milliseconds time }
 {
-    (time.as_secs().min(LATEST), u64::from(time.subsec_millis()))
+    (
+        time.as_secs().min(LATEST_MOMENT),
+        u64::from(time.subsec_millis()),
+    )
 }
 
 /// A time in milliseconds.

@@ -4,32 +4,34 @@ ghost use Rattle.std.specs.Prelude.{option_copied, option_map};
 ghost use Rattle.proxy_engine.specs.Happenings.{Overdues, Retires};
 ghost use Rattle.hx_allow.specs.Tables.{TableWasRead};
 ghost use Rattle.hx_fields.specs.declared.limits.TheConstants.{END_OF_TIME};
-ghost use Rattle.proxy_engine.specs.Beginnings.{MayBeHeldAtFirst, begun_model};
+ghost use Rattle.proxy_engine.specs.Beginnings.{ResponsesMayBeHeldAtStart, engine_model_at_start};
 ghost use Rattle.proxy_engine.specs.EngineModel.{EngineModel};
 ghost use Rattle.proxy_engine.specs.State.{EngineRepresents, new_engine_model};
-ghost use Rattle.proxy_turn.specs.Served.{EngineIsServing, EngineGoesOn};
-ghost use Rattle.proxy_server.specs.Losses.{EndIsLost, LossIfAnyIsTaken, ServerTakesLosses};
+ghost use Rattle.proxy_turn.specs.Served.{EngineHasServedAGoodRun, EngineContinues};
+ghost use Rattle.proxy_server.specs.Losses.{EndLossOfKindIsTaken, EndLossIfAnyIsTaken, ServerTakesEndLosses};
 ghost use Rattle.proxy_log.specs.Asked.{asked_words};
 ghost use Rattle.proxy_server.specs.OpenRequests.{open_request_of_end, words_of_open_request};
-ghost use Rattle.proxy_server.specs.Paces.{next_turn_must_not_wait};
+ghost use Rattle.proxy_server.specs.Paces.{pace_after_turn};
 ghost use Rattle.proxy_server.specs.ServerState.{may_lose_an_end};
-ghost use Rattle.proxy_server.specs.Serving.{turn_settles, ServeTurnAnswers, ServerServesTurn};
+ghost use Rattle.proxy_server.specs.Serving.{turn_left_nothing_due, ServeTurnAnswers, ServerServesTurn};
 
-use crate::pace::{Pace, milliseconds_of_duration, moment_and_milliseconds};
+use crate::pace::{WorkLeftForNextTurn, milliseconds_of_duration, moment_and_milliseconds};
 use crate::sockets::live_sockets::LiveSockets;
 use hx_allow::Config;
 use hx_fields::END_OF_TIME;
 use hx_hop::Asked;
 use hx_status::FailKind;
 use hx_store::Shelf;
-use proxy_ends::{MOST_ACCEPTED, MOST_OPEN, MOST_READ};
+use proxy_ends::{MOST_ACCEPTED_PER_TURN, MOST_ENDS_READ_PER_TURN, MOST_OPEN_CONNECTIONS};
 use proxy_engine::Engine;
-use proxy_figures::Troubles;
+use proxy_figures::TroubleCounts;
 use proxy_log::{Lines, LoggedRequest, LoggedTarget};
 use proxy_record::{RecordFault, Recorder, Recording};
 use proxy_script::Happening;
-use proxy_turn::laws::{a_turn_is_served_after_losses, engines_go_on};
-use proxy_turn::{End, PIECE, Report, TurnBounds, TurnFault, happening_of_lost_end, turn_over};
+use proxy_turn::laws::{a_reachable_engine_stays_reachable, a_turn_is_served_after_end_losses};
+use proxy_turn::{
+    End, PIECE, Report, TurnBounds, TurnFault, happening_of_lost_end, turn_over_ends,
+};
 use std::alloc::Global;
 use std::io::{ErrorKind, Write};
 use std::marker::Model;
@@ -70,7 +72,7 @@ pub enum ServeFault {
 
 /// A turn that was served.
 #[derive(Clone, Copy)]
-pub struct Turned {
+pub struct ServedTurn {
     /// Its moment, in Unix seconds.
     pub moment: u64,
     /// What it told. Where it ended early, the next one does what is left.
@@ -85,7 +87,7 @@ pub struct Server<'a, S: Shelf + Drop, R: Net, W: Write + Drop> {
     alloc: Global,
     engine: Engine<S>,
     pub(crate) ends: Recording<LiveSockets<'a, R>, W>,
-    pace: Pace,
+    pace: WorkLeftForNextTurn,
     /// The ends that a turn reads.
     ready: Vec<End>,
     /// What the reads of each turn go into.
@@ -136,14 +138,14 @@ fn elapsed<C: Clock>(clock: &C) -> Result<u64, ServeFault> {
 /// Whether the next turn has to wait, by what this one told and what is left to be taken: an end that
 /// was passed over waits for none.
 fn look_ahead<R: Net, W: Write + Drop>(
-    pace: &mut Pace,
+    pace: &mut WorkLeftForNextTurn,
     ends: &Recording<LiveSockets<'_, R>, W>,
     reported: Result<Report, TurnFault>,
 )
-    ensures { (free : Bool) × (pace.new ≡ next_turn_must_not_wait pace.old reported (free || ends.now.passed)) }
+    ensures { (free : Bool) × (pace.new ≡ pace_after_turn pace.old reported (free || ends.now.passed)) }
 {
     let free = ends.sockets.has_more();
-    pace.note(reported, free || ends.has_passed());
+    pace.note(reported, free || ends.has_skipped_an_end());
 }
 
 /// What an open request asks for, as a line of the log names it.
@@ -174,21 +176,25 @@ fn next_client<R: Net>(sockets: &mut LiveSockets<'_, R>, sweep: Sweep) -> Option
 {
     match sweep {
         Sweep::Overdue => None,
-        Sweep::Departed => sockets.next_departed(),
-        Sweep::GiveWay => sockets.next_to_give_way(),
+        Sweep::Departed => sockets.next_half_closed(),
+        Sweep::GiveWay => sockets.next_to_drop_for_room(),
         Sweep::Retire => sockets.next_to_retire(),
-        Sweep::LetGo => sockets.next_to_let_go(),
+        Sweep::LetGo => sockets.next_idle_to_close(),
     }
 }
 
 /// The end that a sweep finds next.
-fn next_end<R: Net>(pace: &mut Pace, sockets: &mut LiveSockets<'_, R>, sweep: Sweep) -> Option<End>
+fn next_end<R: Net>(
+    pace: &mut WorkLeftForNextTurn,
+    sockets: &mut LiveSockets<'_, R>,
+    sweep: Sweep,
+) -> Option<End>
     ensures pace { pace.new ≡ record pace.old { sweeping = pace.new.sweeping } }
     ensures calls { sockets.new.calls ≡ sockets.old.calls }
 {
     if let Sweep::Overdue = sweep {
         if pace.sweeping {
-            let end = sockets.next_to_look_at();
+            let end = sockets.next_to_check_timeout();
             pace.sweeping = end.is_some();
             return end;
         }
@@ -222,13 +228,13 @@ impl<'a, S: Shelf + Drop, R: Net, W: Write + Drop> Server<'a, S, R, W> {
               next = Some 1;
             }) 1) }
     {
-        engines_go_on();
+        a_reachable_engine_stays_reachable();
         config.was_read();
         Server {
             alloc,
             engine: Engine::new(alloc, config, shelf, 1, 1),
             ends: Recording::new(sockets, recorder),
-            pace: Pace {
+            pace: WorkLeftForNextTurn {
                 busy: true,
                 settled: true,
                 sweeping: false,
@@ -249,22 +255,23 @@ impl<'a, S: Shelf + Drop, R: Net, W: Write + Drop> Server<'a, S, R, W> {
         sockets: LiveSockets<'a, R>,
         recorder: Option<Recorder<W>>,
     ) -> Server<'a, S, R, W>
-        requires held { MayBeHeldAtFirst config (S.entries shelf) first_serial }
+        requires held { ResponsesMayBeHeldAtStart config (S.entries shelf) first_serial }
         requires capacity { S.limit shelf ≡ config.capacity }
         ensures table { result.engine.core.table ≡ config }
         ensures read { TableWasRead result.engine.core.table }
         ensures record { result.recorder ≡ recorder }
         ensures free { (result.failed ≡ false) × (result.taken ≡ false) × (result.settled ≡ true) }
-        ensures begins { EngineRepresents result.engine (begun_model config (S.entries shelf) first_serial 1) }
+        ensures begins { EngineRepresents result.engine
+            (engine_model_at_start config (S.entries shelf) first_serial 1) }
     {
-        engines_go_on();
+        a_reachable_engine_stays_reachable();
         config.was_read();
         let ends = Recording::new(sockets, recorder);
         Server {
             alloc,
             engine: Engine::with_store(alloc, config, shelf, first_serial, 1),
             ends,
-            pace: Pace {
+            pace: WorkLeftForNextTurn {
                 busy: true,
                 settled: true,
                 sweeping: false,
@@ -306,7 +313,7 @@ impl<'a, S: Shelf + Drop, R: Net, W: Write + Drop> Server<'a, S, R, W> {
     }
 
     /// What the server couldn't do that was asked of it, since its start.
-    pub fn troubles(&self) -> Troubles {
+    pub fn troubles(&self) -> TroubleCounts {
         self.ends.sockets.troubles()
     }
 
@@ -336,14 +343,14 @@ impl<'a, S: Shelf + Drop, R: Net, W: Write + Drop> Server<'a, S, R, W> {
     ///
     /// After it, also after an `Err`, what the engine had lived through has gone on by the steps of that turn and no
     /// others, and the steps of its core are a good run by its table, over a store of its capacity, with the headline.
-    pub fn serve_turn<C: Clock>(&mut self, clock: &C) -> Result<Turned, ServeFault>
+    pub fn serve_turn<C: Clock>(&mut self, clock: &C) -> Result<ServedTurn, ServeFault>
         ensures served { ServeTurnAnswers self.old self.new result }
-        ensures goes_on { EngineGoesOn self.old.engine self.new.engine }
-        ensures serves { EngineIsServing self.new.engine }
+        ensures goes_on { EngineContinues self.old.engine self.new.engine }
+        ensures serves { EngineHasServedAGoodRun self.new.engine }
         ensures table { self.new.engine.core.table ≡ self.old.engine.core.table }
         ensures limit { self.new.engine.core.limit ≡ self.old.engine.core.limit }
     {
-        engines_go_on();
+        a_reachable_engine_stays_reachable();
         let _before = &self.engine;
         let served = self.serve_next(clock);
         let _engine = &self.engine;
@@ -351,7 +358,7 @@ impl<'a, S: Shelf + Drop, R: Net, W: Write + Drop> Server<'a, S, R, W> {
     }
 
     /// Waits, and serves a turn.
-    fn serve_next<C: Clock>(&mut self, clock: &C) -> Result<Turned, ServeFault>
+    fn serve_next<C: Clock>(&mut self, clock: &C) -> Result<ServedTurn, ServeFault>
         ensures { ServeTurnAnswers self.old self.new result }
     {
         let waited = self.ends.sockets.wait(self.pace.busy, self.pace.starved);
@@ -368,7 +375,12 @@ impl<'a, S: Shelf + Drop, R: Net, W: Write + Drop> Server<'a, S, R, W> {
     }
 
     /// Serves a turn at so many milliseconds of the clock that never goes back, and a moment with its milliseconds.
-    fn serve_at(&mut self, elapsed: u64, now: u64, milliseconds: u64) -> Result<Turned, ServeFault>
+    fn serve_at(
+        &mut self,
+        elapsed: u64,
+        now: u64,
+        milliseconds: u64,
+    ) -> Result<ServedTurn, ServeFault>
         requires { now < END_OF_TIME }
         ensures { ServeTurnAnswers self.old self.new result }
     {
@@ -387,9 +399,9 @@ impl<'a, S: Shelf + Drop, R: Net, W: Write + Drop> Server<'a, S, R, W> {
         }
         self.look_ahead(reported);
         match reported {
-            Ok(_) => Ok(Turned { moment, reported }),
-            Err(TurnFault::Listener) => Ok(Turned { moment, reported }),
-            Err(TurnFault::NoMemory) => Ok(Turned { moment, reported }),
+            Ok(_) => Ok(ServedTurn { moment, reported }),
+            Err(TurnFault::Listener) => Ok(ServedTurn { moment, reported }),
+            Err(TurnFault::NoMemory) => Ok(ServedTurn { moment, reported }),
             Err(TurnFault::Spent) => Err(ServeFault::Spent),
         }
     }
@@ -400,15 +412,15 @@ impl<'a, S: Shelf + Drop, R: Net, W: Write + Drop> Server<'a, S, R, W> {
         requires moment { now ≡ self.old.moment }
         ensures { ServerServesTurn self.old self.new result }
     {
-        engines_go_on();
-        a_turn_is_served_after_losses();
+        a_reachable_engine_stays_reachable();
+        a_turn_is_served_after_end_losses();
         self.hand_in();
-        self.take_ready();
+        self.take_ready_ends();
         let bounds = TurnBounds {
-            most_open: MOST_OPEN,
-            most_accepts: MOST_ACCEPTED,
+            most_open: MOST_OPEN_CONNECTIONS,
+            most_accepts: MOST_ACCEPTED_PER_TURN,
         };
-        turn_over(
+        turn_over_ends(
             &mut self.engine,
             &mut self.ends,
             self.alloc,
@@ -421,22 +433,22 @@ impl<'a, S: Shelf + Drop, R: Net, W: Write + Drop> Server<'a, S, R, W> {
 
     /// Takes the ends that the turn is to read. While a record is written one end gives something in a turn, and none
     /// where something is due.
-    fn take_ready(&mut self)
+    fn take_ready_ends(&mut self)
         ensures { self.new ≡ self.old }
     {
         let most = if !self.ends.is_recording() {
-            MOST_READ
-        } else if self.ends.may_happen() {
+            MOST_ENDS_READ_PER_TURN
+        } else if self.ends.may_take_a_happening() {
             1
         } else {
             0
         };
-        self.ends.sockets.take_ready(most, &mut self.ready);
+        self.ends.sockets.take_ready_ends(most, &mut self.ready);
     }
 
     /// Whether the next turn has to wait, by what this one told.
     fn look_ahead(&mut self, reported: Result<Report, TurnFault>)
-        ensures { self.new ≡ record self.old { settled = turn_settles reported } }
+        ensures { self.new ≡ record self.old { settled = turn_left_nothing_due reported } }
     {
         self.ends.sockets.note_turn(&self.ready, reported);
         look_ahead(&mut self.pace, &self.ends, reported);
@@ -445,22 +457,22 @@ impl<'a, S: Shelf + Drop, R: Net, W: Write + Drop> Server<'a, S, R, W> {
     /// The engine takes that an end is lost, and that is recorded.
     fn disconnect(&mut self, end: End, kind: FailKind)
         requires { may_lose_an_end self.old ≡ true }
-        ensures loses { EndIsLost end kind self.old self.new }
-        ensures on { ServerTakesLosses self.old self.new }
+        ensures loses { EndLossOfKindIsTaken end kind self.old self.new }
+        ensures on { ServerTakesEndLosses self.old self.new }
     {
-        engines_go_on();
-        a_turn_is_served_after_losses();
+        a_reachable_engine_stays_reachable();
+        a_turn_is_served_after_end_losses();
         if let Some(happening) = happening_of_lost_end(end, kind) {
             let link = match end {
                 End::Client(n) => self.engine.link_of_client(n),
                 _ => None,
             };
             let request = logged_open_request(&self.engine, end);
-            self.ends.sockets.note_lost(end, link, request);
+            self.ends.sockets.note_lost_end(end, link, request);
             // To take this allocates nothing, and the end was there.
             if self.engine.take(self.alloc, happening).is_ok() {
                 // Where that can't be recorded, the server ends after this turn.
-                self.ends.note_between(happening);
+                self.ends.record_between_turns(happening);
             }
         }
     }
@@ -468,14 +480,14 @@ impl<'a, S: Shelf + Drop, R: Net, W: Write + Drop> Server<'a, S, R, W> {
     /// The engine takes that a client's connection is to end, and that is recorded.
     fn retire(&mut self, n: u64)
         requires { may_lose_an_end self.old ≡ true }
-        ensures retires { LossIfAnyIsTaken (Some (Retires n)) self.old self.new }
-        ensures on { ServerTakesLosses self.old self.new }
+        ensures retires { EndLossIfAnyIsTaken (Some (Retires n)) self.old self.new }
+        ensures on { ServerTakesEndLosses self.old self.new }
     {
-        engines_go_on();
-        a_turn_is_served_after_losses();
+        a_reachable_engine_stays_reachable();
+        a_turn_is_served_after_end_losses();
         // To take this allocates nothing, and the client was there.
         if self.engine.take(self.alloc, Happening::Retire(n)).is_ok() {
-            self.ends.note_between(Happening::Retire(n));
+            self.ends.record_between_turns(Happening::Retire(n));
         }
     }
 
@@ -483,23 +495,23 @@ impl<'a, S: Shelf + Drop, R: Net, W: Write + Drop> Server<'a, S, R, W> {
     /// that is recorded.
     fn overdue(&mut self, n: u64)
         requires { may_lose_an_end self.old ≡ true }
-        ensures overdue { LossIfAnyIsTaken (Some (Overdues n)) self.old self.new }
-        ensures on { ServerTakesLosses self.old self.new }
+        ensures overdue { EndLossIfAnyIsTaken (Some (Overdues n)) self.old self.new }
+        ensures on { ServerTakesEndLosses self.old self.new }
     {
-        engines_go_on();
-        a_turn_is_served_after_losses();
+        a_reachable_engine_stays_reachable();
+        a_turn_is_served_after_end_losses();
         // To take this allocates nothing, and the request waits.
         if self.engine.take(self.alloc, Happening::Overdue(n)).is_ok() {
-            self.ends.note_between(Happening::Overdue(n));
+            self.ends.record_between_turns(Happening::Overdue(n));
         }
     }
 
     /// A client of which no byte waits gives the room for its next ones back.
     fn release_room(&mut self, end: End)
-        ensures { ServerTakesLosses self.old self.new }
+        ensures { ServerTakesEndLosses self.old self.new }
     {
-        engines_go_on();
-        a_turn_is_served_after_losses();
+        a_reachable_engine_stays_reachable();
+        a_turn_is_served_after_end_losses();
         if let End::Client(n) = end {
             self.engine.release_room(self.alloc, n);
         }
@@ -508,28 +520,28 @@ impl<'a, S: Shelf + Drop, R: Net, W: Write + Drop> Server<'a, S, R, W> {
     /// The ends that the last turn read keep no room: who is idle costs little, and each read goes into memory that was
     /// used just now. Whose request waits for the answer to another is looked at once that has lasted long enough.
     fn release_rooms(&mut self)
-        ensures { ServerTakesLosses self.old self.new }
+        ensures { ServerTakesEndLosses self.old self.new }
     {
-        a_turn_is_served_after_losses();
+        a_turn_is_served_after_end_losses();
         for _ in 0..self.ready.len() {
             let Some(end) = self.ready.pop() else {
                 return;
             };
             self.release_room(end);
-            let _ = self.has_waited(end);
+            let _ = self.has_waited_seconds(end);
         }
     }
 
     /// Hands in the ends that failed since the last turn.
     fn hand_in_lost(&mut self)
-        ensures { ServerTakesLosses self.old self.new }
+        ensures { ServerTakesEndLosses self.old self.new }
     {
-        a_turn_is_served_after_losses();
-        for _ in 0..self.ends.sockets.lost_count().min(MOST_READ) {
-            if !self.ends.may_happen() {
+        a_turn_is_served_after_end_losses();
+        for _ in 0..self.ends.sockets.lost_count().min(MOST_ENDS_READ_PER_TURN) {
+            if !self.ends.may_take_a_happening() {
                 return;
             }
-            if let Some((end, kind)) = self.ends.sockets.next_lost() {
+            if let Some((end, kind)) = self.ends.sockets.take_lost_client() {
                 self.disconnect(end, kind);
             }
         }
@@ -537,9 +549,9 @@ impl<'a, S: Shelf + Drop, R: Net, W: Write + Drop> Server<'a, S, R, W> {
 
     /// Hands in what is lost, whose time is over, and who is to end or let go.
     fn hand_in(&mut self)
-        ensures { ServerTakesLosses self.old self.new }
+        ensures { ServerTakesEndLosses self.old self.new }
     {
-        a_turn_is_served_after_losses();
+        a_turn_is_served_after_end_losses();
         self.release_rooms();
         self.hand_in_lost();
         self.hand_in_found(Sweep::Overdue);
@@ -563,9 +575,9 @@ impl<'a, S: Shelf + Drop, R: Net, W: Write + Drop> Server<'a, S, R, W> {
                 if self.engine.is_between_requests(n) {
                     self.ends.sockets.clients.is_silent(n, now)
                 } else if self.engine.may_read(end) {
-                    self.ends.sockets.clients.is_late(n, now)
+                    self.ends.sockets.clients.is_late_or_silent(n, now)
                 } else {
-                    self.ends.sockets.clients.has_left(n, now)
+                    self.ends.sockets.clients.is_half_closed_too_long(n, now)
                 }
             }
         }
@@ -574,8 +586,8 @@ impl<'a, S: Shelf + Drop, R: Net, W: Write + Drop> Server<'a, S, R, W> {
     /// Drops the stream of an end whose time is over: the engine takes that it is lost, a link as timed out.
     fn release(&mut self, end: End)
         requires { may_lose_an_end self.old ≡ true }
-        ensures loses { EndIsLost end FailKind.TimedOut self.old self.new }
-        ensures on { ServerTakesLosses self.old self.new }
+        ensures loses { EndLossOfKindIsTaken end FailKind.TimedOut self.old self.new }
+        ensures on { ServerTakesEndLosses self.old self.new }
     {
         self.ends.sockets.forget(end);
         self.disconnect(end, FailKind::TimedOut);
@@ -586,25 +598,28 @@ impl<'a, S: Shelf + Drop, R: Net, W: Write + Drop> Server<'a, S, R, W> {
         ensures same { self.new ≡ self.old }
         ensures may { IfSome result (λ end. may_lose_an_end self.old ≡ true) }
     {
-        if !self.ends.may_happen() {
+        if !self.ends.may_take_a_happening() {
             return None;
         }
         next_end(&mut self.pace, &mut self.ends.sockets, sweep)
     }
 
     /// The origin of a link is given the seconds that the line says over which its request went forward.
-    fn give_seconds(&mut self, end: End)
+    fn set_origin_timeout_seconds(&mut self, end: End)
         ensures { self.new ≡ self.old }
     {
         if let End::Link(l) = end {
             let seconds = self.engine.origin_timeout(l);
-            self.ends.sockets.links.give_seconds(l, seconds);
+            self.ends
+                .sockets
+                .links
+                .set_origin_timeout_seconds(l, seconds);
         }
     }
 
     /// Whether the request of a client has waited for the answer to another as long as the line over which it came
     /// says. One that hasn't is looked at once it has.
-    fn has_waited(&mut self, end: End) -> bool
+    fn has_waited_seconds(&mut self, end: End) -> bool
         ensures { self.new ≡ self.old }
     {
         let End::Client(n) = end else {
@@ -613,7 +628,10 @@ impl<'a, S: Shelf + Drop, R: Net, W: Write + Drop> Server<'a, S, R, W> {
         match self.engine.wait_timeout(n) {
             Some(seconds) => {
                 let now = self.ends.sockets.now;
-                self.ends.sockets.clients.has_waited(n, seconds, now)
+                self.ends
+                    .sockets
+                    .clients
+                    .has_waited_seconds(n, seconds, now)
             }
             None => false,
         }
@@ -622,10 +640,10 @@ impl<'a, S: Shelf + Drop, R: Net, W: Write + Drop> Server<'a, S, R, W> {
     /// Hands in that a client's request waits no longer, if it has waited for long enough.
     fn end_wait(&mut self, end: End)
         requires { may_lose_an_end self.old ≡ true }
-        ensures { ServerTakesLosses self.old self.new }
+        ensures { ServerTakesEndLosses self.old self.new }
     {
-        a_turn_is_served_after_losses();
-        if self.has_waited(end) {
+        a_turn_is_served_after_end_losses();
+        if self.has_waited_seconds(end) {
             if let End::Client(n) = end {
                 self.overdue(n);
             }
@@ -636,14 +654,14 @@ impl<'a, S: Shelf + Drop, R: Net, W: Write + Drop> Server<'a, S, R, W> {
     /// answer as overdue.
     fn look_at(&mut self, end: End)
         requires { may_lose_an_end self.old ≡ true }
-        ensures { ServerTakesLosses self.old self.new }
+        ensures { ServerTakesEndLosses self.old self.new }
     {
-        a_turn_is_served_after_losses();
-        self.give_seconds(end);
+        a_turn_is_served_after_end_losses();
+        self.set_origin_timeout_seconds(end);
         if self.is_over(end) {
             self.release(end);
         } else {
-            self.ends.sockets.look_again_at(end);
+            self.ends.sockets.schedule_check_of_end(end);
             self.end_wait(end);
         }
     }
@@ -651,11 +669,11 @@ impl<'a, S: Shelf + Drop, R: Net, W: Write + Drop> Server<'a, S, R, W> {
     /// Gives up the answer of a client that has sent its end, if it waits for one.
     fn give_up(&mut self, n: u64)
         requires { may_lose_an_end self.old ≡ true }
-        ensures { ServerTakesLosses self.old self.new }
+        ensures { ServerTakesEndLosses self.old self.new }
     {
-        a_turn_is_served_after_losses();
+        a_turn_is_served_after_end_losses();
         if self.engine.may_read(End::Client(n)) {
-            self.ends.sockets.look_later_at_departed(n);
+            self.ends.sockets.check_half_closed_later(n);
         } else {
             self.release(End::Client(n));
         }
@@ -665,11 +683,11 @@ impl<'a, S: Shelf + Drop, R: Net, W: Write + Drop> Server<'a, S, R, W> {
     /// that one stays.
     fn cut_incomplete(&mut self, n: u64)
         requires { may_lose_an_end self.old ≡ true }
-        ensures { ServerTakesLosses self.old self.new }
+        ensures { ServerTakesEndLosses self.old self.new }
     {
-        a_turn_is_served_after_losses();
+        a_turn_is_served_after_end_losses();
         if self.engine.may_read(End::Client(n)) {
-            self.ends.sockets.cut_off(n);
+            self.ends.sockets.drop_client_giving_way(n);
             self.disconnect(End::Client(n), FailKind::Closed);
         }
     }
@@ -677,7 +695,7 @@ impl<'a, S: Shelf + Drop, R: Net, W: Write + Drop> Server<'a, S, R, W> {
     /// Lets a client go that is between two requests.
     fn let_go(&mut self, n: u64)
         requires { may_lose_an_end self.old ≡ true }
-        ensures { ServerTakesLosses self.old self.new }
+        ensures { ServerTakesEndLosses self.old self.new }
     {
         let now = self.ends.sockets.now;
         self.ends.sockets.clients.close(n, now);
@@ -687,7 +705,7 @@ impl<'a, S: Shelf + Drop, R: Net, W: Write + Drop> Server<'a, S, R, W> {
     /// Hands in an end that a sweep has found. A link is found by its time alone.
     fn take_found(&mut self, sweep: Sweep, end: End)
         requires { may_lose_an_end self.old ≡ true }
-        ensures { ServerTakesLosses self.old self.new }
+        ensures { ServerTakesEndLosses self.old self.new }
     {
         let End::Client(n) = end else {
             return self.look_at(end);
@@ -703,9 +721,9 @@ impl<'a, S: Shelf + Drop, R: Net, W: Write + Drop> Server<'a, S, R, W> {
 
     /// Hands in what a sweep finds.
     fn hand_in_found(&mut self, sweep: Sweep)
-        ensures { ServerTakesLosses self.old self.new }
+        ensures { ServerTakesEndLosses self.old self.new }
     {
-        a_turn_is_served_after_losses();
+        a_turn_is_served_after_end_losses();
         for _ in 0..MOST_LOOKS {
             let Some(end) = self.next_found(sweep) else {
                 return;

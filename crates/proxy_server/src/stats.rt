@@ -33,7 +33,7 @@ impl<'a, S: Shelf + Drop, R: Net, W: Write + Drop> Server<'a, S, R, W> {
             links: LinkFigures {
                 timeouts: &links.timeouts,
                 origins: &links.origins,
-                oldest: links.oldest_age(sockets.now),
+                oldest: links.oldest_link_milliseconds(sockets.now),
             },
             held: clients.held().saturating_add(links.held()),
             held_limit: sockets.limits.content,

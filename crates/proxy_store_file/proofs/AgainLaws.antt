@@ -18,10 +18,10 @@ use Rattle.proxy_store_file.specs.declared.heads.Head.{Head}
 use Rattle.proxy_store_file.specs.declared.store_faults.EntryPart.{EntryPart}
 use Rattle.proxy_store_file.specs.declared.store_faults.StoreFault.{StoreFault}
 use Rattle.proxy_store_file.specs.Texts.{number_spelling, text_spelling, number_of, is_number, leading_number, leading_text, cut, after}
-use Rattle.proxy_store_file.specs.Heads.{times_spelling, key_spelling, value_spelling, kept_spelling, nominated_spelling, line_spelling, lines_spelling, numbers_spelling, head_spelling, below, leading_number_below, times_with_response, times_with_request, times_with_age, times_with_date, leading_times, times_with_purge, times_at_end, purge_spelling, key_with_path, key_with_host, key_with_port, leading_key, some_value, value_behind, leading_value, kept_with_value, kept_with_name, leading_kept, values_behind, leading_nominated, line_with_value, line_with_name, leading_line, lines_behind, leading_lines, whole, no_head, head_with_lines, head_with_nominated, head_with_key, head_with_times, head_with_length, head_with_status, head_with_serial, head_in, head_of}
-use Rattle.proxy_store_file.specs.Parts.{most_head_bytes, part_at_fault}
-use Rattle.proxy_store_file.specs.Fits.{TextFits, ValueFits, MomentFits, KeptFits, LineFits, EntryFits, EntryCanStand, EntriesCanStand, StoreCanBeTold}
-use Rattle.proxy_store_file.specs.Stores.{StoreContents, entry_spelling, entries_spelling, first_line, opening_spelling, body_spelling, digest_spelling, store_spelling, EntryRead, Found, leading_entry, entry_fault, fault_of_part, standing_fault, is_too_heavy, StoreReading, or_short, digest_read, end_read, entry_taken, entry_read, entries_read, counted_read, line_read, read_store}
+use Rattle.proxy_store_file.specs.Heads.{times_spelling, key_spelling, nominated_text_spelling, nominated_value_spelling, nominated_spelling, line_spelling, lines_spelling, numbers_spelling, head_spelling, below, leading_number_below, times_with_response, times_with_request, times_with_age, times_with_date, leading_times, times_with_purge, stored_times_with_purge_if_any, purge_spelling, key_with_path, key_with_host_and_rest, key_with_port, leading_key, some_value, value_after_length, leading_value, nominated_value_with_text, nominated_value_with_name, leading_nominated_value, leading_nominated_values_after, leading_nominated_values, line_with_value, line_with_name, leading_line, leading_lines_after, leading_lines, whole, empty_head, head_with_lines, head_with_nominated, head_with_key, head_with_times, head_with_length, head_with_status, head_with_serial, head_spelled_in, head_of_entry}
+use Rattle.proxy_store_file.specs.Parts.{most_head_bytes, first_invalid_part}
+use Rattle.proxy_store_file.specs.Fits.{TextLengthIs64Bit, ValueLengthIs64Bit, MomentIs64Bit, NominatedValueLengthsAre64Bit, FieldLineLengthsAre64Bit, EntryNumbersAre64Bit, EntryCanBeWritten, EntriesCanBeWritten, StoreCanBeWritten}
+use Rattle.proxy_store_file.specs.Stores.{StoreContents, entry_spelling, entries_spelling, first_line, opening_spelling, body_spelling, digest_spelling, store_spelling, LeadingEntryReading, Found, leading_entry, entry_fault, fault_of_part, fault_among_entries, weight_exceeds_bound, StoreReading, or_short_file_fault, reading_of_digest, reading_of_end, reading_unless_entry_fault, reading_after_entry, reading_of_entries, reading_of_opening_numbers, reading_of_first_line, read_store}
 use Rattle.proxy_store_file.proofs.TextLaws.{same_bytes, cut_again, length-number_spelling, number_of_spelled, is_number_spelled, number_again, text_again}
 use Rattle.proxy_store_file.proofs.EntryLaws.{entry_found}
 
@@ -48,71 +48,71 @@ times_again t more f1 f2 f3 f4 =
 three_regroup : (a b c more : List ℕ) → ((a ++ b) ++ c) ++ more ≡ a ++ (b ++ (c ++ more))
 three_regroup a b c more = simp append_assoc
 
-key_again : (k : Key) (more : List ℕ) → k.port < 2 ^ 16 → TextFits k.host → TextFits k.path_query → leading_key (key_spelling k ++ more) ≡ Some (k, more)
+key_again : (k : Key) (more : List ℕ) → k.port < 2 ^ 16 → TextLengthIs64Bit k.host → TextLengthIs64Bit k.path_query → leading_key (key_spelling k ++ more) ≡ Some (k, more)
 key_again k more f1 f2 f3 =
     let p = number_spelling k.port in let h = text_spelling k.host in let q = text_spelling k.path_query in
     let wide : k.port < 2 ^ 64 = omega (arith, f1) in
     ap leading_key (three_regroup p h q more)
     ∙ (ap (λ (o : Option (ℕ × List ℕ)). after o key_with_port) (below_again (2 ^ 16) k.port (h ++ (q ++ more)) f1 wide)
-    ∙ (ap (λ (o : Option (List ℕ × List ℕ)). after o (key_with_host k.port)) (text_again k.host (q ++ more) f2)
+    ∙ (ap (λ (o : Option (List ℕ × List ℕ)). after o (key_with_host_and_rest k.port)) (text_again k.host (q ++ more) f2)
     ∙ ap (λ (o : Option (List ℕ × List ℕ)). after o (key_with_path k.port k.host)) (text_again k.path_query more f3)))
 
-line_again : (l : Field) (more : List ℕ) → LineFits l → leading_line (line_spelling l ++ more) ≡ Some (l, more)
+line_again : (l : Field) (more : List ℕ) → FieldLineLengthsAre64Bit l → leading_line (line_spelling l ++ more) ≡ Some (l, more)
 line_again l more fits =
     ap leading_line (append_assoc (text_spelling l.name) (text_spelling l.value) more)
     ∙ (ap (λ (o : Option (List ℕ × List ℕ)). after o line_with_name) (text_again l.name (text_spelling l.value ++ more) fits.0)
     ∙ ap (λ (o : Option (List ℕ × List ℕ)). after o (line_with_value l.name)) (text_again l.value more fits.1))
 
-value_behind_again : (n : ℕ) (value more : List ℕ) → n ≡ length value + 1 → value_behind n (value ++ more) ≡ Some (Some value, more)
+value_behind_again : (n : ℕ) (value more : List ℕ) → n ≡ length value + 1 → value_after_length n (value ++ more) ≡ Some (Some value, more)
 value_behind_again n value more e =
     let some : (n == 0) ≡ false = ap (λ k. k == 0) (e ∙ add-one (length value)) ∙ eqb-suc-zero (length value) in
     let one : length value ≡ n - 1 = omega (arith, e) in
     rw some (ap (λ (o : Option (List ℕ × List ℕ)). after o some_value) (cut_again value more (n - 1) one))
 
-value_again : (v : Option (List ℕ)) (more : List ℕ) → ValueFits v → leading_value (value_spelling v ++ more) ≡ Some (v, more)
-value_again None more fits = ap (λ (o : Option (ℕ × List ℕ)). after o value_behind) (number_again 0 more (omega arith))
+value_again : (v : Option (List ℕ)) (more : List ℕ) → ValueLengthIs64Bit v → leading_value (nominated_text_spelling v ++ more) ≡ Some (v, more)
+value_again None more fits = ap (λ (o : Option (ℕ × List ℕ)). after o value_after_length) (number_again 0 more (omega arith))
 value_again (Some v) more fits =
     ap leading_value (append_assoc (number_spelling (length v + 1)) v more)
-    ∙ (ap (λ (o : Option (ℕ × List ℕ)). after o value_behind) (number_again (length v + 1) (v ++ more) fits)
+    ∙ (ap (λ (o : Option (ℕ × List ℕ)). after o value_after_length) (number_again (length v + 1) (v ++ more) fits)
     ∙ value_behind_again (length v + 1) v more refl)
 
-kept_again : (k : NominatedValue) (more : List ℕ) → KeptFits k → leading_kept (kept_spelling k ++ more) ≡ Some (k, more)
+kept_again : (k : NominatedValue) (more : List ℕ) → NominatedValueLengthsAre64Bit k → leading_nominated_value (nominated_value_spelling k ++ more) ≡ Some (k, more)
 kept_again k more fits =
-    ap leading_kept (append_assoc (text_spelling k.name) (value_spelling k.value) more)
-    ∙ (ap (λ (o : Option (List ℕ × List ℕ)). after o kept_with_name) (text_again k.name (value_spelling k.value ++ more) fits.0)
-    ∙ ap (λ (o : Option (Option (List ℕ) × List ℕ)). after o (kept_with_value k.name)) (value_again k.value more fits.1))
+    ap leading_nominated_value (append_assoc (text_spelling k.name) (nominated_text_spelling k.value) more)
+    ∙ (ap (λ (o : Option (List ℕ × List ℕ)). after o nominated_value_with_name) (text_again k.name (nominated_text_spelling k.value ++ more) fits.0)
+    ∙ ap (λ (o : Option (Option (List ℕ) × List ℕ)). after o (nominated_value_with_text k.name)) (value_again k.value more fits.1))
 
-lines_behind_again : (read ls : List Field) (more : List ℕ) → AllByRecursion LineFits ls
-    → lines_behind read (length ls) (flat_map line_spelling ls ++ more) ≡ Some (read ++ ls, more)
+lines_behind_again : (read ls : List Field) (more : List ℕ) → AllByRecursion FieldLineLengthsAre64Bit ls
+    → leading_lines_after read (length ls) (flat_map line_spelling ls ++ more) ≡ Some (read ++ ls, more)
 lines_behind_again read [] more fits = ap (λ (xs : List Field). Some (xs, more)) (sym (append-nil read))
 lines_behind_again read (l ∷ ls) more fits =
-    ap (λ b. lines_behind read (suc (length ls)) b) (append_assoc (line_spelling l) (flat_map line_spelling ls) more)
-    ∙ (ap (λ (o : Option (Field × List ℕ)). after o (λ line rest. lines_behind (read ++ line ∷ []) (length ls) rest)) (line_again l (flat_map line_spelling ls ++ more) fits.0)
+    ap (λ b. leading_lines_after read (suc (length ls)) b) (append_assoc (line_spelling l) (flat_map line_spelling ls) more)
+    ∙ (ap (λ (o : Option (Field × List ℕ)). after o (λ line rest. leading_lines_after (read ++ line ∷ []) (length ls) rest)) (line_again l (flat_map line_spelling ls ++ more) fits.0)
     ∙ (lines_behind_again (read ++ l ∷ []) ls more fits.1
     ∙ ap (λ (xs : List Field). Some (xs, more)) (append_assoc read (l ∷ []) ls)))
 
-values_behind_again : (read ks : List NominatedValue) (more : List ℕ) → AllByRecursion KeptFits ks
-    → values_behind read (length ks) (flat_map kept_spelling ks ++ more) ≡ Some (read ++ ks, more)
+values_behind_again : (read ks : List NominatedValue) (more : List ℕ) → AllByRecursion NominatedValueLengthsAre64Bit ks
+    → leading_nominated_values_after read (length ks) (flat_map nominated_value_spelling ks ++ more) ≡ Some (read ++ ks, more)
 values_behind_again read [] more fits = ap (λ (xs : List NominatedValue). Some (xs, more)) (sym (append-nil read))
 values_behind_again read (k ∷ ks) more fits =
-    ap (λ b. values_behind read (suc (length ks)) b) (append_assoc (kept_spelling k) (flat_map kept_spelling ks) more)
-    ∙ (ap (λ (o : Option (NominatedValue × List ℕ)). after o (λ kept rest. values_behind (read ++ kept ∷ []) (length ks) rest)) (kept_again k (flat_map kept_spelling ks ++ more) fits.0)
+    ap (λ b. leading_nominated_values_after read (suc (length ks)) b) (append_assoc (nominated_value_spelling k) (flat_map nominated_value_spelling ks) more)
+    ∙ (ap (λ (o : Option (NominatedValue × List ℕ)). after o (λ kept rest. leading_nominated_values_after (read ++ kept ∷ []) (length ks) rest)) (kept_again k (flat_map nominated_value_spelling ks ++ more) fits.0)
     ∙ (values_behind_again (read ++ k ∷ []) ks more fits.1
     ∙ ap (λ (xs : List NominatedValue). Some (xs, more)) (append_assoc read (k ∷ []) ks)))
 
-lines_again : (ls : List Field) (more : List ℕ) → length ls < 2 ^ 64 → AllByRecursion LineFits ls → leading_lines (lines_spelling ls ++ more) ≡ Some (ls, more)
+lines_again : (ls : List Field) (more : List ℕ) → length ls < 2 ^ 64 → AllByRecursion FieldLineLengthsAre64Bit ls → leading_lines (lines_spelling ls ++ more) ≡ Some (ls, more)
 lines_again ls more few fits =
     ap leading_lines (append_assoc (number_spelling (length ls)) (flat_map line_spelling ls) more)
-    ∙ (ap (λ (o : Option (ℕ × List ℕ)). after o (lines_behind [])) (number_again (length ls) (flat_map line_spelling ls ++ more) few)
+    ∙ (ap (λ (o : Option (ℕ × List ℕ)). after o (leading_lines_after [])) (number_again (length ls) (flat_map line_spelling ls ++ more) few)
     ∙ lines_behind_again [] ls more fits)
 
-nominated_again : (ks : List NominatedValue) (more : List ℕ) → length ks < 2 ^ 64 → AllByRecursion KeptFits ks → leading_nominated (nominated_spelling ks ++ more) ≡ Some (ks, more)
+nominated_again : (ks : List NominatedValue) (more : List ℕ) → length ks < 2 ^ 64 → AllByRecursion NominatedValueLengthsAre64Bit ks → leading_nominated_values (nominated_spelling ks ++ more) ≡ Some (ks, more)
 nominated_again ks more few fits =
-    ap leading_nominated (append_assoc (number_spelling (length ks)) (flat_map kept_spelling ks) more)
-    ∙ (ap (λ (o : Option (ℕ × List ℕ)). after o (values_behind [])) (number_again (length ks) (flat_map kept_spelling ks ++ more) few)
+    ap leading_nominated_values (append_assoc (number_spelling (length ks)) (flat_map nominated_value_spelling ks) more)
+    ∙ (ap (λ (o : Option (ℕ × List ℕ)). after o (leading_nominated_values_after [])) (number_again (length ks) (flat_map nominated_value_spelling ks ++ more) few)
     ∙ values_behind_again [] ks more fits)
 
-purge_again : (purge : Option ℕ) (t : Times) → MomentFits purge → times_at_end (record t { expired = None }) (purge_spelling purge) ≡ Some (record t { expired = purge })
+purge_again : (purge : Option ℕ) (t : Times) → MomentIs64Bit purge → stored_times_with_purge_if_any (record t { expired = None }) (purge_spelling purge) ≡ Some (record t { expired = purge })
 purge_again None t fits = refl
 purge_again (Some moment) t fits =
     let some : (length (number_spelling moment) == 0) ≡ false = ap (λ n. n == 0) (length-number_spelling moment) in
@@ -124,13 +124,13 @@ purge_again (Some moment) t fits =
 head_regroup : (a b c t k n l p : List ℕ) → ((((((a ++ b) ++ c) ++ t) ++ k) ++ n) ++ l) ++ p ≡ a ++ (b ++ (c ++ (t ++ (k ++ (n ++ (l ++ p))))))
 head_regroup a b c t k n l p = simp append_assoc
 
-head_again : (e : Stored) → EntryFits e → head_in (head_spelling (head_of e)) ≡ Some (head_of e)
-unfolding head_in
+head_again : (e : Stored) → EntryNumbersAre64Bit e → head_spelled_in (head_spelling (head_of_entry e)) ≡ Some (head_of_entry e)
+unfolding head_spelled_in
 head_again e fits =
     let a = number_spelling e.serial in let b = number_spelling e.status in let c = number_spelling (length e.content) in
     let t = times_spelling e.times in let k = key_spelling e.key in let n = nominated_spelling e.nominated in let l = lines_spelling e.fields in
     let p = purge_spelling e.times.expired in
-    let h1 : Head = record no_head { serial = e.serial } in
+    let h1 : Head = record empty_head { serial = e.serial } in
     let h2 : Head = record h1 { status = e.status } in
     let h3 : Head = record h2 { content_length = length e.content } in
     let h4 : Head = record h3 { times = record e.times { expired = None } } in
@@ -147,42 +147,42 @@ head_again e fits =
     ∙ (ap (λ (o : Option (List Field × List ℕ)). after o (head_with_lines h6)) (lines_again e.fields p fits.lines fits.fields)
     ∙ ap (λ (o : Option Times). option_map (λ times. record h6 { times = times; fields = e.fields }) o) (purge_again e.times.expired e.times fits.purge))))))))
 
-entry_again : (e : Stored) (more : List ℕ) → EntryFits e → length (head_spelling (head_of e)) ≤ most_head_bytes → leading_entry (entry_spelling e ++ more) ≡ Found e more
+entry_again : (e : Stored) (more : List ℕ) → EntryNumbersAre64Bit e → length (head_spelling (head_of_entry e)) ≤ most_head_bytes → leading_entry (entry_spelling e ++ more) ≡ Found e more
 entry_again e more fits short =
-    let head = head_spelling (head_of e) in
+    let head = head_spelling (head_of_entry e) in
     let wide : length head < 2 ^ 64 = omega (arith, short) in
     let number = number_of_spelled (length head) wide in
-    entry_found (number_spelling (length head)) head e.content more (head_of e) (length-number_spelling (length head)) (is_number_spelled (length head) wide)
+    entry_found (number_spelling (length head)) head e.content more (head_of_entry e) (length-number_spelling (length head)) (is_number_spelled (length head) wide)
     (subst (λ n. n ≤ most_head_bytes) (sym number) short) (sym number) (head_again e fits) refl
 
 no_fault_by : (o : Option EntryPart) (a b c : Bool) (n : ℕ) (f g : Option StoreFault) → o ≡ None → a ≡ false → b ≡ false → c ≡ false
     → fault_of_part n o (cond {A = Option StoreFault} (a || b) f (cond {A = Option StoreFault} c g None)) ≡ None
 no_fault_by o a b c n f g e1 e2 e3 e4 = rw (e1, e2, e3, e4) refl
 
-no_fault : (n : ℕ) (most : Option ℕ) (next : ℕ) (held : List Stored) (e : Stored) → EntryCanStand most next held e → entry_fault n most next held e ≡ None
+no_fault : (n : ℕ) (most : Option ℕ) (next : ℕ) (held : List Stored) (e : Stored) → EntryCanBeWritten most next held e → entry_fault n most next held e ≡ None
 no_fault n most next held e stands =
-    no_fault_by (part_at_fault e) (serial_is_in e.serial (serials held)) (nat_le next e.serial) (is_too_heavy most (total_weight (e ∷ held))) n _ _
+    no_fault_by (first_invalid_part e) (serial_is_in e.serial (serials held)) (nat_le next e.serial) (weight_exceeds_bound most (total_weight (e ∷ held))) n _ _
     stands.parts stands.is_new (lt-leb next e.serial stands.below_next) stands.weighs
 
-entries_again : (es : List Stored) (n left : ℕ) (text : List ℕ) (most : Option ℕ) (next : ℕ) (rest : List ℕ) → n ≡ length es + left → EntriesCanStand most next es
-    → entries_read text most next n [] (entries_spelling es ++ rest) ≡ entries_read text most next left es rest
+entries_again : (es : List Stored) (n left : ℕ) (text : List ℕ) (most : Option ℕ) (next : ℕ) (rest : List ℕ) → n ≡ length es + left → EntriesCanBeWritten most next es
+    → reading_of_entries text most next n [] (entries_spelling es ++ rest) ≡ reading_of_entries text most next left es rest
 entries_again [] n left text most next rest e stand =
-    let same : n ≡ left = omega (arith, e) in ap (λ k. entries_read text most next k [] rest) same
+    let same : n ≡ left = omega (arith, e) in ap (λ k. reading_of_entries text most next k [] rest) same
 entries_again (x ∷ xs) n left text most next rest e stand =
     let later : n ≡ length xs + suc left = omega (arith, e) in
-    ap (λ b. entries_read text most next n [] b) (append_assoc (entries_spelling xs) (entry_spelling x) rest)
+    ap (λ b. reading_of_entries text most next n [] b) (append_assoc (entries_spelling xs) (entry_spelling x) rest)
     ∙ (entries_again xs n (suc left) text most next (entry_spelling x ++ rest) later stand.1
-    ∙ (ap (entry_read most next xs (λ y more. entries_read text most next left (y ∷ xs) more)) (entry_again x rest stand.0.fits stand.0.short)
-    ∙ ap (λ (f : Option StoreFault). entry_taken f (entries_read text most next left (x ∷ xs) rest)) (no_fault (length xs + 1) most next xs x stand.0)))
+    ∙ (ap (reading_after_entry most next xs (λ y more. reading_of_entries text most next left (y ∷ xs) more)) (entry_again x rest stand.0.fits stand.0.short)
+    ∙ ap (λ (f : Option StoreFault). reading_unless_entry_fault f (reading_of_entries text most next left (x ∷ xs) rest)) (no_fault (length xs + 1) most next xs x stand.0)))
 
 length-digest_spelling : (body : List ℕ) → length (digest_spelling body) ≡ 8
 unfolding digest_spelling
 length-digest_spelling body = length-number_spelling _
 
-digest_again : (body digest : List ℕ) (store : StoreContents) → digest ≡ digest_spelling body → digest_read body store digest [] ≡ Ok store
+digest_again : (body digest : List ℕ) (store : StoreContents) → digest ≡ digest_spelling body → reading_of_digest body store digest [] ≡ Ok store
 digest_again body digest store e = rw (same_bytes digest (digest_spelling body) e) refl
 
-end_again : (text body : List ℕ) (store : StoreContents) → text ≡ body ++ digest_spelling body → end_read text store (digest_spelling body) ≡ Ok store
+end_again : (text body : List ℕ) (store : StoreContents) → text ≡ body ++ digest_spelling body → reading_of_end text store (digest_spelling body) ≡ Ok store
 end_again text body store split =
     let digest = digest_spelling body in
     let n = length-digest_spelling body in
@@ -190,11 +190,11 @@ end_again text body store split =
     let front : take (length text - length digest) text ≡ body =
     ap (λ k. take k text) long ∙ (ap (λ x. take (length body) x) split ∙ take-append_seam body digest) in
     let all : cut 8 digest ≡ Some (digest, []) = ap (cut 8) (sym (append-nil digest)) ∙ cut_again digest [] 8 n in
-    ap (λ (o : Option (List ℕ × List ℕ)). or_short (length store.entries) o (digest_read (take (length text - length digest) text) store)) all
+    ap (λ (o : Option (List ℕ × List ℕ)). or_short_file_fault (length store.entries) o (reading_of_digest (take (length text - length digest) text) store)) all
     ∙ digest_again (take (length text - length digest) text) digest store (ap digest_spelling (sym front))
 
 counted_again : (bounds : StoreBounds) (text a b rest : List ℕ) (n m : ℕ) → is_number a ≡ true → is_number b ≡ true → number_of a ≡ n → number_of b ≡ m
-    → m ≤ bounds.entries → counted_read bounds text a b rest ≡ entries_read text bounds.bytes n m [] rest
+    → m ≤ bounds.entries → reading_of_opening_numbers bounds text a b rest ≡ reading_of_entries text bounds.bytes n m [] rest
 counted_again bounds text a b rest n m sa sb na nb few =
     let within : nat_le m bounds.entries ≡ true = le-leb m bounds.entries few in
     rw (sa, sb, na, nb, within) refl
@@ -202,15 +202,15 @@ counted_again bounds text a b rest n m sa sb na nb few =
 store_regroup : (a b c es d : List ℕ) → (((a ++ b) ++ c) ++ es) ++ d ≡ a ++ (b ++ (c ++ (es ++ d)))
 store_regroup a b c es d = simp append_assoc
 
-pub told_stores_are_read : (bounds : StoreBounds) (store : StoreContents) → StoreCanBeTold bounds store → read_store bounds (store_spelling store) ≡ Ok store
+pub told_stores_are_read : (bounds : StoreBounds) (store : StoreContents) → StoreCanBeWritten bounds store → read_store bounds (store_spelling store) ≡ Ok store
 unfolding read_store
 told_stores_are_read bounds store told =
     let text = store_spelling store in
     let next = number_spelling store.next_serial in let number = number_spelling (length store.entries) in
     let es = entries_spelling store.entries in let digest = digest_spelling (body_spelling store) in
-    ap (λ (o : Option (List ℕ × List ℕ)). or_short 0 o (line_read bounds text)) (ap (cut 17) (store_regroup first_line next number es digest) ∙ cut_again first_line (next ++ (number ++ (es ++ digest))) 17 refl)
-    ∙ (ap (λ (o : Option (List ℕ × List ℕ)). or_short 0 o (λ a more. or_short 0 (cut 8 more) (counted_read bounds text a))) (cut_again next (number ++ (es ++ digest)) 8 (length-number_spelling store.next_serial))
-    ∙ (ap (λ (o : Option (List ℕ × List ℕ)). or_short 0 o (counted_read bounds text next)) (cut_again number (es ++ digest) 8 (length-number_spelling (length store.entries)))
+    ap (λ (o : Option (List ℕ × List ℕ)). or_short_file_fault 0 o (reading_of_first_line bounds text)) (ap (cut 17) (store_regroup first_line next number es digest) ∙ cut_again first_line (next ++ (number ++ (es ++ digest))) 17 refl)
+    ∙ (ap (λ (o : Option (List ℕ × List ℕ)). or_short_file_fault 0 o (λ a more. or_short_file_fault 0 (cut 8 more) (reading_of_opening_numbers bounds text a))) (cut_again next (number ++ (es ++ digest)) 8 (length-number_spelling store.next_serial))
+    ∙ (ap (λ (o : Option (List ℕ × List ℕ)). or_short_file_fault 0 o (reading_of_opening_numbers bounds text next)) (cut_again number (es ++ digest) 8 (length-number_spelling (length store.entries)))
     ∙ (counted_again bounds text next number (es ++ digest) store.next_serial (length store.entries) (is_number_spelled store.next_serial told.next_serial)
     (is_number_spelled (length store.entries) told.number) (number_of_spelled store.next_serial told.next_serial) (number_of_spelled (length store.entries) told.number) told.few
     ∙ (entries_again store.entries (length store.entries) 0 text bounds.bytes store.next_serial digest (omega arith) told.entries

@@ -10,7 +10,7 @@ use Rattle.hx_age.specs.declared.moments.Times.{Times}
 use Rattle.hx_vary.specs.declared.nominated_values.NominatedValue.{NominatedValue}
 use Rattle.proxy_store_file.specs.declared.heads.Head.{Head}
 use Rattle.proxy_store_file.specs.Texts.{number_spelling, text_spelling, leading_number, leading_text, cut, after}
-use Rattle.proxy_store_file.specs.Heads.{times_spelling, key_spelling, value_spelling, kept_spelling, nominated_spelling, line_spelling, lines_spelling, numbers_spelling, head_spelling, below, leading_number_below, times_with_response, times_with_request, times_with_age, times_with_date, leading_times, times_with_purge, times_at_end, purge_spelling, key_with_path, key_with_host, key_with_port, leading_key, some_value, value_behind, leading_value, kept_with_value, kept_with_name, leading_kept, values_behind, leading_nominated, line_with_value, line_with_name, leading_line, lines_behind, leading_lines, whole, no_head, head_with_lines, head_with_nominated, head_with_key, head_with_times, head_with_length, head_with_status, head_with_serial, head_in}
+use Rattle.proxy_store_file.specs.Heads.{times_spelling, key_spelling, nominated_text_spelling, nominated_value_spelling, nominated_spelling, line_spelling, lines_spelling, numbers_spelling, head_spelling, below, leading_number_below, times_with_response, times_with_request, times_with_age, times_with_date, leading_times, times_with_purge, stored_times_with_purge_if_any, purge_spelling, key_with_path, key_with_host_and_rest, key_with_port, leading_key, some_value, value_after_length, leading_value, nominated_value_with_text, nominated_value_with_name, leading_nominated_value, leading_nominated_values_after, leading_nominated_values, line_with_value, line_with_name, leading_line, leading_lines_after, leading_lines, whole, empty_head, head_with_lines, head_with_nominated, head_with_key, head_with_times, head_with_length, head_with_status, head_with_serial, head_spelled_in}
 use Rattle.proxy_store_file.proofs.TextLaws.{same_pair, after_found, cut_found, number_found, text_found}
 
 -- one part more was found
@@ -53,7 +53,7 @@ times_without_purge bytes more times e =
 pub key_found : (bytes more : List ℕ) (key : Key) → leading_key bytes ≡ Some (key, more) → bytes ≡ key_spelling key ++ more
 key_found bytes more key e =
     let p = after_found (leading_number_below (2 ^ 16) bytes) key_with_port (key, more) e in
-    let q = after_found (leading_text p.rest) (key_with_host p.read) (key, more) p.behind in
+    let q = after_found (leading_text p.rest) (key_with_host_and_rest p.read) (key, more) p.behind in
     let r = after_found (leading_text q.rest) (key_with_path p.read q.read) (key, more) q.behind in
     let k : Key = record { host = q.read; port = p.read; path_query = r.read } in
     let same = same_pair k key r.rest more r.behind in
@@ -76,11 +76,11 @@ positive (suc n) e = omega arith
 
 value_found_by : (t : Bool) (n : ℕ) (rest more : List ℕ) (value : Option (List ℕ)) → (t ≡ true → n ≡ 0) → (t ≡ false → 0 < n)
     → cond {A = Option (Option (List ℕ) × List ℕ)} t (Some (None, rest)) (after (cut (n - 1) rest) some_value) ≡ Some (value, more)
-    → number_spelling n ++ rest ≡ value_spelling value ++ more
+    → number_spelling n ++ rest ≡ nominated_text_spelling value ++ more
 value_found_by true n rest more value is_zero above e =
     let none : Option (List ℕ) = None in
     let same = same_pair none value rest more e in
-    ap (λ k. number_spelling k ++ rest) (is_zero refl) ∙ (ap (λ x. value_spelling x ++ rest) same.0 ∙ ap (λ r. value_spelling value ++ r) same.1)
+    ap (λ k. number_spelling k ++ rest) (is_zero refl) ∙ (ap (λ x. nominated_text_spelling x ++ rest) same.0 ∙ ap (λ r. nominated_text_spelling value ++ r) same.1)
 value_found_by false n rest more value is_zero above e =
     let q = after_found (cut (n - 1) rest) some_value (value, more) e in
     let c = cut_found (n - 1) rest q.read q.rest q.found in
@@ -91,22 +91,22 @@ value_found_by false n rest more value is_zero above e =
     ap (λ r. number_spelling n ++ r) c.0
     ∙ (ap (λ k. number_spelling k ++ (q.read ++ q.rest)) long
     ∙ (sym (append_assoc (number_spelling (length q.read + 1)) q.read q.rest)
-    ∙ (ap (λ x. value_spelling x ++ q.rest) same.0 ∙ ap (λ r. value_spelling value ++ r) same.1)))
+    ∙ (ap (λ x. nominated_text_spelling x ++ q.rest) same.0 ∙ ap (λ r. nominated_text_spelling value ++ r) same.1)))
 
-pub value_found : (bytes more : List ℕ) (value : Option (List ℕ)) → leading_value bytes ≡ Some (value, more) → bytes ≡ value_spelling value ++ more
+pub value_found : (bytes more : List ℕ) (value : Option (List ℕ)) → leading_value bytes ≡ Some (value, more) → bytes ≡ nominated_text_spelling value ++ more
 value_found bytes more value e =
-    let p = after_found (leading_number bytes) value_behind (value, more) e in
+    let p = after_found (leading_number bytes) value_after_length (value, more) e in
     number_found bytes p.rest p.read p.found
     ∙ value_found_by (p.read == 0) p.read p.rest more value (eqb-true p.read 0) (positive p.read) p.behind
 
-pub kept_found : (bytes more : List ℕ) (kept : NominatedValue) → leading_kept bytes ≡ Some (kept, more) → bytes ≡ kept_spelling kept ++ more
+pub kept_found : (bytes more : List ℕ) (kept : NominatedValue) → leading_nominated_value bytes ≡ Some (kept, more) → bytes ≡ nominated_value_spelling kept ++ more
 kept_found bytes more kept e =
-    let p = after_found (leading_text bytes) kept_with_name (kept, more) e in
-    let q = after_found (leading_value p.rest) (kept_with_value p.read) (kept, more) p.behind in
+    let p = after_found (leading_text bytes) nominated_value_with_name (kept, more) e in
+    let q = after_found (leading_value p.rest) (nominated_value_with_text p.read) (kept, more) p.behind in
     let k : NominatedValue = record { name = p.read; value = q.read } in
     let same = same_pair k kept q.rest more q.behind in
     let d = more_front _ _ _ _ _ (text_found bytes p.rest p.read p.found) (value_found p.rest q.rest q.read q.found) in
-    d ∙ (ap (λ x. kept_spelling x ++ q.rest) same.0 ∙ ap (λ x. kept_spelling kept ++ x) same.1)
+    d ∙ (ap (λ x. nominated_value_spelling x ++ q.rest) same.0 ∙ ap (λ x. nominated_value_spelling kept ++ x) same.1)
 
 -- so many were found, behind those that were read
 record ListFound {A : Type 0} (spelled : A → List ℕ) (n : ℕ) (read all : List A) (bytes more : List ℕ) : Type 0 where
@@ -131,20 +131,20 @@ none_more spelled read all bytes more e =
     let same = same_pair read all bytes more e in
     record { added = []; list = sym same.0 ∙ sym (append-nil read); spelling = same.1; number = refl }
 
-lines_behind_found : (n : ℕ) (read all : List Field) (bytes more : List ℕ) → lines_behind read n bytes ≡ Some (all, more)
+lines_behind_found : (n : ℕ) (read all : List Field) (bytes more : List ℕ) → leading_lines_after read n bytes ≡ Some (all, more)
     → ListFound line_spelling n read all bytes more
 lines_behind_found zero read all bytes more e = none_more line_spelling read all bytes more e
 lines_behind_found (suc n) read all bytes more e =
-    let p = after_found (leading_line bytes) (λ line rest. lines_behind (read ++ line ∷ []) n rest) (all, more) e in
+    let p = after_found (leading_line bytes) (λ line rest. leading_lines_after (read ++ line ∷ []) n rest) (all, more) e in
     one_more line_spelling n read all p.read bytes p.rest more (line_found bytes p.rest p.read p.found)
     (lines_behind_found n (read ++ p.read ∷ []) all p.rest more p.behind)
 
-values_behind_found : (n : ℕ) (read all : List NominatedValue) (bytes more : List ℕ) → values_behind read n bytes ≡ Some (all, more)
-    → ListFound kept_spelling n read all bytes more
-values_behind_found zero read all bytes more e = none_more kept_spelling read all bytes more e
+values_behind_found : (n : ℕ) (read all : List NominatedValue) (bytes more : List ℕ) → leading_nominated_values_after read n bytes ≡ Some (all, more)
+    → ListFound nominated_value_spelling n read all bytes more
+values_behind_found zero read all bytes more e = none_more nominated_value_spelling read all bytes more e
 values_behind_found (suc n) read all bytes more e =
-    let p = after_found (leading_kept bytes) (λ kept rest. values_behind (read ++ kept ∷ []) n rest) (all, more) e in
-    one_more kept_spelling n read all p.read bytes p.rest more (kept_found bytes p.rest p.read p.found)
+    let p = after_found (leading_nominated_value bytes) (λ kept rest. leading_nominated_values_after (read ++ kept ∷ []) n rest) (all, more) e in
+    one_more nominated_value_spelling n read all p.read bytes p.rest more (kept_found bytes p.rest p.read p.found)
     (values_behind_found n (read ++ p.read ∷ []) all p.rest more p.behind)
 
 list_spelled : {A : Type 0} (spelled : A → List ℕ) (n : ℕ) (all : List A) (bytes rest more : List ℕ)
@@ -160,13 +160,13 @@ list_spelled spelled n all bytes rest more front found =
 
 pub lines_found : (bytes more : List ℕ) (all : List Field) → leading_lines bytes ≡ Some (all, more) → bytes ≡ lines_spelling all ++ more
 lines_found bytes more all e =
-    let p = after_found (leading_number bytes) (lines_behind []) (all, more) e in
+    let p = after_found (leading_number bytes) (leading_lines_after []) (all, more) e in
     list_spelled line_spelling p.read all bytes p.rest more (number_found bytes p.rest p.read p.found) (lines_behind_found p.read [] all p.rest more p.behind)
 
-pub nominated_found : (bytes more : List ℕ) (all : List NominatedValue) → leading_nominated bytes ≡ Some (all, more) → bytes ≡ nominated_spelling all ++ more
+pub nominated_found : (bytes more : List ℕ) (all : List NominatedValue) → leading_nominated_values bytes ≡ Some (all, more) → bytes ≡ nominated_spelling all ++ more
 nominated_found bytes more all e =
-    let p = after_found (leading_number bytes) (values_behind []) (all, more) e in
-    list_spelled kept_spelling p.read all bytes p.rest more (number_found bytes p.rest p.read p.found) (values_behind_found p.read [] all p.rest more p.behind)
+    let p = after_found (leading_number bytes) (leading_nominated_values_after []) (all, more) e in
+    list_spelled nominated_value_spelling p.read all bytes p.rest more (number_found bytes p.rest p.read p.found) (values_behind_found p.read [] all p.rest more p.behind)
 
 pub empty : (xs : List ℕ) → (length xs == 0) ≡ true → xs ≡ []
 empty [] e = refl
@@ -197,11 +197,11 @@ mapped_found : (o : Option Times) (make : Times → Head) (head : Head) → opti
 mapped_found None make head e = absurd (cc)
 mapped_found (Some times) make head e = (times, refl, cc)
 
-pub head_found : (bytes : List ℕ) (head : Head) → head_in bytes ≡ Some head → bytes ≡ head_spelling head
-unfolding head_in
+pub head_found : (bytes : List ℕ) (head : Head) → head_spelled_in bytes ≡ Some head → bytes ≡ head_spelling head
+unfolding head_spelled_in
 head_found bytes head e =
     let p1 = after_found (leading_number bytes) head_with_serial head e in
-    let h1 : Head = record no_head { serial = p1.read } in
+    let h1 : Head = record empty_head { serial = p1.read } in
     let p2 = after_found (leading_number_below (2 ^ 16) p1.rest) (head_with_status h1) head p1.behind in
     let h2 : Head = record h1 { status = p2.read } in
     let p3 = after_found (leading_number p2.rest) (head_with_length h2) head p2.behind in
@@ -210,10 +210,10 @@ head_found bytes head e =
     let h4 : Head = record h3 { times = p4.read } in
     let p5 = after_found (leading_key p4.rest) (head_with_key h4) head p4.behind in
     let h5 : Head = record h4 { key = p5.read } in
-    let p6 = after_found (leading_nominated p5.rest) (head_with_nominated h5) head p5.behind in
+    let p6 = after_found (leading_nominated_values p5.rest) (head_with_nominated h5) head p5.behind in
     let h6 : Head = record h5 { nominated = p6.read } in
     let p7 = after_found (leading_lines p6.rest) (head_with_lines h6) head p6.behind in
-    let m = mapped_found (times_at_end p4.read p7.rest) (λ times. record h6 { times = times; fields = p7.read }) head p7.behind in
+    let m = mapped_found (stored_times_with_purge_if_any p4.read p7.rest) (λ times. record h6 { times = times; fields = p7.read }) head p7.behind in
     let w = end_found_by (length p7.rest == 0) p7.rest p4.read m.0 (empty p7.rest) (times_without_purge p3.rest p4.rest p4.read p4.found) m.1 in
     let with_times : List ℕ → List ℕ = λ times.
     number_spelling p1.read ++ number_spelling p2.read ++ number_spelling p3.read ++ times ++ key_spelling p5.read ++ nominated_spelling p6.read

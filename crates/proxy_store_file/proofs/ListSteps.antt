@@ -4,32 +4,32 @@ use Rattle.hx_fields.specs.Line.{Field}
 use Rattle.hx_vary.specs.declared.nominated_values.NominatedValue.{NominatedValue}
 use Rattle.proxy_store_file.specs.declared.head_reading.HeadStop.{HeadStop}
 use Rattle.proxy_store_file.specs.declared.head_reading.HeadStop.TheVariants.{Shapeless, OutOfMemory}
-use Rattle.proxy_store_file.specs.HeadStops.{IsStopOf}
+use Rattle.proxy_store_file.specs.HeadStops.{HeadStopMatchesReading}
 use Rattle.proxy_store_file.specs.Texts.{after}
-use Rattle.proxy_store_file.specs.Heads.{leading_line, lines_behind, leading_kept, values_behind}
+use Rattle.proxy_store_file.specs.Heads.{leading_line, leading_lines_after, leading_nominated_value, leading_nominated_values_after}
 
 pub lines_more : (read : List Field) (n i : ℕ) (bytes rest : List ℕ) (line : Field) (whole : Option (List Field × List ℕ)) (more : List Field)
-    → i < n → whole ≡ lines_behind read (n - i) bytes → leading_line bytes ≡ Some (line, rest) → more ≡ read ++ line ∷ []
-    → whole ≡ lines_behind more (n - (i + 1)) rest
+    → i < n → whole ≡ leading_lines_after read (n - i) bytes → leading_line bytes ≡ Some (line, rest) → more ≡ read ++ line ∷ []
+    → whole ≡ leading_lines_after more (n - (i + 1)) rest
 lines_more read n i bytes rest line whole more less held found grown =
     let e : n - i ≡ suc (n - (i + 1)) = omega arith in
-    held ∙ (ap (λ k. lines_behind read k bytes) e
-    ∙ (ap (λ (o : Option (Field × List ℕ)). after o (λ l r. lines_behind (read ++ l ∷ []) (n - (i + 1)) r)) found
-    ∙ ap (λ r. lines_behind r (n - (i + 1)) rest) (sym grown)))
+    held ∙ (ap (λ k. leading_lines_after read k bytes) e
+    ∙ (ap (λ (o : Option (Field × List ℕ)). after o (λ l r. leading_lines_after (read ++ l ∷ []) (n - (i + 1)) r)) found
+    ∙ ap (λ r. leading_lines_after r (n - (i + 1)) rest) (sym grown)))
 
 pub values_more : (read : List NominatedValue) (n i : ℕ) (bytes rest : List ℕ) (kept : NominatedValue) (whole : Option (List NominatedValue × List ℕ)) (more : List NominatedValue)
-    → i < n → whole ≡ values_behind read (n - i) bytes → leading_kept bytes ≡ Some (kept, rest) → more ≡ read ++ kept ∷ []
-    → whole ≡ values_behind more (n - (i + 1)) rest
+    → i < n → whole ≡ leading_nominated_values_after read (n - i) bytes → leading_nominated_value bytes ≡ Some (kept, rest) → more ≡ read ++ kept ∷ []
+    → whole ≡ leading_nominated_values_after more (n - (i + 1)) rest
 values_more read n i bytes rest kept whole more less held found grown =
     let e : n - i ≡ suc (n - (i + 1)) = omega arith in
-    held ∙ (ap (λ k. values_behind read k bytes) e
-    ∙ (ap (λ (o : Option (NominatedValue × List ℕ)). after o (λ l r. values_behind (read ++ l ∷ []) (n - (i + 1)) r)) found
-    ∙ ap (λ r. values_behind r (n - (i + 1)) rest) (sym grown)))
+    held ∙ (ap (λ k. leading_nominated_values_after read k bytes) e
+    ∙ (ap (λ (o : Option (NominatedValue × List ℕ)). after o (λ l r. leading_nominated_values_after (read ++ l ∷ []) (n - (i + 1)) r)) found
+    ∙ ap (λ r. leading_nominated_values_after r (n - (i + 1)) rest) (sym grown)))
 
 pub values_stop : (read : List NominatedValue) (n i : ℕ) (bytes : List ℕ) (whole : Option (List NominatedValue × List ℕ)) (stop : HeadStop)
-    → i < n → whole ≡ values_behind read (n - i) bytes → IsStopOf stop (leading_kept bytes) → IsStopOf stop whole
+    → i < n → whole ≡ leading_nominated_values_after read (n - i) bytes → HeadStopMatchesReading stop (leading_nominated_value bytes) → HeadStopMatchesReading stop whole
 values_stop read n i bytes whole OutOfMemory less held why = tt
 values_stop read n i bytes whole Shapeless less held why =
     let e : n - i ≡ suc (n - (i + 1)) = omega arith in
-    held ∙ (ap (λ k. values_behind read k bytes) e
-    ∙ ap (λ (o : Option (NominatedValue × List ℕ)). after o (λ l r. values_behind (read ++ l ∷ []) (n - (i + 1)) r)) why)
+    held ∙ (ap (λ k. leading_nominated_values_after read k bytes) e
+    ∙ ap (λ (o : Option (NominatedValue × List ℕ)). after o (λ l r. leading_nominated_values_after (read ++ l ∷ []) (n - (i + 1)) r)) why)

@@ -17,10 +17,10 @@ use Rattle.proxy_store_file.specs.declared.store_faults.StoreFault.{StoreFault}
 use Rattle.proxy_store_file.specs.declared.store_faults.StoreFault.TheVariants as fault
 use Rattle.proxy_store_file.specs.declared.pieces.ReadStop.{ReadStop}
 use Rattle.proxy_store_file.specs.declared.pieces.ReadStop.TheVariants as stop
-use Rattle.proxy_store_file.specs.Parts.{part_at_fault}
+use Rattle.proxy_store_file.specs.Parts.{first_invalid_part}
 use Rattle.proxy_store_file.specs.Texts.{cut, number_of, is_number, number_spelling}
-use Rattle.proxy_store_file.specs.Stores.{StoreContents, StoreReading, EntryRead, is_too_heavy, leading_entry, entry_fault, entry_taken, entry_read, fault_of_part, standing_fault, entries_read, counted_read, line_read, or_short, first_line, first_words, digest_spelling, digest_read, end_read, read_store}
-use Rattle.proxy_store_file.specs.Streams.{ReaderGaveBytes, NumberGiven, ReaderStoppedShort, EntryIsRead, IsCut, reading_of_entry, IsRead, IsRefused, IsUnfinished, FrontIsRead, EntryIsTaken, EntryIsRefused, EndIsRead, EndIsRefused, bounds_of, contents_of, fault_of_stop, line_fault}
+use Rattle.proxy_store_file.specs.Stores.{StoreContents, StoreReading, LeadingEntryReading, weight_exceeds_bound, leading_entry, entry_fault, reading_unless_entry_fault, reading_after_entry, fault_of_part, fault_among_entries, reading_of_entries, reading_of_opening_numbers, reading_of_first_line, or_short_file_fault, first_line, first_line_words, digest_spelling, reading_of_digest, reading_of_end, read_store}
+use Rattle.proxy_store_file.specs.Streams.{ReaderGaveBytes, EightBytesGaveNumber, ReaderStoppedShort, EntryIsRead, IsLessThanAnEntry, reading_of_entry, ReaderGaveReading, ReaderIsRefusedFor, ReadingIsUnfinished, FileFrontIsRead, NextEntryIsRead, EntryIsRefused, FileEndIsRead, FileEndIsRefused, bounds_of, store_contents_of, fault_of_stop, line_fault}
 use Rattle.proxy_store_file.proofs.TextLaws.{cut_again, same_bytes, number_is_spelled, number_of_spelled}
 use Rattle.proxy_store_file.proofs.EntryLaws.{cut_short}
 use Rattle.proxy_store_file.proofs.HeadLaws.{empty}
@@ -30,18 +30,18 @@ use Rattle.proxy_store_file.proofs.Fronts.{Bytes, read_behind, refused_behind, f
 
 pub store_short : (bounds : StoreBounds) (bytes : List ℕ) → length bytes < 17 → read_store bounds bytes ≡ Err (fault.Short 0)
 unfolding read_store
-store_short bounds bytes few = ap (λ (o : Option (List ℕ × List ℕ)). or_short 0 o (line_read bounds bytes)) (cut_short 17 bytes few)
+store_short bounds bytes few = ap (λ (o : Option (List ℕ × List ℕ)). or_short_file_fault 0 o (reading_of_first_line bounds bytes)) (cut_short 17 bytes few)
 
-store_line : (bounds : StoreBounds) (line more : List ℕ) → length line ≡ 17 → read_store bounds (line ++ more) ≡ line_read bounds (line ++ more) line more
+store_line : (bounds : StoreBounds) (line more : List ℕ) → length line ≡ 17 → read_store bounds (line ++ more) ≡ reading_of_first_line bounds (line ++ more) line more
 unfolding read_store
-store_line bounds line more long = ap (λ (o : Option (List ℕ × List ℕ)). or_short 0 o (line_read bounds (line ++ more))) (cut_again line more 17 long)
+store_line bounds line more long = ap (λ (o : Option (List ℕ × List ℕ)). or_short_file_fault 0 o (reading_of_first_line bounds (line ++ more))) (cut_again line more 17 long)
 
 pub line_is_read : (bounds : StoreBounds) (a b : Bytes) (h0 h1 : DefaultHasher) (line : List ℕ) → ReaderGaveBytes a b h0 h1 line → length line ≡ 17
-    → FrontIsRead (read_store bounds) (λ text rest. line_read bounds text line rest) a b h0 h1
+    → FileFrontIsRead (read_store bounds) (λ text rest. reading_of_first_line bounds text line rest) a b h0 h1
 line_is_read bounds a b h0 h1 line given long = record { bytes = line; gave = given; reads = λ more. store_line bounds line more long }
 
 abbrev pub next_read : StoreBounds → List ℕ → List ℕ → List ℕ → StoreReading
-next_read bounds text next more = or_short 0 (cut 8 more) (counted_read bounds text next)
+next_read bounds text next more = or_short_file_fault 0 (cut 8 more) (reading_of_opening_numbers bounds text next)
 
 line_good_by : (t u : Bool) → cond {A = Option StoreFault} t None (cond u (Some fault.Version) (Some fault.NotAStore)) ≡ None → t ≡ true
 line_good_by true u e = refl
@@ -49,12 +49,12 @@ line_good_by false true e = absurd (cc)
 line_good_by false false e = absurd (cc)
 
 pub line_is_good : (bounds : StoreBounds) (a b : Bytes) (h0 h1 : DefaultHasher) (line : List ℕ) → ReaderGaveBytes a b h0 h1 line → length line ≡ 17 → line_fault line ≡ None
-    → FrontIsRead (read_store bounds) (λ text rest. or_short 0 (cut 8 rest) (next_read bounds text)) a b h0 h1
+    → FileFrontIsRead (read_store bounds) (λ text rest. or_short_file_fault 0 (cut 8 rest) (next_read bounds text)) a b h0 h1
 line_is_good bounds a b h0 h1 line given long none =
-    let good : bytes_eq line first_line ≡ true = line_good_by (bytes_eq line first_line) (bytes_eq (take 15 line) first_words) none in
-    front_same (read_store bounds) (λ text rest. line_read bounds text line rest) (λ text rest. or_short 0 (cut 8 rest) (next_read bounds text)) a b h0 h1
+    let good : bytes_eq line first_line ≡ true = line_good_by (bytes_eq line first_line) (bytes_eq (take 15 line) first_line_words) none in
+    front_same (read_store bounds) (λ text rest. reading_of_first_line bounds text line rest) (λ text rest. or_short_file_fault 0 (cut 8 rest) (next_read bounds text)) a b h0 h1
     (line_is_read bounds a b h0 h1 line given long)
-    (λ text rest. ap (λ t. cond {A = StoreReading} t (or_short 0 (cut 8 rest) (next_read bounds text)) (cond (bytes_eq (take 15 line) first_words) (Err fault.Version) (Err fault.NotAStore))) good)
+    (λ text rest. ap (λ t. cond {A = StoreReading} t (or_short_file_fault 0 (cut 8 rest) (next_read bounds text)) (cond (bytes_eq (take 15 line) first_line_words) (Err fault.Version) (Err fault.NotAStore))) good)
 
 -- what a bad line is read as, and that it is no fault of the reader
 line_bad_by : (t u : Bool) (good : StoreReading) (f : StoreFault) → cond {A = Option StoreFault} t None (cond u (Some fault.Version) (Some fault.NotAStore)) ≡ Some f
@@ -70,85 +70,85 @@ line_not_by false true f x e p q = λ is. p (cc)
 line_not_by false false f x e p q = λ is. q (cc)
 
 pub line_is_refused : (bounds : StoreBounds) (a b : Bytes) (h0 h1 : DefaultHasher) (line : List ℕ) (f : StoreFault) → ReaderGaveBytes a b h0 h1 line → length line ≡ 17 → line_fault line ≡ Some f
-    → IsRefused (read_store bounds) a b f
+    → ReaderIsRefusedFor (read_store bounds) a b f
 line_is_refused bounds a b h0 h1 line f given long is =
     let t = bytes_eq line first_line in
-    let u = bytes_eq (take 15 line) first_words in
+    let u = bytes_eq (take 15 line) first_line_words in
     refused_by_reading (read_store bounds) a b f (line_not_by t u f fault.Read is (λ e. absurd (cc)) (λ e. absurd (cc))) (line_not_by t u f fault.OutOfMemory is (λ e. absurd (cc)) (λ e. absurd (cc)))
-    (front_decides (read_store bounds) (λ text rest. line_read bounds text line rest) a b h0 h1 (Err f) (line_is_read bounds a b h0 h1 line given long)
-    (λ text rest. line_bad_by t u (or_short 0 (cut 8 rest) (next_read bounds text)) f is))
+    (front_decides (read_store bounds) (λ text rest. reading_of_first_line bounds text line rest) a b h0 h1 (Err f) (line_is_read bounds a b h0 h1 line given long)
+    (λ text rest. line_bad_by t u (or_short_file_fault 0 (cut 8 rest) (next_read bounds text)) f is))
 
 -- the number behind the first line, and the one behind that
 pub next_is_read : (bounds : StoreBounds) (a b c : Bytes) (h0 h1 h2 : DefaultHasher) (line : List ℕ) (next : ℕ) → ReaderGaveBytes a b h0 h1 line → length line ≡ 17 → line_fault line ≡ None
-    → (g : NumberGiven b c h1 h2 next) → FrontIsRead (read_store bounds) (λ text rest. or_short 0 (cut 8 rest) (counted_read bounds text g.bytes)) a c h0 h2
+    → (g : EightBytesGaveNumber b c h1 h2 next) → FileFrontIsRead (read_store bounds) (λ text rest. or_short_file_fault 0 (cut 8 rest) (reading_of_opening_numbers bounds text g.bytes)) a c h0 h2
 next_is_read bounds a b c h0 h1 h2 line next given long none g =
     front_cut (read_store bounds) (next_read bounds) 0 a b c h0 h1 h2 g.bytes (line_is_good bounds a b h0 h1 line given long none) g.gave g.are_eight
 
 counted_good : (bounds : StoreBounds) (text A B rest : List ℕ) (next number : ℕ) → is_number A ≡ true → is_number B ≡ true → next ≡ number_of A → number ≡ number_of B
-    → number ≤ bounds.entries → counted_read bounds text A B rest ≡ entries_read text bounds.bytes next number [] rest
+    → number ≤ bounds.entries → reading_of_opening_numbers bounds text A B rest ≡ reading_of_entries text bounds.bytes next number [] rest
 counted_good bounds text A B rest next number p q m n few =
     let within : nat_le (number_of B) bounds.entries ≡ true = le-leb (number_of B) bounds.entries (subst (λ k. k ≤ bounds.entries) n few) in
-    ap (λ t. cond {A = StoreReading} (t && is_number B) (cond (nat_le (number_of B) bounds.entries) (entries_read text bounds.bytes (number_of A) (number_of B) [] rest) (Err fault.Entries)) (Err fault.NotAStore)) p
-    ∙ (ap (λ t. cond {A = StoreReading} t (cond (nat_le (number_of B) bounds.entries) (entries_read text bounds.bytes (number_of A) (number_of B) [] rest) (Err fault.Entries)) (Err fault.NotAStore)) q
-    ∙ (ap (λ t. cond {A = StoreReading} t (entries_read text bounds.bytes (number_of A) (number_of B) [] rest) (Err fault.Entries)) within
-    ∙ (ap (λ k. entries_read text bounds.bytes k (number_of B) [] rest) (sym m) ∙ ap (λ k. entries_read text bounds.bytes next k [] rest) (sym n))))
+    ap (λ t. cond {A = StoreReading} (t && is_number B) (cond (nat_le (number_of B) bounds.entries) (reading_of_entries text bounds.bytes (number_of A) (number_of B) [] rest) (Err fault.Entries)) (Err fault.NotAStore)) p
+    ∙ (ap (λ t. cond {A = StoreReading} t (cond (nat_le (number_of B) bounds.entries) (reading_of_entries text bounds.bytes (number_of A) (number_of B) [] rest) (Err fault.Entries)) (Err fault.NotAStore)) q
+    ∙ (ap (λ t. cond {A = StoreReading} t (reading_of_entries text bounds.bytes (number_of A) (number_of B) [] rest) (Err fault.Entries)) within
+    ∙ (ap (λ k. reading_of_entries text bounds.bytes k (number_of B) [] rest) (sym m) ∙ ap (λ k. reading_of_entries text bounds.bytes next k [] rest) (sym n))))
 
 counted_bad : (bounds : StoreBounds) (text A B rest : List ℕ) (number : ℕ) → is_number A ≡ true → is_number B ≡ true → number ≡ number_of B
-    → bounds.entries < number → counted_read bounds text A B rest ≡ Err fault.Entries
+    → bounds.entries < number → reading_of_opening_numbers bounds text A B rest ≡ Err fault.Entries
 counted_bad bounds text A B rest number p q n many =
     let beyond : nat_le (number_of B) bounds.entries ≡ false = lt-leb (number_of B) bounds.entries (subst (λ k. bounds.entries < k) n many) in
-    ap (λ t. cond {A = StoreReading} (t && is_number B) (cond (nat_le (number_of B) bounds.entries) (entries_read text bounds.bytes (number_of A) (number_of B) [] rest) (Err fault.Entries)) (Err fault.NotAStore)) p
-    ∙ (ap (λ t. cond {A = StoreReading} t (cond (nat_le (number_of B) bounds.entries) (entries_read text bounds.bytes (number_of A) (number_of B) [] rest) (Err fault.Entries)) (Err fault.NotAStore)) q
-    ∙ ap (λ t. cond {A = StoreReading} t (entries_read text bounds.bytes (number_of A) (number_of B) [] rest) (Err fault.Entries)) beyond)
+    ap (λ t. cond {A = StoreReading} (t && is_number B) (cond (nat_le (number_of B) bounds.entries) (reading_of_entries text bounds.bytes (number_of A) (number_of B) [] rest) (Err fault.Entries)) (Err fault.NotAStore)) p
+    ∙ (ap (λ t. cond {A = StoreReading} t (cond (nat_le (number_of B) bounds.entries) (reading_of_entries text bounds.bytes (number_of A) (number_of B) [] rest) (Err fault.Entries)) (Err fault.NotAStore)) q
+    ∙ ap (λ t. cond {A = StoreReading} t (reading_of_entries text bounds.bytes (number_of A) (number_of B) [] rest) (Err fault.Entries)) beyond)
 
 abbrev pub after_opening : StoreBounds → ℕ → ℕ → List ℕ → List ℕ → StoreReading
-after_opening bounds next number text rest = entries_read text bounds.bytes next number [] rest
+after_opening bounds next number text rest = reading_of_entries text bounds.bytes next number [] rest
 
 numbers_are_read : (bounds : StoreBounds) (a b c d : Bytes) (h0 h1 h2 h3 : DefaultHasher) (line : List ℕ) (next number : ℕ) → ReaderGaveBytes a b h0 h1 line → length line ≡ 17 → line_fault line ≡ None
-    → (g : NumberGiven b c h1 h2 next) → (k : NumberGiven c d h2 h3 number) → FrontIsRead (read_store bounds) (λ text rest. counted_read bounds text g.bytes k.bytes rest) a d h0 h3
+    → (g : EightBytesGaveNumber b c h1 h2 next) → (k : EightBytesGaveNumber c d h2 h3 number) → FileFrontIsRead (read_store bounds) (λ text rest. reading_of_opening_numbers bounds text g.bytes k.bytes rest) a d h0 h3
 numbers_are_read bounds a b c d h0 h1 h2 h3 line next number given long none g k =
-    front_cut (read_store bounds) (λ text eight rest. counted_read bounds text g.bytes eight rest) 0 a c d h0 h2 h3 k.bytes
+    front_cut (read_store bounds) (λ text eight rest. reading_of_opening_numbers bounds text g.bytes eight rest) 0 a c d h0 h2 h3 k.bytes
     (next_is_read bounds a b c h0 h1 h2 line next given long none g) k.gave k.are_eight
 
 pub opening_is_read : (bounds : StoreBounds) (a b c d : Bytes) (h0 h1 h2 h3 : DefaultHasher) (line : List ℕ) (next number : ℕ) → ReaderGaveBytes a b h0 h1 line → length line ≡ 17 → line_fault line ≡ None
-    → NumberGiven b c h1 h2 next → NumberGiven c d h2 h3 number → number ≤ bounds.entries → FrontIsRead (read_store bounds) (after_opening bounds next number) a d h0 h3
+    → EightBytesGaveNumber b c h1 h2 next → EightBytesGaveNumber c d h2 h3 number → number ≤ bounds.entries → FileFrontIsRead (read_store bounds) (after_opening bounds next number) a d h0 h3
 opening_is_read bounds a b c d h0 h1 h2 h3 line next number given long none g k few =
-    front_same (read_store bounds) (λ text rest. counted_read bounds text g.bytes k.bytes rest) (after_opening bounds next number) a d h0 h3
+    front_same (read_store bounds) (λ text rest. reading_of_opening_numbers bounds text g.bytes k.bytes rest) (after_opening bounds next number) a d h0 h3
     (numbers_are_read bounds a b c d h0 h1 h2 h3 line next number given long none g k)
     (λ text rest. counted_good bounds text g.bytes k.bytes rest next number g.is_number k.is_number g.number k.number few)
 
 pub too_many_entries : (bounds : StoreBounds) (a b c d : Bytes) (h0 h1 h2 h3 : DefaultHasher) (line : List ℕ) (next number : ℕ) → ReaderGaveBytes a b h0 h1 line → length line ≡ 17 → line_fault line ≡ None
-    → NumberGiven b c h1 h2 next → NumberGiven c d h2 h3 number → bounds.entries < number → IsRefused (read_store bounds) a d fault.Entries
+    → EightBytesGaveNumber b c h1 h2 next → EightBytesGaveNumber c d h2 h3 number → bounds.entries < number → ReaderIsRefusedFor (read_store bounds) a d fault.Entries
 too_many_entries bounds a b c d h0 h1 h2 h3 line next number given long none g k many =
-    front_decides (read_store bounds) (λ text rest. counted_read bounds text g.bytes k.bytes rest) a d h0 h3 (Err fault.Entries)
+    front_decides (read_store bounds) (λ text rest. reading_of_opening_numbers bounds text g.bytes k.bytes rest) a d h0 h3 (Err fault.Entries)
     (numbers_are_read bounds a b c d h0 h1 h2 h3 line next number given long none g k)
     (λ text rest. counted_bad bounds text g.bytes k.bytes rest number g.is_number k.is_number k.number many)
 
-pub stops_in_line : (bounds : StoreBounds) (a b : Bytes) (why : ReadStop) → ReaderStoppedShort (λ bytes. length bytes < 17) a b why → IsRefused (read_store bounds) a b (fault_of_stop 0 why)
+pub stops_in_line : (bounds : StoreBounds) (a b : Bytes) (why : ReadStop) → ReaderStoppedShort (λ bytes. length bytes < 17) a b why → ReaderIsRefusedFor (read_store bounds) a b (fault_of_stop 0 why)
 stops_in_line bounds a b why s = stopped (read_store bounds) (λ bytes. length bytes < 17) a b 0 why s (store_short bounds)
 
 pub stops_in_next : (bounds : StoreBounds) (a b c : Bytes) (h0 h1 : DefaultHasher) (line : List ℕ) (why : ReadStop) → ReaderGaveBytes a b h0 h1 line → length line ≡ 17 → line_fault line ≡ None
-    → ReaderStoppedShort (λ bytes. length bytes < 8) b c why → IsRefused (read_store bounds) a c (fault_of_stop 0 why)
+    → ReaderStoppedShort (λ bytes. length bytes < 8) b c why → ReaderIsRefusedFor (read_store bounds) a c (fault_of_stop 0 why)
 stops_in_next bounds a b c h0 h1 line why given long none s =
     front_stops (read_store bounds) (next_read bounds) 0 a b c h0 h1 why (line_is_good bounds a b h0 h1 line given long none) s
 
 pub stops_in_count : (bounds : StoreBounds) (a b c d : Bytes) (h0 h1 h2 : DefaultHasher) (line : List ℕ) (next : ℕ) (why : ReadStop) → ReaderGaveBytes a b h0 h1 line → length line ≡ 17 → line_fault line ≡ None
-    → NumberGiven b c h1 h2 next → ReaderStoppedShort (λ bytes. length bytes < 8) c d why → IsRefused (read_store bounds) a d (fault_of_stop 0 why)
+    → EightBytesGaveNumber b c h1 h2 next → ReaderStoppedShort (λ bytes. length bytes < 8) c d why → ReaderIsRefusedFor (read_store bounds) a d (fault_of_stop 0 why)
 stops_in_count bounds a b c d h0 h1 h2 line next why given long none g s =
-    front_stops (read_store bounds) (λ text eight rest. counted_read bounds text g.bytes eight rest) 0 a c d h0 h2 why (next_is_read bounds a b c h0 h1 h2 line next given long none g) s
+    front_stops (read_store bounds) (λ text eight rest. reading_of_opening_numbers bounds text g.bytes eight rest) 0 a c d h0 h2 why (next_is_read bounds a b c h0 h1 h2 line next given long none g) s
 
 -- ---- an entry
 
 abbrev pub more_entries : Option ℕ → ℕ → ℕ → List Stored → List ℕ → Stored → List ℕ → StoreReading
-more_entries most next left held text e more = entries_read text most next left (e ∷ held) more
+more_entries most next left held text e more = reading_of_entries text most next left (e ∷ held) more
 
 pub entry_is_taken : (most : Option ℕ) (next : ℕ) (held : List Stored) (e : Stored) (a b : Bytes) (h0 h1 : DefaultHasher)
-    → EntryIsRead a b h0 h1 (reading_of_entry (Some e)) → entry_fault (length held + 1) most next held e ≡ None → EntryIsTaken most next held (e ∷ held) a b h0 h1
+    → EntryIsRead a b h0 h1 (reading_of_entry (Some e)) → entry_fault (length held + 1) most next held e ≡ None → NextEntryIsRead most next held (e ∷ held) a b h0 h1
 entry_is_taken most next held e a b h0 h1 r none = λ front left. record {
   bytes = r.bytes;
   gave = r.gave;
-  reads = λ more. ap (entry_read most next held (more_entries most next left held (front ++ (r.bytes ++ more)))) (r.reads more)
-      ∙ ap (λ o. entry_taken o (entries_read (front ++ (r.bytes ++ more)) most next left (e ∷ held) more)) none;
+  reads = λ more. ap (reading_after_entry most next held (more_entries most next left held (front ++ (r.bytes ++ more)))) (r.reads more)
+      ∙ ap (λ o. reading_unless_entry_fault o (reading_of_entries (front ++ (r.bytes ++ more)) most next left (e ∷ held) more)) none;
 }
 
 -- a fault of an entry isn't one of the reader, nor of memory
@@ -169,17 +169,17 @@ pub entry_is_refused : (most : Option ℕ) (next : ℕ) (held : List Stored) (e 
 entry_is_refused most next held e f a b h0 h1 r is = λ front left.
     let n = length held + 1 in
     let t = serial_is_in e.serial (serials held) || nat_le next e.serial in
-    let u = is_too_heavy most (total_weight (e ∷ held)) in
-    refused_by_reading (λ rest. entries_read (front ++ rest) most next (suc left) held rest) a b f
-    (part_by (part_at_fault e) t u n f fault.Read is (λ p d. absurd (cc)) (λ d. absurd (cc)) (λ d. absurd (cc)))
-    (part_by (part_at_fault e) t u n f fault.OutOfMemory is (λ p d. absurd (cc)) (λ d. absurd (cc)) (λ d. absurd (cc)))
+    let u = weight_exceeds_bound most (total_weight (e ∷ held)) in
+    refused_by_reading (λ rest. reading_of_entries (front ++ rest) most next (suc left) held rest) a b f
+    (part_by (first_invalid_part e) t u n f fault.Read is (λ p d. absurd (cc)) (λ d. absurd (cc)) (λ d. absurd (cc)))
+    (part_by (first_invalid_part e) t u n f fault.OutOfMemory is (λ p d. absurd (cc)) (λ d. absurd (cc)) (λ d. absurd (cc)))
     (record {
       bytes = r.bytes;
       consumes = r.gave.consumes;
       ended = false;
       whole = λ d. absurd (cc);
-      reads = λ more none. ap (entry_read most next held (more_entries most next left held (front ++ (r.bytes ++ more)))) (r.reads more)
-          ∙ ap (λ o. entry_taken o (entries_read (front ++ (r.bytes ++ more)) most next left (e ∷ held) more)) is;
+      reads = λ more none. ap (reading_after_entry most next held (more_entries most next left held (front ++ (r.bytes ++ more)))) (r.reads more)
+          ∙ ap (λ o. reading_unless_entry_fault o (reading_of_entries (front ++ (r.bytes ++ more)) most next left (e ∷ held) more)) is;
     })
 
 pub entry_has_no_shape : (most : Option ℕ) (next : ℕ) (held : List Stored) (a b : Bytes) (h0 h1 : DefaultHasher)
@@ -189,13 +189,13 @@ entry_has_no_shape most next held a b h0 h1 r = λ front left. record {
   consumes = r.gave.consumes;
   ended = false;
   whole = λ d. absurd (cc);
-  reads = λ more none. ap (entry_read most next held (more_entries most next left held (front ++ (r.bytes ++ more)))) (r.reads more);
+  reads = λ more none. ap (reading_after_entry most next held (more_entries most next left held (front ++ (r.bytes ++ more)))) (r.reads more);
 }
 
-pub entry_stops : (most : Option ℕ) (next : ℕ) (held : List Stored) (a b : Bytes) (why : ReadStop) → ReaderStoppedShort IsCut a b why → EntryIsRefused most next held a b (fault_of_stop (length held) why)
+pub entry_stops : (most : Option ℕ) (next : ℕ) (held : List Stored) (a b : Bytes) (why : ReadStop) → ReaderStoppedShort IsLessThanAnEntry a b why → EntryIsRefused most next held a b (fault_of_stop (length held) why)
 entry_stops most next held a b why s = λ front left.
-    stopped (λ rest. entries_read (front ++ rest) most next (suc left) held rest) IsCut a b (length held) why s
-    (λ bytes cut. ap (entry_read most next held (more_entries most next left held (front ++ bytes))) cut)
+    stopped (λ rest. reading_of_entries (front ++ rest) most next (suc left) held rest) IsLessThanAnEntry a b (length held) why s
+    (λ bytes cut. ap (reading_after_entry most next held (more_entries most next left held (front ++ bytes))) cut)
 
 pub entry_for_memory : (most : Option ℕ) (next : ℕ) (held : List Stored) (e : Stored) (a b : Bytes) (h0 h1 : DefaultHasher)
     → EntryIsRead a b h0 h1 (reading_of_entry (Some e)) → EntryIsRefused most next held a b fault.OutOfMemory
@@ -221,10 +221,10 @@ body_in_front front rest =
     ap (λ n. take n (front ++ rest)) long ∙ take-append_seam front rest
 
 digest_behind : (front digest more : List ℕ) (store : StoreContents) → length digest ≡ 8
-    → end_read (front ++ (digest ++ more)) store (digest ++ more) ≡ digest_read front store digest more
+    → reading_of_end (front ++ (digest ++ more)) store (digest ++ more) ≡ reading_of_digest front store digest more
 digest_behind front digest more store long =
-    ap (λ (o : Option (List ℕ × List ℕ)). or_short (length store.entries) o (digest_read (take (length (front ++ (digest ++ more)) - length (digest ++ more)) (front ++ (digest ++ more))) store)) (cut_again digest more 8 long)
-    ∙ ap (λ body. digest_read body store digest more) (body_in_front front (digest ++ more))
+    ap (λ (o : Option (List ℕ × List ℕ)). or_short_file_fault (length store.entries) o (reading_of_digest (take (length (front ++ (digest ++ more)) - length (digest ++ more)) (front ++ (digest ++ more))) store)) (cut_again digest more 8 long)
+    ∙ ap (λ body. reading_of_digest body store digest more) (body_in_front front (digest ++ more))
 
 digest_is_so : (front digest : List ℕ) (w d : ℕ) → is_number digest ≡ true → w ≡ number_of digest → d ≡ finish (write initial front) → w ≡ d
     → bytes_eq digest (digest_spelling front) ≡ true
@@ -243,29 +243,29 @@ digest_isnt_so front digest w d is of fits other = elim (cases_Bool (bytes_eq di
 ]
 
 pub end_stops : (held : List Stored) (a b : Bytes) (h0 : DefaultHasher) (n : ℕ) (why : ReadStop) → length held ≡ n → ReaderStoppedShort (λ bytes. length bytes < 8) a b why
-    → EndIsRefused held a b h0 (fault_of_stop n why)
+    → FileEndIsRefused held a b h0 (fault_of_stop n why)
 end_stops held a b h0 n why long s = λ front next is.
-    stopped (λ rest. end_read (front ++ rest) (contents_of held next) rest) (λ bytes. length bytes < 8) a b n why s
-    (λ bytes few. ap (λ (o : Option (List ℕ × List ℕ)). or_short (length held) o (digest_read (take (length (front ++ bytes) - length bytes) (front ++ bytes)) (contents_of held next))) (cut_short 8 bytes few)
+    stopped (λ rest. reading_of_end (front ++ rest) (store_contents_of held next) rest) (λ bytes. length bytes < 8) a b n why s
+    (λ bytes few. ap (λ (o : Option (List ℕ × List ℕ)). or_short_file_fault (length held) o (reading_of_digest (take (length (front ++ bytes) - length bytes) (front ++ bytes)) (store_contents_of held next))) (cut_short 8 bytes few)
     ∙ ap (λ k. Err (fault.Short k)) long)
 
 abbrev pub reads_end : List Stored → List ℕ → ℕ → List ℕ → StoreReading
-reads_end held front next rest = end_read (front ++ rest) (contents_of held next) rest
+reads_end held front next rest = reading_of_end (front ++ rest) (store_contents_of held next) rest
 
 -- the digest is that of the front
-pub digest_is_read : (held : List Stored) (a b : Bytes) (h0 h1 : DefaultHasher) (w d : ℕ) → NumberGiven a b h0 h1 w → d ≡ finish h0 → w ≡ d
-    → (front : List ℕ) (next : ℕ) → h0 ≡ write initial front → FrontIsRead (reads_end held front next) (nothing_more (contents_of held next)) a b h0 h1
+pub digest_is_read : (held : List Stored) (a b : Bytes) (h0 h1 : DefaultHasher) (w d : ℕ) → EightBytesGaveNumber a b h0 h1 w → d ≡ finish h0 → w ≡ d
+    → (front : List ℕ) (next : ℕ) → h0 ≡ write initial front → FileFrontIsRead (reads_end held front next) (nothing_more (store_contents_of held next)) a b h0 h1
 digest_is_read held a b h0 h1 w d g of same front next is =
     let good : bytes_eq g.bytes (digest_spelling front) ≡ true = digest_is_so front g.bytes w d g.is_number g.number (of ∙ ap finish is) same in
     record {
       bytes = g.bytes;
       gave = g.gave;
-      reads = λ more. digest_behind front g.bytes more (contents_of held next) g.are_eight
-          ∙ ap (λ t. cond {A = StoreReading} t (nothing_more (contents_of held next) more more) (Err fault.Digest)) good;
+      reads = λ more. digest_behind front g.bytes more (store_contents_of held next) g.are_eight
+          ∙ ap (λ t. cond {A = StoreReading} t (nothing_more (store_contents_of held next) more more) (Err fault.Digest)) good;
     }
 
-pub digest_is_refused : (held : List Stored) (a b : Bytes) (h0 h1 : DefaultHasher) (w d : ℕ) → NumberGiven a b h0 h1 w → d ≡ finish h0 → d < 2 ^ 64 → w ≢ d
-    → EndIsRefused held a b h0 fault.Digest
+pub digest_is_refused : (held : List Stored) (a b : Bytes) (h0 h1 : DefaultHasher) (w d : ℕ) → EightBytesGaveNumber a b h0 h1 w → d ≡ finish h0 → d < 2 ^ 64 → w ≢ d
+    → FileEndIsRefused held a b h0 fault.Digest
 digest_is_refused held a b h0 h1 w d g of fits other = λ front next is.
     let bad : bytes_eq g.bytes (digest_spelling front) ≡ false = digest_isnt_so front g.bytes w d g.number (of ∙ ap finish is) fits other in
     record {
@@ -273,100 +273,100 @@ digest_is_refused held a b h0 h1 w d g of fits other = λ front next is.
       consumes = g.gave.consumes;
       ended = false;
       whole = λ e. absurd (cc);
-      reads = λ more none. digest_behind front g.bytes more (contents_of held next) g.are_eight
-          ∙ ap (λ t. cond {A = StoreReading} t (nothing_more (contents_of held next) more more) (Err fault.Digest)) bad;
+      reads = λ more none. digest_behind front g.bytes more (store_contents_of held next) g.are_eight
+          ∙ ap (λ t. cond {A = StoreReading} t (nothing_more (store_contents_of held next) more more) (Err fault.Digest)) bad;
     }
 
 one_is_not_none : (one more : List ℕ) → length one ≡ 1 → (length (one ++ more) == 0) ≡ false
 one_is_not_none [] more e = absurd (omega (arith, e))
 one_is_not_none (x ∷ xs) more e = ne_eqb (length (x ∷ (xs ++ more))) 0 (λ none. absurd (omega arith))
 
-pub more_follows : (held : List Stored) (a b c : Bytes) (h0 h1 h2 : DefaultHasher) (w d : ℕ) (one : List ℕ) → NumberGiven a b h0 h1 w → d ≡ finish h0 → w ≡ d
-    → ReaderGaveBytes b c h1 h2 one → length one ≡ 1 → EndIsRefused held a c h0 fault.Long
+pub more_follows : (held : List Stored) (a b c : Bytes) (h0 h1 h2 : DefaultHasher) (w d : ℕ) (one : List ℕ) → EightBytesGaveNumber a b h0 h1 w → d ≡ finish h0 → w ≡ d
+    → ReaderGaveBytes b c h1 h2 one → length one ≡ 1 → FileEndIsRefused held a c h0 fault.Long
 more_follows held a b c h0 h1 h2 w d one g of same given long = λ front next is.
-    refused_behind (reads_end held front next) (nothing_more (contents_of held next)) a b c h0 h1 fault.Long (digest_is_read held a b h0 h1 w d g of same front next is)
+    refused_behind (reads_end held front next) (nothing_more (store_contents_of held next)) a b c h0 h1 fault.Long (digest_is_read held a b h0 h1 w d g of same front next is)
     (record {
       bytes = one;
       consumes = given.consumes;
       ended = false;
       whole = λ e. absurd (cc);
-      reads = λ more none. ap (λ t. cond {A = StoreReading} t (Ok (contents_of held next)) (Err fault.Long)) (one_is_not_none one more long);
+      reads = λ more none. ap (λ t. cond {A = StoreReading} t (Ok (store_contents_of held next)) (Err fault.Long)) (one_is_not_none one more long);
     })
 
 none_left : (xs : List ℕ) → length xs < 1 → xs ≡ []
 none_left [] few = refl
 none_left (x ∷ xs) few = absurd (omega arith)
 
-end_by : (held : List Stored) (next : ℕ) (bytes : List ℕ) → length bytes < 1 → nothing_more (contents_of held next) bytes bytes ≡ Ok (contents_of held next)
-end_by held next bytes few = ap (λ (xs : List ℕ). nothing_more (contents_of held next) xs xs) (none_left bytes few)
+end_by : (held : List Stored) (next : ℕ) (bytes : List ℕ) → length bytes < 1 → nothing_more (store_contents_of held next) bytes bytes ≡ Ok (store_contents_of held next)
+end_by held next bytes few = ap (λ (xs : List ℕ). nothing_more (store_contents_of held next) xs xs) (none_left bytes few)
 
-pub end_is_read : (held : List Stored) (a b c : Bytes) (h0 h1 : DefaultHasher) (w d : ℕ) → NumberGiven a b h0 h1 w → d ≡ finish h0 → w ≡ d
-    → ReaderStoppedShort (λ bytes. length bytes < 1) b c stop.Ended → EndIsRead held a c h0
+pub end_is_read : (held : List Stored) (a b c : Bytes) (h0 h1 : DefaultHasher) (w d : ℕ) → EightBytesGaveNumber a b h0 h1 w → d ≡ finish h0 → w ≡ d
+    → ReaderStoppedShort (λ bytes. length bytes < 1) b c stop.Ended → FileEndIsRead held a c h0
 end_is_read held a b c h0 h1 w d g of same s = λ front next is.
     let few : length s.bytes < 1 = s.few (λ e. absurd (cc)) in
-    read_behind (reads_end held front next) (nothing_more (contents_of held next)) a b c h0 h1 (Ok (contents_of held next)) (digest_is_read held a b h0 h1 w d g of same front next is)
+    read_behind (reads_end held front next) (nothing_more (store_contents_of held next)) a b c h0 h1 (Ok (store_contents_of held next)) (digest_is_read held a b h0 h1 w d g of same front next is)
     (record {
       bytes = s.bytes;
       consumes = s.consumes;
       ended = true;
       whole = λ e. s.ended refl;
-      reads = λ more none. ap (λ m. nothing_more (contents_of held next) (s.bytes ++ m) (s.bytes ++ m)) (none refl)
-          ∙ (ap (λ m. nothing_more (contents_of held next) m m) (append-nil s.bytes) ∙ end_by held next s.bytes few);
+      reads = λ more none. ap (λ m. nothing_more (store_contents_of held next) (s.bytes ++ m) (s.bytes ++ m)) (none refl)
+          ∙ (ap (λ m. nothing_more (store_contents_of held next) m m) (append-nil s.bytes) ∙ end_by held next s.bytes few);
     })
 
-pub end_isnt_seen : (held : List Stored) (a b c : Bytes) (h0 h1 : DefaultHasher) (w d : ℕ) → NumberGiven a b h0 h1 w → d ≡ finish h0 → w ≡ d
-    → ReaderStoppedShort (λ bytes. length bytes < 1) b c stop.Failed → EndIsRefused held a c h0 fault.Read
+pub end_isnt_seen : (held : List Stored) (a b c : Bytes) (h0 h1 : DefaultHasher) (w d : ℕ) → EightBytesGaveNumber a b h0 h1 w → d ≡ finish h0 → w ≡ d
+    → ReaderStoppedShort (λ bytes. length bytes < 1) b c stop.Failed → FileEndIsRefused held a c h0 fault.Read
 end_isnt_seen held a b c h0 h1 w d g of same s = λ front next is.
     let few : length s.bytes < 1 = s.few (λ e. absurd (cc)) in
-    refused_behind (reads_end held front next) (nothing_more (contents_of held next)) a b c h0 h1 fault.Read (digest_is_read held a b h0 h1 w d g of same front next is)
-    (record { bytes = s.bytes; consumes = s.consumes; reads = subst IsUnfinished (sym (end_by held next s.bytes few)) tt })
+    refused_behind (reads_end held front next) (nothing_more (store_contents_of held next)) a b c h0 h1 fault.Read (digest_is_read held a b h0 h1 w d g of same front next is)
+    (record { bytes = s.bytes; consumes = s.consumes; reads = subst ReadingIsUnfinished (sym (end_by held next s.bytes few)) tt })
 
-pub memory_at_the_end : (held : List Stored) (a b c : Bytes) (h0 h1 : DefaultHasher) (w d : ℕ) → NumberGiven a b h0 h1 w → d ≡ finish h0 → w ≡ d
-    → ReaderStoppedShort (λ bytes. length bytes < 1) b c stop.OutOfMemory → EndIsRefused held a c h0 fault.OutOfMemory
+pub memory_at_the_end : (held : List Stored) (a b c : Bytes) (h0 h1 : DefaultHasher) (w d : ℕ) → EightBytesGaveNumber a b h0 h1 w → d ≡ finish h0 → w ≡ d
+    → ReaderStoppedShort (λ bytes. length bytes < 1) b c stop.OutOfMemory → FileEndIsRefused held a c h0 fault.OutOfMemory
 memory_at_the_end held a b c h0 h1 w d g of same s = λ front next is.
-    refused_behind (reads_end held front next) (nothing_more (contents_of held next)) a b c h0 h1 fault.OutOfMemory (digest_is_read held a b h0 h1 w d g of same front next is)
+    refused_behind (reads_end held front next) (nothing_more (store_contents_of held next)) a b c h0 h1 fault.OutOfMemory (digest_is_read held a b h0 h1 w d g of same front next is)
     (record { bytes = s.bytes; consumes = s.consumes; reads = tt })
 
 -- ---- the whole
 
 -- the entries that are left, behind those that are held
 abbrev pub EntriesAreRead : StoreBounds → ℕ → ℕ → List Stored → Bytes → Bytes → DefaultHasher → DefaultHasher → Type 0
-EntriesAreRead bounds next left held a b h0 h1 = FrontIsRead (read_store bounds) (λ text more. entries_read text bounds.bytes next left held more) a b h0 h1
+EntriesAreRead bounds next left held a b h0 h1 = FileFrontIsRead (read_store bounds) (λ text more. reading_of_entries text bounds.bytes next left held more) a b h0 h1
 
 pub one_more_is_read : (bounds : StoreBounds) (next number i : ℕ) (held more : List Stored) (a b c : Bytes) (h0 h1 h2 : DefaultHasher) → i < number
-    → EntriesAreRead bounds next (number - i) held a b h0 h1 → EntryIsTaken bounds.bytes next held more b c h1 h2
+    → EntriesAreRead bounds next (number - i) held a b h0 h1 → NextEntryIsRead bounds.bytes next held more b c h1 h2
     → EntriesAreRead bounds next (number - (i + 1)) more a c h0 h2
 one_more_is_read bounds next number i held more a b c h0 h1 h2 within f taken =
     let e : number - i ≡ suc (number - (i + 1)) = omega arith in
     let g = subst (λ left. EntriesAreRead bounds next left held a b h0 h1) e f in
-    front_behind (read_store bounds) (λ text rest. entries_read text bounds.bytes next (suc (number - (i + 1))) held rest) (λ text rest. entries_read text bounds.bytes next (number - (i + 1)) more rest)
+    front_behind (read_store bounds) (λ text rest. reading_of_entries text bounds.bytes next (suc (number - (i + 1))) held rest) (λ text rest. reading_of_entries text bounds.bytes next (number - (i + 1)) more rest)
     a b c h0 h1 h2 g (taken g.bytes (number - (i + 1)))
 
 pub one_more_is_refused : (bounds : StoreBounds) (next number i : ℕ) (held : List Stored) (a b c : Bytes) (h0 h1 : DefaultHasher) (f : StoreFault) → i < number
-    → EntriesAreRead bounds next (number - i) held a b h0 h1 → EntryIsRefused bounds.bytes next held b c f → IsRefused (read_store bounds) a c f
+    → EntriesAreRead bounds next (number - i) held a b h0 h1 → EntryIsRefused bounds.bytes next held b c f → ReaderIsRefusedFor (read_store bounds) a c f
 one_more_is_refused bounds next number i held a b c h0 h1 f within before refused =
     let e : number - i ≡ suc (number - (i + 1)) = omega arith in
     let g = subst (λ left. EntriesAreRead bounds next left held a b h0 h1) e before in
-    refused_behind (read_store bounds) (λ text rest. entries_read text bounds.bytes next (suc (number - (i + 1))) held rest) a b c h0 h1 f g (refused g.bytes (number - (i + 1)))
+    refused_behind (read_store bounds) (λ text rest. reading_of_entries text bounds.bytes next (suc (number - (i + 1))) held rest) a b c h0 h1 f g (refused g.bytes (number - (i + 1)))
 
 -- no entry is left: the end is read
 abbrev EndIsNext : StoreBounds → ℕ → List Stored → Bytes → Bytes → DefaultHasher → DefaultHasher → Type 0
-EndIsNext bounds next held a b h0 h1 = FrontIsRead (read_store bounds) (λ text rest. end_read text (contents_of held next) rest) a b h0 h1
+EndIsNext bounds next held a b h0 h1 = FileFrontIsRead (read_store bounds) (λ text rest. reading_of_end text (store_contents_of held next) rest) a b h0 h1
 
 all_are_read : (bounds : StoreBounds) (next left : ℕ) (held : List Stored) (a b : Bytes) (h0 h1 : DefaultHasher) → left ≡ 0 → EntriesAreRead bounds next left held a b h0 h1
     → EndIsNext bounds next held a b h0 h1
 all_are_read bounds next left held a b h0 h1 none f = subst (λ n. EntriesAreRead bounds next n held a b h0 h1) none f
 
 pub store_is_read : (bounds : StoreBounds) (next left : ℕ) (held : List Stored) (a b c : Bytes) (h0 h1 : DefaultHasher) → left ≡ 0 → h0 ≡ initial → EntriesAreRead bounds next left held a b h0 h1
-    → EndIsRead held b c h1 → IsRead (read_store bounds) a c (Ok (contents_of held next))
+    → FileEndIsRead held b c h1 → ReaderGaveReading (read_store bounds) a c (Ok (store_contents_of held next))
 store_is_read bounds next left held a b c h0 h1 none new f end =
     let g = all_are_read bounds next left held a b h0 h1 none f in
-    read_behind (read_store bounds) (λ text rest. end_read text (contents_of held next) rest) a b c h0 h1 (Ok (contents_of held next)) g
+    read_behind (read_store bounds) (λ text rest. reading_of_end text (store_contents_of held next) rest) a b c h0 h1 (Ok (store_contents_of held next)) g
     (end g.bytes next (g.gave.hashed ∙ ap (λ h. write h g.bytes) new))
 
 pub store_is_refused : (bounds : StoreBounds) (next left : ℕ) (held : List Stored) (a b c : Bytes) (h0 h1 : DefaultHasher) (f : StoreFault) → left ≡ 0 → h0 ≡ initial
-    → EntriesAreRead bounds next left held a b h0 h1 → EndIsRefused held b c h1 f → IsRefused (read_store bounds) a c f
+    → EntriesAreRead bounds next left held a b h0 h1 → FileEndIsRefused held b c h1 f → ReaderIsRefusedFor (read_store bounds) a c f
 store_is_refused bounds next left held a b c h0 h1 f none new before end =
     let g = all_are_read bounds next left held a b h0 h1 none before in
-    refused_behind (read_store bounds) (λ text rest. end_read text (contents_of held next) rest) a b c h0 h1 f g
+    refused_behind (read_store bounds) (λ text rest. reading_of_end text (store_contents_of held next) rest) a b c h0 h1 f g
     (end g.bytes next (g.gave.hashed ∙ ap (λ h. write h g.bytes) new))

@@ -5,16 +5,16 @@ use Rattle.std.specs.Prelude.{IfSome}
 use Rattle.std.specs.List.{sum_by}
 use Rattle.std.proofs.lemmas.Bool.{leb-true, leb-false}
 use Rattle.hx_store.specs.Stored.{Stored}
-use Rattle.hx_store.specs.Serials.{serial_is_in, Distinct}
+use Rattle.hx_store.specs.Serials.{serial_is_in, SerialsAreDistinct}
 use Rattle.hx_store.specs.Shelf.{serials}
-use Rattle.hx_store.specs.Weights.{StoreBounds, IsWithin, weight_of, total_weight}
+use Rattle.hx_store.specs.Weights.{StoreBounds, IsWithinBounds, weight_of_entry, total_weight}
 use Rattle.proxy_store_file.specs.declared.store_faults.EntryPart.{EntryPart}
 use Rattle.proxy_store_file.specs.declared.store_faults.StoreFault.{StoreFault}
 use Rattle.proxy_store_file.specs.declared.store_faults.StoreFault.TheVariants as fault
 use Rattle.proxy_store_file.specs.Texts.{number_of, is_number, cut}
-use Rattle.proxy_store_file.specs.Parts.{part_at_fault}
-use Rattle.proxy_store_file.specs.Fits.{EntryStands, EntriesStand, StoreStands}
-use Rattle.proxy_store_file.specs.Stores.{StoreContents, first_words, first_line, digest_spelling, EntryRead, Cut, Shapeless, Found, leading_entry, entry_fault, fault_of_part, standing_fault, is_too_heavy, StoreReading, or_short, digest_read, end_read, entry_taken, entry_read, entries_read, counted_read, line_read, read_store}
+use Rattle.proxy_store_file.specs.Parts.{first_invalid_part}
+use Rattle.proxy_store_file.specs.Fits.{EntryIsValidInStore, EntriesAreValidInStore, StoreContentsAreValid}
+use Rattle.proxy_store_file.specs.Stores.{StoreContents, first_line_words, first_line, digest_spelling, LeadingEntryReading, Cut, Shapeless, Found, leading_entry, entry_fault, fault_of_part, fault_among_entries, weight_exceeds_bound, StoreReading, or_short_file_fault, reading_of_digest, reading_of_end, reading_unless_entry_fault, reading_after_entry, reading_of_entries, reading_of_opening_numbers, reading_of_first_line, read_store}
 
 -- no fault was found
 fault_by : (o : Option EntryPart) (a b c : Bool) (n : ℕ) (f g : StoreFault)
@@ -30,18 +30,18 @@ fault_by None true true false n f g e = absurd (cc)
 fault_by None true true true n f g e = absurd (cc)
 fault_by (Some p) a b c n f g e = absurd (cc)
 
-stands_by : (n : ℕ) (most : Option ℕ) (next : ℕ) (held : List Stored) (e : Stored) → entry_fault n most next held e ≡ None → EntryStands most next held e
+stands_by : (n : ℕ) (most : Option ℕ) (next : ℕ) (held : List Stored) (e : Stored) → entry_fault n most next held e ≡ None → EntryIsValidInStore most next held e
 stands_by n most next held e none =
-    let p = fault_by (part_at_fault e) (serial_is_in e.serial (serials held)) (nat_le next e.serial) (is_too_heavy most (total_weight (e ∷ held))) n (fault.Serial n) (fault.Weight n) none in
+    let p = fault_by (first_invalid_part e) (serial_is_in e.serial (serials held)) (nat_le next e.serial) (weight_exceeds_bound most (total_weight (e ∷ held))) n (fault.Serial n) (fault.Weight n) none in
     record { parts = p.0; is_new = p.1.0; below_next = p.1.1.0; weighs = p.1.1.1 }
 
-taken_by : (o : Option StoreFault) (reading : StoreReading) (store : StoreContents) → entry_taken o reading ≡ Ok store → (o ≡ None) × (reading ≡ Ok store)
+taken_by : (o : Option StoreFault) (reading : StoreReading) (store : StoreContents) → reading_unless_entry_fault o reading ≡ Ok store → (o ≡ None) × (reading ≡ Ok store)
 taken_by None reading store e = (refl, e)
 taken_by (Some f) reading store e = absurd (cc)
 
 -- the entries that were read stand in front of those that stood, so many more
 record Sound (most : Option ℕ) (next many : ℕ) (store : StoreContents) : Type 0 where
-  stand : EntriesStand most next store.entries
+  stand : EntriesAreValidInStore most next store.entries
   number : length store.entries ≡ many
   next_serial : store.next_serial ≡ next
 
@@ -50,26 +50,26 @@ ended_by true true own store e = cc
 ended_by true false own store e = absurd (cc)
 ended_by false u own store e = absurd (cc)
 
-end_sound : (o : Option (List ℕ × List ℕ)) (body : List ℕ) (n : ℕ) (own store : StoreContents) → or_short n o (digest_read body own) ≡ Ok store → own ≡ store
+end_sound : (o : Option (List ℕ × List ℕ)) (body : List ℕ) (n : ℕ) (own store : StoreContents) → or_short_file_fault n o (reading_of_digest body own) ≡ Ok store → own ≡ store
 end_sound None body n own store e = absurd (cc)
 end_sound (Some p) body n own store e = ended_by (bytes_eq p.0 (digest_spelling body)) _ own store e
 
-step_sound : (r : EntryRead) (text : List ℕ) (most : Option ℕ) (next left many : ℕ) (held : List Stored) (store : StoreContents)
-    → ((e : Stored) (more : List ℕ) → EntryStands most next held e → entries_read text most next left (e ∷ held) more ≡ Ok store → Sound most next many store)
-    → entry_read most next held (λ e more. entries_read text most next left (e ∷ held) more) r ≡ Ok store → Sound most next many store
+step_sound : (r : LeadingEntryReading) (text : List ℕ) (most : Option ℕ) (next left many : ℕ) (held : List Stored) (store : StoreContents)
+    → ((e : Stored) (more : List ℕ) → EntryIsValidInStore most next held e → reading_of_entries text most next left (e ∷ held) more ≡ Ok store → Sound most next many store)
+    → reading_after_entry most next held (λ e more. reading_of_entries text most next left (e ∷ held) more) r ≡ Ok store → Sound most next many store
 step_sound Cut text most next left many held store later e = absurd (cc)
 step_sound Shapeless text most next left many held store later e = absurd (cc)
 step_sound (Found x more) text most next left many held store later e =
-    let t = taken_by (entry_fault (length held + 1) most next held x) (entries_read text most next left (x ∷ held) more) store e in
+    let t = taken_by (entry_fault (length held + 1) most next held x) (reading_of_entries text most next left (x ∷ held) more) store e in
     later x more (stands_by (length held + 1) most next held x t.0) t.1
 
 entries_sound : (left many : ℕ) (text : List ℕ) (most : Option ℕ) (next : ℕ) (held : List Stored) (rest : List ℕ) (store : StoreContents) → many ≡ length held + left
-    → EntriesStand most next held → entries_read text most next left held rest ≡ Ok store → Sound most next many store
+    → EntriesAreValidInStore most next held → reading_of_entries text most next left held rest ≡ Ok store → Sound most next many store
 entries_sound zero many text most next held rest store n stand e =
     let own : StoreContents = record { entries = held; next_serial = next } in
     let same = end_sound (cut 8 rest) _ (length held) own store e in
     record {
-      stand = subst (λ (s : StoreContents). EntriesStand most next s.entries) same stand;
+      stand = subst (λ (s : StoreContents). EntriesAreValidInStore most next s.entries) same stand;
       number = ap (λ (s : StoreContents). length s.entries) (sym same) ∙ omega (arith, n);
       next_serial = ap (λ (s : StoreContents). s.next_serial) (sym same);
     }
@@ -90,26 +90,26 @@ line_by false true reading store e = absurd (cc)
 line_by false false reading store e = absurd (cc)
 
 short_by : (n : ℕ) (o : Option (List ℕ × List ℕ)) (k : List ℕ → List ℕ → StoreReading) (store : StoreContents) (P : Type 0)
-    → ((a b : List ℕ) → k a b ≡ Ok store → P) → or_short n o k ≡ Ok store → P
+    → ((a b : List ℕ) → k a b ≡ Ok store → P) → or_short_file_fault n o k ≡ Ok store → P
 short_by n None k store P then e = absurd (cc)
 short_by n (Some p) k store P then e = then p.0 p.1 e
 
-distinct_by : (most : Option ℕ) (next : ℕ) (es : List Stored) → EntriesStand most next es → Distinct (serials es)
+distinct_by : (most : Option ℕ) (next : ℕ) (es : List Stored) → EntriesAreValidInStore most next es → SerialsAreDistinct (serials es)
 distinct_by most next [] stand = tt
 distinct_by most next (e ∷ es) stand = (stand.0.is_new, distinct_by most next es stand.1)
 
-weighs_by : (bytes : Option ℕ) (next : ℕ) (es : List Stored) → EntriesStand bytes next es → IfSome bytes (λ most. sum_by weight_of es ≤ most)
+weighs_by : (bytes : Option ℕ) (next : ℕ) (es : List Stored) → EntriesAreValidInStore bytes next es → IfSome bytes (λ most. sum_by weight_of_entry es ≤ most)
 weighs_by None next es stand = tt
 weighs_by (Some most) next [] stand = omega arith
 weighs_by (Some most) next (e ∷ es) stand =
     let light : total_weight (e ∷ es) < suc most = leb-false (suc most) (total_weight (e ∷ es)) stand.0.weighs in omega (arith, light)
 
-counted_sound : (bounds : StoreBounds) (text a b rest : List ℕ) (store : StoreContents) → counted_read bounds text a b rest ≡ Ok store → StoreStands bounds store
+counted_sound : (bounds : StoreBounds) (text a b rest : List ℕ) (store : StoreContents) → reading_of_opening_numbers bounds text a b rest ≡ Ok store → StoreContentsAreValid bounds store
 counted_sound bounds text a b rest store e =
-    let n = counted_by (is_number a && is_number b) (nat_le (number_of b) bounds.entries) (entries_read text bounds.bytes (number_of a) (number_of b) [] rest) store e in
+    let n = counted_by (is_number a && is_number b) (nat_le (number_of b) bounds.entries) (reading_of_entries text bounds.bytes (number_of a) (number_of b) [] rest) store e in
     let s = entries_sound (number_of b) (number_of b) text bounds.bytes (number_of a) [] rest store (omega arith) tt n.1 in
     record {
-      entries = subst (λ k. EntriesStand bounds.bytes k store.entries) (sym s.next_serial) s.stand;
+      entries = subst (λ k. EntriesAreValidInStore bounds.bytes k store.entries) (sym s.next_serial) s.stand;
       distinct = distinct_by bounds.bytes (number_of a) store.entries s.stand;
       within = record {
         number = subst (λ k. k ≤ bounds.entries) (sym s.number) (leb-true (number_of b) bounds.entries n.0);
@@ -117,11 +117,11 @@ counted_sound bounds text a b rest store e =
       };
     }
 
-pub read_stores_stand : (bounds : StoreBounds) (text : List ℕ) (store : StoreContents) → read_store bounds text ≡ Ok store → StoreStands bounds store
+pub read_stores_stand : (bounds : StoreBounds) (text : List ℕ) (store : StoreContents) → read_store bounds text ≡ Ok store → StoreContentsAreValid bounds store
 unfolding read_store
 read_stores_stand bounds text store e =
-    short_by 0 (cut 17 text) (line_read bounds text) store (StoreStands bounds store)
-    (λ line rest is. short_by 0 (cut 8 rest) (λ next more. or_short 0 (cut 8 more) (counted_read bounds text next)) store (StoreStands bounds store)
-    (λ next more is2. short_by 0 (cut 8 more) (counted_read bounds text next) store (StoreStands bounds store)
+    short_by 0 (cut 17 text) (reading_of_first_line bounds text) store (StoreContentsAreValid bounds store)
+    (λ line rest is. short_by 0 (cut 8 rest) (λ next more. or_short_file_fault 0 (cut 8 more) (reading_of_opening_numbers bounds text next)) store (StoreContentsAreValid bounds store)
+    (λ next more is2. short_by 0 (cut 8 more) (reading_of_opening_numbers bounds text next) store (StoreContentsAreValid bounds store)
     (λ number behind is3. counted_sound bounds text next number behind store is3) is2)
-    (line_by (bytes_eq line first_line) _ (or_short 0 (cut 8 rest) (λ next more. or_short 0 (cut 8 more) (counted_read bounds text next))) store is)) e
+    (line_by (bytes_eq line first_line) _ (or_short_file_fault 0 (cut 8 rest) (λ next more. or_short_file_fault 0 (cut 8 more) (reading_of_opening_numbers bounds text next))) store is)) e

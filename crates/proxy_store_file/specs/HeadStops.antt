@@ -6,11 +6,11 @@ use Rattle.proxy_store_file.specs.declared.head_reading.LeadingValue.{LeadingVal
 use Rattle.proxy_store_file.specs.declared.head_reading.LeadingValue.TheVariants.{Cut, Absent, Value}
 
 -- nothing is read; of bytes for which memory ran out nothing is said
-abbrev pub IsStopOf : {A : Type 0} → HeadStop → Option A → Type 0
-IsStopOf Shapeless read = read ≡ None
-IsStopOf OutOfMemory read = Unit {0}
+abbrev pub HeadStopMatchesReading : {A : Type 0} → HeadStop → Option A → Type 0
+HeadStopMatchesReading Shapeless read = read ≡ None
+HeadStopMatchesReading OutOfMemory read = Unit {0}
 
-abbrev pub said_of_value : LeadingValue → Option (Option (List ℕ) × List ℕ)
-said_of_value Cut = None
-said_of_value (Absent rest) = Some (None, rest.now)
-said_of_value (Value value rest) = Some (Some value.now, rest.now)
+abbrev pub leading_value_as_read : LeadingValue → Option (Option (List ℕ) × List ℕ)
+leading_value_as_read Cut = None
+leading_value_as_read (Absent rest) = Some (None, rest.now)
+leading_value_as_read (Value value rest) = Some (Some value.now, rest.now)

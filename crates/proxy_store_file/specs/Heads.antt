@@ -1,7 +1,7 @@
 -- The head of an entry in the file of a store: all of it but its content.
 --
--- times_spelling, key_spelling, kept_spelling, line_spelling, purge_spelling: its parts
--- head_spelling: the whole       head_in: the head that bytes spell, if they do
+-- times_spelling, key_spelling, nominated_value_spelling, line_spelling, purge_spelling: its parts
+-- head_spelling: the whole       head_spelled_in: the head that bytes spell, if they do
 use Rattle.std.specs.Prelude.{ℕ, ◌+◌, ◌-◌, ◌^◌, ◌==◌, nat_lt, zero, suc, if◌then◌else◌, List, [], ◌∷◌, ◌++◌, length}
 use Rattle.std.specs.Prelude.{Option, None, Some, option_map}
 use Rattle.std.specs.List.{flat_map}
@@ -22,15 +22,15 @@ abbrev pub key_spelling : Key → List ℕ
 key_spelling key = number_spelling key.port ++ text_spelling key.host ++ text_spelling key.path_query
 
 -- 0 where there is no value, else its length and one more, and the value
-abbrev pub value_spelling : Option (List ℕ) → List ℕ
-value_spelling None = number_spelling 0
-value_spelling (Some value) = number_spelling (length value + 1) ++ value
+abbrev pub nominated_text_spelling : Option (List ℕ) → List ℕ
+nominated_text_spelling None = number_spelling 0
+nominated_text_spelling (Some value) = number_spelling (length value + 1) ++ value
 
-abbrev pub kept_spelling : NominatedValue → List ℕ
-kept_spelling kept = text_spelling kept.name ++ value_spelling kept.value
+abbrev pub nominated_value_spelling : NominatedValue → List ℕ
+nominated_value_spelling kept = text_spelling kept.name ++ nominated_text_spelling kept.value
 
 abbrev pub nominated_spelling : List NominatedValue → List ℕ
-nominated_spelling values = number_spelling (length values) ++ flat_map kept_spelling values
+nominated_spelling values = number_spelling (length values) ++ flat_map nominated_value_spelling values
 
 abbrev pub line_spelling : Field → List ℕ
 line_spelling line = text_spelling line.name ++ text_spelling line.value
@@ -85,11 +85,11 @@ leading_times bytes = after (leading_number bytes) times_with_date
 abbrev pub key_with_path : ℕ → List ℕ → List ℕ → List ℕ → Option (Key × List ℕ)
 key_with_path port host path_query rest = Some (record { host = host; port = port; path_query = path_query }, rest)
 
-abbrev pub key_with_host : ℕ → List ℕ → List ℕ → Option (Key × List ℕ)
-key_with_host port host rest = after (leading_text rest) (key_with_path port host)
+abbrev pub key_with_host_and_rest : ℕ → List ℕ → List ℕ → Option (Key × List ℕ)
+key_with_host_and_rest port host rest = after (leading_text rest) (key_with_path port host)
 
 abbrev pub key_with_port : ℕ → List ℕ → Option (Key × List ℕ)
-key_with_port port rest = after (leading_text rest) (key_with_host port)
+key_with_port port rest = after (leading_text rest) (key_with_host_and_rest port)
 
 abbrev pub leading_key : List ℕ → Option (Key × List ℕ)
 leading_key bytes = after (leading_number_below (2 ^ 16) bytes) key_with_port
@@ -97,28 +97,29 @@ leading_key bytes = after (leading_number_below (2 ^ 16) bytes) key_with_port
 abbrev pub some_value : List ℕ → List ℕ → Option (Option (List ℕ) × List ℕ)
 some_value value rest = Some (Some value, rest)
 
-abbrev pub value_behind : ℕ → List ℕ → Option (Option (List ℕ) × List ℕ)
-value_behind n rest = if n == 0 then Some (None, rest) else after (cut (n - 1) rest) some_value
+abbrev pub value_after_length : ℕ → List ℕ → Option (Option (List ℕ) × List ℕ)
+value_after_length n rest = if n == 0 then Some (None, rest) else after (cut (n - 1) rest) some_value
 
 abbrev pub leading_value : List ℕ → Option (Option (List ℕ) × List ℕ)
-leading_value bytes = after (leading_number bytes) value_behind
+leading_value bytes = after (leading_number bytes) value_after_length
 
-abbrev pub kept_with_value : List ℕ → Option (List ℕ) → List ℕ → Option (NominatedValue × List ℕ)
-kept_with_value name value rest = Some (record { name = name; value = value }, rest)
+abbrev pub nominated_value_with_text : List ℕ → Option (List ℕ) → List ℕ → Option (NominatedValue × List ℕ)
+nominated_value_with_text name value rest = Some (record { name = name; value = value }, rest)
 
-abbrev pub kept_with_name : List ℕ → List ℕ → Option (NominatedValue × List ℕ)
-kept_with_name name rest = after (leading_value rest) (kept_with_value name)
+abbrev pub nominated_value_with_name : List ℕ → List ℕ → Option (NominatedValue × List ℕ)
+nominated_value_with_name name rest = after (leading_value rest) (nominated_value_with_text name)
 
-abbrev pub leading_kept : List ℕ → Option (NominatedValue × List ℕ)
-leading_kept bytes = after (leading_text bytes) kept_with_name
+abbrev pub leading_nominated_value : List ℕ → Option (NominatedValue × List ℕ)
+leading_nominated_value bytes = after (leading_text bytes) nominated_value_with_name
 
 -- so many more, behind those that were read
-abbrev pub values_behind : List NominatedValue → ℕ → List ℕ → Option (List NominatedValue × List ℕ)
-values_behind read zero bytes = Some (read, bytes)
-values_behind read (suc n) bytes = after (leading_kept bytes) (λ kept rest. values_behind (read ++ kept ∷ []) n rest)
+abbrev pub leading_nominated_values_after : List NominatedValue → ℕ → List ℕ → Option (List NominatedValue × List ℕ)
+leading_nominated_values_after read zero bytes = Some (read, bytes)
+leading_nominated_values_after read (suc n) bytes =
+    after (leading_nominated_value bytes) (λ kept rest. leading_nominated_values_after (read ++ kept ∷ []) n rest)
 
-abbrev pub leading_nominated : List ℕ → Option (List NominatedValue × List ℕ)
-leading_nominated bytes = after (leading_number bytes) (values_behind [])
+abbrev pub leading_nominated_values : List ℕ → Option (List NominatedValue × List ℕ)
+leading_nominated_values bytes = after (leading_number bytes) (leading_nominated_values_after [])
 
 abbrev pub line_with_value : List ℕ → List ℕ → List ℕ → Option (Field × List ℕ)
 line_with_value name value rest = Some (record { name = name; value = value }, rest)
@@ -130,12 +131,13 @@ abbrev pub leading_line : List ℕ → Option (Field × List ℕ)
 leading_line bytes = after (leading_text bytes) line_with_name
 
 -- so many more, behind those that were read
-abbrev pub lines_behind : List Field → ℕ → List ℕ → Option (List Field × List ℕ)
-lines_behind read zero bytes = Some (read, bytes)
-lines_behind read (suc n) bytes = after (leading_line bytes) (λ line rest. lines_behind (read ++ line ∷ []) n rest)
+abbrev pub leading_lines_after : List Field → ℕ → List ℕ → Option (List Field × List ℕ)
+leading_lines_after read zero bytes = Some (read, bytes)
+leading_lines_after read (suc n) bytes =
+    after (leading_line bytes) (λ line rest. leading_lines_after (read ++ line ∷ []) n rest)
 
 abbrev pub leading_lines : List ℕ → Option (List Field × List ℕ)
-leading_lines bytes = after (leading_number bytes) (lines_behind [])
+leading_lines bytes = after (leading_number bytes) (leading_lines_after [])
 
 -- nothing follows it
 abbrev pub whole : {A : Type 0} → A → List ℕ → Option A
@@ -145,13 +147,13 @@ whole read rest = if length rest == 0 then Some read else None
 abbrev pub times_with_purge : Times → ℕ → List ℕ → Option Times
 times_with_purge times moment rest = whole (record times { expired = Some moment }) rest
 
-abbrev pub times_at_end : Times → List ℕ → Option Times
-times_at_end times rest =
+abbrev pub stored_times_with_purge_if_any : Times → List ℕ → Option Times
+stored_times_with_purge_if_any times rest =
     if length rest == 0 then Some times else after (leading_number rest) (times_with_purge times)
 
 -- nothing of a head was read
-abbrev pub no_head : Head
-no_head = record {
+abbrev pub empty_head : Head
+empty_head = record {
   serial = 0;
   status = 0;
   content_length = 0;
@@ -164,14 +166,17 @@ no_head = record {
 -- the head behind its parts that were read
 abbrev pub head_with_lines : Head → List Field → List ℕ → Option Head
 head_with_lines head fields rest =
-    option_map (λ times. record head { times = times; fields = fields }) (times_at_end head.times rest)
+    option_map (λ times. record head {
+      times = times;
+      fields = fields;
+    }) (stored_times_with_purge_if_any head.times rest)
 
 abbrev pub head_with_nominated : Head → List NominatedValue → List ℕ → Option Head
 head_with_nominated head nominated rest =
     after (leading_lines rest) (head_with_lines (record head { nominated = nominated }))
 
 abbrev pub head_with_key : Head → Key → List ℕ → Option Head
-head_with_key head key rest = after (leading_nominated rest) (head_with_nominated (record head { key = key }))
+head_with_key head key rest = after (leading_nominated_values rest) (head_with_nominated (record head { key = key }))
 
 abbrev pub head_with_times : Head → Times → List ℕ → Option Head
 head_with_times head times rest = after (leading_key rest) (head_with_key (record head { times = times }))
@@ -185,14 +190,14 @@ head_with_status head status rest =
 
 abbrev pub head_with_serial : ℕ → List ℕ → Option Head
 head_with_serial serial rest =
-    after (leading_number_below (2 ^ 16) rest) (head_with_status (record no_head { serial = serial }))
+    after (leading_number_below (2 ^ 16) rest) (head_with_status (record empty_head { serial = serial }))
 
-unfoldable pub head_in : List ℕ → Option Head
-head_in bytes = after (leading_number bytes) head_with_serial
+unfoldable pub head_spelled_in : List ℕ → Option Head
+head_spelled_in bytes = after (leading_number bytes) head_with_serial
 
 -- an entry without its content, and with it
-abbrev pub head_of : Stored → Head
-head_of e = record {
+abbrev pub head_of_entry : Stored → Head
+head_of_entry e = record {
   serial = e.serial;
   status = e.status;
   content_length = length e.content;
@@ -202,8 +207,8 @@ head_of e = record {
   fields = e.fields;
 }
 
-abbrev pub stored_of : Head → List ℕ → Stored
-stored_of head content = record {
+abbrev pub stored_with_content : Head → List ℕ → Stored
+stored_with_content head content = record {
   serial = head.serial;
   key = head.key;
   nominated = head.nominated;

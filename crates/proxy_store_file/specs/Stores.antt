@@ -16,8 +16,8 @@ use Rattle.proxy_store_file.specs.declared.store_faults.EntryPart.TheVariants as
 use Rattle.proxy_store_file.specs.declared.store_faults.StoreFault.{StoreFault}
 use Rattle.proxy_store_file.specs.declared.store_faults.StoreFault.TheVariants as fault
 use Rattle.proxy_store_file.specs.Texts.{number_spelling, text_spelling, number_of, is_number, cut}
-use Rattle.proxy_store_file.specs.Heads.{head_spelling, head_in, head_of, stored_of}
-use Rattle.proxy_store_file.specs.Parts.{most_head_bytes, part_at_fault}
+use Rattle.proxy_store_file.specs.Heads.{head_spelling, head_spelled_in, head_of_entry, stored_with_content}
+use Rattle.proxy_store_file.specs.Parts.{most_head_bytes, first_invalid_part}
 
 -- the entries that are held, the latest stored or used first, and the serial of the next one
 pub record StoreContents : Type 0 where
@@ -26,15 +26,15 @@ pub record StoreContents : Type 0 where
 
 -- the head behind its length, and the content, whose length is in the head
 abbrev pub entry_spelling : Stored → List ℕ
-entry_spelling e = text_spelling (head_spelling (head_of e)) ++ e.content
+entry_spelling e = text_spelling (head_spelling (head_of_entry e)) ++ e.content
 
 -- the latest used comes last, so that each is put in front of those before it when they are read
 abbrev pub entries_spelling : List Stored → List ℕ
 entries_spelling [] = []
 entries_spelling (e ∷ es) = entries_spelling es ++ entry_spelling e
 
-abbrev pub first_words : List ℕ
-first_words = codes "revcache store "
+abbrev pub first_line_words : List ℕ
+first_line_words = codes "revcache store "
 
 -- the format and its version, and LF
 abbrev pub first_line : List ℕ
@@ -56,41 +56,41 @@ abbrev pub store_spelling : StoreContents → List ℕ
 store_spelling store = body_spelling store ++ digest_spelling (body_spelling store)
 
 -- what stands at the front: less than an entry, what is none, or one with what follows it
-pub data EntryRead : Type 0 where
-  Cut : EntryRead
-  Shapeless : EntryRead
-  Found : (entry : Stored) (rest : List ℕ) → EntryRead
+pub data LeadingEntryReading : Type 0 where
+  Cut : LeadingEntryReading
+  Shapeless : LeadingEntryReading
+  Found : (entry : Stored) (rest : List ℕ) → LeadingEntryReading
 
-abbrev pub entry_behind : Option (List ℕ × List ℕ) → (List ℕ → List ℕ → EntryRead) → EntryRead
+abbrev pub entry_behind : Option (List ℕ × List ℕ) → (List ℕ → List ℕ → LeadingEntryReading) → LeadingEntryReading
 entry_behind None read = Cut
 entry_behind (Some p) read = read p.0 p.1
 
-abbrev pub entry_with_content : Head → List ℕ → List ℕ → EntryRead
-entry_with_content head content rest = Found (stored_of head content) rest
+abbrev pub entry_with_content : Head → List ℕ → List ℕ → LeadingEntryReading
+entry_with_content head content rest = Found (stored_with_content head content) rest
 
-abbrev pub entry_with_head : Option Head → List ℕ → EntryRead
+abbrev pub entry_with_head : Option Head → List ℕ → LeadingEntryReading
 entry_with_head None rest = Shapeless
 entry_with_head (Some head) rest = entry_behind (cut head.content_length rest) (entry_with_content head)
 
-abbrev pub entry_behind_length : List ℕ → List ℕ → EntryRead
+abbrev pub entry_behind_length : List ℕ → List ℕ → LeadingEntryReading
 entry_behind_length number rest =
     if is_number number && nat_le (number_of number) most_head_bytes
-    then entry_behind (cut (number_of number) rest) (λ head more. entry_with_head (head_in head) more)
+    then entry_behind (cut (number_of number) rest) (λ head more. entry_with_head (head_spelled_in head) more)
     else Shapeless
 
-unfoldable pub leading_entry : List ℕ → EntryRead
+unfoldable pub leading_entry : List ℕ → LeadingEntryReading
 leading_entry bytes = entry_behind (cut 8 bytes) entry_behind_length
 
 -- a store with this weight would weigh too much
-abbrev pub is_too_heavy : Option ℕ → ℕ → Bool
-is_too_heavy None weight = false
-is_too_heavy (Some most) weight = nat_lt most weight
+abbrev pub weight_exceeds_bound : Option ℕ → ℕ → Bool
+weight_exceeds_bound None weight = false
+weight_exceeds_bound (Some most) weight = nat_lt most weight
 
 -- why the entry of this number may not stand in front of those that were read, if its parts are what they must be
-abbrev pub standing_fault : ℕ → Option ℕ → ℕ → List Stored → Stored → Option StoreFault
-standing_fault n most next_serial held e =
+abbrev pub fault_among_entries : ℕ → Option ℕ → ℕ → List Stored → Stored → Option StoreFault
+fault_among_entries n most next_serial held e =
     if serial_is_in e.serial (serials held) || nat_le next_serial e.serial then Some (fault.Serial n)
-    else if is_too_heavy most (total_weight (e ∷ held)) then Some (fault.Weight n)
+    else if weight_exceeds_bound most (total_weight (e ∷ held)) then Some (fault.Weight n)
     else None
 
 abbrev pub fault_of_part : ℕ → Option EntryPart → Option StoreFault → Option StoreFault
@@ -99,58 +99,61 @@ fault_of_part n (Some p) other = Some (fault.Entry n p)
 
 abbrev pub entry_fault : ℕ → Option ℕ → ℕ → List Stored → Stored → Option StoreFault
 entry_fault n most next_serial held e =
-    fault_of_part n (part_at_fault e) (standing_fault n most next_serial held e)
+    fault_of_part n (first_invalid_part e) (fault_among_entries n most next_serial held e)
 
 abbrev pub StoreReading : Type 0
 StoreReading = Result StoreContents StoreFault
 
 -- so many bytes; where there are fewer, the file is short, with so many whole entries
-abbrev pub or_short : ℕ → Option (List ℕ × List ℕ) → (List ℕ → List ℕ → StoreReading) → StoreReading
-or_short n None read = Err (fault.Short n)
-or_short n (Some p) read = read p.0 p.1
+abbrev pub or_short_file_fault : ℕ → Option (List ℕ × List ℕ) → (List ℕ → List ℕ → StoreReading) → StoreReading
+or_short_file_fault n None read = Err (fault.Short n)
+or_short_file_fault n (Some p) read = read p.0 p.1
 
-abbrev pub digest_read : List ℕ → StoreContents → List ℕ → List ℕ → StoreReading
-digest_read body store digest rest =
+abbrev pub reading_of_digest : List ℕ → StoreContents → List ℕ → List ℕ → StoreReading
+reading_of_digest body store digest rest =
     if bytes_eq digest (digest_spelling body) then if length rest == 0 then Ok store else Err fault.Long
     else Err fault.Digest
 
 -- the digest is that of what stands in front of it
-abbrev pub end_read : List ℕ → StoreContents → List ℕ → StoreReading
-end_read text store rest =
-    or_short (length store.entries) (cut 8 rest) (digest_read (take (length text - length rest) text) store)
+abbrev pub reading_of_end : List ℕ → StoreContents → List ℕ → StoreReading
+reading_of_end text store rest =
+    or_short_file_fault (length store.entries) (cut 8 rest)
+    (reading_of_digest (take (length text - length rest) text) store)
 
-abbrev pub entry_taken : Option StoreFault → StoreReading → StoreReading
-entry_taken None reading = reading
-entry_taken (Some f) reading = Err f
+abbrev pub reading_unless_entry_fault : Option StoreFault → StoreReading → StoreReading
+reading_unless_entry_fault None reading = reading
+reading_unless_entry_fault (Some f) reading = Err f
 
-abbrev pub entry_read : Option ℕ → ℕ → List Stored → (Stored → List ℕ → StoreReading) → EntryRead → StoreReading
-entry_read most next_serial held read Cut = Err (fault.Short (length held))
-entry_read most next_serial held read Shapeless = Err (fault.Entry (length held + 1) part.Head)
-entry_read most next_serial held read (Found e rest) =
-    entry_taken (entry_fault (length held + 1) most next_serial held e) (read e rest)
+abbrev pub reading_after_entry : Option ℕ → ℕ → List Stored → (Stored → List ℕ → StoreReading) → LeadingEntryReading
+    → StoreReading
+reading_after_entry most next_serial held read Cut = Err (fault.Short (length held))
+reading_after_entry most next_serial held read Shapeless = Err (fault.Entry (length held + 1) part.Head)
+reading_after_entry most next_serial held read (Found e rest) =
+    reading_unless_entry_fault (entry_fault (length held + 1) most next_serial held e) (read e rest)
 
 -- so many more entries, in front of those that were read, and the end
-abbrev pub entries_read : List ℕ → Option ℕ → ℕ → ℕ → List Stored → List ℕ → StoreReading
-entries_read text most next_serial zero held rest =
-    end_read text (record { entries = held; next_serial = next_serial }) rest
-entries_read text most next_serial (suc left) held rest =
-    entry_read most next_serial held (λ e more. entries_read text most next_serial left (e ∷ held) more)
+abbrev pub reading_of_entries : List ℕ → Option ℕ → ℕ → ℕ → List Stored → List ℕ → StoreReading
+reading_of_entries text most next_serial zero held rest =
+    reading_of_end text (record { entries = held; next_serial = next_serial }) rest
+reading_of_entries text most next_serial (suc left) held rest =
+    reading_after_entry most next_serial held (λ e more. reading_of_entries text most next_serial left (e ∷ held) more)
     (leading_entry rest)
 
-abbrev pub counted_read : StoreBounds → List ℕ → List ℕ → List ℕ → List ℕ → StoreReading
-counted_read bounds text next number rest =
+abbrev pub reading_of_opening_numbers : StoreBounds → List ℕ → List ℕ → List ℕ → List ℕ → StoreReading
+reading_of_opening_numbers bounds text next number rest =
     if is_number next && is_number number
     then if nat_le (number_of number) bounds.entries
-    then entries_read text bounds.bytes (number_of next) (number_of number) [] rest
+    then reading_of_entries text bounds.bytes (number_of next) (number_of number) [] rest
     else Err fault.Entries
     else Err fault.NotAStore
 
-abbrev pub line_read : StoreBounds → List ℕ → List ℕ → List ℕ → StoreReading
-line_read bounds text line rest =
+abbrev pub reading_of_first_line : StoreBounds → List ℕ → List ℕ → List ℕ → StoreReading
+reading_of_first_line bounds text line rest =
     if bytes_eq line first_line
-    then or_short 0 (cut 8 rest) (λ next more. or_short 0 (cut 8 more) (counted_read bounds text next))
-    else if bytes_eq (take 15 line) first_words then Err fault.Version
+    then or_short_file_fault 0 (cut 8 rest)
+    (λ next more. or_short_file_fault 0 (cut 8 more) (reading_of_opening_numbers bounds text next))
+    else if bytes_eq (take 15 line) first_line_words then Err fault.Version
     else Err fault.NotAStore
 
 unfoldable pub read_store : StoreBounds → List ℕ → StoreReading
-read_store bounds text = or_short 0 (cut 17 text) (line_read bounds text)
+read_store bounds text = or_short_file_fault 0 (cut 17 text) (reading_of_first_line bounds text)

@@ -1,10 +1,13 @@
 //! Whether an entry is one that can have been stored (`specs/Parts.antt`).
 ghost use Rattle.std.specs.Prelude.{◌≡◌, ◌==◌, slice_index};
 ghost use Rattle.std.specs.List.{list_all};
-ghost use Rattle.proxy_store_file.specs.Parts.{part_at_fault, is_final_status, is_stored_key, is_moment};
-ghost use Rattle.proxy_store_file.specs.Parts.{are_stored_times, is_moment_if_any};
-ghost use Rattle.proxy_store_file.specs.Parts.{is_value_byte, are_value_bytes, is_stored_name, is_kept_value, is_kept};
-ghost use Rattle.proxy_store_file.specs.Parts.{are_nominated, is_stored_line, are_stored_lines, has_capital};
+ghost use Rattle.proxy_store_file.specs.Parts.{first_invalid_part, is_final_status, is_valid_stored_key};
+ghost use Rattle.proxy_store_file.specs.Parts.{is_valid_moment};
+ghost use Rattle.proxy_store_file.specs.Parts.{are_valid_times, is_valid_moment_if_any};
+ghost use Rattle.proxy_store_file.specs.Parts.{is_valid_value_byte, are_valid_value_bytes, is_valid_field_name};
+ghost use Rattle.proxy_store_file.specs.Parts.{is_valid_nominated_text, is_valid_nominated_value};
+ghost use Rattle.proxy_store_file.specs.Parts.{are_valid_nominated_values, is_valid_field_line, are_valid_field_lines};
+ghost use Rattle.proxy_store_file.specs.Parts.{has_uppercase_letter};
 
 use crate::limits::{MOST_HEAD_BYTES, MOST_PATH_BYTES};
 use crate::store_faults::EntryPart;
@@ -21,8 +24,8 @@ fn is_final_status(status: u16) -> bool
     200 <= status && status <= 999
 }
 
-fn has_capital(text: &[u8]) -> bool
-    ensures { result ≡ has_capital text.now }
+fn has_uppercase_letter(text: &[u8]) -> bool
+    ensures { result ≡ has_uppercase_letter text.now }
 {
     text.iter().any(|b| b.is_ascii_uppercase())
 }
@@ -33,132 +36,132 @@ fn is_absolute(path_query: &[u8]) -> bool
     path_query.first() == Some(&b'/')
 }
 
-fn is_stored_key(key: &Key) -> bool
-    ensures { result ≡ is_stored_key key.now }
+fn is_valid_stored_key(key: &Key) -> bool
+    ensures { result ≡ is_valid_stored_key key.now }
 {
     let host = key.host.as_slice();
     let path_query = key.path_query.as_slice();
     is_host(host)
         && host.len() <= 253
-        && !has_capital(host)
+        && !has_uppercase_letter(host)
         && 1 <= key.port
         && is_absolute(path_query)
         && path_query.len() <= MOST_PATH_BYTES
 }
 
-fn is_moment(seconds: u64) -> bool
-    ensures { result ≡ is_moment seconds }
+fn is_valid_moment(seconds: u64) -> bool
+    ensures { result ≡ is_valid_moment seconds }
 {
     seconds < END_OF_TIME
 }
 
-fn is_moment_if_any(seconds: Option<u64>) -> bool
-    ensures { result ≡ is_moment_if_any seconds }
+fn is_valid_moment_if_any(seconds: Option<u64>) -> bool
+    ensures { result ≡ is_valid_moment_if_any seconds }
 {
     match seconds {
-        Some(seconds) => is_moment(seconds),
+        Some(seconds) => is_valid_moment(seconds),
         None => true,
     }
 }
 
-fn are_stored_times(times: Times) -> bool
-    ensures { result ≡ are_stored_times times }
+fn are_valid_times(times: Times) -> bool
+    ensures { result ≡ are_valid_times times }
 {
-    is_moment(times.date)
-        && is_moment(times.request_time)
-        && is_moment(times.response_time)
+    is_valid_moment(times.date)
+        && is_valid_moment(times.request_time)
+        && is_valid_moment(times.response_time)
         && (times.age_value as u64) <= MOST_SECONDS
-        && is_moment_if_any(times.expired)
+        && is_valid_moment_if_any(times.expired)
 }
 
-fn is_value_byte(b: u8) -> bool
-    ensures { result ≡ is_value_byte b }
+fn is_valid_value_byte(b: u8) -> bool
+    ensures { result ≡ is_valid_value_byte b }
 {
     b == b'\t' || (32 <= b && b != 127)
 }
 
 fn all_value_bytes(value: &[u8]) -> bool
-    ensures { result ≡ list_all is_value_byte value.now }
+    ensures { result ≡ list_all is_valid_value_byte value.now }
 {
-    value.iter().all(|b| is_value_byte(*b))
+    value.iter().all(|b| is_valid_value_byte(*b))
 }
 
-fn are_value_bytes(value: &[u8]) -> bool
-    ensures { result ≡ are_value_bytes value.now }
+fn are_valid_value_bytes(value: &[u8]) -> bool
+    ensures { result ≡ are_valid_value_bytes value.now }
 {
     value.len() <= MOST_HEAD_BYTES && all_value_bytes(value)
 }
 
-fn is_stored_name(name: &[u8]) -> bool
-    ensures { result ≡ is_stored_name name.now }
+fn is_valid_field_name(name: &[u8]) -> bool
+    ensures { result ≡ is_valid_field_name name.now }
 {
     name.len() <= MOST_HEAD_BYTES && is_token(name)
 }
 
-fn is_kept_value(value: &Option<Bytes>) -> bool
-    ensures { result ≡ is_kept_value value.now }
+fn is_valid_nominated_text(value: &Option<Bytes>) -> bool
+    ensures { result ≡ is_valid_nominated_text value.now }
 {
     match value {
-        Some(value) => are_value_bytes(value.as_slice()),
+        Some(value) => are_valid_value_bytes(value.as_slice()),
         None => true,
     }
 }
 
-fn is_kept(kept: &NominatedValue) -> bool
-    ensures { result ≡ is_kept kept.now }
+fn is_valid_nominated_value(kept: &NominatedValue) -> bool
+    ensures { result ≡ is_valid_nominated_value kept.now }
 {
-    is_stored_name(kept.name.as_slice()) && is_kept_value(&kept.value)
+    is_valid_field_name(kept.name.as_slice()) && is_valid_nominated_text(&kept.value)
 }
 
-fn all_are_kept(values: &[NominatedValue]) -> bool
-    ensures { result ≡ list_all is_kept values.now }
+fn all_nominated_values_are_valid(values: &[NominatedValue]) -> bool
+    ensures { result ≡ list_all is_valid_nominated_value values.now }
 {
-    values.iter().all(|kept| is_kept(kept))
+    values.iter().all(|kept| is_valid_nominated_value(kept))
 }
 
-fn are_nominated(values: &[NominatedValue]) -> bool
-    ensures { result ≡ are_nominated values.now }
+fn are_valid_nominated_values(values: &[NominatedValue]) -> bool
+    ensures { result ≡ are_valid_nominated_values values.now }
 {
-    values.len() <= MOST_HEAD_BYTES && all_are_kept(values)
+    values.len() <= MOST_HEAD_BYTES && all_nominated_values_are_valid(values)
 }
 
-fn is_stored_line(line: &Field) -> bool
-    ensures { result ≡ is_stored_line line.now }
+fn is_valid_field_line(line: &Field) -> bool
+    ensures { result ≡ is_valid_field_line line.now }
 {
     let value = line.value();
-    is_stored_name(line.name()) && are_value_bytes(value) && trim_blanks(value) == value
+    is_valid_field_name(line.name()) && are_valid_value_bytes(value) && trim_blanks(value) == value
 }
 
 fn all_are_stored_lines(lines: &[Field]) -> bool
-    ensures { result ≡ list_all is_stored_line lines.now }
+    ensures { result ≡ list_all is_valid_field_line lines.now }
 {
-    lines.iter().all(|line| is_stored_line(line))
+    lines.iter().all(|line| is_valid_field_line(line))
 }
 
-fn are_stored_lines(lines: &[Field]) -> bool
-    ensures { result ≡ are_stored_lines lines.now }
+fn are_valid_field_lines(lines: &[Field]) -> bool
+    ensures { result ≡ are_valid_field_lines lines.now }
 {
     lines.len() <= MOST_HEAD_BYTES && all_are_stored_lines(lines)
 }
 
 /// The first part of an entry that isn't what it must be. No memory is taken.
-#[tactic(auto, unfolding(crate::specs::Parts::part_at_fault))]
-pub(crate) fn part_at_fault(entry: &Entry) -> Option<EntryPart>
-    ensures { result ≡ part_at_fault entry.now }
+#[tactic(auto, unfolding(crate::specs::Parts::first_invalid_part))]
+pub(crate) fn first_invalid_part(entry: &Entry) -> Option<EntryPart>
+    ensures { result ≡ first_invalid_part entry.now }
 {
     if !is_final_status(entry.status) {
         return Some(EntryPart::Status);
     }
-    if !are_stored_times(entry.times) {
+    if !are_valid_times(entry.times) {
         return Some(EntryPart::Times);
     }
-    if !is_stored_key(&entry.key) {
+    if !is_valid_stored_key(&entry.key) {
         return Some(EntryPart::Key);
     }
-    if !are_nominated(entry.nominated.as_slice()) {
+    if !are_valid_nominated_values(entry.nominated.as_slice()) {
         return Some(EntryPart::Nominated);
     }
-    if !are_stored_lines(entry.fields.as_slice()) {
+    if !are_valid_field_lines(entry.fields.as_slice()) {
         return Some(EntryPart::Lines);
     }
     None

@@ -1,8 +1,8 @@
 //! One entry, read from a reader (`specs/Stores.antt`).
 ghost use Rattle.std.specs.Prelude.{IfOk, IfErr};
-ghost use Rattle.proxy_store_file.specs.Streams.{EntryIsRead, IsCut, ReaderStoppedShort, reading_of_entry};
+ghost use Rattle.proxy_store_file.specs.Streams.{EntryIsRead, IsLessThanAnEntry, ReaderStoppedShort, reading_of_entry};
 
-use crate::head_reading::{HeadStop, head_in};
+use crate::head_reading::{HeadStop, head_spelled_in};
 use crate::limits::MOST_HEAD_BYTES;
 use crate::pieces::{ReadStop, read_bytes, read_number};
 use hx_store::Entry;
@@ -18,7 +18,7 @@ pub(crate) fn read_entry<R: Read>(
 ) -> Result<Option<Entry>, ReadStop>
     ensures ok { IfOk result (λ read. EntryIsRead (R.remaining reader.old) (R.remaining reader.new)
         hasher.old hasher.new (reading_of_entry read)) }
-    ensures stop { IfErr result (λ why. ReaderStoppedShort IsCut (R.remaining reader.old)
+    ensures stop { IfErr result (λ why. ReaderStoppedShort IsLessThanAnEntry (R.remaining reader.old)
         (R.remaining reader.new) why) }
 {
     let n = match read_number(alloc, reader, hasher) {
@@ -32,7 +32,7 @@ pub(crate) fn read_entry<R: Read>(
         Ok(text) => text,
         Err(stop) => return Err(stop),
     };
-    let head = match head_in(alloc, text.as_slice()) {
+    let head = match head_spelled_in(alloc, text.as_slice()) {
         Ok(head) => head,
         Err(HeadStop::Shapeless) => return Ok(None),
         Err(HeadStop::OutOfMemory) => return Err(ReadStop::OutOfMemory),

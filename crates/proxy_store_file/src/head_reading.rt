@@ -1,10 +1,10 @@
 //! The head of an entry, read from its bytes (`specs/Heads.antt`).
 ghost use Rattle.std.specs.Prelude.{◌≡◌, ◌∷◌, [], IfOk, IfErr, MatchOption, None, Some};
-ghost use Rattle.proxy_store_file.specs.Heads.{leading_times, leading_key, leading_value, leading_kept};
-ghost use Rattle.proxy_store_file.specs.Heads.{leading_nominated, leading_line, leading_lines, head_in};
-ghost use Rattle.proxy_store_file.specs.Heads.{values_behind};
-ghost use Rattle.proxy_store_file.specs.Heads.{lines_behind, times_at_end};
-ghost use Rattle.proxy_store_file.specs.HeadStops.{IsStopOf, said_of_value};
+ghost use Rattle.proxy_store_file.specs.Heads.{leading_times, leading_key, leading_value, leading_nominated_value};
+ghost use Rattle.proxy_store_file.specs.Heads.{leading_nominated_values, leading_line, leading_lines, head_spelled_in};
+ghost use Rattle.proxy_store_file.specs.Heads.{leading_nominated_values_after};
+ghost use Rattle.proxy_store_file.specs.Heads.{leading_lines_after, stored_times_with_purge_if_any};
+ghost use Rattle.proxy_store_file.specs.HeadStops.{HeadStopMatchesReading, leading_value_as_read};
 
 use crate::heads::Head;
 use crate::texts::{cut, leading_number, leading_number_below, leading_text};
@@ -62,7 +62,7 @@ fn leading_times(bytes: &[u8]) -> Option<(Times, &[u8])>
 
 fn leading_key(alloc: Global, bytes: &[u8]) -> Result<(Key, &[u8]), HeadStop>
     ensures ok { IfOk result (λ r. leading_key bytes.now ≡ Some (r.0, r.1.now)) }
-    ensures stop { IfErr result (λ stop. IsStopOf stop (leading_key bytes.now)) }
+    ensures stop { IfErr result (λ stop. HeadStopMatchesReading stop (leading_key bytes.now)) }
 {
     let Some((port, rest)) = leading_number_below(65_536, bytes) else {
         return Err(HeadStop::Shapeless);
@@ -92,7 +92,7 @@ enum LeadingValue<'a> {
 }
 
 fn leading_value(bytes: &[u8]) -> LeadingValue<'_>
-    ensures { said_of_value result ≡ leading_value bytes.now }
+    ensures { leading_value_as_read result ≡ leading_value bytes.now }
 {
     match leading_number(bytes) {
         None => LeadingValue::Cut,
@@ -104,9 +104,9 @@ fn leading_value(bytes: &[u8]) -> LeadingValue<'_>
     }
 }
 
-fn leading_kept(alloc: Global, bytes: &[u8]) -> Result<(NominatedValue, &[u8]), HeadStop>
-    ensures ok { IfOk result (λ r. leading_kept bytes.now ≡ Some (r.0, r.1.now)) }
-    ensures stop { IfErr result (λ stop. IsStopOf stop (leading_kept bytes.now)) }
+fn leading_nominated_value(alloc: Global, bytes: &[u8]) -> Result<(NominatedValue, &[u8]), HeadStop>
+    ensures ok { IfOk result (λ r. leading_nominated_value bytes.now ≡ Some (r.0, r.1.now)) }
+    ensures stop { IfErr result (λ stop. HeadStopMatchesReading stop (leading_nominated_value bytes.now)) }
 {
     let Some((name, rest)) = leading_text(bytes) else {
         return Err(HeadStop::Shapeless);
@@ -125,9 +125,9 @@ fn leading_kept(alloc: Global, bytes: &[u8]) -> Result<(NominatedValue, &[u8]), 
     }
 }
 
-fn leading_nominated(alloc: Global, bytes: &[u8]) -> Result<(Nominated, &[u8]), HeadStop>
-    ensures ok { IfOk result (λ r. leading_nominated bytes.now ≡ Some (r.0, r.1.now)) }
-    ensures stop { IfErr result (λ stop. IsStopOf stop (leading_nominated bytes.now)) }
+fn leading_nominated_values(alloc: Global, bytes: &[u8]) -> Result<(Nominated, &[u8]), HeadStop>
+    ensures ok { IfOk result (λ r. leading_nominated_values bytes.now ≡ Some (r.0, r.1.now)) }
+    ensures stop { IfErr result (λ stop. HeadStopMatchesReading stop (leading_nominated_values bytes.now)) }
 {
     let Some((n, front)) = leading_number(bytes) else {
         return Err(HeadStop::Shapeless);
@@ -135,7 +135,7 @@ fn leading_nominated(alloc: Global, bytes: &[u8]) -> Result<(Nominated, &[u8]), 
     let mut values = Vec::new(alloc);
     let mut rest = front;
     for _i in 0..n {
-        match leading_kept(alloc, rest) {
+        match leading_nominated_value(alloc, rest) {
             Ok((kept, more)) => {
                 match values.push(kept) {
                     Ok(()) => rest = more,
@@ -150,7 +150,7 @@ fn leading_nominated(alloc: Global, bytes: &[u8]) -> Result<(Nominated, &[u8]), 
 
 fn leading_line(alloc: Global, bytes: &[u8]) -> Result<(Field, &[u8]), HeadStop>
     ensures ok { IfOk result (λ r. leading_line bytes.now ≡ Some (r.0, r.1.now)) }
-    ensures stop { IfErr result (λ stop. IsStopOf stop (leading_line bytes.now)) }
+    ensures stop { IfErr result (λ stop. HeadStopMatchesReading stop (leading_line bytes.now)) }
 {
     let Some((name, rest)) = leading_text(bytes) else {
         return Err(HeadStop::Shapeless);
@@ -163,7 +163,7 @@ fn leading_line(alloc: Global, bytes: &[u8]) -> Result<(Field, &[u8]), HeadStop>
 
 fn leading_lines(alloc: Global, bytes: &[u8]) -> Result<(Fields, &[u8]), HeadStop>
     ensures ok { IfOk result (λ r. leading_lines bytes.now ≡ Some (r.0, r.1.now)) }
-    ensures stop { IfErr result (λ stop. IsStopOf stop (leading_lines bytes.now)) }
+    ensures stop { IfErr result (λ stop. HeadStopMatchesReading stop (leading_lines bytes.now)) }
 {
     let Some((n, front)) = leading_number(bytes) else {
         return Err(HeadStop::Shapeless);
@@ -183,8 +183,8 @@ fn leading_lines(alloc: Global, bytes: &[u8]) -> Result<(Fields, &[u8]), HeadSto
 }
 
 /// The times of a head behind whose lines nothing stands, or the moment of a purge.
-fn times_at_end(times: Times, rest: &[u8]) -> Option<Times>
-    ensures { result ≡ times_at_end times rest.now }
+fn stored_times_with_purge_if_any(times: Times, rest: &[u8]) -> Option<Times>
+    ensures { result ≡ stored_times_with_purge_if_any times rest.now }
 {
     if rest.is_empty() {
         return Some(times);
@@ -199,10 +199,10 @@ fn times_at_end(times: Times, rest: &[u8]) -> Option<Times>
 }
 
 /// The head that bytes spell.
-#[tactic(auto, unfolding(crate::specs::Heads::head_in))]
-pub(crate) fn head_in(alloc: Global, bytes: &[u8]) -> Result<Head, HeadStop>
-    ensures ok { IfOk result (λ head. head_in bytes.now ≡ Some head) }
-    ensures stop { IfErr result (λ stop. IsStopOf stop (head_in bytes.now)) }
+#[tactic(auto, unfolding(crate::specs::Heads::head_spelled_in))]
+pub(crate) fn head_spelled_in(alloc: Global, bytes: &[u8]) -> Result<Head, HeadStop>
+    ensures ok { IfOk result (λ head. head_spelled_in bytes.now ≡ Some head) }
+    ensures stop { IfErr result (λ stop. HeadStopMatchesReading stop (head_spelled_in bytes.now)) }
 {
     let Some((serial, rest)) = leading_number(bytes) else {
         return Err(HeadStop::Shapeless);
@@ -220,7 +220,7 @@ pub(crate) fn head_in(alloc: Global, bytes: &[u8]) -> Result<Head, HeadStop>
         Ok(found) => found,
         Err(stop) => return Err(stop),
     };
-    let (nominated, rest) = match leading_nominated(alloc, rest) {
+    let (nominated, rest) = match leading_nominated_values(alloc, rest) {
         Ok(found) => found,
         Err(stop) => return Err(stop),
     };
@@ -228,7 +228,7 @@ pub(crate) fn head_in(alloc: Global, bytes: &[u8]) -> Result<Head, HeadStop>
         Ok(found) => found,
         Err(stop) => return Err(stop),
     };
-    let Some(times) = times_at_end(times, rest) else {
+    let Some(times) = stored_times_with_purge_if_any(times, rest) else {
         return Err(HeadStop::Shapeless);
     };
     Ok(Head {

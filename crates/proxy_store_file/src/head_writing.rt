@@ -1,9 +1,10 @@
 //! The head of an entry, spelled (`specs/Heads.antt`).
 ghost use Rattle.std.specs.Prelude.{◌≡◌, ◌++◌, OnOk, IfOk};
 ghost use Rattle.std.specs.List.{flat_map};
-ghost use Rattle.proxy_store_file.specs.Heads.{times_spelling, key_spelling, value_spelling, kept_spelling};
+ghost use Rattle.proxy_store_file.specs.Heads.{times_spelling, key_spelling, nominated_text_spelling};
+ghost use Rattle.proxy_store_file.specs.Heads.{nominated_value_spelling};
 ghost use Rattle.proxy_store_file.specs.Heads.{line_spelling};
-ghost use Rattle.proxy_store_file.specs.Heads.{nominated_spelling, lines_spelling, head_spelling, head_of};
+ghost use Rattle.proxy_store_file.specs.Heads.{nominated_spelling, lines_spelling, head_spelling, head_of_entry};
 ghost use Rattle.proxy_store_file.specs.Heads.{numbers_spelling, purge_spelling};
 
 use crate::texts::{push_number, push_text};
@@ -32,7 +33,7 @@ fn push_key(out: &mut Vec<u8>, key: &Key) -> Result<(), AllocError>
 }
 
 fn push_value(out: &mut Vec<u8>, value: &Option<Bytes>) -> Result<(), AllocError>
-    ensures { OnOk result (out.new.items ≡ out.old.items ++ value_spelling value.now) }
+    ensures { OnOk result (out.new.items ≡ out.old.items ++ nominated_text_spelling value.now) }
 {
     match value {
         None => push_number(out, 0),
@@ -44,18 +45,18 @@ fn push_value(out: &mut Vec<u8>, value: &Option<Bytes>) -> Result<(), AllocError
     }
 }
 
-fn push_kept(out: &mut Vec<u8>, kept: &NominatedValue) -> Result<(), AllocError>
-    ensures { OnOk result (out.new.items ≡ out.old.items ++ kept_spelling kept.now) }
+fn push_nominated_value(out: &mut Vec<u8>, kept: &NominatedValue) -> Result<(), AllocError>
+    ensures { OnOk result (out.new.items ≡ out.old.items ++ nominated_value_spelling kept.now) }
 {
     push_text(out, kept.name.as_slice())?;
     push_value(out, &kept.value)
 }
 
-fn push_all_kept(out: &mut Vec<u8>, values: &[NominatedValue]) -> Result<(), AllocError>
-    ensures { OnOk result (out.new.items ≡ out.old.items ++ flat_map kept_spelling values.now) }
+fn push_nominated_values(out: &mut Vec<u8>, values: &[NominatedValue]) -> Result<(), AllocError>
+    ensures { OnOk result (out.new.items ≡ out.old.items ++ flat_map nominated_value_spelling values.now) }
 {
     for kept in values {
-        push_kept(out, kept)?;
+        push_nominated_value(out, kept)?;
     }
     Ok(())
 }
@@ -64,7 +65,7 @@ fn push_nominated(out: &mut Vec<u8>, values: &[NominatedValue]) -> Result<(), Al
     ensures { OnOk result (out.new.items ≡ out.old.items ++ nominated_spelling values.now) }
 {
     push_number(out, values.len() as u64)?;
-    push_all_kept(out, values)
+    push_nominated_values(out, values)
 }
 
 fn push_line(out: &mut Vec<u8>, line: &Field) -> Result<(), AllocError>
@@ -101,7 +102,7 @@ fn push_purge(out: &mut Vec<u8>, expired: Option<u64>) -> Result<(), AllocError>
 
 /// The numbers of an entry that have a place of their own.
 fn push_numbers(out: &mut Vec<u8>, entry: &Entry) -> Result<(), AllocError>
-    ensures { OnOk result (out.new.items ≡ out.old.items ++ numbers_spelling (head_of entry.now)) }
+    ensures { OnOk result (out.new.items ≡ out.old.items ++ numbers_spelling (head_of_entry entry.now)) }
 {
     push_number(out, entry.serial)?;
     push_number(out, entry.status as u64)?;
@@ -111,7 +112,7 @@ fn push_numbers(out: &mut Vec<u8>, entry: &Entry) -> Result<(), AllocError>
 
 /// The head of an entry, as it is spelled. Fails only where memory runs out.
 pub(crate) fn head_text(alloc: Global, entry: &Entry) -> Result<Vec<u8>, AllocError>
-    ensures { IfOk result (λ text. text.items ≡ head_spelling (head_of entry.now)) }
+    ensures { IfOk result (λ text. text.items ≡ head_spelling (head_of_entry entry.now)) }
 {
     let mut out = Vec::new(alloc);
     push_numbers(&mut out, entry)?;

@@ -1,7 +1,8 @@
 //! What stands in front of the entries: the first line, the next serial and the number of entries.
 ghost use Rattle.std.specs.Prelude.{◌≡◌, ◌≤◌, ℕ, [], Option, IfOk, IfErr, MatchOption, length};
-ghost use Rattle.proxy_store_file.specs.Stores.{entries_read, read_store};
-ghost use Rattle.proxy_store_file.specs.Streams.{FrontIsRead, IsRefused, bounds_of, fault_of_stop, line_fault};
+ghost use Rattle.proxy_store_file.specs.Stores.{reading_of_entries, read_store};
+ghost use Rattle.proxy_store_file.specs.Streams.{FileFrontIsRead, ReaderIsRefusedFor, bounds_of, fault_of_stop};
+ghost use Rattle.proxy_store_file.specs.Streams.{line_fault};
 
 use crate::pieces::{ReadStop, read_bytes, read_number};
 use crate::store_faults::StoreFault;
@@ -47,11 +48,11 @@ pub(crate) fn read_opening<R: Read>(
     reader: &mut R,
     hasher: &mut DefaultHasher,
 ) -> Result<(u64, u64), StoreFault>
-    ensures ok { IfOk result (λ r. (most : Option ℕ) → FrontIsRead (read_store (bounds_of capacity most))
-        (λ text more. entries_read text most r.0 r.1 [] more) (R.remaining reader.old) (R.remaining reader.new)
+    ensures ok { IfOk result (λ r. (most : Option ℕ) → FileFrontIsRead (read_store (bounds_of capacity most))
+        (λ text more. reading_of_entries text most r.0 r.1 [] more) (R.remaining reader.old) (R.remaining reader.new)
         hasher.old hasher.new) }
     ensures few { IfOk result (λ r. r.1 ≤ capacity) }
-    ensures fault { IfErr result (λ fault. (most : Option ℕ) → IsRefused (read_store (bounds_of capacity most))
+    ensures fault { IfErr result (λ fault. (most : Option ℕ) → ReaderIsRefusedFor (read_store (bounds_of capacity most))
         (R.remaining reader.old) (R.remaining reader.new) fault) }
 {
     let line = match read_bytes(alloc, reader, hasher, FIRST_LINE.len() as u64) {

@@ -2,7 +2,7 @@
 //!
 //! Our own loop over `read`: after an error of `read_exact` nobody knows what was read.
 ghost use Rattle.std.specs.Prelude.{◌≡◌, ◌<◌, length, IfOk, IfErr};
-ghost use Rattle.proxy_store_file.specs.Streams.{ReaderGaveBytes, NumberGiven, ReaderStoppedShort};
+ghost use Rattle.proxy_store_file.specs.Streams.{ReaderGaveBytes, EightBytesGaveNumber, ReaderStoppedShort};
 
 use crate::limits::PIECE;
 use crate::texts::number_of;
@@ -80,7 +80,7 @@ pub(crate) fn read_number<R: Read>(
     reader: &mut R,
     hasher: &mut DefaultHasher,
 ) -> Result<u64, ReadStop>
-    ensures ok { IfOk result (λ n. NumberGiven (R.remaining reader.old) (R.remaining reader.new)
+    ensures ok { IfOk result (λ n. EightBytesGaveNumber (R.remaining reader.old) (R.remaining reader.new)
         hasher.old hasher.new n) }
     ensures stop { IfErr result (λ why. ReaderStoppedShort (λ bytes. length bytes < 8) (R.remaining reader.old)
         (R.remaining reader.new) why) }

@@ -4,7 +4,7 @@
 ghost use Rattle.std.specs.Prelude.{◌≡◌, ℕ, take, OnOk, OnErr};
 ghost use Rattle.std.specs.Io.KnownBytes.{Appends};
 ghost use Rattle.proxy_store_file.specs.Texts.{text_spelling};
-ghost use Rattle.proxy_store_file.specs.Writing.{Took, TookFront};
+ghost use Rattle.proxy_store_file.specs.Writing.{WriterTookBytes, WriterTookAFront};
 
 use crate::texts::number_text;
 use std::hash::{DefaultHasher, Hasher};
@@ -35,14 +35,14 @@ pub(crate) fn put<W: Write>(writer: &mut W, bytes: &[u8]) -> Result<(), WriteFai
 }
 
 /// The same, and feeds the hasher.
-pub(crate) fn put_fed<W: Write>(
+pub(crate) fn put_and_hash<W: Write>(
     writer: &mut W,
     hasher: &mut DefaultHasher,
     bytes: &[u8],
 ) -> Result<(), WriteFailed>
-    ensures ok { OnOk result (Took (W.contents writer.old) (W.contents writer.new) hasher.old hasher.new
+    ensures ok { OnOk result (WriterTookBytes (W.contents writer.old) (W.contents writer.new) hasher.old hasher.new
         bytes.now) }
-    ensures err { OnErr result (TookFront (W.contents writer.old) (W.contents writer.new) bytes.now) }
+    ensures err { OnErr result (WriterTookAFront (W.contents writer.old) (W.contents writer.new) bytes.now) }
 {
     hasher.write(bytes);
     put(writer, bytes)
@@ -54,13 +54,13 @@ pub(crate) fn put_text<W: Write>(
     hasher: &mut DefaultHasher,
     text: &[u8],
 ) -> Result<(), WriteFailed>
-    ensures ok { OnOk result (Took (W.contents writer.old) (W.contents writer.new) hasher.old hasher.new
+    ensures ok { OnOk result (WriterTookBytes (W.contents writer.old) (W.contents writer.new) hasher.old hasher.new
         (text_spelling text.now)) }
-    ensures err { OnErr result (TookFront (W.contents writer.old) (W.contents writer.new)
+    ensures err { OnErr result (WriterTookAFront (W.contents writer.old) (W.contents writer.new)
         (text_spelling text.now)) }
 {
-    match put_fed(writer, hasher, &number_text(text.len() as u64)) {
-        Ok(()) => put_fed(writer, hasher, text),
+    match put_and_hash(writer, hasher, &number_text(text.len() as u64)) {
+        Ok(()) => put_and_hash(writer, hasher, text),
         Err(failed) => Err(failed),
     }
 }

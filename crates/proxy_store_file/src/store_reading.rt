@@ -2,23 +2,24 @@
 ghost use Rattle.std.specs.Prelude.{◌≡◌, ◌<◌, ◌≤◌, ◌+◌, ◌-◌, ◌^◌, [], List, length, Ok, IfOk, IfErr, IfSome, OnOk};
 ghost use Rattle.std.specs.Prelude.{OnErr};
 ghost use Rattle.hx_store.specs.Stored.{Stored};
-ghost use Rattle.proxy_store_file.specs.Stores.{entry_fault, is_too_heavy, read_store};
-ghost use Rattle.proxy_store_file.specs.Streams.{EndIsRead, EndIsRefused, EntryIsRefused, EntryIsTaken, IsRead};
-ghost use Rattle.proxy_store_file.specs.Streams.{IsRefused, bounds_of, contents_of};
+ghost use Rattle.proxy_store_file.specs.Stores.{entry_fault, weight_exceeds_bound, read_store};
+ghost use Rattle.proxy_store_file.specs.Streams.{FileEndIsRead, FileEndIsRefused, EntryIsRefused, NextEntryIsRead};
+ghost use Rattle.proxy_store_file.specs.Streams.{ReaderGaveReading};
+ghost use Rattle.proxy_store_file.specs.Streams.{ReaderIsRefusedFor, bounds_of, store_contents_of};
 
-use crate::entry_parts::part_at_fault;
+use crate::entry_parts::first_invalid_part;
 use crate::entry_reading::read_entry;
 use crate::opening::{fault_of_stop, read_opening};
 use crate::pieces::{ReadStop, read_bytes, read_number};
 use crate::store_faults::{EntryPart, StoreFault};
-use hx_store::{Entry, Shelf, shed_to};
+use hx_store::{Entry, Shelf, evict_to_weight};
 use std::alloc::Global;
 use std::hash::{DefaultHasher, Hasher};
 use std::io::Read;
 
-fn is_too_heavy(most: Option<u64>, held: u64, entry: u64) -> bool
+fn weight_exceeds_bound(most: Option<u64>, held: u64, entry: u64) -> bool
     requires { IfSome most (λ most. most < 2 ^ 64 - 1) }
-    ensures { result ≡ is_too_heavy most (entry + held) }
+    ensures { result ≡ weight_exceeds_bound most (entry + held) }
 {
     match most {
         None => false,
@@ -37,13 +38,13 @@ fn entry_fault<S: Shelf>(
     requires { IfSome most (λ most. most < 2 ^ 64 - 1) }
     ensures { result ≡ entry_fault number most next (S.entries shelf.now) entry.now }
 {
-    if let Some(part) = part_at_fault(entry) {
+    if let Some(part) = first_invalid_part(entry) {
         return Some(StoreFault::Entry(number, part));
     }
     if shelf.contains(entry.serial) || next <= entry.serial {
         return Some(StoreFault::Serial(number));
     }
-    if is_too_heavy(most, shelf.weight(), entry.weight()) {
+    if weight_exceeds_bound(most, shelf.weight(), entry.weight()) {
         return Some(StoreFault::Weight(number));
     }
     None
@@ -62,7 +63,7 @@ fn take_entry<S: Shelf, R: Read>(
     requires bounded { IfSome most (λ most. most < 2 ^ 64 - 1) }
     requires number { number ≡ length (S.entries shelf.old) + 1 }
     requires room { number ≤ S.limit shelf.old }
-    ensures ok { OnOk result (EntryIsTaken most next (S.entries shelf.old) (S.entries shelf.new)
+    ensures ok { OnOk result (NextEntryIsRead most next (S.entries shelf.old) (S.entries shelf.new)
         (R.remaining reader.old) (R.remaining reader.new) hasher.old hasher.new) }
     ensures number { OnOk result (length (S.entries shelf.new) ≡ length (S.entries shelf.old) + 1) }
     ensures fault { IfErr result (λ fault. EntryIsRefused most next (S.entries shelf.old)
@@ -91,9 +92,9 @@ fn read_end<R: Read>(
     hasher: &mut DefaultHasher,
 ) -> Result<(), StoreFault>
     ensures ok { OnOk result ((entries : List Stored) → length entries ≡ held
-        → EndIsRead entries (R.remaining reader.old) (R.remaining reader.new) hasher.old) }
+        → FileEndIsRead entries (R.remaining reader.old) (R.remaining reader.new) hasher.old) }
     ensures fault { IfErr result (λ fault. (entries : List Stored) → length entries ≡ held
-        → EndIsRefused entries (R.remaining reader.old) (R.remaining reader.new) hasher.old fault) }
+        → FileEndIsRefused entries (R.remaining reader.old) (R.remaining reader.new) hasher.old fault) }
 {
     let digest = hasher.finish();
     let written = match read_number(alloc, reader, hasher) {
@@ -120,9 +121,9 @@ fn fill<S: Shelf, R: Read>(
 ) -> Result<u64, StoreFault>
     requires bounded { IfSome most (λ most. most < 2 ^ 64 - 1) }
     requires empty { S.entries shelf.old ≡ [] }
-    ensures ok { IfOk result (λ next. IsRead (read_store (bounds_of (S.limit shelf.old) most))
-        (R.remaining reader.old) (R.remaining reader.new) (Ok (contents_of (S.entries shelf.new) next))) }
-    ensures fault { IfErr result (λ fault. IsRefused (read_store (bounds_of (S.limit shelf.old) most))
+    ensures ok { IfOk result (λ next. ReaderGaveReading (read_store (bounds_of (S.limit shelf.old) most))
+        (R.remaining reader.old) (R.remaining reader.new) (Ok (store_contents_of (S.entries shelf.new) next))) }
+    ensures fault { IfErr result (λ fault. ReaderIsRefusedFor (read_store (bounds_of (S.limit shelf.old) most))
         (R.remaining reader.old) (R.remaining reader.new) fault) }
     ensures limit { S.limit shelf.new ≡ S.limit shelf.old }
 {
@@ -157,9 +158,9 @@ pub fn read_store<S: Shelf, R: Read>(
 ) -> Result<u64, StoreFault>
     requires bounded { IfSome most (λ most. most < 2 ^ 64 - 1) }
     requires empty { S.entries shelf.old ≡ [] }
-    ensures ok { IfOk result (λ next. IsRead (read_store (bounds_of (S.limit shelf.old) most))
-        (R.remaining reader.old) (R.remaining reader.new) (Ok (contents_of (S.entries shelf.new) next))) }
-    ensures fault { IfErr result (λ fault. IsRefused (read_store (bounds_of (S.limit shelf.old) most))
+    ensures ok { IfOk result (λ next. ReaderGaveReading (read_store (bounds_of (S.limit shelf.old) most))
+        (R.remaining reader.old) (R.remaining reader.new) (Ok (store_contents_of (S.entries shelf.new) next))) }
+    ensures fault { IfErr result (λ fault. ReaderIsRefusedFor (read_store (bounds_of (S.limit shelf.old) most))
         (R.remaining reader.old) (R.remaining reader.new) fault) }
     ensures emptied { OnErr result (S.entries shelf.new ≡ []) }
     ensures limit { S.limit shelf.new ≡ S.limit shelf.old }
@@ -167,7 +168,7 @@ pub fn read_store<S: Shelf, R: Read>(
     match fill(alloc, most, shelf, reader) {
         Ok(next) => Ok(next),
         Err(fault) => {
-            shed_to(shelf, 0);
+            evict_to_weight(shelf, 0);
             Err(fault)
         }
     }

@@ -2,16 +2,17 @@
 ghost use Rattle.std.specs.Prelude.{◌≡◌, ◌++◌, [], None, IfOk, IfErr, OnOk, OnErr, List, length};
 ghost use Rattle.std.specs.Io.KnownBytes.{Appends};
 ghost use Rattle.hx_store.specs.Stored.{Stored};
-ghost use Rattle.proxy_store_file.specs.Heads.{head_spelling, head_of};
+ghost use Rattle.proxy_store_file.specs.Heads.{head_spelling, head_of_entry};
 ghost use Rattle.proxy_store_file.specs.Stores.{entries_spelling, entry_spelling, opening_spelling, store_spelling};
-ghost use Rattle.proxy_store_file.specs.Streams.{contents_of};
-ghost use Rattle.proxy_store_file.specs.Writing.{IsNotWritten, Took, store_telling_fault, telling_fault};
+ghost use Rattle.proxy_store_file.specs.Streams.{store_contents_of};
+ghost use Rattle.proxy_store_file.specs.Writing.{StoreWasNotWritten, WriterTookBytes, store_write_fault};
+ghost use Rattle.proxy_store_file.specs.Writing.{entry_write_fault};
 
-use crate::entry_parts::part_at_fault;
+use crate::entry_parts::first_invalid_part;
 use crate::head_writing::head_text;
 use crate::limits::MOST_HEAD_BYTES;
 use crate::opening::FIRST_LINE;
-use crate::pieces_written::{put, put_fed, put_text};
+use crate::pieces_written::{put, put_and_hash, put_text};
 use crate::store_faults::{EntryPart, WriteFault};
 use crate::texts::{number_text, push_number};
 use hx_store::{Entry, Shelf};
@@ -30,14 +31,14 @@ fn opening_text(alloc: Global, next: u64, number: u64) -> Result<Vec<u8>, AllocE
 }
 
 /// Why the entry of this number, and of this head, can't be told. No memory is taken.
-fn telling_fault(number: u64, next: u64, entry: &Entry, head: &[u8]) -> Option<WriteFault>
-    requires { head.now ≡ head_spelling (head_of entry.now) }
-    ensures { result ≡ telling_fault number next entry.now }
+fn entry_write_fault(number: u64, next: u64, entry: &Entry, head: &[u8]) -> Option<WriteFault>
+    requires { head.now ≡ head_spelling (head_of_entry entry.now) }
+    ensures { result ≡ entry_write_fault number next entry.now }
 {
     if head.len() > MOST_HEAD_BYTES {
         return Some(WriteFault::Entry(number, EntryPart::Head));
     }
-    if let Some(part) = part_at_fault(entry) {
+    if let Some(part) = first_invalid_part(entry) {
         return Some(WriteFault::Entry(number, part));
     }
     if next <= entry.serial {
@@ -55,24 +56,24 @@ fn write_entry<W: Write>(
     writer: &mut W,
     hasher: &mut DefaultHasher,
 ) -> Result<(), WriteFault>
-    ensures ok { OnOk result (Took (W.contents writer.old) (W.contents writer.new) hasher.old hasher.new
+    ensures ok { OnOk result (WriterTookBytes (W.contents writer.old) (W.contents writer.new) hasher.old hasher.new
         (entry_spelling entry.now)) }
-    ensures told { OnOk result (telling_fault number next entry.now ≡ None) }
-    ensures err { IfErr result (IsNotWritten (W.contents writer.old) (W.contents writer.new)
-        (entry_spelling entry.now) (telling_fault number next entry.now)) }
+    ensures told { OnOk result (entry_write_fault number next entry.now ≡ None) }
+    ensures err { IfErr result (StoreWasNotWritten (W.contents writer.old) (W.contents writer.new)
+        (entry_spelling entry.now) (entry_write_fault number next entry.now)) }
 {
     let head = match head_text(alloc, entry) {
         Ok(head) => head,
         Err(_) => return Err(WriteFault::OutOfMemory),
     };
-    if let Some(fault) = telling_fault(number, next, entry, head.as_slice()) {
+    if let Some(fault) = entry_write_fault(number, next, entry, head.as_slice()) {
         return Err(fault);
     }
     match put_text(writer, hasher, head.as_slice()) {
         Ok(()) => {}
         Err(_) => return Err(WriteFault::Write),
     }
-    match put_fed(writer, hasher, entry.content.as_slice()) {
+    match put_and_hash(writer, hasher, entry.content.as_slice()) {
         Ok(()) => Ok(()),
         Err(_) => Err(WriteFault::Write),
     }
@@ -86,12 +87,12 @@ fn write_entries<S: Shelf, W: Write>(
     writer: &mut W,
     hasher: &mut DefaultHasher,
 ) -> Result<(), WriteFault>
-    ensures ok { OnOk result (Took (W.contents writer.old) (W.contents writer.new) hasher.old hasher.new
+    ensures ok { OnOk result (WriterTookBytes (W.contents writer.old) (W.contents writer.new) hasher.old hasher.new
         (entries_spelling (S.entries shelf.old))) }
-    ensures told { OnOk result (store_telling_fault next (S.entries shelf.old) ≡ None) }
+    ensures told { OnOk result (store_write_fault next (S.entries shelf.old) ≡ None) }
     ensures emptied { OnOk result (S.entries shelf.new ≡ []) }
-    ensures err { IfErr result (IsNotWritten (W.contents writer.old) (W.contents writer.new)
-        (entries_spelling (S.entries shelf.old)) (store_telling_fault next (S.entries shelf.old))) }
+    ensures err { IfErr result (StoreWasNotWritten (W.contents writer.old) (W.contents writer.new)
+        (entries_spelling (S.entries shelf.old)) (store_write_fault next (S.entries shelf.old))) }
     ensures left { (gone : List Stored) × (S.entries shelf.new ++ gone ≡ S.entries shelf.old) }
 {
     let mut number = 0u64;
@@ -118,12 +119,12 @@ pub fn write_store<S: Shelf, W: Write>(
     writer: &mut W,
 ) -> Result<(), WriteFault>
     ensures ok { OnOk result (Appends (W.contents writer.old) (W.contents writer.new)
-        (store_spelling (contents_of (S.entries shelf.old) next))) }
-    ensures told { OnOk result (store_telling_fault next (S.entries shelf.old) ≡ None) }
+        (store_spelling (store_contents_of (S.entries shelf.old) next))) }
+    ensures told { OnOk result (store_write_fault next (S.entries shelf.old) ≡ None) }
     ensures emptied { OnOk result (S.entries shelf.new ≡ []) }
-    ensures err { IfErr result (IsNotWritten (W.contents writer.old) (W.contents writer.new)
-        (store_spelling (contents_of (S.entries shelf.old) next))
-        (store_telling_fault next (S.entries shelf.old))) }
+    ensures err { IfErr result (StoreWasNotWritten (W.contents writer.old) (W.contents writer.new)
+        (store_spelling (store_contents_of (S.entries shelf.old) next))
+        (store_write_fault next (S.entries shelf.old))) }
     ensures left { (gone : List Stored) × (S.entries shelf.new ++ gone ≡ S.entries shelf.old) }
 {
     let opening = match opening_text(alloc, next, shelf.len() as u64) {
@@ -131,7 +132,7 @@ pub fn write_store<S: Shelf, W: Write>(
         Err(_) => return Err(WriteFault::OutOfMemory),
     };
     let mut hasher = DefaultHasher::new();
-    match put_fed(writer, &mut hasher, opening.as_slice()) {
+    match put_and_hash(writer, &mut hasher, opening.as_slice()) {
         Ok(()) => {}
         Err(_) => return Err(WriteFault::Write),
     }

@@ -1,12 +1,13 @@
 -- What passes between a peer and its stream.
 --
 -- PeerReadOutcome, read_outcome_of_result, bytes_taken_by_write: what a read gave, the bytes that a write took
--- is_passing_reason, IsFailure, is_last_read: whether more may come behind a read
+-- is_transient_error, IsLastingError, is_last_read: whether more may come behind a read
 -- peer_read_outcome: what a peer tells of a read
--- MoreMayBeLeft: whether more may be left to be read      event_shows_reading, event_shows_an_end: what an event tells
+-- MoreMayBeLeftToRead: whether more may be left to be read      event_shows_readable, event_shows_an_end: what an event
+-- tells
 -- UnsentBytes: what a contract sees of `Unsent`
--- BytesAreHandedOn: of bytes that are to be written the stream took the front, and the rest is kept
--- BytesAreHandedOnInPart: the stream took the front, and the rest is lost
+-- BytesAreWrittenOrKept: of bytes that are to be written the stream took the front, and the rest is kept
+-- BytesAreWrittenInPart: the stream took the front, and the rest is lost
 use Rattle.std.specs.Prelude.{◌≡◌, ◌==◌, ℕ, Bool, true, false, not, ◌||◌, if◌then◌else◌, List, [], ◌++◌, take, Result}
 use Rattle.std.specs.Prelude.{Ok, Err}
 use Rattle.std.specs.IoError.{error_kind}
@@ -30,17 +31,17 @@ read_outcome_of_result (Ok n) buf = if n == 0 then Ended else Bytes (take n buf)
 read_outcome_of_result (Err e) buf = Nothing (error_kind e)
 
 -- nothing had come, or the call was interrupted; else a call that gives nothing has failed
-abbrev pub is_passing_reason : ErrorKind → Bool
-is_passing_reason WouldBlock = true
-is_passing_reason Interrupted = true
-is_passing_reason _ = false
+abbrev pub is_transient_error : ErrorKind → Bool
+is_transient_error WouldBlock = true
+is_transient_error Interrupted = true
+is_transient_error _ = false
 
-abbrev pub IsFailure : Error → Type 0
-IsFailure e = is_passing_reason (error_kind e) ≡ false
+abbrev pub IsLastingError : Error → Type 0
+IsLastingError e = is_transient_error (error_kind e) ≡ false
 
 -- behind the end and behind a failure nothing more comes
 abbrev pub is_last_read : PeerReadOutcome → Bool
-is_last_read (Nothing reason) = not (is_passing_reason reason)
+is_last_read (Nothing reason) = not (is_transient_error reason)
 is_last_read (Bytes bytes) = false
 is_last_read Ended = true
 
@@ -66,23 +67,23 @@ peer_read_outcome left (Err e) buf = Nothing (error_kind e)
 -- Whether more may be left to be read. No event tells of what had come before: so it is, unless the stream said that
 -- nothing is left, its end was read, or there was room for more bytes than it gave and no event has told of its end or
 -- a failure behind them.
-abbrev pub MoreMayBeLeft : Bool → ℕ → Result Received Error → Bool → Type 0
-MoreMayBeLeft hung room (Ok received.Nothing) left = Unit {0}
-MoreMayBeLeft hung room (Ok (received.Bytes n)) left = left ≡ ((n == room) || hung)
-MoreMayBeLeft hung room (Ok received.End) left = left ≡ false
-MoreMayBeLeft hung room (Err e) left = left ≡ true
+abbrev pub MoreMayBeLeftToRead : Bool → ℕ → Result Received Error → Bool → Type 0
+MoreMayBeLeftToRead hung room (Ok received.Nothing) left = Unit {0}
+MoreMayBeLeftToRead hung room (Ok (received.Bytes n)) left = left ≡ ((n == room) || hung)
+MoreMayBeLeftToRead hung room (Ok received.End) left = left ≡ false
+MoreMayBeLeftToRead hung room (Err e) left = left ≡ true
 
 -- an event tells that something may be read; that an end or a failure may be
 abbrev pub event_shows_an_end : Event → Bool
 event_shows_an_end e = is_read_closed e || is_error e
 
-abbrev pub event_shows_reading : Event → Bool
-event_shows_reading e = is_readable e || event_shows_an_end e
+abbrev pub event_shows_readable : Event → Bool
+event_shows_readable e = is_readable e || event_shows_an_end e
 
 -- What the stream took, followed by what is kept, is all that is to be written. `Took` says which bytes the stream
 -- took.
-abbrev pub BytesAreHandedOn : (List ℕ → Type 0) → List ℕ → List ℕ → Type 0
-BytesAreHandedOn Took all kept = (took : List ℕ) × Took took × (took ++ kept ≡ all)
+abbrev pub BytesAreWrittenOrKept : (List ℕ → Type 0) → List ℕ → List ℕ → Type 0
+BytesAreWrittenOrKept Took all kept = (took : List ℕ) × Took took × (took ++ kept ≡ all)
 
-abbrev pub BytesAreHandedOnInPart : (List ℕ → Type 0) → List ℕ → Type 0
-BytesAreHandedOnInPart Took all = (rest : List ℕ) × BytesAreHandedOn Took all rest
+abbrev pub BytesAreWrittenInPart : (List ℕ → Type 0) → List ℕ → Type 0
+BytesAreWrittenInPart Took all = (rest : List ℕ) × BytesAreWrittenOrKept Took all rest

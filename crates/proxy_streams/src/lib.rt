@@ -11,6 +11,6 @@ mod socket;
 mod stream;
 mod unsent;
 
-pub use crate::peer::{Peer, held_after};
+pub use crate::peer::{Peer, held_bytes_after_change};
 pub use crate::socket::Socket;
 pub use crate::stream::Stream;

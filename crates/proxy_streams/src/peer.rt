@@ -2,17 +2,18 @@
 ghost use Rattle.std.specs.Prelude.{◌≡◌, ◌<◌, ◌≤◌, ◌-◌, ◌||◌, true, false, not, [], ◌∷◌, ◌++◌, length, IfOk, OnOk};
 ghost use Rattle.std.specs.Prelude.{OnErr, IfErr, IfSome, min, ◌+◌, ◌^◌, ◌⊎◌};
 ghost use Rattle.std.specs.IoError.{error_kind};
-ghost use Rattle.proxy_reads.specs.Received.{FitsTheBuffer};
+ghost use Rattle.proxy_reads.specs.Received.{ReceivedBytesAreAtMostRoom};
 ghost use Rattle.proxy_streams.specs.Silence.{end_is_silent};
-ghost use Rattle.proxy_streams.specs.Peers.{peer_read_outcome, BytesAreHandedOn, BytesAreHandedOnInPart, MoreMayBeLeft};
-ghost use Rattle.proxy_streams.specs.Peers.{event_shows_reading, event_shows_an_end, IsFailure};
-ghost use Rattle.proxy_streams.specs.PeerCalls.{PeerIsWritten, new_peer, ended_after_read, heard_after_read};
+ghost use Rattle.proxy_streams.specs.Peers.{peer_read_outcome, BytesAreWrittenOrKept, BytesAreWrittenInPart};
+ghost use Rattle.proxy_streams.specs.Peers.{MoreMayBeLeftToRead};
+ghost use Rattle.proxy_streams.specs.Peers.{event_shows_readable, event_shows_an_end, IsLastingError};
+ghost use Rattle.proxy_streams.specs.PeerCalls.{PeerIsWritten, new_peer, ended_after_read, heard_moment_after_read};
 ghost use Rattle.proxy_streams.specs.PeerCalls.{received_after_read};
-ghost use Rattle.proxy_streams.specs.Resets.{is_broken_off, new_socket};
+ghost use Rattle.proxy_streams.specs.Resets.{is_broken_connection_error, new_socket};
 
 use crate::socket::{Socket, still_connecting};
 use crate::stream::Stream;
-use crate::unsent::{Unsent, write_some};
+use crate::unsent::{Unsent, write_what_stream_takes};
 use mio::event::Event;
 use mio::net::TcpStream;
 use mio::{Poll, Token};
@@ -47,7 +48,7 @@ pub struct Peer<S: Stream + Drop> {
 }
 
 /// Bytes that are held of all ends, where so many of one were, and so many are now.
-pub fn held_after(all: usize, before: usize, after: usize) -> usize
+pub fn held_bytes_after_change(all: usize, before: usize, after: usize) -> usize
     ensures { result ≡ min (all - before + after) (2 ^ 64 - 1) }
 {
     all.saturating_sub(before).saturating_add(after)
@@ -120,8 +121,8 @@ impl Peer<Socket> {
 
     /// Has the last piece of what is written sent at once, though the peer hasn't acknowledged those before (RFC 9293,
     /// section 3.7.4).
-    pub fn send_at_once(&self) {
-        self.stream.send_at_once();
+    pub fn send_without_delay(&self) {
+        self.stream.send_without_delay();
     }
 }
 
@@ -155,7 +156,7 @@ impl<S: Stream + Drop> Peer<S> {
     /// Marks what an event told of reading.
     pub fn mark_ready(&mut self, event: &Event)
         ensures { self.new ≡ record self.old {
-          readable = self.old.readable || event_shows_reading event.now;
+          readable = self.old.readable || event_shows_readable event.now;
           hung = self.old.hung || event_shows_an_end event.now;
         } }
     {
@@ -173,15 +174,16 @@ impl<S: Stream + Drop> Peer<S> {
     pub fn write(&mut self, bytes: &[u8], now: u64) -> io::Result<()>
         ensures connected { self.old.connecting ≡ false → self.new.connecting ≡ false }
         ensures handed { self.old.broken ≡ false
-            → OnOk result (BytesAreHandedOn (λ took. S.Passed self.old.stream took [] self.new.stream)
+            → OnOk result (BytesAreWrittenOrKept (λ took. S.Passed self.old.stream took [] self.new.stream)
             (self.old.unsent.bytes ++ bytes.now) self.new.unsent.bytes) }
         ensures in_part { OnErr result
-            (BytesAreHandedOnInPart (λ took. S.Passed self.old.stream took [] self.new.stream)
+            (BytesAreWrittenInPart (λ took. S.Passed self.old.stream took [] self.new.stream)
             (self.old.unsent.bytes ++ bytes.now)) }
         ensures written { PeerIsWritten S.Passed bytes.now self.old self.new }
         ensures going { OnOk result (self.new.broken ≡ self.old.broken) }
         ensures failed { OnErr result (self.new.broken ≡ true) }
-        ensures made { IfErr result (λ e. is_broken_off (error_kind e) ≡ true → self.new.connecting ≡ false) }
+        ensures made { IfErr result (λ e. is_broken_connection_error (error_kind e) ≡ true → self.new.connecting
+            ≡ false) }
         ensures broken { self.old.broken ≡ true → (self.new.stream ≡ self.old.stream) × (self.new.broken ≡ true) }
         ensures readable { self.old.readable ≡ true → self.new.readable ≡ true }
         ensures hung { self.old.hung ≡ true → self.new.hung ≡ true }
@@ -214,10 +216,10 @@ impl<S: Stream + Drop> Peer<S> {
     fn write_or_keep(&mut self, bytes: &[u8], now: u64) -> io::Result<()>
         requires { self.old.broken ≡ false }
         ensures connected { self.old.connecting ≡ false → self.new.connecting ≡ false }
-        ensures handed { OnOk result (BytesAreHandedOn (λ took. S.Passed self.old.stream took [] self.new.stream)
+        ensures handed { OnOk result (BytesAreWrittenOrKept (λ took. S.Passed self.old.stream took [] self.new.stream)
             (self.old.unsent.bytes ++ bytes.now) self.new.unsent.bytes) }
         ensures in_part { OnErr result
-            (BytesAreHandedOnInPart (λ took. S.Passed self.old.stream took [] self.new.stream)
+            (BytesAreWrittenInPart (λ took. S.Passed self.old.stream took [] self.new.stream)
             (self.old.unsent.bytes ++ bytes.now)) }
         ensures going { OnOk result (self.new.broken ≡ false) }
         ensures readable { self.old.readable ≡ true → self.new.readable ≡ true }
@@ -238,7 +240,7 @@ impl<S: Stream + Drop> Peer<S> {
         if self.has_unsent() {
             return self.unsent.keep(bytes);
         }
-        let n = write_some(&mut self.stream, bytes)?;
+        let n = write_what_stream_takes(&mut self.stream, bytes)?;
         self.written = self.written.saturating_add(n as u64);
         self.connecting = self.connecting && n == 0;
         self.unsent.keep(&bytes[n..])
@@ -271,10 +273,10 @@ impl<S: Stream + Drop> Peer<S> {
         ensures connecting { self.new.connecting ≡ self.old.connecting }
         ensures handed { self.old.broken ≡ false
             → OnOk result
-            (BytesAreHandedOn (λ took. S.Passed self.old.stream took [] self.new.stream) self.old.unsent.bytes
+            (BytesAreWrittenOrKept (λ took. S.Passed self.old.stream took [] self.new.stream) self.old.unsent.bytes
             self.new.unsent.bytes) }
         ensures in_part { OnErr result
-            (BytesAreHandedOnInPart (λ took. S.Passed self.old.stream took [] self.new.stream) self.old.unsent.bytes) }
+            (BytesAreWrittenInPart (λ took. S.Passed self.old.stream took [] self.new.stream) self.old.unsent.bytes) }
         ensures going { OnOk result (self.new.broken ≡ self.old.broken) }
         ensures failed { OnErr result (self.new.broken ≡ true) }
         ensures broken { self.old.broken ≡ true → (self.new.stream ≡ self.old.stream) × (self.new.broken ≡ true) }
@@ -312,21 +314,21 @@ impl<S: Stream + Drop> Peer<S> {
     /// that there are none, where its end was read, or where it gave fewer bytes than there was room for and no event
     /// told of its end. Fails where the stream does, but for an interruption, or where nothing has come.
     pub fn read(&mut self, buf: &mut [u8], now: u64) -> io::Result<Received>
-        ensures within { IfOk result (FitsTheBuffer (length buf.old)) }
+        ensures within { IfOk result (ReceivedBytesAreAtMostRoom (length buf.old)) }
         ensures length { length buf.new ≡ length buf.old }
         ensures passed { self.old.readable ≡ true
             → S.Passed self.old.stream [] (peer_read_outcome self.new.readable result buf.new ∷ []) self.new.stream }
-        ensures left { self.old.readable ≡ true → MoreMayBeLeft self.old.hung
+        ensures left { self.old.readable ≡ true → MoreMayBeLeftToRead self.old.hung
             (length buf.old) result self.new.readable }
         ensures unread { self.old.readable ≡ false → (self.new ≡ self.old) × (result ≡ Ok Received.Nothing) }
         ensures hung { self.new.hung ≡ self.old.hung }
         ensures unsent { self.new.unsent ≡ self.old.unsent }
-        ensures failed { IfErr result IsFailure }
+        ensures failed { IfErr result IsLastingError }
         ensures rest { self.new ≡ record self.old {
           stream = self.new.stream;
           readable = self.new.readable;
           ended = ended_after_read result self.old.ended;
-          heard = heard_after_read result now self.old.heard;
+          heard = heard_moment_after_read result now self.old.heard;
           received = received_after_read result self.old.received;
         } }
     {

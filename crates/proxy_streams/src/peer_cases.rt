@@ -2,7 +2,7 @@
 
 ghost use Rattle.std.specs.Prelude.{◌≡◌, ℕ, ◌∷◌, [], true, false, Ok, Err};
 ghost use Rattle.proxy_streams.specs.Peers.{Bytes, Ended, bytes_taken_by_write, read_outcome_of_result};
-ghost use Rattle.proxy_streams.specs.Resets.{is_broken_off, is_no_end, tells_of_reset};
+ghost use Rattle.proxy_streams.specs.Resets.{is_broken_connection_error, is_end_after_reset, is_reset_error};
 ghost use Rattle.proxy_streams.specs.Silence.{end_is_silent};
 ghost use Rattle.std.specs.declared.io.ErrorKind.TheVariants.{ConnectionReset, ConnectionRefused, BrokenPipe, TimedOut};
 
@@ -18,13 +18,13 @@ pub fn worked_peers()
     ensures takes_not { end_is_silent true (1 ∷ []) 100 0 5 ≡ true }
     ensures silent { end_is_silent false [] 100 94 5 ≡ true }
     ensures silent_just { end_is_silent false [] 100 95 5 ≡ false }
-    ensures was_reset { is_broken_off ConnectionReset ≡ true }
-    ensures was_ended { is_broken_off BrokenPipe ≡ true }
-    ensures was_refused { is_broken_off ConnectionRefused ≡ false }
-    ensures took_too_long { is_broken_off TimedOut ≡ false }
-    ensures is_told { tells_of_reset ConnectionReset ≡ true }
-    ensures is_not_told { tells_of_reset BrokenPipe ≡ false }
-    ensures no_end { is_no_end true 0 ≡ true }
-    ensures bytes_behind { is_no_end true 1 ≡ false }
-    ensures true_end { is_no_end false 0 ≡ false }
+    ensures was_reset { is_broken_connection_error ConnectionReset ≡ true }
+    ensures was_ended { is_broken_connection_error BrokenPipe ≡ true }
+    ensures was_refused { is_broken_connection_error ConnectionRefused ≡ false }
+    ensures took_too_long { is_broken_connection_error TimedOut ≡ false }
+    ensures is_told { is_reset_error ConnectionReset ≡ true }
+    ensures is_not_told { is_reset_error BrokenPipe ≡ false }
+    ensures no_end { is_end_after_reset true 0 ≡ true }
+    ensures bytes_behind { is_end_after_reset true 1 ≡ false }
+    ensures true_end { is_end_after_reset false 0 ≡ false }
 {}

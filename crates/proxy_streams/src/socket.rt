@@ -2,8 +2,8 @@
 //! reads behind that, as if the peer had said all.
 ghost use Rattle.std.specs.Prelude.{◌≡◌, ◌||◌, true, false, IfOk, IfSome};
 ghost use Rattle.std.specs.IoError.{error_kind};
-ghost use Rattle.proxy_streams.specs.Resets.{is_broken_off, still_connecting_behind, tells_of_reset};
-ghost use Rattle.proxy_streams.specs.Resets.{call_tells_of_reset, is_no_end, new_socket};
+ghost use Rattle.proxy_streams.specs.Resets.{is_broken_connection_error, still_connecting_after_error, is_reset_error};
+ghost use Rattle.proxy_streams.specs.Resets.{call_failed_by_reset, is_end_after_reset, new_socket};
 
 use crate::stream::Stream;
 use mio::net::TcpStream;
@@ -22,29 +22,29 @@ pub struct Socket {
 }
 
 /// Whether the peer has broken off a connection that had been made.
-fn is_broken_off(kind: ErrorKind) -> bool
-    ensures { result ≡ is_broken_off kind }
+fn is_broken_connection_error(kind: ErrorKind) -> bool
+    ensures { result ≡ is_broken_connection_error kind }
 {
     matches!(kind, ErrorKind::ConnectionReset | ErrorKind::BrokenPipe)
 }
 
 /// Whether a connection still isn't made, behind a call on it that failed so.
 pub(crate) fn still_connecting(connecting: bool, error: &io::Error) -> bool
-    ensures { result ≡ still_connecting_behind connecting error.now }
+    ensures { result ≡ still_connecting_after_error connecting error.now }
 {
-    connecting && !is_broken_off(error.kind())
+    connecting && !is_broken_connection_error(error.kind())
 }
 
-fn tells_of_reset(error: &io::Error) -> bool
-    ensures { result ≡ tells_of_reset (error_kind error.now) }
+fn is_reset_error(error: &io::Error) -> bool
+    ensures { result ≡ is_reset_error (error_kind error.now) }
 {
     error.kind() == ErrorKind::ConnectionReset
 }
 
 /// Whether a read of so many bytes tells of an end that is none: behind a reset (RFC 9112, section 8: the message isn't
 /// whole).
-fn is_no_end(was_reset: bool, count: usize) -> bool
-    ensures { result ≡ is_no_end was_reset count }
+fn is_end_after_reset(was_reset: bool, count: usize) -> bool
+    ensures { result ≡ is_end_after_reset was_reset count }
 {
     was_reset && count == 0
 }
@@ -60,7 +60,7 @@ impl Socket {
     }
 
     /// Has small pieces sent at once, where that is to be had.
-    pub(crate) fn send_at_once(&self) {
+    pub(crate) fn send_without_delay(&self) {
         let _ = self.stream.set_nodelay(true);
     }
 
@@ -83,23 +83,24 @@ impl Socket {
     /// Keeps what a call was told of a reset.
     fn note(&mut self, written: &io::Result<usize>)
         ensures { self.new ≡ record self.old {
-          was_reset = self.old.was_reset || call_tells_of_reset written.now;
+          was_reset = self.old.was_reset || call_failed_by_reset written.now;
         } }
     {
         if let Err(e) = written {
-            self.was_reset = self.was_reset || tells_of_reset(e);
+            self.was_reset = self.was_reset || is_reset_error(e);
         }
     }
 
     /// Why the connection can't be made, if that is known: it had been made where its peer has broken it off. Fails
     /// where the system can't tell.
     pub(crate) fn take_error(&mut self) -> io::Result<Option<io::Error>>
-        ensures refused { IfOk result (λ refused. IfSome refused (λ e. is_broken_off (error_kind e) ≡ false)) }
+        ensures refused { IfOk result (λ refused. IfSome refused (λ e. is_broken_connection_error (error_kind e)
+            ≡ false)) }
         ensures kept { self.old.was_reset ≡ true → self.new.was_reset ≡ true }
     {
         match self.stream.take_error()? {
-            Some(e) if is_broken_off(e.kind()) => {
-                self.was_reset = self.was_reset || tells_of_reset(&e);
+            Some(e) if is_broken_connection_error(e.kind()) => {
+                self.was_reset = self.was_reset || is_reset_error(&e);
                 Ok(None)
             }
             error => Ok(error),
@@ -119,7 +120,7 @@ impl Stream for Socket {
 
     fn read(&mut self, buf: &mut [u8]) -> io::Result<usize> {
         let count = Read::read(&mut self.stream, buf)?;
-        if is_no_end(self.was_reset, count) {
+        if is_end_after_reset(self.was_reset, count) {
             return Err(io::Error::from(ErrorKind::ConnectionReset));
         }
         Ok(count)

@@ -3,15 +3,15 @@ use Rattle.std.proofs.Common.{◌≡◌, inl, inr, ℕ, suc, ◌+◌, ◌<◌, �
 use Rattle.std.proofs.lemmas.List.{append-nil, append_assoc, length-append}
 use Rattle.std.proofs.lemmas.List.Sums.{sum_by-append, sum_by-cons}
 use Rattle.proxy_engine.specs.EngineModel.{EngineModel, new_connection_model}
-use Rattle.proxy_engine.specs.Orderly.{ModelIsOrderly, HappeningKeepsOrder}
+use Rattle.proxy_engine.specs.Orderly.{ModelIsConsistent, HappeningKeepsModelConsistent}
 use Rattle.proxy_engine.specs.State.{State, EngineRepresents}
 use Rattle.proxy_engine.specs.declared.work.End.{End}
 use Rattle.proxy_turn.specs.Calls as call
 use Rattle.proxy_turn.specs.Calls.{Call, AcceptOutcome, Came, NoneCame, Failed}
-use Rattle.proxy_turn.specs.Counts.{Calls, CountsRiseBy}
+use Rattle.proxy_turn.specs.Counts.{Calls, CallCountsRiseBy}
 use Rattle.proxy_turn.specs.Turn.{HappeningIfAnyIsTaken}
-use Rattle.proxy_turn.specs.Over.{asks_while_fewer, happening_of_answer, AcceptsAreTaken, ends_of_answer, accepted_ends, calls_of_accepts, count_of_connection, count_of_failed_answer, count_of_connections, count_of_failed_answers}
-use Rattle.proxy_turn.specs.OverParts.{OneAnswerReports, ListenerIsAsked, AnswersReport, ConnectionsAreAccepted}
+use Rattle.proxy_turn.specs.Over.{may_accept_more, happening_of_accept_outcome, AcceptsAreTaken, ends_of_accept_outcome, accepted_ends, calls_of_accepts, count_of_accepted_connection, count_of_failed_accept_outcome, count_of_accepted_connections, count_of_failed_accept_outcomes}
+use Rattle.proxy_turn.specs.OverParts.{OneAcceptIsReported, ListenerIsAskedAtMostOnce, AcceptsAreReported, ConnectionsAreAccepted}
 use Rattle.proxy_turn.specs.declared.bounds.TurnBounds.{TurnBounds}
 use Rattle.proxy_turn.specs.declared.report.TurnFault.{TurnFault}
 use Rattle.proxy_turn.specs.declared.report.TurnFault.TheVariants as faults
@@ -35,7 +35,7 @@ accepts_on most [] ys s t u came here rest = subst (λ (x : EngineModel). Accept
 accepts_on most (x ∷ xs) ys s t u came before rest = (before.0, before.1, before.2, inl came.0, accepts_on most xs ys before.0 t u came.1 before.4 rest)
 
 -- one that came is one more
-pub one_long : (s : EngineModel) (x : AcceptOutcome) (after : EngineModel) → x ≡ Came → HappeningIfAnyIsTaken s (happening_of_answer (length s.connections + 1) x) after → length after.connections ≡ length s.connections + 1
+pub one_long : (s : EngineModel) (x : AcceptOutcome) (after : EngineModel) → x ≡ Came → HappeningIfAnyIsTaken s (happening_of_accept_outcome (length s.connections + 1) x) after → length after.connections ≡ length s.connections + 1
 one_long s Came after is takes = ap (λ (u : EngineModel). length u.connections) takes.1 ∙ length-append s.connections (new_connection_model s.core.table.max_body ∷ [])
 one_long s NoneCame after is takes = absurd cc
 one_long s Failed after is takes = absurd cc
@@ -58,23 +58,23 @@ ends_on : (xs ys : List AcceptOutcome) (n : ℕ) → accepted_ends n (xs ++ ys) 
 ends_on [] ys n = ap (λ (m : ℕ). accepted_ends m ys) (omega arith)
 ends_on (x ∷ xs) ys n =
     let next : n + 1 + length xs ≡ n + suc (length xs) = omega arith in
-    ap (λ (es : List End). ends_of_answer n x ++ es) (ends_on xs ys (n + 1) ∙ ap (λ (m : ℕ). accepted_ends (n + 1) xs ++ accepted_ends m ys) next)
-    ∙ sym (append_assoc (ends_of_answer n x) (accepted_ends (n + 1) xs) (accepted_ends (n + suc (length xs)) ys))
+    ap (λ (es : List End). ends_of_accept_outcome n x ++ es) (ends_on xs ys (n + 1) ∙ ap (λ (m : ℕ). accepted_ends (n + 1) xs ++ accepted_ends m ys) next)
+    ∙ sym (append_assoc (ends_of_accept_outcome n x) (accepted_ends (n + 1) xs) (accepted_ends (n + suc (length xs)) ys))
 
-none_failed : (xs : List AcceptOutcome) → AllCame xs → count_of_failed_answers xs ≡ 0
+none_failed : (xs : List AcceptOutcome) → AllCame xs → count_of_failed_accept_outcomes xs ≡ 0
 none_failed [] came = refl
 none_failed (x ∷ xs) came =
-    let here : count_of_failed_answer x ≡ 0 = ap count_of_failed_answer came.0 in
+    let here : count_of_failed_accept_outcome x ≡ 0 = ap count_of_failed_accept_outcome came.0 in
     let rest = none_failed xs came.1 in
-    let sum = sum_by-cons count_of_failed_answer x xs in
+    let sum = sum_by-cons count_of_failed_accept_outcome x xs in
     omega (arith, here, rest, sum)
 
-each_counts : (xs : List AcceptOutcome) → AllCame xs → count_of_connections xs ≡ length xs
+each_counts : (xs : List AcceptOutcome) → AllCame xs → count_of_accepted_connections xs ≡ length xs
 each_counts [] came = refl
 each_counts (x ∷ xs) came =
-    let here : count_of_connection x ≡ 1 = ap count_of_connection came.0 in
+    let here : count_of_accepted_connection x ≡ 1 = ap count_of_accepted_connection came.0 in
     let rest = each_counts xs came.1 in
-    let sum = sum_by-cons count_of_connection x xs in
+    let sum = sum_by-cons count_of_accepted_connection x xs in
     omega (arith, here, rest, sum)
 
 -- ---- the calls so far
@@ -88,7 +88,7 @@ pub record SoFar (most : ℕ) (s : EngineModel) (given : List End) (e : State) (
   pub listed : more ≡ given ++ accepted_ends (length s.connections + 1) came
   pub long : length came ≡ number
   pub calls : did (calls_of_accepts (length s.connections + 1) came)
-  pub raises : CountsRiseBy a b (length came) 0 0
+  pub raises : CallCountsRiseBy a b (length came) 0 0
 
 pub so_far_none : (most : ℕ) (s : EngineModel) (given : List End) (e : State) (did : List Call → Type 0) (here : Calls) → EngineRepresents e s → did [] → SoFar most s given e given did here here 0
 so_far_none most s given e did here represents none =
@@ -106,11 +106,11 @@ module _ (bounds : TurnBounds) (s : EngineModel) (given : List End) (e : State) 
     listed = done.listed;
     reports = (inl (done.long ∙ is), none_failed done.came done.all, same ∙ (sym done.long ∙ sym (each_counts done.came done.all)));
     calls = done.calls;
-    raises = raises_same a b (length done.came) 0 0 (length done.came) 0 (count_of_failed_answers done.came) refl refl (sym (none_failed done.came done.all)) done.raises;
+    raises = raises_same a b (length done.came) 0 0 (length done.came) 0 (count_of_failed_accept_outcomes done.came) refl refl (sym (none_failed done.came done.all)) done.raises;
   }
 
   -- one more call, or none
-  module _ (new : State) (later : List End) (then : List Call → Type 0) (c : Calls) (result : Result Bool TurnFault) (one : ListenerIsAsked bounds.most_open done.mid more new later then b c result) (all : List Call → Type 0) (join : Joins did then all) where
+  module _ (new : State) (later : List End) (then : List Call → Type 0) (c : Calls) (result : Result Bool TurnFault) (one : ListenerIsAskedAtMostOnce bounds.most_open done.mid more new later then b c result) (all : List Call → Type 0) (join : Joins did then all) where
     abbrev both : List AcceptOutcome
     both = done.came ++ one.asked
 
@@ -132,13 +132,13 @@ module _ (bounds : TurnBounds) (s : EngineModel) (given : List End) (e : State) 
         (ap (λ (n : ℕ). calls_of_accepts (length s.connections + 1) done.came ++ calls_of_accepts n one.asked) (sym behind) ∙ sym (calls_on done.came one.asked (length s.connections + 1)))
         (join (calls_of_accepts (length s.connections + 1) done.came) (calls_of_accepts (length done.mid.connections + 1) one.asked) done.calls one.calls)
 
-    both_failed : count_of_failed_answers both ≡ count_of_failed_answers one.asked
-    both_failed = let none = none_failed done.came done.all in let sum = sum_by-append count_of_failed_answer done.came one.asked in omega (arith, none, sum)
+    both_failed : count_of_failed_accept_outcomes both ≡ count_of_failed_accept_outcomes one.asked
+    both_failed = let none = none_failed done.came done.all in let sum = sum_by-append count_of_failed_accept_outcome done.came one.asked in omega (arith, none, sum)
 
-    both_raised : CountsRiseBy a c (length both) 0 (count_of_failed_answers both)
-    both_raised = raises_same a c (length done.came + length one.asked) 0 (0 + count_of_failed_answers one.asked) (length both) 0 (count_of_failed_answers both)
+    both_raised : CallCountsRiseBy a c (length both) 0 (count_of_failed_accept_outcomes both)
+    both_raised = raises_same a c (length done.came + length one.asked) 0 (0 + count_of_failed_accept_outcomes one.asked) (length both) 0 (count_of_failed_accept_outcomes both)
         (sym (length-append done.came one.asked)) refl (let same = both_failed in omega (arith, same))
-        (raises_on a b c (length done.came) 0 0 (length one.asked) 0 (count_of_failed_answers one.asked) done.raises one.raises)
+        (raises_on a b c (length done.came) 0 0 (length one.asked) 0 (count_of_failed_accept_outcomes one.asked) done.raises one.raises)
 
     -- one more came
     pub came_more : result ≡ Ok true → SoFar bounds.most_open s given new later all a c (number + 1)
@@ -151,17 +151,17 @@ module _ (bounds : TurnBounds) (s : EngineModel) (given : List End) (e : State) 
       listed = both_listed;
       long = let first = done.long in let second = ap (λ (xs : List AcceptOutcome). length xs) is in let sum = length-append done.came one.asked in omega (arith, first, second, sum);
       calls = both_called;
-      raises = raises_same a c (length both) 0 (count_of_failed_answers both) (length both) 0 0 refl refl (none_failed both came) both_raised;
+      raises = raises_same a c (length both) 0 (count_of_failed_accept_outcomes both) (length both) 0 0 refl refl (none_failed both came) both_raised;
     }
       where
         is : one.asked ≡ Came ∷ []
-        is = subst (OneAnswerReports bounds.most_open done.mid one.asked) came_is one.reports
+        is = subst (OneAcceptIsReported bounds.most_open done.mid one.asked) came_is one.reports
 
         came : AllCame both
         came = all_came done.came one.asked done.all (subst AllCame (sym is) (refl, tt))
 
     -- it was the last
-    pub ends_by : (answer : Result ℕ TurnFault) → number < bounds.most_accepts → length one.asked ≤ 1 → AnswersReport bounds both one.begun answer → ConnectionsAreAccepted bounds s given new later all a c answer
+    pub ends_by : (answer : Result ℕ TurnFault) → number < bounds.most_accepts → length one.asked ≤ 1 → AcceptsAreReported bounds both one.begun answer → ConnectionsAreAccepted bounds s given new later all a c answer
     ends_by answer left small reports = record {
       accepts = both;
       begun = one.begun;
@@ -176,34 +176,34 @@ module _ (bounds : TurnBounds) (s : EngineModel) (given : List End) (e : State) 
 
     -- no connection came
     pub ends_with_none : result ≡ Ok false → (count : ℕ) → count ≡ number → number < bounds.most_accepts → ConnectionsAreAccepted bounds s given new later all a c (Ok count)
-    ends_with_none is count same left = by (subst (OneAnswerReports bounds.most_open done.mid one.asked) is one.reports)
+    ends_with_none is count same left = by (subst (OneAcceptIsReported bounds.most_open done.mid one.asked) is one.reports)
       where
-        sums : count_of_connections one.asked ≡ 0 → count ≡ count_of_connections both
-        sums none = let long = done.long in let each = each_counts done.came done.all in let sum = sum_by-append count_of_connection done.came one.asked in omega (arith, same, long, each, sum, none)
+        sums : count_of_accepted_connections one.asked ≡ 0 → count ≡ count_of_accepted_connections both
+        sums none = let long = done.long in let each = each_counts done.came done.all in let sum = sum_by-append count_of_accepted_connection done.came one.asked in omega (arith, same, long, each, sum, none)
 
-        by : (((one.asked ≡ []) × (asks_while_fewer bounds.most_open done.mid ≡ false)) ⊎ (one.asked ≡ NoneCame ∷ [])) → ConnectionsAreAccepted bounds s given new later all a c (Ok count)
+        by : (((one.asked ≡ []) × (may_accept_more bounds.most_open done.mid ≡ false)) ⊎ (one.asked ≡ NoneCame ∷ [])) → ConnectionsAreAccepted bounds s given new later all a c (Ok count)
         by (inl none) =
             let same_model : one.begun ≡ done.mid = subst (λ (xs : List AcceptOutcome). AcceptsAreTaken bounds.most_open done.mid xs one.begun) none.0 one.takes in
             ends_by (Ok count) left (let small = ap (λ (xs : List AcceptOutcome). length xs) none.0 in omega (arith, small))
-            (inr (inl (ap (asks_while_fewer bounds.most_open) same_model ∙ none.1)), both_failed ∙ ap count_of_failed_answers none.0, sums (ap count_of_connections none.0))
+            (inr (inl (ap (may_accept_more bounds.most_open) same_model ∙ none.1)), both_failed ∙ ap count_of_failed_accept_outcomes none.0, sums (ap count_of_accepted_connections none.0))
         by (inr last) =
             ends_by (Ok count) left (let small = ap (λ (xs : List AcceptOutcome). length xs) last in omega (arith, small))
-            (inr (inr (done.came, ap (λ (xs : List AcceptOutcome). done.came ++ xs) last)), both_failed ∙ ap count_of_failed_answers last, sums (ap count_of_connections last))
+            (inr (inr (done.came, ap (λ (xs : List AcceptOutcome). done.came ++ xs) last)), both_failed ∙ ap count_of_failed_accept_outcomes last, sums (ap count_of_accepted_connections last))
 
     -- a fault
     pub ends_by_fault : (fault : TurnFault) → result ≡ Err fault → number < bounds.most_accepts → ConnectionsAreAccepted bounds s given new later all a c (Err fault)
-    ends_by_fault fault is left = by fault (subst (OneAnswerReports bounds.most_open done.mid one.asked) is one.reports)
+    ends_by_fault fault is left = by fault (subst (OneAcceptIsReported bounds.most_open done.mid one.asked) is one.reports)
       where
-        by : (fault : TurnFault) → OneAnswerReports bounds.most_open done.mid one.asked (Err fault) → ConnectionsAreAccepted bounds s given new later all a c (Err fault)
+        by : (fault : TurnFault) → OneAcceptIsReported bounds.most_open done.mid one.asked (Err fault) → ConnectionsAreAccepted bounds s given new later all a c (Err fault)
         by faults.Listener last =
             ends_by (Err faults.Listener) left (let small = ap (λ (xs : List AcceptOutcome). length xs) last in omega (arith, small)) (done.came, ap (λ (xs : List AcceptOutcome). done.came ++ xs) last)
         by faults.NoMemory none =
-            ends_by (Err faults.NoMemory) left (let small = ap (λ (xs : List AcceptOutcome). length xs) none in omega (arith, small)) (both_failed ∙ ap count_of_failed_answers none)
+            ends_by (Err faults.NoMemory) left (let small = ap (λ (xs : List AcceptOutcome). length xs) none in omega (arith, small)) (both_failed ∙ ap count_of_failed_accept_outcomes none)
         by faults.Spent never = absurd never
 
 -- ---- what they keep
 
-pub accepts_orderly : HappeningKeepsOrder → (most : ℕ) (xs : List AcceptOutcome) (s t : EngineModel) → AcceptsAreTaken most s xs t → ModelIsOrderly s → ModelIsOrderly t
-accepts_orderly takes most [] s t here h = subst ModelIsOrderly (sym here) h
+pub accepts_orderly : HappeningKeepsModelConsistent → (most : ℕ) (xs : List AcceptOutcome) (s t : EngineModel) → AcceptsAreTaken most s xs t → ModelIsConsistent s → ModelIsConsistent t
+accepts_orderly takes most [] s t here h = subst ModelIsConsistent (sym here) h
 accepts_orderly takes most (a ∷ xs) s t before h =
-    accepts_orderly takes most xs before.0 t before.4 (if_orderly takes s (happening_of_answer (length s.connections + 1) a) before.0 before.2 h)
+    accepts_orderly takes most xs before.0 t before.4 (if_orderly takes s (happening_of_accept_outcome (length s.connections + 1) a) before.0 before.2 h)

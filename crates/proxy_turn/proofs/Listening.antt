@@ -3,7 +3,7 @@ use Rattle.std.proofs.Common.{◌≡◌, rules, inl, inr, ℕ, suc, ◌+◌, ◌
 use Rattle.std.proofs.lemmas.List.{append-nil}
 use Rattle.proxy_engine.specs.Happenings.{Accepts}
 use Rattle.proxy_engine.specs.EngineModel.{EngineModel, happening_fault}
-use Rattle.proxy_engine.specs.State.{State, RelatesLists, EngineRepresents}
+use Rattle.proxy_engine.specs.State.{State, ListsAreRelated, EngineRepresents}
 use Rattle.proxy_engine.specs.Reading.{open_connection_count, next_connection_number}
 use Rattle.proxy_engine.specs.Room.{NextHappeningFindsMemory, HappeningFindsMemory}
 use Rattle.proxy_engine.specs.declared.work.EngineFault.TheVariants.{WrongNumber}
@@ -11,14 +11,14 @@ use Rattle.proxy_engine.specs.declared.work.End.{End}
 use Rattle.proxy_engine.specs.declared.work.End.TheVariants as ends
 use Rattle.proxy_turn.specs.Calls as call
 use Rattle.proxy_turn.specs.Calls.{Call, AcceptOutcome}
-use Rattle.proxy_turn.specs.Counts.{Calls, CountsRiseBy}
+use Rattle.proxy_turn.specs.Counts.{Calls, CallCountsRiseBy}
 use Rattle.proxy_turn.specs.Turn.{HappeningIfAnyIsTaken}
-use Rattle.proxy_turn.specs.Over.{asks_while_fewer, happening_of_answer, ends_of_answer, count_of_failed_answer}
-use Rattle.proxy_turn.specs.OverParts.{OneAnswerReports, ListenerIsAsked}
+use Rattle.proxy_turn.specs.Over.{may_accept_more, happening_of_accept_outcome, ends_of_accept_outcome, count_of_failed_accept_outcome}
+use Rattle.proxy_turn.specs.OverParts.{OneAcceptIsReported, ListenerIsAskedAtMostOnce}
 use Rattle.proxy_turn.specs.declared.report.TurnFault.{TurnFault}
 use Rattle.proxy_turn.proofs.Counting.{raises_none, raises_same}
 
-both_long : {A B : Type 0} (R : A → B → Type 0) (xs : List A) (ys : List B) → RelatesLists R xs ys → length xs ≡ length ys
+both_long : {A B : Type 0} (R : A → B → Type 0) (xs : List A) (ys : List B) → ListsAreRelated R xs ys → length xs ≡ length ys
 both_long R [] [] h = refl
 both_long R [] (y ∷ ys) h = absurd h
 both_long R (x ∷ xs) [] h = absurd h
@@ -63,20 +63,20 @@ not_second true b e = e
 not_second false b e = refl
 
 -- it may be asked
-pub does_ask : (most : ℕ) (s : EngineModel) (o : Option ℕ) (n : ℕ) → o ≡ next_connection_number s → o ≡ Some n → nat_lt (open_connection_count s) most ≡ true → asks_while_fewer most s ≡ true
+pub does_ask : (most : ℕ) (s : EngineModel) (o : Option ℕ) (n : ℕ) → o ≡ next_connection_number s → o ≡ Some n → nat_lt (open_connection_count s) most ≡ true → may_accept_more most s ≡ true
 does_ask most s o n is some fewer = both (nat_lt (open_connection_count s) most) (is_some (next_connection_number s)) fewer (ap (λ (x : Option ℕ). is_some x) (sym is ∙ some))
 
 -- it may not: as many are open as may be, or no number is left
-pub not_fewer : (most : ℕ) (s : EngineModel) → nat_lt (open_connection_count s) most ≡ false → asks_while_fewer most s ≡ false
+pub not_fewer : (most : ℕ) (s : EngineModel) → nat_lt (open_connection_count s) most ≡ false → may_accept_more most s ≡ false
 not_fewer most s full = not_both (nat_lt (open_connection_count s) most) (is_some (next_connection_number s)) full
 
-pub none_left : (most : ℕ) (s : EngineModel) (o : Option ℕ) → o ≡ next_connection_number s → o ≡ None → asks_while_fewer most s ≡ false
+pub none_left : (most : ℕ) (s : EngineModel) (o : Option ℕ) → o ≡ next_connection_number s → o ≡ None → may_accept_more most s ≡ false
 none_left most s o is none = not_second (nat_lt (open_connection_count s) most) (is_some (next_connection_number s)) (ap (λ (x : Option ℕ). is_some x) (sym is ∙ none))
 
 -- ---- what asking it gives
 
 -- nothing was called
-pub not_asked : (most : ℕ) (s : EngineModel) (given : List End) (e : State) (more : List End) (did : List Call → Type 0) (here : Calls) (result : Result Bool TurnFault) → EngineRepresents e s → more ≡ given → did [] → OneAnswerReports most s [] result → ListenerIsAsked most s given e more did here here result
+pub not_asked : (most : ℕ) (s : EngineModel) (given : List End) (e : State) (more : List End) (did : List Call → Type 0) (here : Calls) (result : Result Bool TurnFault) → EngineRepresents e s → more ≡ given → did [] → OneAcceptIsReported most s [] result → ListenerIsAskedAtMostOnce most s given e more did here here result
 not_asked most s given e more did here result represents same none reports = record {
   asked = [];
   begun = s;
@@ -89,14 +89,14 @@ not_asked most s given e more did here result represents same none reports = rec
 }
 
 -- it was called once
-pub asked_once : (most : ℕ) (s : EngineModel) (given : List End) (e : State) (more : List End) (did : List Call → Type 0) (a b : Calls) (result : Result Bool TurnFault) (answer : AcceptOutcome) (n : ℕ) (begun : EngineModel) → n ≡ length s.connections + 1 → asks_while_fewer most s ≡ true → HappeningIfAnyIsTaken s (happening_of_answer n answer) begun → EngineRepresents e begun → more ≡ given ++ ends_of_answer n answer → did (call.Accept n answer ∷ []) → CountsRiseBy a b 1 0 (count_of_failed_answer answer) → OneAnswerReports most s (answer ∷ []) result → ListenerIsAsked most s given e more did a b result
+pub asked_once : (most : ℕ) (s : EngineModel) (given : List End) (e : State) (more : List End) (did : List Call → Type 0) (a b : Calls) (result : Result Bool TurnFault) (answer : AcceptOutcome) (n : ℕ) (begun : EngineModel) → n ≡ length s.connections + 1 → may_accept_more most s ≡ true → HappeningIfAnyIsTaken s (happening_of_accept_outcome n answer) begun → EngineRepresents e begun → more ≡ given ++ ends_of_accept_outcome n answer → did (call.Accept n answer ∷ []) → CallCountsRiseBy a b 1 0 (count_of_failed_accept_outcome answer) → OneAcceptIsReported most s (answer ∷ []) result → ListenerIsAskedAtMostOnce most s given e more did a b result
 asked_once most s given e more did a b result answer n begun is asks takes represents same called raises reports = record {
   asked = answer ∷ [];
   begun = begun;
-  takes = (begun, asks, subst (λ (m : ℕ). HappeningIfAnyIsTaken s (happening_of_answer m answer) begun) is takes, inr refl, refl);
+  takes = (begun, asks, subst (λ (m : ℕ). HappeningIfAnyIsTaken s (happening_of_accept_outcome m answer) begun) is takes, inr refl, refl);
   represents = represents;
-  listed = same ∙ ap (λ (es : List End). given ++ es) (ap (λ (m : ℕ). ends_of_answer m answer) is ∙ sym (append-nil (ends_of_answer (length s.connections + 1) answer)));
+  listed = same ∙ ap (λ (es : List End). given ++ es) (ap (λ (m : ℕ). ends_of_accept_outcome m answer) is ∙ sym (append-nil (ends_of_accept_outcome (length s.connections + 1) answer)));
   reports = reports;
   calls = subst (λ (m : ℕ). did (call.Accept m answer ∷ [])) is called;
-  raises = raises_same a b 1 0 (count_of_failed_answer answer) 1 0 (0 + count_of_failed_answer answer) refl refl (omega arith) raises;
+  raises = raises_same a b 1 0 (count_of_failed_accept_outcome answer) 1 0 (0 + count_of_failed_accept_outcome answer) refl refl (omega arith) raises;
 }

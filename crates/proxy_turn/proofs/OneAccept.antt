@@ -10,8 +10,8 @@ use Rattle.proxy_engine.specs.declared.work.End.{End}
 use Rattle.proxy_turn.specs.Calls as call
 use Rattle.proxy_turn.specs.Calls.{Call, AcceptOutcome}
 use Rattle.proxy_turn.specs.Counts.{Calls}
-use Rattle.proxy_turn.specs.Turn.{AcceptCall, NotAsked, Failed, NoneCame, Came, asks_for_connection, accept_was_called, happening_of_accept, HappeningIfAnyIsTaken, calls_of_accept, calls_of_reads, calls_of_rounds, count_of_accept_calls, count_of_accepted, count_of_failed_accepts, count_of_failed_reads, count_of_lost_in_rounds, TurnReports, EngineTurnsWithCalls}
-use Rattle.proxy_turn.specs.Over.{AcceptsAreTaken, LastAnswerIs, NoMoreIsAccepted, asks_while_fewer, accepted_ends, ends_to_read, calls_of_accepts, count_of_connections, count_of_failed_answers, TurnOverReports, EngineTurnsOverWithCalls}
+use Rattle.proxy_turn.specs.Turn.{AcceptCall, NotAsked, Failed, NoneCame, Came, may_accept_below_256, accept_was_called, happening_of_accept, HappeningIfAnyIsTaken, calls_of_accept, calls_of_reads, calls_of_rounds, count_of_accept_calls, count_of_accepted, count_of_failed_accepts, count_of_failed_reads, count_of_failed_in_rounds, TurnIsReported, EngineTurnsWithCalls}
+use Rattle.proxy_turn.specs.Over.{AcceptsAreTaken, LastAcceptOutcomeIs, NoMoreIsAccepted, may_accept_more, accepted_ends, ends_to_read, calls_of_accepts, count_of_accepted_connections, count_of_failed_accept_outcomes, TurnOverEndsIsReported, EngineTurnsOverEndsWithCalls}
 use Rattle.proxy_turn.specs.declared.bounds.TurnBounds.{TurnBounds}
 use Rattle.proxy_turn.specs.declared.report.Report.{Report}
 use Rattle.proxy_turn.specs.declared.report.TurnFault.{TurnFault}
@@ -54,21 +54,21 @@ same_number (call.NoneCame ∷ []) few = refl
 same_number (call.Failed ∷ []) few = refl
 same_number (a ∷ b ∷ more) few = too_many a b more few
 
-same_failed : (xs : List AcceptOutcome) → length xs ≤ 1 → count_of_failed_answers xs ≡ count_of_failed_accepts (asked_of xs)
+same_failed : (xs : List AcceptOutcome) → length xs ≤ 1 → count_of_failed_accept_outcomes xs ≡ count_of_failed_accepts (asked_of xs)
 same_failed [] few = refl
 same_failed (call.Came ∷ []) few = refl
 same_failed (call.NoneCame ∷ []) few = refl
 same_failed (call.Failed ∷ []) few = refl
 same_failed (a ∷ b ∷ more) few = too_many a b more few
 
-same_accepted : (xs : List AcceptOutcome) → length xs ≤ 1 → count_of_connections xs ≡ count_of_accepted (asked_of xs)
+same_accepted : (xs : List AcceptOutcome) → length xs ≤ 1 → count_of_accepted_connections xs ≡ count_of_accepted (asked_of xs)
 same_accepted [] few = refl
 same_accepted (call.Came ∷ []) few = refl
 same_accepted (call.NoneCame ∷ []) few = refl
 same_accepted (call.Failed ∷ []) few = refl
 same_accepted (a ∷ b ∷ more) few = too_many a b more few
 
-only_where : (s : EngineModel) (xs : List AcceptOutcome) (t : EngineModel) → AcceptsAreTaken 256 s xs t → accept_was_called (asked_of xs) ≡ true → asks_for_connection s ≡ true
+only_where : (s : EngineModel) (xs : List AcceptOutcome) (t : EngineModel) → AcceptsAreTaken 256 s xs t → accept_was_called (asked_of xs) ≡ true → may_accept_below_256 s ≡ true
 only_where s [] t taken called = absurd cc
 only_where s (a ∷ more) t taken called = taken.1
 
@@ -84,13 +84,13 @@ never_last [] a is = absurd cc
 never_last (x ∷ front) a is = absurd cc
 
 -- whether it was called is whether it could be
-called_where : (s : EngineModel) (xs : List AcceptOutcome) (t : EngineModel) → AcceptsAreTaken 256 s xs t → NoMoreIsAccepted one_accept xs t → accept_was_called (asked_of xs) ≡ asks_for_connection s
+called_where : (s : EngineModel) (xs : List AcceptOutcome) (t : EngineModel) → AcceptsAreTaken 256 s xs t → NoMoreIsAccepted one_accept xs t → accept_was_called (asked_of xs) ≡ may_accept_below_256 s
 called_where s [] t taken (inl all) = absurd (omega (arith, all))
-called_where s [] t taken (inr (inl none)) = sym none ∙ ap (asks_while_fewer 256) taken
+called_where s [] t taken (inr (inl none)) = sym none ∙ ap (may_accept_more 256) taken
 called_where s [] t taken (inr (inr last)) = never_last last.0 call.NoneCame last.1
 called_where s (a ∷ more) t taken last = was_called a ∙ sym taken.1
 
-failed_last : (xs : List AcceptOutcome) → length xs ≤ 1 → LastAnswerIs call.Failed xs → asked_of xs ≡ Failed
+failed_last : (xs : List AcceptOutcome) → length xs ≤ 1 → LastAcceptOutcomeIs call.Failed xs → asked_of xs ≡ Failed
 failed_last [] few last = never_last last.0 call.Failed last.1
 failed_last (a ∷ []) few last = by last.0 last.1
   where
@@ -121,7 +121,7 @@ module _ (each : ReadableEndsMaySend) (adds : AcceptAddsReadableEnd) where
 
   -- ---- a turn
 
-  pub one_turn : (now : ℕ) (s : EngineModel) (given : List End) (e : State) (left : List End) (did : List Call → Type 0) (a b : Calls) (result : Result Report TurnFault) → given ≡ readable_ends_of s → EngineTurnsOverWithCalls now one_accept s given e left did a b result → EngineTurnsWithCalls now s e did a b result
+  pub one_turn : (now : ℕ) (s : EngineModel) (given : List End) (e : State) (left : List End) (did : List Call → Type 0) (a b : Calls) (result : Result Report TurnFault) → given ≡ readable_ends_of s → EngineTurnsOverEndsWithCalls now one_accept s given e left did a b result → EngineTurnsWithCalls now s e did a b result
   one_turn now s given e left did a b result is whole = record {
     turns = record {
       asked = asked_of whole.turns.accepts;
@@ -139,12 +139,12 @@ module _ (each : ReadableEndsMaySend) (adds : AcceptAddsReadableEnd) where
         reads_are = whole.turns.turn.reads_are;
         works = whole.turns.turn.works;
         bound = whole.turns.turn.bound;
-        behind = whole.turns.turn.behind_reads;
+        behind = whole.turns.turn.reads_come_before_acts;
       };
       represents = whole.turns.represents;
       reports = reports result whole.turns.reports;
-      raises = raises_same a b (length whole.turns.accepts) (length whole.turns.reads) (count_of_failed_answers whole.turns.accepts + (count_of_failed_reads whole.turns.reads + count_of_lost_in_rounds whole.turns.rounds)) (count_of_accept_calls (asked_of whole.turns.accepts)) (length whole.turns.reads) (count_of_failed_accepts (asked_of whole.turns.accepts) + (count_of_failed_reads whole.turns.reads + count_of_lost_in_rounds whole.turns.rounds))
-          (same_number whole.turns.accepts few) refl (ap (λ (n : ℕ). n + (count_of_failed_reads whole.turns.reads + count_of_lost_in_rounds whole.turns.rounds)) (same_failed whole.turns.accepts few)) whole.turns.raises;
+      raises = raises_same a b (length whole.turns.accepts) (length whole.turns.reads) (count_of_failed_accept_outcomes whole.turns.accepts + (count_of_failed_reads whole.turns.reads + count_of_failed_in_rounds whole.turns.rounds)) (count_of_accept_calls (asked_of whole.turns.accepts)) (length whole.turns.reads) (count_of_failed_accepts (asked_of whole.turns.accepts) + (count_of_failed_reads whole.turns.reads + count_of_failed_in_rounds whole.turns.rounds))
+          (same_number whole.turns.accepts few) refl (ap (λ (n : ℕ). n + (count_of_failed_reads whole.turns.reads + count_of_failed_in_rounds whole.turns.rounds)) (same_failed whole.turns.accepts few)) whole.turns.raises;
     };
     calls = subst (λ (xs : List Call). did (xs ++ (calls_of_reads whole.turns.reads ++ calls_of_rounds whole.turns.rounds))) (same_calls s whole.turns.accepts few) whole.calls;
   }
@@ -152,10 +152,10 @@ module _ (each : ReadableEndsMaySend) (adds : AcceptAddsReadableEnd) where
       few : length whole.turns.accepts ≤ 1
       few = whole.turns.turn.few
 
-      unbroken : count_of_failed_answers whole.turns.accepts ≡ 0 → count_of_failed_accepts (asked_of whole.turns.accepts) ≡ 0
+      unbroken : count_of_failed_accept_outcomes whole.turns.accepts ≡ 0 → count_of_failed_accepts (asked_of whole.turns.accepts) ≡ 0
       unbroken none = sym (same_failed whole.turns.accepts few) ∙ none
 
-      reports : (result : Result Report TurnFault) → TurnOverReports one_accept whole.turns.accepts whole.turns.turn.begun whole.turns.reads whole.turns.rest whole.turns.rounds whole.turns.last result → TurnReports s (asked_of whole.turns.accepts) whole.turns.reads whole.turns.rest whole.turns.rounds whole.turns.last result
+      reports : (result : Result Report TurnFault) → TurnOverEndsIsReported one_accept whole.turns.accepts whole.turns.turn.begun whole.turns.reads whole.turns.rest whole.turns.rounds whole.turns.last result → TurnIsReported s (asked_of whole.turns.accepts) whole.turns.reads whole.turns.rest whole.turns.rounds whole.turns.last result
       reports (Ok report) t = record {
         asked_is = called_where s whole.turns.accepts whole.turns.turn.begun whole.turns.turn.accepts_are t.accepts_are;
         unbroken = unbroken t.unbroken;

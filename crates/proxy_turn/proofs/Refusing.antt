@@ -7,8 +7,8 @@ use Rattle.proxy_engine.specs.declared.work.End.{End}
 use Rattle.proxy_engine.specs.declared.work.End.TheVariants as ends
 use Rattle.proxy_turn.specs.Calls.{AcceptOutcome, Came, NoneCame, Failed}
 use Rattle.proxy_turn.specs.Turn.{ends_of_reads}
-use Rattle.proxy_turn.specs.Over.{asks_while_fewer, LastAnswerIs, NoMoreIsAccepted, accepted_ends}
-use Rattle.proxy_turn.specs.OverCases.{NoMoreCallsThanMayBe, NoCallWhereAllAreOpen, NoCallBehindNone, NoSilentEndIsRead, NoEndIsReadTwice, NoGivenEndIsPassedOver, NoAcceptedEndIsPassedOver, NoReadBeforeTheAccepts, NoActBeforeTheEnds, NoMoreActsThanAThousand, NoReportLeavesAnEndOut, NoReportLeavesAConnectionOut, NoReportCountsWhatWasNotDone, NoFaultOfAListenerThatWorks, NoSilentEndIsListed}
+use Rattle.proxy_turn.specs.Over.{may_accept_more, LastAcceptOutcomeIs, NoMoreIsAccepted, accepted_ends}
+use Rattle.proxy_turn.specs.OverCases.{NoMoreAcceptsThanTheBound, NoAcceptAtTheConnectionBound, NoAcceptAfterNoConnectionCame, NoUnreadableEndIsRead, NoEndIsReadTwice, NoHandedInEndIsSkipped, NoAcceptedEndIsSkipped, NoReadBeforeTheAccepts, NoActBeforeAllEndsAreRead, NoMoreActsThanAThousand, NoReportOmitsAnUnreadEnd, NoReportOmitsAConnection, NoReportCountsWhatWasNotDone, ListenerFaultOnlyAfterFailedAccept, NoUnreadableEndIsListed}
 use Rattle.proxy_turn.specs.declared.bounds.TurnBounds.{TurnBounds}
 use Rattle.proxy_turn.proofs.OneAccept.{never_last}
 
@@ -17,7 +17,7 @@ left_true true b e = refl
 left_true false b e = absurd cc
 
 -- the last of one answer is that
-last_of_one : (a b : AcceptOutcome) → LastAnswerIs b (a ∷ []) → a ≡ b
+last_of_one : (a b : AcceptOutcome) → LastAcceptOutcomeIs b (a ∷ []) → a ≡ b
 last_of_one a b last = by last.0 last.1
   where
     by : (front : List AcceptOutcome) → a ∷ [] ≡ front ++ b ∷ [] → a ≡ b
@@ -42,46 +42,46 @@ one_at_most : (b : Bool) (end x y : End) (more : List End) → x ∷ y ∷ more 
 one_at_most true end x y more is = absurd cc
 one_at_most false end x y more is = absurd cc
 
-pub no_more_calls : NoMoreCallsThanMayBe
+pub no_more_calls : NoMoreAcceptsThanTheBound
 no_more_calls now bounds s t given accepts reads rest rounds turn more = let few = turn.few in omega (arith, few, more)
 
-pub not_full : NoCallWhereAllAreOpen
+pub not_full : NoAcceptAtTheConnectionBound
 not_full now bounds s t given a accepts reads rest rounds turn full = false≢true (sym full ∙ left_true _ _ turn.accepts_are.1)
 
-pub not_behind : NoCallBehindNone
+pub not_behind : NoAcceptAfterNoConnectionCame
 not_behind now bounds s t given a accepts reads rest rounds turn = by turn.accepts_are.3
   where
     by : (NoneCame ≡ Came) ⊎ (a ∷ accepts ≡ []) → ⊥
     by (inl came) = absurd cc
     by (inr none) = absurd cc
 
-pub none_silent : NoSilentEndIsRead
+pub none_silent : NoUnreadableEndIsRead
 none_silent now bounds s t given accepts read reads rest rounds turn silent =
     false≢true (sym silent ∙ first_passes (end_may_send turn.begun) (given ++ accepted_ends (length s.connections + 1) accepts) read.end (ends_of_reads reads ++ rest) turn.ends)
 
 pub none_twice : NoEndIsReadTwice
 none_twice now bounds s t end first second reads rest rounds turn = one_at_most (end_may_send turn.begun end) end end end (ends_of_reads reads ++ rest) turn.ends
 
-pub none_passed : NoGivenEndIsPassedOver
+pub none_passed : NoHandedInEndIsSkipped
 none_passed now bounds s t end rounds turn sends = passes_through (end_may_send turn.begun end) end turn.ends sends
 
-pub none_accepted_passed : NoAcceptedEndIsPassedOver
+pub none_accepted_passed : NoAcceptedEndIsSkipped
 none_accepted_passed now bounds s t rounds turn sends = passes_through (end_may_send turn.begun (ends.Client (length s.connections + 1))) (ends.Client (length s.connections + 1)) turn.ends sends
 
-asked_for_more : (bounds : TurnBounds) (s begun : EngineModel) → begun ≡ s → 0 < bounds.most_accepts → asks_while_fewer bounds.most_open s ≡ true → NoMoreIsAccepted bounds [] begun → ⊥
+asked_for_more : (bounds : TurnBounds) (s begun : EngineModel) → begun ≡ s → 0 < bounds.most_accepts → may_accept_more bounds.most_open s ≡ true → NoMoreIsAccepted bounds [] begun → ⊥
 asked_for_more bounds s begun same left asks (inl all) = omega (arith, left, all)
-asked_for_more bounds s begun same left asks (inr (inl none)) = false≢true (sym none ∙ (ap (asks_while_fewer bounds.most_open) same ∙ asks))
+asked_for_more bounds s begun same left asks (inr (inl none)) = false≢true (sym none ∙ (ap (may_accept_more bounds.most_open) same ∙ asks))
 asked_for_more bounds s begun same left asks (inr (inr last)) = never_last last.0 NoneCame last.1
 
 pub none_before : NoReadBeforeTheAccepts
-none_before now bounds s t given read reads rest rounds turn left asks = by turn.behind_accepts
+none_before now bounds s t given read reads rest rounds turn left asks = by turn.accepts_come_first
   where
     by : NoMoreIsAccepted bounds [] turn.begun ⊎ (((read ∷ reads) ≡ []) × (rounds ≡ [])) → ⊥
     by (inl no_more) = asked_for_more bounds s turn.begun turn.accepts_are left asks no_more
     by (inr none) = let never : read ∷ reads ≡ [] = none.0 in absurd cc
 
-pub no_act_before : NoActBeforeTheEnds
-no_act_before now bounds s t given accepts reads end rest round rounds turn = by turn.behind_reads
+pub no_act_before : NoActBeforeAllEndsAreRead
+no_act_before now bounds s t given accepts reads end rest round rounds turn = by turn.reads_come_before_acts
   where
     by : ((end ∷ rest) ≡ []) ⊎ ((round ∷ rounds) ≡ []) → ⊥
     by (inl none) = absurd cc
@@ -90,10 +90,10 @@ no_act_before now bounds s t given accepts reads end rest round rounds turn = by
 pub no_more_acts : NoMoreActsThanAThousand
 no_more_acts now bounds s t given accepts reads rest rounds turn more = let bound = turn.bound in omega (arith, bound, more)
 
-pub no_end_out : NoReportLeavesAnEndOut
+pub no_end_out : NoReportOmitsAnUnreadEnd
 no_end_out bounds begun t accepts reads end rest rounds report h = let never : end ∷ rest ≡ [] = h.rest_is in absurd cc
 
-pub no_connection_out : NoReportLeavesAConnectionOut
+pub no_connection_out : NoReportOmitsAConnection
 no_connection_out bounds begun t reads rest rounds report h left asks = by h.accepts_are
   where
     by : NoMoreIsAccepted bounds (Came ∷ []) begun → ⊥
@@ -104,9 +104,9 @@ no_connection_out bounds begun t reads rest rounds report h left asks = by h.acc
 pub no_other_counts : NoReportCountsWhatWasNotDone
 no_other_counts bounds begun t accepts reads rest rounds report h = (λ differ. differ h.works, λ differ. differ h.reads_are, λ differ. differ h.accepted)
 
-pub no_other_fault : NoFaultOfAListenerThatWorks
+pub no_other_fault : ListenerFaultOnlyAfterFailedAccept
 no_other_fault bounds begun t reads rest rounds h = let never : Came ≡ Failed = last_of_one Came Failed h.0 in absurd cc
 
-pub none_listed : NoSilentEndIsListed
+pub none_listed : NoUnreadableEndIsListed
 none_listed now bounds s given e end left before after report turns silent =
     false≢true (sym silent ∙ first_passes (end_may_send turns.turn.begun) (given ++ accepted_ends (length s.connections + 1) turns.accepts) end left turns.listed)

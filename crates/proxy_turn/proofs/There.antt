@@ -9,26 +9,26 @@ use Rattle.hx_framing.specs.declared.messages.Next.{Next}
 use Rattle.hx_framing.specs.declared.messages.Next.TheVariants as next
 use Rattle.hx_framing.specs.declared.messages.Request.{Request}
 use Rattle.hx_hop.specs.declared.request_view.Asked.{Asked}
-use Rattle.hx_status.specs.declared.about.About.{About}
+use Rattle.hx_status.specs.declared.about.StatusAndReason.{StatusAndReason}
 use Rattle.hx_status.specs.declared.question.Question.{Question}
 use Rattle.proxy_core.specs.declared.event.Event.{Event}
 use Rattle.proxy_core.specs.declared.event.Event.TheVariants as events
 use Rattle.proxy_script.specs.declared.effect_list.Effect.{Effect}
 use Rattle.proxy_script.specs.declared.effect_list.Effect.TheVariants as effects
 use Rattle.proxy_engine.specs.Admitted.{Refusal}
-use Rattle.proxy_engine.specs.EngineModel.{EngineModel, ConnectionModel, LinkModel, no_connection, no_link, new_link_model, connection_at, link_at, with_connection, with_core, connection_fault, link_fault}
+use Rattle.proxy_engine.specs.EngineModel.{EngineModel, ConnectionModel, LinkModel, no_connection, no_link, new_link_model, connection_at, link_at, with_connection, model_with_core, connection_fault, link_number_fault}
 use Rattle.proxy_engine.specs.declared.endpoints.activities.Activity.TheVariants.{Free}
 use Rattle.proxy_engine.specs.Due.{Act, Abandons, Finishes, Wakes, Serves, Gives, Breaks}
 use Rattle.proxy_engine.specs.Questions.{question_of}
-use Rattle.proxy_engine.specs.Acts.{asks_head, ActIsDone, CoreIsStepped, RequestIsRefused, ConnectionIsClosed, ConnectionIsServed, RequestArrives, OutcomeOnConnection, Replies, Forwards, Queues, Nothing, outcome_by_table, effects_of_outcome, model_after_outcome, next_link_number, model_after_link_freed, with_activity, with_dropped, with_next_passed}
-use Rattle.proxy_engine.specs.Orderly.{ConnectionIsOpen, LinkIsDropped, EffectsNameOpenEnds, EndedStaysEnded}
+use Rattle.proxy_engine.specs.Acts.{request_is_head, ActIsDone, CoreIsStepped, RequestIsRefused, ConnectionIsClosed, ConnectionIsServed, RequestArrives, OutcomeOnConnection, Replies, Forwards, Queues, Nothing, outcome_with_origin_address, effects_of_outcome, model_after_outcome, next_link_number, model_after_link_freed, connection_with_activity, link_model_dropped, with_due_answer_used}
+use Rattle.proxy_engine.specs.Orderly.{ConnectionIsOpen, LinkIsDropped, EffectsNameOpenEnds, EndedEndsStayEnded}
 use Rattle.proxy_engine.specs.declared.work.EngineFault.TheVariants.{NotAccepted, WrongNumber}
 use Rattle.proxy_engine.specs.declared.work.End.{End}
 use Rattle.proxy_engine.specs.declared.work.End.TheVariants as ends
 use Rattle.hx_status.specs.declared.cause.Cause.{Cause}
 use Rattle.hx_status.specs.declared.cause.FailKind.{FailKind}
 use Rattle.proxy_turn.specs.Turn.{happening_of_bytes, happening_of_end, happening_of_loss, end_of_effect}
-use Rattle.proxy_turn.specs.Parts.{EndWasNumbered, EndsWereNumbered, HappeningCanBeTaken}
+use Rattle.proxy_turn.specs.Parts.{EndNumberWasGiven, EndNumbersWereGiven, HappeningCanBeTaken}
 
 -- ---- numbers
 
@@ -64,7 +64,7 @@ client_there : (count n : ℕ) → 0 < n → n ≤ count → connection_fault co
 client_there count n positive within =
     ap (λ (b : Bool). cond b None (Some NotAccepted)) (both_true (nat_lt 0 n) (nat_le n count) (lt_true 0 n positive) (le_true n count within))
 
-link_there : (first count l : ℕ) → first ≤ l → l - first < count → link_fault first count l ≡ None
+link_there : (first count l : ℕ) → first ≤ l → l - first < count → link_number_fault first count l ≡ None
 link_there first count l from within =
     ap (λ (b : Bool). cond b None (Some WrongNumber)) (both_true (nat_le first l) (nat_lt (l - first) count) (le_true first l from) (lt_true (l - first) count within))
 
@@ -73,14 +73,14 @@ client_within count n free =
     let b = none_true (nat_lt 0 n && nat_le n count) NotAccepted free in
     (lt_from 0 n (left_true (nat_lt 0 n) (nat_le n count) b), le_from n count (right_true (nat_lt 0 n) (nat_le n count) b))
 
-link_within : (first count l : ℕ) → link_fault first count l ≡ None → (first ≤ l) × (l - first < count)
+link_within : (first count l : ℕ) → link_number_fault first count l ≡ None → (first ≤ l) × (l - first < count)
 link_within first count l free =
     let b = none_true (nat_le first l && nat_lt (l - first) count) WrongNumber free in
     (le_from first l (left_true (nat_le first l) (nat_lt (l - first) count) b), lt_from (l - first) count (right_true (nat_le first l) (nat_lt (l - first) count) b))
 
 -- ---- an end that is there stays so
 
-pub there_later : (s t : EngineModel) (end : End) → EndedStaysEnded s t → EndWasNumbered s end → EndWasNumbered t end
+pub there_later : (s t : EngineModel) (end : End) → EndedEndsStayEnded s t → EndNumberWasGiven s end → EndNumberWasGiven t end
 there_later s t ends.Listener stays there = tt
 there_later s t (ends.Client n) stays there =
     let within = client_within (length s.connections) n there in
@@ -96,32 +96,32 @@ there_later s t (ends.Link l) stays there =
     let below = within.1 in
     link_there t.first (length t.links) l (omega (arith, above, same)) (omega (arith, below, same, more))
 
-pub all_there_later : (s t : EngineModel) (es : List End) → EndedStaysEnded s t → EndsWereNumbered s es → EndsWereNumbered t es
+pub all_there_later : (s t : EngineModel) (es : List End) → EndedEndsStayEnded s t → EndNumbersWereGiven s es → EndNumbersWereGiven t es
 all_there_later s t [] stays there = tt
 all_there_later s t (end ∷ es) stays there = (there_later s t end stays there.0, all_there_later s t es stays there.1)
 
 -- ---- what comes of it can be taken
 
-pub arrived_free : (s : EngineModel) (end : End) (bytes : List ℕ) → EndWasNumbered s end → HappeningCanBeTaken s (happening_of_bytes end bytes)
+pub arrived_free : (s : EngineModel) (end : End) (bytes : List ℕ) → EndNumberWasGiven s end → HappeningCanBeTaken s (happening_of_bytes end bytes)
 arrived_free s ends.Listener bytes there = tt
 arrived_free s (ends.Client n) bytes there = there
 arrived_free s (ends.Link l) bytes there = there
 
-pub ended_free : (s : EngineModel) (end : End) → EndWasNumbered s end → HappeningCanBeTaken s (happening_of_end end)
+pub ended_free : (s : EngineModel) (end : End) → EndNumberWasGiven s end → HappeningCanBeTaken s (happening_of_end end)
 ended_free s ends.Listener there = tt
 ended_free s (ends.Client n) there = there
 ended_free s (ends.Link l) there = there
 
-pub lost_free : (s : EngineModel) (end : End) (kind : FailKind) → EndWasNumbered s end → HappeningCanBeTaken s (happening_of_loss end kind)
+pub lost_free : (s : EngineModel) (end : End) (kind : FailKind) → EndNumberWasGiven s end → HappeningCanBeTaken s (happening_of_loss end kind)
 lost_free s ends.Listener kind there = tt
 lost_free s (ends.Client n) kind there = there
 lost_free s (ends.Link l) kind there = there
 
 -- ---- the ends of a list
 
-pub there_at : (s : EngineModel) (es : List End) (i : ℕ) (end : End) → EndsWereNumbered s es → i < length es → end ≡ get_or es i end → EndWasNumbered s end
+pub there_at : (s : EngineModel) (es : List End) (i : ℕ) (end : End) → EndNumbersWereGiven s es → i < length es → end ≡ get_or es i end → EndNumberWasGiven s end
 there_at s [] i end there l e = absurd (omega (arith, l))
-there_at s (e ∷ es) zero end there l is = subst (EndWasNumbered s) (sym is) there.0
+there_at s (e ∷ es) zero end there l is = subst (EndNumberWasGiven s) (sym is) there.0
 there_at s (e ∷ es) (suc i) end there l is = there_at s es i end there.1 (omega (arith, l)) is
 
 -- ---- the ends that the effects of an act name
@@ -138,19 +138,19 @@ not_both : {A : Type 0} (b : Bool) → b ≡ true → b ≡ false → A
 not_both true e f = absurd cc
 not_both false e f = absurd cc
 
-replies_none : (i number : ℕ) (question : Option Question) (bytes : List ℕ) (about : About) (close : Bool) → forwards (effects_of_outcome i number question (Replies bytes about close)) ≡ false
+replies_none : (i number : ℕ) (question : Option Question) (bytes : List ℕ) (about : StatusAndReason) (close : Bool) → forwards (effects_of_outcome i number question (Replies bytes about close)) ≡ false
 replies_none i number question bytes about true = refl
 replies_none i number question bytes about false = refl
 
 -- a step whose effects name a new link opens it
 steps_open : (s t : EngineModel) (i : ℕ) (asked : Option Asked) (event : Event) (before emitted : List Effect) (after : EngineModel) → length t.links ≡ length s.links → ((more : List Effect) → forwards (before ++ more) ≡ forwards more)
     → CoreIsStepped s t i asked event before emitted after → forwards emitted ≡ true → length s.links < length after.links
-steps_open s t i asked event before emitted after same apart steps e = by (outcome_by_table s.core.table steps.outcome) steps.emitted_is steps.after_is
+steps_open s t i asked event before emitted after same apart steps e = by (outcome_with_origin_address s.core.table steps.outcome) steps.emitted_is steps.after_is
   where
-    by : (c : OutcomeOnConnection) → emitted ≡ before ++ effects_of_outcome i (next_link_number s) (option_map question_of asked) c → after ≡ model_after_outcome i (asks_head asked) c (with_core t steps.core) → length s.links < length after.links
+    by : (c : OutcomeOnConnection) → emitted ≡ before ++ effects_of_outcome i (next_link_number s) (option_map question_of asked) c → after ≡ model_after_outcome i (request_is_head asked) c (model_with_core t steps.core) → length s.links < length after.links
     by (Replies bytes about close) emitted_is after_is = not_both (forwards emitted) e (ap forwards emitted_is ∙ (apart (effects_of_outcome i (next_link_number s) (option_map question_of asked) (Replies bytes about close)) ∙ replies_none i (next_link_number s) (option_map question_of asked) bytes about close))
     by (Forwards address bytes) emitted_is after_is =
-        let long = ap (λ (u : EngineModel). length u.links) after_is ∙ length-append t.links (new_link_model steps.core.table.max_body (asks_head asked) i ∷ []) in
+        let long = ap (λ (u : EngineModel). length u.links) after_is ∙ length-append t.links (new_link_model steps.core.table.max_body (request_is_head asked) i ∷ []) in
         omega (arith, same, long)
     by Queues emitted_is after_is = not_both (forwards emitted) e (ap forwards emitted_is ∙ apart [])
     by Nothing emitted_is after_is = not_both (forwards emitted) e (ap forwards emitted_is ∙ apart [])
@@ -158,11 +158,11 @@ steps_open s t i asked event before emitted after same apart steps e = by (outco
 -- an act whose effects name a new link opens it
 opens : (s : EngineModel) (now : ℕ) (act : Act) (emitted : List Effect) (after : EngineModel) → ActIsDone s now act emitted after → forwards emitted ≡ true → length s.links < length after.links
 opens s now (Abandons i (Some l)) emitted after done e =
-    steps_open s (model_after_link_freed s l i) i None (events.Abandon (i + 1)) (effects.Drop (s.first + l) ∷ []) emitted after (length-set s.links l (with_dropped (link_at s l))) (λ more. refl) done e
-opens s now (Abandons i None) emitted after done e = steps_open s (with_connection s i (with_activity Free)) i None (events.Abandon (i + 1)) [] emitted after refl (λ more. refl) done e
-opens s now (Finishes j (Gives r)) emitted after done e = steps_open s (model_after_link_freed s j (link_at s j).connection) _ _ _ (effects.Drop (s.first + j) ∷ []) emitted after (length-set s.links j (with_dropped (link_at s j))) (λ more. refl) done.1 e
-opens s now (Finishes j (Breaks kind)) emitted after done e = steps_open s (model_after_link_freed s j (link_at s j).connection) _ _ _ (effects.Drop (s.first + j) ∷ []) emitted after (length-set s.links j (with_dropped (link_at s j))) (λ more. refl) done e
-opens s now (Wakes i) emitted after done e = steps_open s (with_connection s i (with_activity Free)) i _ (events.Wake now (i + 1)) [] emitted after refl (λ more. refl) done.1 e
+    steps_open s (model_after_link_freed s l i) i None (events.Abandon (i + 1)) (effects.Drop (s.first + l) ∷ []) emitted after (length-set s.links l (link_model_dropped (link_at s l))) (λ more. refl) done e
+opens s now (Abandons i None) emitted after done e = steps_open s (with_connection s i (connection_with_activity Free)) i None (events.Abandon (i + 1)) [] emitted after refl (λ more. refl) done e
+opens s now (Finishes j (Gives r)) emitted after done e = steps_open s (model_after_link_freed s j (link_at s j).connection) _ _ _ (effects.Drop (s.first + j) ∷ []) emitted after (length-set s.links j (link_model_dropped (link_at s j))) (λ more. refl) done.1 e
+opens s now (Finishes j (Breaks kind)) emitted after done e = steps_open s (model_after_link_freed s j (link_at s j).connection) _ _ _ (effects.Drop (s.first + j) ∷ []) emitted after (length-set s.links j (link_model_dropped (link_at s j))) (λ more. refl) done e
+opens s now (Wakes i) emitted after done e = steps_open s (with_connection s i (connection_with_activity Free)) i _ (events.Wake now (i + 1)) [] emitted after refl (λ more. refl) done.1 e
 opens s now (Serves i action) emitted after done e = by_action action done
   where
     refuses : (why : Cause) (head : Bool) (question : Option Question) → RequestIsRefused s now i why head question emitted after → length s.links < length after.links
@@ -172,7 +172,7 @@ opens s now (Serves i action) emitted after done e = by_action action done
     closes d = not_both (forwards emitted) e (ap forwards d.0)
 
     arrives : (r : Request) (judged : Result Asked Refusal) → RequestArrives s now i r judged emitted after → length s.links < length after.links
-    arrives r (Ok asked) d = steps_open s (with_connection s i (with_next_passed (next.Message r))) _ _ _ [] emitted after refl (λ more. refl) d.1 e
+    arrives r (Ok asked) d = steps_open s (with_connection s i (with_due_answer_used (next.Message r))) _ _ _ [] emitted after refl (λ more. refl) d.1 e
     arrives r (Err refusal) d = refuses _ _ _ d
 
     by_action : (w : Next Request) → ConnectionIsServed s now i w emitted after → length s.links < length after.links
@@ -212,15 +212,15 @@ link_inside s j undropped = elim (cases_order j (length s.links)) [
     beyond : length s.links ≤ j → j < length s.links
     beyond l = not_both true refl (sym (ap (λ (k : LinkModel). k.dropped) (get_or-eq_default s.links no_link l)) ∙ undropped)
 
-module _ (s after : EngineModel) (stays : EndedStaysEnded s after) where
-  client_named : (n : ℕ) → ConnectionIsOpen s n → EndWasNumbered after (ends.Client n)
+module _ (s after : EngineModel) (stays : EndedEndsStayEnded s after) where
+  client_named : (n : ℕ) → ConnectionIsOpen s n → EndNumberWasGiven after (ends.Client n)
   client_named n is =
       let inside = open_inside s is.place is.closed in
       let number = is.number in
       let more = stays.connections in
       client_there (length after.connections) n (omega (arith, number)) (omega (arith, number, inside, more))
 
-  dropped_named : (l : ℕ) → LinkIsDropped s after l → EndWasNumbered after (ends.Link l)
+  dropped_named : (l : ℕ) → LinkIsDropped s after l → EndNumberWasGiven after (ends.Link l)
   dropped_named l is =
       let inside = link_inside s is.place is.still in
       let number = is.number in
@@ -228,22 +228,22 @@ module _ (s after : EngineModel) (stays : EndedStaysEnded s after) where
       let same = stays.first in
       link_there after.first (length after.links) l (omega (arith, number, same)) (omega (arith, number, same, inside, more))
 
-  opened_named : (l : ℕ) → l ≡ next_link_number s → length s.links < length after.links → EndWasNumbered after (ends.Link l)
+  opened_named : (l : ℕ) → l ≡ next_link_number s → length s.links < length after.links → EndNumberWasGiven after (ends.Link l)
   opened_named l number long =
       let same = stays.first in
       link_there after.first (length after.links) l (omega (arith, number, same)) (omega (arith, number, same, long))
 
-  named : (emitted : List Effect) → EffectsNameOpenEnds s after emitted → (forwards emitted ≡ true → length s.links < length after.links) → EndsWereNumbered after (map end_of_effect emitted)
+  named : (emitted : List Effect) → EffectsNameOpenEnds s after emitted → (forwards emitted ≡ true → length s.links < length after.links) → EndNumbersWereGiven after (map end_of_effect emitted)
   named [] names long = tt
   named (effects.Client n bytes replied ∷ rest) names long = (client_named n names.0, named rest names.1 long)
   named (effects.Close n ∷ rest) names long = (client_named n names.0, named_last rest names.2)
     where
-      named_last : (rest : List Effect) → rest ≡ [] → EndsWereNumbered after (map end_of_effect rest)
+      named_last : (rest : List Effect) → rest ≡ [] → EndNumbersWereGiven after (map end_of_effect rest)
       named_last [] e = tt
       named_last (x ∷ rest) e = absurd cc
   named (effects.Forward l address bytes ∷ rest) names long = (opened_named l names.0 (long refl), named rest names.1 (λ e. long refl))
   named (effects.Drop l ∷ rest) names long = (dropped_named l names.0, named rest names.1 long)
 
 -- what the effects of an act name is there behind it
-pub effects_there : (s : EngineModel) (now : ℕ) (act : Act) (emitted : List Effect) (after : EngineModel) → EndedStaysEnded s after → EffectsNameOpenEnds s after emitted → ActIsDone s now act emitted after → EndsWereNumbered after (map end_of_effect emitted)
+pub effects_there : (s : EngineModel) (now : ℕ) (act : Act) (emitted : List Effect) (after : EngineModel) → EndedEndsStayEnded s after → EffectsNameOpenEnds s after emitted → ActIsDone s now act emitted after → EndNumbersWereGiven after (map end_of_effect emitted)
 effects_there s now act emitted after stays names done = named s after stays emitted names (opens s now act emitted after done)

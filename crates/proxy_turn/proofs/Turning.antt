@@ -2,13 +2,13 @@
 use Rattle.std.proofs.Common.{◌≡◌, ℕ, ◌+◌, List, [], ◌∷◌, ◌++◌, refl, sym, ◌∙◌, subst, arith, Option, None, Some}
 use Rattle.std.proofs.lemmas.List.Sums.{sum_by-append}
 use Rattle.proxy_script.specs.declared.effect_list.Effect.{Effect}
-use Rattle.proxy_engine.specs.Happenings.{PlainHappening}
+use Rattle.proxy_engine.specs.Happenings.{HappeningModel}
 use Rattle.proxy_engine.specs.EngineModel.{EngineModel}
 use Rattle.proxy_engine.specs.Due.{IsDueFirst}
 use Rattle.proxy_engine.specs.Acts.{ActIsDone}
-use Rattle.proxy_engine.specs.Orderly.{ModelIsOrderly, EndedStaysEnded, HappeningKeepsOrder, HappeningKeepsEnded, ActKeepsOrder}
+use Rattle.proxy_engine.specs.Orderly.{ModelIsConsistent, EndedEndsStayEnded, HappeningKeepsModelConsistent, EndedEndsStayEndedAfterHappening, ActKeepsModelConsistent}
 use Rattle.proxy_engine.specs.declared.work.End.{End}
-use Rattle.proxy_turn.specs.Turn.{HappeningIfAnyIsTaken, happening_of_read, IsAtMostOnePiece, EndRead, ReadsAreTaken, happening_of_loss, end_of_effect, EffectFate, Carried, Passed, Lost, EffectIsCarriedOut, EffectsAreCarriedOut, ActRound, ActsAreCarriedOut}
+use Rattle.proxy_turn.specs.Turn.{HappeningIfAnyIsTaken, happening_of_read, IsAtMostOnePiece, EndRead, ReadsAreTaken, happening_of_loss, end_of_effect, EffectFate, Carried, Passed, Lost, EffectIsCarriedOut, EffectsAreCarriedOut, ActWithEffectFates, ActsAreCarriedOut}
 
 -- ---- one more
 
@@ -25,7 +25,7 @@ carries_more (x ∷ es) [] s gone t mid e f u more before one = absurd before
 carries_more (x ∷ es) (y ∷ fs) s gone t mid e f u more before one =
     (before.0, before.1, before.2, carries_more es fs before.0 before.1 t mid e f u more before.3 one)
 
-pub works_more : (rs : List ActRound) (now : ℕ) (s : EngineModel) (gone : List End) (t : EngineModel) (mid : List End) (r : ActRound) (done u : EngineModel) (more : List End) → ActsAreCarriedOut now s gone rs t mid
+pub works_more : (rs : List ActWithEffectFates) (now : ℕ) (s : EngineModel) (gone : List End) (t : EngineModel) (mid : List End) (r : ActWithEffectFates) (done u : EngineModel) (more : List End) → ActsAreCarriedOut now s gone rs t mid
     → IsDueFirst t (Some r.act) → ActIsDone t now r.act r.emitted done → EffectsAreCarriedOut done mid r.emitted r.fates u more → ActsAreCarriedOut now s gone (rs ++ r ∷ []) u more
 works_more [] now s gone t mid r done u more here due does out =
     (done, u, more, subst (λ x. IsDueFirst x (Some r.act)) here.0 due, subst (λ x. ActIsDone x now r.act r.emitted done) here.0 does, subst (λ es. EffectsAreCarriedOut done es r.emitted r.fates u more) here.1 out, (refl, refl))
@@ -37,10 +37,10 @@ sum_more f xs x = let both = sum_by-append f xs (x ∷ []) in omega (arith, both
 
 -- ---- what stays
 
-stays_same : (s : EngineModel) → EndedStaysEnded s s
+stays_same : (s : EngineModel) → EndedEndsStayEnded s s
 stays_same s = record { closed = λ i l e. e; gone = λ i l e. e; retired = λ i l e. e; dropped = λ j l e. e; connections = omega arith; links = omega arith; first = refl }
 
-pub stays_on : (r s t : EngineModel) → EndedStaysEnded r s → EndedStaysEnded s t → EndedStaysEnded r t
+pub stays_on : (r s t : EngineModel) → EndedEndsStayEnded r s → EndedEndsStayEnded s t → EndedEndsStayEnded r t
 stays_on r s t f g =
     let connections = f.connections in
     let links = f.links in
@@ -56,47 +56,47 @@ stays_on r s t f g =
       first = g.first ∙ f.first;
     }
 
-module _ (stay : HappeningKeepsEnded) where
-  pub if_stays : (s : EngineModel) (o : Option PlainHappening) (t : EngineModel) → HappeningIfAnyIsTaken s o t → EndedStaysEnded s t
-  if_stays s None t takes = subst (EndedStaysEnded s) (sym takes) (stays_same s)
-  if_stays s (Some h) t takes = subst (EndedStaysEnded s) (sym takes.1) (stay s h)
+module _ (stay : EndedEndsStayEndedAfterHappening) where
+  pub if_stays : (s : EngineModel) (o : Option HappeningModel) (t : EngineModel) → HappeningIfAnyIsTaken s o t → EndedEndsStayEnded s t
+  if_stays s None t takes = subst (EndedEndsStayEnded s) (sym takes) (stays_same s)
+  if_stays s (Some h) t takes = subst (EndedEndsStayEnded s) (sym takes.1) (stay s h)
 
-  pub reads_stay : (rs : List EndRead) (s t : EngineModel) → ReadsAreTaken s rs t → EndedStaysEnded s t
-  reads_stay [] s t here = subst (EndedStaysEnded s) (sym here) (stays_same s)
+  pub reads_stay : (rs : List EndRead) (s t : EngineModel) → ReadsAreTaken s rs t → EndedEndsStayEnded s t
+  reads_stay [] s t here = subst (EndedEndsStayEnded s) (sym here) (stays_same s)
   reads_stay (r ∷ rs) s t before = stays_on s before.0 t (if_stays s (happening_of_read r.end r.given) before.0 before.1) (reads_stay rs before.0 t before.2)
 
-  pub carries_stays : (es : List Effect) (fs : List EffectFate) (s : EngineModel) (gone : List End) (t : EngineModel) (more : List End) → EffectsAreCarriedOut s gone es fs t more → EndedStaysEnded s t
-  carries_stays [] [] s gone t more here = subst (EndedStaysEnded s) (sym here.0) (stays_same s)
+  pub carries_stays : (es : List Effect) (fs : List EffectFate) (s : EngineModel) (gone : List End) (t : EngineModel) (more : List End) → EffectsAreCarriedOut s gone es fs t more → EndedEndsStayEnded s t
+  carries_stays [] [] s gone t more here = subst (EndedEndsStayEnded s) (sym here.0) (stays_same s)
   carries_stays [] (f ∷ fs) s gone t more out = absurd out
   carries_stays (e ∷ es) [] s gone t more out = absurd out
   carries_stays (e ∷ es) (f ∷ fs) s gone t more out = stays_on s out.0 t (one f out.2) (carries_stays es fs out.0 out.1 t more out.3)
     where
-      one : (f : EffectFate) → EffectIsCarriedOut s gone e f out.0 out.1 → EndedStaysEnded s out.0
-      one Carried c = subst (EndedStaysEnded s) (sym c.1) (stays_same s)
-      one Passed c = subst (EndedStaysEnded s) (sym c.1) (stays_same s)
+      one : (f : EffectFate) → EffectIsCarriedOut s gone e f out.0 out.1 → EndedEndsStayEnded s out.0
+      one Carried c = subst (EndedEndsStayEnded s) (sym c.1) (stays_same s)
+      one Passed c = subst (EndedEndsStayEnded s) (sym c.1) (stays_same s)
       one (Lost kind) c = if_stays s (happening_of_loss (end_of_effect e) kind) out.0 c.2
 
-module _ (takes_in_order : HappeningKeepsOrder) where
-  pub if_orderly : (s : EngineModel) (o : Option PlainHappening) (t : EngineModel) → HappeningIfAnyIsTaken s o t → ModelIsOrderly s → ModelIsOrderly t
-  if_orderly s None t takes h = subst ModelIsOrderly (sym takes) h
-  if_orderly s (Some said) t takes h = subst ModelIsOrderly (sym takes.1) (takes_in_order s said h)
+module _ (takes_in_order : HappeningKeepsModelConsistent) where
+  pub if_orderly : (s : EngineModel) (o : Option HappeningModel) (t : EngineModel) → HappeningIfAnyIsTaken s o t → ModelIsConsistent s → ModelIsConsistent t
+  if_orderly s None t takes h = subst ModelIsConsistent (sym takes) h
+  if_orderly s (Some said) t takes h = subst ModelIsConsistent (sym takes.1) (takes_in_order s said h)
 
-  pub reads_orderly : (rs : List EndRead) (s t : EngineModel) → ReadsAreTaken s rs t → ModelIsOrderly s → ModelIsOrderly t
-  reads_orderly [] s t here h = subst ModelIsOrderly (sym here) h
+  pub reads_orderly : (rs : List EndRead) (s t : EngineModel) → ReadsAreTaken s rs t → ModelIsConsistent s → ModelIsConsistent t
+  reads_orderly [] s t here h = subst ModelIsConsistent (sym here) h
   reads_orderly (r ∷ rs) s t before h = reads_orderly rs before.0 t before.2 (if_orderly s (happening_of_read r.end r.given) before.0 before.1 h)
 
-  pub carries_orderly : (es : List Effect) (fs : List EffectFate) (s : EngineModel) (gone : List End) (t : EngineModel) (more : List End) → EffectsAreCarriedOut s gone es fs t more → ModelIsOrderly s → ModelIsOrderly t
-  carries_orderly [] [] s gone t more here h = subst ModelIsOrderly (sym here.0) h
+  pub carries_orderly : (es : List Effect) (fs : List EffectFate) (s : EngineModel) (gone : List End) (t : EngineModel) (more : List End) → EffectsAreCarriedOut s gone es fs t more → ModelIsConsistent s → ModelIsConsistent t
+  carries_orderly [] [] s gone t more here h = subst ModelIsConsistent (sym here.0) h
   carries_orderly [] (f ∷ fs) s gone t more out h = absurd out
   carries_orderly (e ∷ es) [] s gone t more out h = absurd out
   carries_orderly (e ∷ es) (f ∷ fs) s gone t more out h = carries_orderly es fs out.0 out.1 t more out.3 (one f out.2)
     where
-      one : (f : EffectFate) → EffectIsCarriedOut s gone e f out.0 out.1 → ModelIsOrderly out.0
-      one Carried c = subst ModelIsOrderly (sym c.1) h
-      one Passed c = subst ModelIsOrderly (sym c.1) h
+      one : (f : EffectFate) → EffectIsCarriedOut s gone e f out.0 out.1 → ModelIsConsistent out.0
+      one Carried c = subst ModelIsConsistent (sym c.1) h
+      one Passed c = subst ModelIsConsistent (sym c.1) h
       one (Lost kind) c = if_orderly s (happening_of_loss (end_of_effect e) kind) out.0 c.2 h
 
-  pub works_orderly : ActKeepsOrder → (rs : List ActRound) (now : ℕ) (s : EngineModel) (gone : List End) (t : EngineModel) (more : List End) → ActsAreCarriedOut now s gone rs t more → ModelIsOrderly s → ModelIsOrderly t
-  works_orderly acts [] now s gone t more here h = subst ModelIsOrderly (sym here.0) h
+  pub works_orderly : ActKeepsModelConsistent → (rs : List ActWithEffectFates) (now : ℕ) (s : EngineModel) (gone : List End) (t : EngineModel) (more : List End) → ActsAreCarriedOut now s gone rs t more → ModelIsConsistent s → ModelIsConsistent t
+  works_orderly acts [] now s gone t more here h = subst ModelIsConsistent (sym here.0) h
   works_orderly acts (r ∷ rs) now s gone t more w h =
       works_orderly acts rs now w.1 w.2 t more w.6 (carries_orderly r.emitted r.fates w.0 gone w.1 w.2 w.5 ((acts s now r.act r.emitted w.0 h w.3 w.4).0))

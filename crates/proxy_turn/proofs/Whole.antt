@@ -1,18 +1,18 @@
 -- A turn of its parts.
 use Rattle.std.proofs.Common.{◌≡◌, inl, inr, ℕ, ◌+◌, ◌≤◌, List, [], ◌∷◌, ◌++◌, length, filter, refl, sym, ap, ◌∙◌, subst, arith, Bool, true, false, cond, Result, Ok, Err}
 use Rattle.proxy_engine.specs.EngineModel.{EngineModel}
-use Rattle.proxy_engine.specs.Orderly.{ModelIsOrderly, HappeningKeepsOrder}
+use Rattle.proxy_engine.specs.Orderly.{ModelIsConsistent, HappeningKeepsModelConsistent}
 use Rattle.proxy_engine.specs.Reading.{end_may_send, failed_links}
 use Rattle.proxy_engine.specs.SendingEnds.{EndHasNumber, SendingEndHasNumber}
 use Rattle.proxy_engine.specs.State.{State, EngineRepresents}
 use Rattle.proxy_engine.specs.declared.work.End.{End}
 use Rattle.proxy_engine.specs.declared.work.End.TheVariants as ends
 use Rattle.proxy_turn.specs.Calls.{Call}
-use Rattle.proxy_turn.specs.Counts.{Calls, CountsRiseBy}
-use Rattle.proxy_turn.specs.Turn.{count_of_failed_reads, count_of_lost_in_rounds, calls_of_reads, calls_of_rounds}
-use Rattle.proxy_turn.specs.Parts.{EndWasNumbered, EndsWereNumbered, ActsReport, DueActsAreDone}
-use Rattle.proxy_turn.specs.Over.{ends_to_read, calls_of_accepts, calls_of_turn_over, count_of_failed_answers, TurnOverAsFarAsItCame, TurnOverReports, EngineTurnsOverWithCalls}
-use Rattle.proxy_turn.specs.OverParts.{AnswersReport, ConnectionsAreAccepted, ListedEndsAreRead}
+use Rattle.proxy_turn.specs.Counts.{Calls, CallCountsRiseBy}
+use Rattle.proxy_turn.specs.Turn.{count_of_failed_reads, count_of_failed_in_rounds, calls_of_reads, calls_of_rounds}
+use Rattle.proxy_turn.specs.Parts.{EndNumberWasGiven, EndNumbersWereGiven, ActsAreReported, DueActsAreDone}
+use Rattle.proxy_turn.specs.Over.{ends_to_read, calls_of_accepts, calls_of_turn_over_ends, count_of_failed_accept_outcomes, TurnOverEndsIsDoneInOrder, TurnOverEndsIsReported, EngineTurnsOverEndsWithCalls}
+use Rattle.proxy_turn.specs.OverParts.{AcceptsAreReported, ConnectionsAreAccepted, EndsOfListAreRead}
 use Rattle.proxy_turn.specs.declared.bounds.TurnBounds.{TurnBounds}
 use Rattle.proxy_turn.specs.declared.report.Report.{Report}
 use Rattle.proxy_turn.specs.declared.report.TurnFault.{TurnFault}
@@ -22,33 +22,33 @@ use Rattle.proxy_turn.proofs.Called.{Joins, accepted_alone, accepted_read}
 use Rattle.proxy_turn.proofs.Counting.{raises_on, raises_same}
 use Rattle.proxy_turn.proofs.Turning.{reads_orderly}
 
-numbered : (s : EngineModel) (end : End) → EndHasNumber s end → EndWasNumbered s end
+numbered : (s : EngineModel) (end : End) → EndHasNumber s end → EndNumberWasGiven s end
 numbered s ends.Listener there = there
 numbered s (ends.Client n) there = there
 numbered s (ends.Link l) there = there
 
 -- an end that may send is there
-sending_there : SendingEndHasNumber → (s : EngineModel) (es : List End) → EndsWereNumbered s (filter (end_may_send s) es)
+sending_there : SendingEndHasNumber → (s : EngineModel) (es : List End) → EndNumbersWereGiven s (filter (end_may_send s) es)
 sending_there number s [] = tt
 sending_there number s (end ∷ es) = by (end_may_send s end) refl (sending_there number s es)
   where
-    by : (b : Bool) → end_may_send s end ≡ b → EndsWereNumbered s (filter (end_may_send s) es) → EndsWereNumbered s (cond b (end ∷ filter (end_may_send s) es) (filter (end_may_send s) es))
+    by : (b : Bool) → end_may_send s end ≡ b → EndNumbersWereGiven s (filter (end_may_send s) es) → EndNumbersWereGiven s (cond b (end ∷ filter (end_may_send s) es) (filter (end_may_send s) es))
     by true e rest = (numbered s end (number s end e), rest)
     by false e rest = rest
 
 -- the same list under another name
-pub same_list : (t : EngineModel) (es left : List End) (e f : State) (did : List Call → Type 0) (a b : Calls) (result : Result (ℕ × ℕ) TurnFault) → es ≡ left → EndsWereNumbered t left → ((s : EngineModel) → EngineRepresents e s → EndsWereNumbered s es → ListedEndsAreRead s es f did a b result) → EngineRepresents e t → ListedEndsAreRead t left f did a b result
-same_list t es left e f did a b result is there reads represents = subst (λ (xs : List End). ListedEndsAreRead t xs f did a b result) is (reads t represents (subst (EndsWereNumbered t) (sym is) there))
+pub same_list : (t : EngineModel) (es left : List End) (e f : State) (did : List Call → Type 0) (a b : Calls) (result : Result (ℕ × ℕ) TurnFault) → es ≡ left → EndNumbersWereGiven t left → ((s : EngineModel) → EngineRepresents e s → EndNumbersWereGiven s es → EndsOfListAreRead s es f did a b result) → EngineRepresents e t → EndsOfListAreRead t left f did a b result
+same_list t es left e f did a b result is there reads represents = subst (λ (xs : List End). EndsOfListAreRead t xs f did a b result) is (reads t represents (subst (EndNumbersWereGiven t) (sym is) there))
 
 module _ (now : ℕ) (bounds : TurnBounds) (s : EngineModel) (given : List End) (e : State) (more : List End) (did : List Call → Type 0) (a b : Calls) (answer : Result ℕ TurnFault) (first : ConnectionsAreAccepted bounds s given e more did a b answer) (left : List End) (kept : left ≡ filter (end_may_send first.begun) more) where
   listed : left ≡ ends_to_read s given first.accepts first.begun
   listed = kept ∙ ap (λ (es : List End). filter (end_may_send first.begun) es) first.listed
 
-  pub listed_there : SendingEndHasNumber → EndsWereNumbered first.begun left
-  listed_there number = subst (EndsWereNumbered first.begun) (sym kept) (sending_there number first.begun more)
+  pub listed_there : SendingEndHasNumber → EndNumbersWereGiven first.begun left
+  listed_there number = subst (EndNumbersWereGiven first.begun) (sym kept) (sending_there number first.begun more)
 
   -- the listener was the last
-  pub asks_alone : (fault : TurnFault) → answer ≡ Err fault → EngineTurnsOverWithCalls now bounds s given e left did a b (Err fault)
+  pub asks_alone : (fault : TurnFault) → answer ≡ Err fault → EngineTurnsOverEndsWithCalls now bounds s given e left did a b (Err fault)
   asks_alone fault is = record {
     turns = record {
       accepts = first.accepts;
@@ -66,28 +66,28 @@ module _ (now : ℕ) (bounds : TurnBounds) (s : EngineModel) (given : List End) 
         reads_are = refl;
         works = (refl, refl);
         bound = omega arith;
-        behind_accepts = inr (refl, refl);
-        behind_reads = inr refl;
+        accepts_come_first = inr (refl, refl);
+        reads_come_before_acts = inr refl;
       };
       represents = first.represents;
       listed = listed;
-      reports = reports fault (subst (AnswersReport bounds first.accepts first.begun) is first.reports);
-      raises = raises_same a b (length first.accepts) 0 (count_of_failed_answers first.accepts) (length first.accepts) 0 (count_of_failed_answers first.accepts + (0 + 0)) refl refl (omega arith) first.raises;
+      reports = reports fault (subst (AcceptsAreReported bounds first.accepts first.begun) is first.reports);
+      raises = raises_same a b (length first.accepts) 0 (count_of_failed_accept_outcomes first.accepts) (length first.accepts) 0 (count_of_failed_accept_outcomes first.accepts + (0 + 0)) refl refl (omega arith) first.raises;
     };
     calls = subst did (accepted_alone s first.accepts) first.calls;
   }
     where
-      reports : (fault : TurnFault) → AnswersReport bounds first.accepts first.begun (Err fault) → TurnOverReports bounds first.accepts first.begun [] left [] first.begun (Err fault)
+      reports : (fault : TurnFault) → AcceptsAreReported bounds first.accepts first.begun (Err fault) → TurnOverEndsIsReported bounds first.accepts first.begun [] left [] first.begun (Err fault)
       reports faults.Listener t = (t, refl, refl)
       reports faults.NoMemory t = t
       reports faults.Spent t = absurd t
 
   module _ (accepted : ℕ) (is : answer ≡ Ok accepted) (f : State) (read : List Call → Type 0) (c : Calls) where
-    answered : AnswersReport bounds first.accepts first.begun (Ok accepted)
-    answered = subst (AnswersReport bounds first.accepts first.begun) is first.reports
+    answered : AcceptsAreReported bounds first.accepts first.begun (Ok accepted)
+    answered = subst (AcceptsAreReported bounds first.accepts first.begun) is first.reports
 
     -- the ends were the last
-    pub reads_last : (fault : TurnFault) → ListedEndsAreRead first.begun left f read b c (Err fault) → (both : List Call → Type 0) → Joins did read both → EngineTurnsOverWithCalls now bounds s given f left both a c (Err fault)
+    pub reads_last : (fault : TurnFault) → EndsOfListAreRead first.begun left f read b c (Err fault) → (both : List Call → Type 0) → Joins did read both → EngineTurnsOverEndsWithCalls now bounds s given f left both a c (Err fault)
     reads_last fault part both join = record {
       turns = record {
         accepts = first.accepts;
@@ -105,29 +105,29 @@ module _ (now : ℕ) (bounds : TurnBounds) (s : EngineModel) (given : List End) 
           reads_are = part.some.are;
           works = (refl, refl);
           bound = omega arith;
-          behind_accepts = inl answered.0;
-          behind_reads = inr refl;
+          accepts_come_first = inl answered.0;
+          reads_come_before_acts = inr refl;
         };
         represents = part.some.represents;
         listed = listed;
         reports = reports fault part.reports;
-        raises = raises_same a c (length first.accepts + 0) (0 + length part.reads) (count_of_failed_answers first.accepts + count_of_failed_reads part.reads) (length first.accepts) (length part.reads) (count_of_failed_answers first.accepts + (count_of_failed_reads part.reads + 0))
-            (omega arith) (omega arith) (omega arith) (raises_on a b c (length first.accepts) 0 (count_of_failed_answers first.accepts) 0 (length part.reads) (count_of_failed_reads part.reads) first.raises part.some.raises);
+        raises = raises_same a c (length first.accepts + 0) (0 + length part.reads) (count_of_failed_accept_outcomes first.accepts + count_of_failed_reads part.reads) (length first.accepts) (length part.reads) (count_of_failed_accept_outcomes first.accepts + (count_of_failed_reads part.reads + 0))
+            (omega arith) (omega arith) (omega arith) (raises_on a b c (length first.accepts) 0 (count_of_failed_accept_outcomes first.accepts) 0 (length part.reads) (count_of_failed_reads part.reads) first.raises part.some.raises);
       };
       calls = subst both (accepted_read s first.accepts part.reads) (join (calls_of_accepts (length s.connections + 1) first.accepts) (calls_of_reads part.reads) first.calls part.some.calls);
     }
       where
-        reports : (fault : TurnFault) → fault ≡ faults.NoMemory → TurnOverReports bounds first.accepts first.begun part.reads part.rest [] part.some.last (Err fault)
+        reports : (fault : TurnFault) → fault ≡ faults.NoMemory → TurnOverEndsIsReported bounds first.accepts first.begun part.reads part.rest [] part.some.last (Err fault)
         reports faults.NoMemory t = answered.1
         reports faults.Listener t = absurd cc
         reports faults.Spent t = absurd cc
 
-    module _ (counts : ℕ × ℕ) (second : ListedEndsAreRead first.begun left f read b c (Ok counts)) where
-      pub read_orderly : HappeningKeepsOrder → ModelIsOrderly s → ModelIsOrderly second.some.last
+    module _ (counts : ℕ × ℕ) (second : EndsOfListAreRead first.begun left f read b c (Ok counts)) where
+      pub read_orderly : HappeningKeepsModelConsistent → ModelIsConsistent s → ModelIsConsistent second.some.last
       read_orderly takes h = reads_orderly takes second.reads first.begun second.some.last second.some.are (accepts_orderly takes bounds.most_open first.accepts s first.begun first.are h)
 
       module _ (g : State) (worked : List Call → Type 0) (d : Calls) where
-        turned : (result : Result (ℕ × ℕ) TurnFault) → (third : DueActsAreDone now second.some.last g worked c d result) → TurnOverAsFarAsItCame now bounds s given first.accepts second.reads second.rest third.rounds third.some.last
+        turned : (result : Result (ℕ × ℕ) TurnFault) → (third : DueActsAreDone now second.some.last g worked c d result) → TurnOverEndsIsDoneInOrder now bounds s given first.accepts second.reads second.rest third.rounds third.some.last
         turned result third = record {
           begun = first.begun;
           read = second.some.last;
@@ -138,24 +138,24 @@ module _ (now : ℕ) (bounds : TurnBounds) (s : EngineModel) (given : List End) 
           reads_are = second.some.are;
           works = third.some.works;
           bound = third.bound;
-          behind_accepts = inl answered.0;
-          behind_reads = inl second.reports.0;
+          accepts_come_first = inl answered.0;
+          reads_come_before_acts = inl second.reports.0;
         }
 
         raised : (result : Result (ℕ × ℕ) TurnFault) → (third : DueActsAreDone now second.some.last g worked c d result)
-            → CountsRiseBy a d (length first.accepts) (length second.reads) (count_of_failed_answers first.accepts + (count_of_failed_reads second.reads + count_of_lost_in_rounds third.rounds))
-        raised result third = raises_same a d (length first.accepts + 0 + 0) (0 + length second.reads + 0) (count_of_failed_answers first.accepts + count_of_failed_reads second.reads + count_of_lost_in_rounds third.rounds)
-            (length first.accepts) (length second.reads) (count_of_failed_answers first.accepts + (count_of_failed_reads second.reads + count_of_lost_in_rounds third.rounds))
+            → CallCountsRiseBy a d (length first.accepts) (length second.reads) (count_of_failed_accept_outcomes first.accepts + (count_of_failed_reads second.reads + count_of_failed_in_rounds third.rounds))
+        raised result third = raises_same a d (length first.accepts + 0 + 0) (0 + length second.reads + 0) (count_of_failed_accept_outcomes first.accepts + count_of_failed_reads second.reads + count_of_failed_in_rounds third.rounds)
+            (length first.accepts) (length second.reads) (count_of_failed_accept_outcomes first.accepts + (count_of_failed_reads second.reads + count_of_failed_in_rounds third.rounds))
             (omega arith) (omega arith) (omega arith)
-            (raises_on a c d (length first.accepts + 0) (0 + length second.reads) (count_of_failed_answers first.accepts + count_of_failed_reads second.reads) 0 0 (count_of_lost_in_rounds third.rounds)
-            (raises_on a b c (length first.accepts) 0 (count_of_failed_answers first.accepts) 0 (length second.reads) (count_of_failed_reads second.reads) first.raises second.some.raises) third.some.raises)
+            (raises_on a c d (length first.accepts + 0) (0 + length second.reads) (count_of_failed_accept_outcomes first.accepts + count_of_failed_reads second.reads) 0 0 (count_of_failed_in_rounds third.rounds)
+            (raises_on a b c (length first.accepts) 0 (count_of_failed_accept_outcomes first.accepts) 0 (length second.reads) (count_of_failed_reads second.reads) first.raises second.some.raises) third.some.raises)
 
-        called : (result : Result (ℕ × ℕ) TurnFault) → (third : DueActsAreDone now second.some.last g worked c d result) → (later all : List Call → Type 0) → Joins read worked later → Joins did later all → all (calls_of_turn_over s first.accepts second.reads third.rounds)
+        called : (result : Result (ℕ × ℕ) TurnFault) → (third : DueActsAreDone now second.some.last g worked c d result) → (later all : List Call → Type 0) → Joins read worked later → Joins did later all → all (calls_of_turn_over_ends s first.accepts second.reads third.rounds)
         called result third later all join onto =
             onto (calls_of_accepts (length s.connections + 1) first.accepts) (calls_of_reads second.reads ++ calls_of_rounds third.rounds) first.calls (join (calls_of_reads second.reads) (calls_of_rounds third.rounds) second.some.calls third.some.calls)
 
         -- an act was the last
-        pub works_last : (fault : TurnFault) → DueActsAreDone now second.some.last g worked c d (Err fault) → (later all : List Call → Type 0) → Joins read worked later → Joins did later all → EngineTurnsOverWithCalls now bounds s given g left all a d (Err fault)
+        pub works_last : (fault : TurnFault) → DueActsAreDone now second.some.last g worked c d (Err fault) → (later all : List Call → Type 0) → Joins read worked later → Joins did later all → EngineTurnsOverEndsWithCalls now bounds s given g left all a d (Err fault)
         unfolding turned
         works_last fault third later all join onto = record {
           turns = record {
@@ -173,14 +173,14 @@ module _ (now : ℕ) (bounds : TurnBounds) (s : EngineModel) (given : List End) 
           calls = called (Err fault) third later all join onto;
         }
           where
-            reports : (fault : TurnFault) → ActsReport third.rounds third.some.last (Err fault) → TurnOverReports bounds first.accepts first.begun second.reads second.rest third.rounds third.some.last (Err fault)
+            reports : (fault : TurnFault) → ActsAreReported third.rounds third.some.last (Err fault) → TurnOverEndsIsReported bounds first.accepts first.begun second.reads second.rest third.rounds third.some.last (Err fault)
             reports faults.Listener t = absurd t
             reports faults.NoMemory t = answered.1
             reports faults.Spent t = (answered.1, answered.0, second.reports.0, t)
 
         -- whole
         pub whole : (done : ℕ × ℕ) → (third : DueActsAreDone now second.some.last g worked c d (Ok done)) → (report : Report) → report.accepted ≡ accepted → report.reads ≡ counts.0 → report.works ≡ done.0 → report.faults ≡ counts.1 + done.1 → (later all : List Call → Type 0) → Joins read worked later → Joins did later all
-            → EngineTurnsOverWithCalls now bounds s given g left all a d (Ok report)
+            → EngineTurnsOverEndsWithCalls now bounds s given g left all a d (Ok report)
         unfolding turned
         whole done third report accepted_is reads works faults later all join onto = record {
           turns = record {

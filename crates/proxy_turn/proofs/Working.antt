@@ -8,18 +8,18 @@ use Rattle.proxy_engine.specs.EngineModel.{EngineModel}
 use Rattle.proxy_engine.specs.Due.{Act, IsDueFirst}
 use Rattle.proxy_engine.specs.Acts.{ActIsDone}
 use Rattle.proxy_engine.specs.Drops.{ActHasFewEffects}
-use Rattle.proxy_engine.specs.Orderly.{ModelIsOrderly, HappeningKeepsOrder, ActKeepsOrder, ActKeepsEnded}
+use Rattle.proxy_engine.specs.Orderly.{ModelIsConsistent, HappeningKeepsModelConsistent, ActKeepsModelConsistent, EndedEndsStayEndedAfterAct}
 use Rattle.proxy_engine.specs.Reading.{failed_links}
-use Rattle.proxy_engine.specs.State.{State, EngineRepresents, FirstDueActWasDone, NoActWasDoneSince}
+use Rattle.proxy_engine.specs.State.{State, EngineRepresents, FirstDueActWasDone, NoActWasDoneBecauseOf}
 use Rattle.proxy_engine.specs.declared.work.End.{End}
 use Rattle.proxy_engine.specs.declared.work.EngineFault.{EngineFault}
 use Rattle.proxy_engine.specs.declared.work.EngineFault.TheVariants as engine
 use Rattle.proxy_engine.specs.declared.work.Work.{Work}
 use Rattle.proxy_engine.specs.declared.work.Work.TheVariants as work
 use Rattle.proxy_turn.specs.Calls.{Call}
-use Rattle.proxy_turn.specs.Counts.{Calls, CountsRiseBy}
-use Rattle.proxy_turn.specs.Turn.{ActRound, end_of_effect, count_of_lost_effects, count_of_lost_in_rounds, calls_of_effects, calls_of_rounds}
-use Rattle.proxy_turn.specs.Parts.{turn_fault_of_engine_fault, EndsWereNumbered, EffectsWereCarriedOut, SomeActsAreDone, ActsReport, DueActsAreDone}
+use Rattle.proxy_turn.specs.Counts.{Calls, CallCountsRiseBy}
+use Rattle.proxy_turn.specs.Turn.{ActWithEffectFates, end_of_effect, count_of_failed_effects, count_of_failed_in_rounds, calls_of_effects, calls_of_rounds}
+use Rattle.proxy_turn.specs.Parts.{turn_fault_of_engine_fault, EndNumbersWereGiven, EffectsWereCarriedOut, ActsAreDoneOneAfterAnother, ActsAreReported, DueActsAreDone}
 use Rattle.proxy_turn.specs.declared.report.TurnFault.{TurnFault}
 use Rattle.proxy_turn.specs.declared.report.TurnFault.TheVariants.{NoMemory}
 use Rattle.proxy_turn.proofs.Called.{Joins, worked_one_more}
@@ -29,10 +29,10 @@ use Rattle.proxy_turn.proofs.Turning.{works_more, works_orderly, sum_more}
 
 -- so many acts were done
 pub record SoFar (now : ℕ) (s : EngineModel) (e : State) (gone : List End) (did : List Call → Type 0) (a b : Calls) (works faults : ℕ) : Type 0 where
-  pub rounds : List ActRound
-  pub some : SomeActsAreDone now s rounds e gone did a b
+  pub rounds : List ActWithEffectFates
+  pub some : ActsAreDoneOneAfterAnother now s rounds e gone did a b
   pub number : length rounds ≡ works
-  pub counted : faults ≡ count_of_lost_in_rounds rounds
+  pub counted : faults ≡ count_of_failed_in_rounds rounds
   pub few : faults ≤ 3 * works
 
 -- the first act that was due was done
@@ -58,11 +58,11 @@ worked_none now s e gone did here is represents none = record {
 }
 
 module _ (now : ℕ) (s : EngineModel) (e : State) (gone : List End) (did : List Call → Type 0) (a b : Calls) (works faults : ℕ) (done : SoFar now s e gone did a b works faults) where
-  pub still_orderly : HappeningKeepsOrder → ActKeepsOrder → ModelIsOrderly s → ModelIsOrderly done.some.last
+  pub still_orderly : HappeningKeepsModelConsistent → ActKeepsModelConsistent → ModelIsConsistent s → ModelIsConsistent done.some.last
   still_orderly takes acts h = works_orderly takes acts done.rounds now s (failed_links s) done.some.last gone done.some.works h
 
   module _ (emitted : List Effect) (mid : State) (one : Acted done.some.last now emitted mid) where
-    pub emitted_there : HappeningKeepsOrder → ActKeepsOrder → ActKeepsEnded → ModelIsOrderly s → EndsWereNumbered one.after (map end_of_effect emitted)
+    pub emitted_there : HappeningKeepsModelConsistent → ActKeepsModelConsistent → EndedEndsStayEndedAfterAct → ModelIsConsistent s → EndNumbersWereGiven one.after (map end_of_effect emitted)
     emitted_there takes acts stay h =
         effects_there done.some.last now one.act emitted one.after (stay done.some.last now one.act emitted one.after one.does) (acts done.some.last now one.act emitted one.after (still_orderly takes acts h) one.due one.does).1 one.does
 
@@ -72,8 +72,8 @@ module _ (now : ℕ) (s : EngineModel) (e : State) (gone : List End) (did : List
     pub worked_more : (new : State) (more : List End) (then all : List Call → Type 0) (c : Calls) (count sum : ℕ) → sum ≡ faults + count → count ≤ 3 → EffectsWereCarriedOut one.after gone emitted new more then b c count → Joins did then all
         → SoFar now s new more all a c (works + 1) sum
     worked_more new more then all c count sum is small out join =
-        let r : ActRound = record { act = one.act; emitted = emitted; fates = out.fates } in
-        let total = sum_more (λ (x : ActRound). count_of_lost_effects x.fates) done.rounds r in
+        let r : ActWithEffectFates = record { act = one.act; emitted = emitted; fates = out.fates } in
+        let total = sum_more (λ (x : ActWithEffectFates). count_of_failed_effects x.fates) done.rounds r in
         record {
           rounds = done.rounds ++ r ∷ [];
           some = record {
@@ -81,7 +81,7 @@ module _ (now : ℕ) (s : EngineModel) (e : State) (gone : List End) (did : List
             works = works_more done.rounds now s (failed_links s) done.some.last gone r one.after out.last more done.some.works one.due one.does out.carries;
             represents = out.represents;
             calls = subst all (sym (worked_one_more done.rounds r)) (join (calls_of_rounds done.rounds) (calls_of_effects emitted out.fates) done.some.calls out.calls);
-            raises = subst (λ (n : ℕ). CountsRiseBy a c 0 0 n) (sym total) (raises_on a b c 0 0 (count_of_lost_in_rounds done.rounds) 0 0 (count_of_lost_effects out.fates) done.some.raises out.raises);
+            raises = subst (λ (n : ℕ). CallCountsRiseBy a c 0 0 n) (sym total) (raises_on a b c 0 0 (count_of_failed_in_rounds done.rounds) 0 0 (count_of_failed_effects out.fates) done.some.raises out.raises);
           };
           number = length-append done.rounds (r ∷ []) ∙ ap (λ (n : ℕ). n + 1) done.number;
           counted = let before = done.counted in let here = out.counted in omega (arith, is, before, here, total);
@@ -92,7 +92,7 @@ module _ (now : ℕ) (s : EngineModel) (e : State) (gone : List End) (did : List
     bounded : length done.rounds ≤ 1000
     bounded = let n = done.number in omega (arith, n, bound)
 
-    small : count_of_lost_in_rounds done.rounds ≤ 3000
+    small : count_of_failed_in_rounds done.rounds ≤ 3000
     small = let n = done.counted in let few = done.few in omega (arith, n, few, bound)
 
   -- nothing is due
@@ -124,7 +124,7 @@ module _ (now : ℕ) (s : EngineModel) (e : State) (gone : List End) (did : List
   stopped_by bound = record { rounds = done.rounds; gone = gone; some = done.some; bound = bounded bound; few = small bound; reports = tt }
 
   -- an act was refused
-  pub failed_by : (fault : EngineFault) (new : State) → NoActWasDoneSince done.some.last fault → EngineRepresents new done.some.last → works ≤ 1000 → DueActsAreDone now s new did a b (Err (turn_fault_of_engine_fault fault))
+  pub failed_by : (fault : EngineFault) (new : State) → NoActWasDoneBecauseOf done.some.last fault → EngineRepresents new done.some.last → works ≤ 1000 → DueActsAreDone now s new did a b (Err (turn_fault_of_engine_fault fault))
   failed_by fault new failed represents bound = record {
     rounds = done.rounds;
     gone = gone;
@@ -134,7 +134,7 @@ module _ (now : ℕ) (s : EngineModel) (e : State) (gone : List End) (did : List
     reports = reports fault failed;
   }
     where
-      reports : (fault : EngineFault) → NoActWasDoneSince done.some.last fault → ActsReport done.rounds done.some.last (Err (turn_fault_of_engine_fault fault))
+      reports : (fault : EngineFault) → NoActWasDoneBecauseOf done.some.last fault → ActsAreReported done.rounds done.some.last (Err (turn_fault_of_engine_fault fault))
       reports engine.WrongNumber failed = absurd failed
       reports engine.NotAccepted failed = absurd failed
       reports engine.NotWaiting failed = absurd failed

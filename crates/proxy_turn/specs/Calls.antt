@@ -5,7 +5,7 @@
 -- accept_outcome_of, read_outcome_of: of what they returned
 use Rattle.std.specs.Prelude.{ℕ, List, take, Bool, true, false, Option, Result, Ok, Err}
 use Rattle.std.specs.declared.net.socket_addr.SocketAddrV4.{SocketAddrV4}
-use Rattle.hx_status.specs.declared.about.Replied.{Replied}
+use Rattle.hx_status.specs.declared.about.ReplyData.{ReplyData}
 use Rattle.proxy_engine.specs.declared.work.End.{End}
 use Rattle.proxy_turn.specs.declared.sockets.SocketFailed.{SocketFailed}
 use Rattle.proxy_reads.specs.declared.received.Received.{Received}
@@ -24,7 +24,7 @@ pub data ReadOutcome : Type 0 where
 pub data Call : Type 0 where
   Accept : (n : ℕ) (answer : AcceptOutcome) → Call
   Read : (end : End) (given : ReadOutcome) → Call
-  Write : (end : End) (bytes : List ℕ) (replied : Option Replied) (done : Bool) → Call
+  Write : (end : End) (bytes : List ℕ) (replied : Option ReplyData) (done : Bool) → Call
   Connect : (link : ℕ) (address : SocketAddrV4) (done : Bool) → Call
   Shut : (end : End) (done : Bool) → Call
 

@@ -1,6 +1,6 @@
 -- Counts of calls, which stop at the greatest number.
 --
--- CountRisesBy: a count rises      Calls, CountsRiseBy: the three counts of sockets, and how they rise
+-- CountRisesBy: a count rises      Calls, CallCountsRiseBy: the three counts of sockets, and how they rise
 -- failed: 1 for a call that failed
 use Rattle.std.specs.Prelude.{◌≡◌, ℕ, ◌+◌, ◌-◌, ◌^◌, ◌<◌, ◌≤◌, Result, Ok, Err}
 
@@ -23,7 +23,7 @@ pub record Calls : Type 0 where
 abbrev pub calls : ℕ → ℕ → ℕ → Calls
 calls accepts reads failures = record { accepts = accepts; reads = reads; failures = failures }
 
-pub record CountsRiseBy (old new : Calls) (accepts reads failures : ℕ) : Type 0 where
+pub record CallCountsRiseBy (old new : Calls) (accepts reads failures : ℕ) : Type 0 where
   pub asked : CountRisesBy old.accepts new.accepts accepts
   pub read : CountRisesBy old.reads new.reads reads
   pub failed : CountRisesBy old.failures new.failures failures

@@ -33,11 +33,11 @@ LogGrewByCalls was_lost log lost later made = lost ≡ false → (was_lost ≡ f
 pub log_grew_by_no_call : (lost : Bool) (log : List LoggedCall) → LogGrewByCalls lost log lost log []
 log_grew_by_no_call lost log kept = (kept, sym (append-nil (map logged_call log)))
 
-pub log_growth_joined : (first : Bool) (log : List LoggedCall) (then : Bool) (mid : List LoggedCall) (last : Bool)
+pub log_growths_concatenate : (first : Bool) (log : List LoggedCall) (then : Bool) (mid : List LoggedCall) (last : Bool)
     (later : List LoggedCall) (a b : List Call) → LogGrewByCalls first log then mid a → LogGrewByCalls
     then mid last later b
     → LogGrewByCalls first log last later (a ++ b)
-log_growth_joined first log then mid last later a b one two kept =
+log_growths_concatenate first log then mid last later a b one two kept =
     let second = two kept in
     let start = one second.0 in
     (start.0, second.1 ∙ (ap (λ (xs : List Call). xs ++ b) start.1 ∙ append_assoc (map logged_call log) a b))

@@ -1,28 +1,28 @@
 -- What a turn over ends that are handed in does with an engine, within its bounds: the connections that it accepts, the
 -- ends that it reads, and the acts that it does. Reads, acts and their effects are those of `Turn`.
 --
--- asks_while_fewer, AcceptsAreTaken: the calls of accept
--- NoMoreIsAccepted, LastAnswerIs: how they end
+-- may_accept_more, AcceptsAreTaken: the calls of accept
+-- NoMoreIsAccepted, LastAcceptOutcomeIs: how they end
 -- accepted_ends, ends_to_read: the ends of the connections that came, and those of all that are read
--- calls_of_turn_over: the calls of a turn, in order
--- TurnOverAsFarAsItCame: a turn, whole or as far as it came            TurnOverReports: what it answers
--- EngineTurnsOver: both                                                EngineTurnsOverWithCalls: with its calls
+-- calls_of_turn_over_ends: the calls of a turn, in order
+-- TurnOverEndsIsDoneInOrder: a turn, whole or as far as it came            TurnOverEndsIsReported: what it answers
+-- EngineTurnsOverEnds: both                                                EngineTurnsOverEndsWithCalls: with its calls
 use Rattle.std.specs.Prelude.{◌≡◌, ℕ, ◌+◌, ◌≤◌, List, [], ◌∷◌, ◌++◌, length, filter, sum_by, Bool, true, false, ◌&&◌}
 use Rattle.std.specs.Prelude.{nat_lt, Option, None, Some, is_some, Result, Ok, Err, ◌⊎◌}
-use Rattle.proxy_engine.specs.Happenings.{PlainHappening, Accepts}
+use Rattle.proxy_engine.specs.Happenings.{HappeningModel, Accepts}
 use Rattle.proxy_engine.specs.EngineModel.{EngineModel}
 use Rattle.proxy_engine.specs.Due.{IsDueFirst}
 use Rattle.proxy_engine.specs.Reading.{end_may_send, failed_links, open_connection_count, next_connection_number}
-use Rattle.proxy_engine.specs.State.{State, EngineRepresents, NoActWasDoneSince as EngineFailed}
+use Rattle.proxy_engine.specs.State.{State, EngineRepresents, NoActWasDoneBecauseOf as EngineFailed}
 use Rattle.proxy_engine.specs.declared.work.EngineFault.TheVariants as engine
 use Rattle.proxy_engine.specs.declared.work.End.{End}
 use Rattle.proxy_engine.specs.declared.work.End.TheVariants as ends
 use Rattle.proxy_turn.specs.Calls as call
 use Rattle.proxy_turn.specs.Calls.{Call, AcceptOutcome, Came, NoneCame, Failed}
-use Rattle.proxy_turn.specs.Counts.{Calls, CountsRiseBy}
-use Rattle.proxy_turn.specs.Turn.{HappeningIfAnyIsTaken, EndRead, ReadsAreTaken, ends_of_reads, ActRound}
+use Rattle.proxy_turn.specs.Counts.{Calls, CallCountsRiseBy}
+use Rattle.proxy_turn.specs.Turn.{HappeningIfAnyIsTaken, EndRead, ReadsAreTaken, ends_of_reads, ActWithEffectFates}
 use Rattle.proxy_turn.specs.Turn.{ActsAreCarriedOut, calls_of_reads, calls_of_rounds, count_of_failed_reads}
-use Rattle.proxy_turn.specs.Turn.{count_of_lost_in_rounds}
+use Rattle.proxy_turn.specs.Turn.{count_of_failed_in_rounds}
 use Rattle.proxy_turn.specs.declared.bounds.TurnBounds.{TurnBounds}
 use Rattle.proxy_turn.specs.declared.report.Report.{Report}
 use Rattle.proxy_turn.specs.declared.report.TurnFault.{TurnFault}
@@ -31,45 +31,45 @@ use Rattle.proxy_turn.specs.declared.report.TurnFault.TheVariants as faults
 -- ---- the listener
 
 -- where fewer connections than this are open, and a number is left
-abbrev pub asks_while_fewer : ℕ → EngineModel → Bool
-asks_while_fewer most s = nat_lt (open_connection_count s) most && is_some (next_connection_number s)
+abbrev pub may_accept_more : ℕ → EngineModel → Bool
+may_accept_more most s = nat_lt (open_connection_count s) most && is_some (next_connection_number s)
 
 -- asked under this number
-abbrev pub happening_of_answer : ℕ → AcceptOutcome → Option PlainHappening
-happening_of_answer n Came = Some (Accepts n)
-happening_of_answer n NoneCame = None
-happening_of_answer n Failed = None
+abbrev pub happening_of_accept_outcome : ℕ → AcceptOutcome → Option HappeningModel
+happening_of_accept_outcome n Came = Some (Accepts n)
+happening_of_accept_outcome n NoneCame = None
+happening_of_accept_outcome n Failed = None
 
 -- Each call is made where fewer connections than `most` are open and a number is left. A connection that came is taken
 -- before the next call; behind a call that gave none no other is made.
 abbrev pub AcceptsAreTaken : ℕ → EngineModel → List AcceptOutcome → EngineModel → Type 0
 AcceptsAreTaken most s [] t = t ≡ s
 AcceptsAreTaken most s (a ∷ more) t =
-    (after : EngineModel) × (asks_while_fewer most s ≡ true)
-    × HappeningIfAnyIsTaken s (happening_of_answer (length s.connections + 1) a) after
+    (after : EngineModel) × (may_accept_more most s ≡ true)
+    × HappeningIfAnyIsTaken s (happening_of_accept_outcome (length s.connections + 1) a) after
     × ((a ≡ Came) ⊎ (more ≡ [])) × AcceptsAreTaken most after more t
 
 -- the last call gave this
-abbrev pub LastAnswerIs : AcceptOutcome → List AcceptOutcome → Type 0
-LastAnswerIs a accepts = (front : List AcceptOutcome) × (accepts ≡ front ++ a ∷ [])
+abbrev pub LastAcceptOutcomeIs : AcceptOutcome → List AcceptOutcome → Type 0
+LastAcceptOutcomeIs a accepts = (front : List AcceptOutcome) × (accepts ≡ front ++ a ∷ [])
 
 -- No call was left out: as many were made as there may be, or no other may be made, or none waited.
 abbrev pub NoMoreIsAccepted : TurnBounds → List AcceptOutcome → EngineModel → Type 0
 NoMoreIsAccepted bounds accepts begun =
-    (length accepts ≡ bounds.most_accepts) ⊎ ((asks_while_fewer bounds.most_open begun ≡ false)
-    ⊎ LastAnswerIs NoneCame accepts)
+    (length accepts ≡ bounds.most_accepts) ⊎ ((may_accept_more bounds.most_open begun ≡ false)
+    ⊎ LastAcceptOutcomeIs NoneCame accepts)
 
 -- ---- the ends
 
-abbrev pub ends_of_answer : ℕ → AcceptOutcome → List End
-ends_of_answer n Came = ends.Client n ∷ []
-ends_of_answer n NoneCame = []
-ends_of_answer n Failed = []
+abbrev pub ends_of_accept_outcome : ℕ → AcceptOutcome → List End
+ends_of_accept_outcome n Came = ends.Client n ∷ []
+ends_of_accept_outcome n NoneCame = []
+ends_of_accept_outcome n Failed = []
 
 -- the ends of the connections that came, where the first call was for one of this number
 abbrev pub accepted_ends : ℕ → List AcceptOutcome → List End
 accepted_ends n [] = []
-accepted_ends n (a ∷ more) = ends_of_answer n a ++ accepted_ends (n + 1) more
+accepted_ends n (a ∷ more) = ends_of_accept_outcome n a ++ accepted_ends (n + 1) more
 
 -- Of those that are handed in, and those of the connections that came behind them: the ends from which bytes may come
 -- once these are taken.
@@ -85,34 +85,35 @@ calls_of_accepts n [] = []
 calls_of_accepts n (a ∷ more) = call.Accept n a ∷ calls_of_accepts (n + 1) more
 
 -- all of a turn, in order
-abbrev pub calls_of_turn_over : EngineModel → List AcceptOutcome → List EndRead → List ActRound → List Call
-calls_of_turn_over s accepts reads rounds =
+abbrev pub calls_of_turn_over_ends : EngineModel → List AcceptOutcome → List EndRead → List ActWithEffectFates
+    → List Call
+calls_of_turn_over_ends s accepts reads rounds =
     calls_of_accepts (length s.connections + 1) accepts ++ (calls_of_reads reads ++ calls_of_rounds rounds)
 
 -- ---- counts
 
-abbrev pub count_of_connection : AcceptOutcome → ℕ
-count_of_connection Came = 1
-count_of_connection NoneCame = 0
-count_of_connection Failed = 0
+abbrev pub count_of_accepted_connection : AcceptOutcome → ℕ
+count_of_accepted_connection Came = 1
+count_of_accepted_connection NoneCame = 0
+count_of_accepted_connection Failed = 0
 
-abbrev pub count_of_failed_answer : AcceptOutcome → ℕ
-count_of_failed_answer Came = 0
-count_of_failed_answer NoneCame = 0
-count_of_failed_answer Failed = 1
+abbrev pub count_of_failed_accept_outcome : AcceptOutcome → ℕ
+count_of_failed_accept_outcome Came = 0
+count_of_failed_accept_outcome NoneCame = 0
+count_of_failed_accept_outcome Failed = 1
 
-abbrev pub count_of_connections : List AcceptOutcome → ℕ
-count_of_connections accepts = sum_by count_of_connection accepts
+abbrev pub count_of_accepted_connections : List AcceptOutcome → ℕ
+count_of_accepted_connections accepts = sum_by count_of_accepted_connection accepts
 
-abbrev pub count_of_failed_answers : List AcceptOutcome → ℕ
-count_of_failed_answers accepts = sum_by count_of_failed_answer accepts
+abbrev pub count_of_failed_accept_outcomes : List AcceptOutcome → ℕ
+count_of_failed_accept_outcomes accepts = sum_by count_of_failed_accept_outcome accepts
 
 -- ---- a turn
 
 -- As far as it came: calls of accept, one read of each end from which bytes may come, in order, but for the rest, and
 -- then acts.
-pub record TurnOverAsFarAsItCame (now : ℕ) (bounds : TurnBounds) (s : EngineModel) (given : List End)
-    (accepts : List AcceptOutcome) (reads : List EndRead) (rest : List End) (rounds : List ActRound)
+pub record TurnOverEndsIsDoneInOrder (now : ℕ) (bounds : TurnBounds) (s : EngineModel) (given : List End)
+    (accepts : List AcceptOutcome) (reads : List EndRead) (rest : List End) (rounds : List ActWithEffectFates)
     (t : EngineModel) : Type 0 where
   pub begun : EngineModel
   pub read : EngineModel
@@ -123,55 +124,57 @@ pub record TurnOverAsFarAsItCame (now : ℕ) (bounds : TurnBounds) (s : EngineMo
   pub reads_are : ReadsAreTaken begun reads read
   pub works : ActsAreCarriedOut now read (failed_links read) rounds t gone
   pub bound : length rounds ≤ 1000
-  pub behind_accepts : NoMoreIsAccepted bounds accepts begun ⊎ ((reads ≡ []) × (rounds ≡ []))
-  pub behind_reads : (rest ≡ []) ⊎ (rounds ≡ [])
+  pub accepts_come_first : NoMoreIsAccepted bounds accepts begun ⊎ ((reads ≡ []) × (rounds ≡ []))
+  pub reads_come_before_acts : (rest ≡ []) ⊎ (rounds ≡ [])
 
 -- nothing was left out, and this was counted
-pub record TurnOverIsWholeAndCounted (bounds : TurnBounds) (accepts : List AcceptOutcome) (begun : EngineModel)
-    (reads : List EndRead) (rest : List End) (rounds : List ActRound)
+pub record TurnOverEndsIsWholeAndCounted (bounds : TurnBounds) (accepts : List AcceptOutcome) (begun : EngineModel)
+    (reads : List EndRead) (rest : List End) (rounds : List ActWithEffectFates)
     (t : EngineModel) (report : Report) : Type 0 where
   pub accepts_are : NoMoreIsAccepted bounds accepts begun
-  pub unbroken : count_of_failed_answers accepts ≡ 0
+  pub unbroken : count_of_failed_accept_outcomes accepts ≡ 0
   pub rest_is : rest ≡ []
   pub worked : (length rounds ≡ 1000) ⊎ IsDueFirst t None
-  pub accepted : report.accepted ≡ count_of_connections accepts
+  pub accepted : report.accepted ≡ count_of_accepted_connections accepts
   pub reads_are : report.reads ≡ length reads
   pub works : report.works ≡ length rounds
-  pub faults : report.faults ≡ count_of_failed_reads reads + count_of_lost_in_rounds rounds
+  pub faults : report.faults ≡ count_of_failed_reads reads + count_of_failed_in_rounds rounds
 
 -- what a turn answers, whose calls of accept led to `begun`
-abbrev pub TurnOverReports : TurnBounds → List AcceptOutcome → EngineModel → List EndRead → List End → List ActRound
+abbrev pub TurnOverEndsIsReported : TurnBounds → List AcceptOutcome → EngineModel → List EndRead → List End
+    → List ActWithEffectFates
     → EngineModel
     → Result Report TurnFault
     → Type 0
-TurnOverReports bounds accepts begun reads rest rounds t (Ok report) =
-    TurnOverIsWholeAndCounted bounds accepts begun reads rest rounds t report
-TurnOverReports bounds accepts begun reads rest rounds t (Err faults.Listener) =
-    LastAnswerIs Failed accepts × (reads ≡ []) × (rounds ≡ [])
-TurnOverReports bounds accepts begun reads rest rounds t (Err faults.NoMemory) = count_of_failed_answers accepts ≡ 0
-TurnOverReports bounds accepts begun reads rest rounds t (Err faults.Spent) =
-    (count_of_failed_answers accepts ≡ 0) × NoMoreIsAccepted bounds accepts begun × (rest ≡ [])
+TurnOverEndsIsReported bounds accepts begun reads rest rounds t (Ok report) =
+    TurnOverEndsIsWholeAndCounted bounds accepts begun reads rest rounds t report
+TurnOverEndsIsReported bounds accepts begun reads rest rounds t (Err faults.Listener) =
+    LastAcceptOutcomeIs Failed accepts × (reads ≡ []) × (rounds ≡ [])
+TurnOverEndsIsReported bounds accepts begun reads rest rounds t (Err faults.NoMemory) =
+    count_of_failed_accept_outcomes accepts ≡ 0
+TurnOverEndsIsReported bounds accepts begun reads rest rounds t (Err faults.Spent) =
+    (count_of_failed_accept_outcomes accepts ≡ 0) × NoMoreIsAccepted bounds accepts begun × (rest ≡ [])
     × EngineFailed t engine.Spent
 
 -- A turn of an engine over the ends that are given, with how the counts of calls rose. What is left of the ends are
 -- those from which bytes might come before the reads.
-pub record EngineTurnsOver (now : ℕ) (bounds : TurnBounds) (s : EngineModel) (given : List End) (e : State)
+pub record EngineTurnsOverEnds (now : ℕ) (bounds : TurnBounds) (s : EngineModel) (given : List End) (e : State)
     (left : List End) (before after : Calls) (result : Result Report TurnFault) : Type 0 where
   pub accepts : List AcceptOutcome
   pub reads : List EndRead
   pub rest : List End
-  pub rounds : List ActRound
+  pub rounds : List ActWithEffectFates
   pub last : EngineModel
-  pub turn : TurnOverAsFarAsItCame now bounds s given accepts reads rest rounds last
+  pub turn : TurnOverEndsIsDoneInOrder now bounds s given accepts reads rest rounds last
   pub represents : EngineRepresents e last
   pub listed : left ≡ ends_to_read s given accepts turn.begun
-  pub reports : TurnOverReports bounds accepts turn.begun reads rest rounds last result
-  pub raises : CountsRiseBy before after (length accepts) (length reads)
-      (count_of_failed_answers accepts + (count_of_failed_reads reads + count_of_lost_in_rounds rounds))
+  pub reports : TurnOverEndsIsReported bounds accepts turn.begun reads rest rounds last result
+  pub raises : CallCountsRiseBy before after (length accepts) (length reads)
+      (count_of_failed_accept_outcomes accepts + (count_of_failed_reads reads + count_of_failed_in_rounds rounds))
 
 -- A turn of an engine, and its calls: `did` says that just these were made on the sockets.
-pub record EngineTurnsOverWithCalls (now : ℕ) (bounds : TurnBounds) (s : EngineModel) (given : List End) (e : State)
+pub record EngineTurnsOverEndsWithCalls (now : ℕ) (bounds : TurnBounds) (s : EngineModel) (given : List End) (e : State)
     (left : List End) (did : List Call → Type 0) (before after : Calls)
     (result : Result Report TurnFault) : Type 0 where
-  pub turns : EngineTurnsOver now bounds s given e left before after result
-  pub calls : did (calls_of_turn_over s turns.accepts turns.reads turns.rounds)
+  pub turns : EngineTurnsOverEnds now bounds s given e left before after result
+  pub calls : did (calls_of_turn_over_ends s turns.accepts turns.reads turns.rounds)

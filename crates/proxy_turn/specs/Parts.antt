@@ -2,24 +2,25 @@
 use Rattle.std.specs.Prelude.{◌≡◌, ℕ, ◌≤◌, List, [], ◌∷◌, length, Option, None, Some, Result, Ok, Err, ◌⊎◌}
 use Rattle.hx_status.specs.declared.cause.FailKind.{FailKind}
 use Rattle.proxy_script.specs.declared.effect_list.Effect.{Effect}
-use Rattle.proxy_engine.specs.Happenings.{PlainHappening}
-use Rattle.proxy_engine.specs.EngineModel.{EngineModel, happening_fault, connection_fault, link_fault}
+use Rattle.proxy_engine.specs.Happenings.{HappeningModel}
+use Rattle.proxy_engine.specs.EngineModel.{EngineModel, happening_fault, connection_fault, link_number_fault}
 use Rattle.proxy_engine.specs.Due.{IsDueFirst}
 use Rattle.proxy_engine.specs.Reading.{failed_links}
 use Rattle.proxy_engine.specs.Room.{HappeningFindsMemory}
-use Rattle.proxy_engine.specs.State.{State, EngineRepresents, NoActWasDoneSince as EngineFailed}
+use Rattle.proxy_engine.specs.State.{State, EngineRepresents, NoActWasDoneBecauseOf as EngineFailed}
 use Rattle.proxy_engine.specs.declared.work.EngineFault.{EngineFault}
 use Rattle.proxy_engine.specs.declared.work.EngineFault.TheVariants as engine
 use Rattle.proxy_engine.specs.declared.work.End.{End}
 use Rattle.proxy_engine.specs.declared.work.End.TheVariants as ends
 use Rattle.proxy_turn.specs.Calls as call
 use Rattle.proxy_turn.specs.Calls.{Call}
-use Rattle.proxy_turn.specs.Counts.{Calls, CountsRiseBy}
+use Rattle.proxy_turn.specs.Counts.{Calls, CallCountsRiseBy}
 use Rattle.proxy_turn.specs.Turn.{HappeningIfAnyIsTaken, ReadOutcome, IsAtMostOnePiece, happening_of_read}
 use Rattle.proxy_turn.specs.Turn.{count_of_failed_read, EndRead, ReadsAreTaken}
 use Rattle.proxy_turn.specs.Turn.{count_of_failed_reads, EffectFate, Carried, Lost, EffectIsCarriedOut}
-use Rattle.proxy_turn.specs.Turn.{EffectsAreCarriedOut, count_of_lost_effect}
-use Rattle.proxy_turn.specs.Turn.{count_of_lost_effects, ActRound, ActsAreCarriedOut, count_of_lost_in_rounds}
+use Rattle.proxy_turn.specs.Turn.{EffectsAreCarriedOut, count_of_failed_effect}
+use Rattle.proxy_turn.specs.Turn.{count_of_failed_effects, ActWithEffectFates, ActsAreCarriedOut}
+use Rattle.proxy_turn.specs.Turn.{count_of_failed_in_rounds}
 use Rattle.proxy_turn.specs.Turn.{calls_of_reads, calls_of_effect}
 use Rattle.proxy_turn.specs.Turn.{calls_of_effects, calls_of_rounds}
 use Rattle.proxy_turn.specs.declared.report.TurnFault.{TurnFault}
@@ -34,26 +35,26 @@ turn_fault_of_engine_fault engine.OutOfMemory = faults.NoMemory
 turn_fault_of_engine_fault engine.Spent = faults.Spent
 
 -- the number was given
-abbrev pub EndWasNumbered : EngineModel → End → Type 0
-EndWasNumbered s ends.Listener = Unit {0}
-EndWasNumbered s (ends.Client n) = connection_fault (length s.connections) n ≡ None
-EndWasNumbered s (ends.Link l) = link_fault s.first (length s.links) l ≡ None
+abbrev pub EndNumberWasGiven : EngineModel → End → Type 0
+EndNumberWasGiven s ends.Listener = Unit {0}
+EndNumberWasGiven s (ends.Client n) = connection_fault (length s.connections) n ≡ None
+EndNumberWasGiven s (ends.Link l) = link_number_fault s.first (length s.links) l ≡ None
 
-abbrev pub EndsWereNumbered : EngineModel → List End → Type 0
-EndsWereNumbered s [] = Unit {0}
-EndsWereNumbered s (end ∷ rest) = EndWasNumbered s end × EndsWereNumbered s rest
+abbrev pub EndNumbersWereGiven : EngineModel → List End → Type 0
+EndNumbersWereGiven s [] = Unit {0}
+EndNumbersWereGiven s (end ∷ rest) = EndNumberWasGiven s end × EndNumbersWereGiven s rest
 
 -- a happening can be taken
-abbrev pub HappeningCanBeTaken : EngineModel → Option PlainHappening → Type 0
+abbrev pub HappeningCanBeTaken : EngineModel → Option HappeningModel → Type 0
 HappeningCanBeTaken s None = Unit {0}
 HappeningCanBeTaken s (Some h) = happening_fault s h ≡ None
 
-abbrev pub HappeningIfAnyFindsMemory : State → Option PlainHappening → Type 0
+abbrev pub HappeningIfAnyFindsMemory : State → Option HappeningModel → Type 0
 HappeningIfAnyFindsMemory e None = Unit {0}
 HappeningIfAnyFindsMemory e (Some h) = HappeningFindsMemory e h
 
 -- a happening was taken, if there was one
-pub record HappeningIfAnyWasTaken (s : EngineModel) (h : Option PlainHappening) (e : State) : Type 0 where
+pub record HappeningIfAnyWasTaken (s : EngineModel) (h : Option HappeningModel) (e : State) : Type 0 where
   pub after : EngineModel
   pub takes : HappeningIfAnyIsTaken s h after
   pub represents : EngineRepresents e after
@@ -66,7 +67,7 @@ pub record OneEndIsRead (s : EngineModel) (end : End) (e : State) (did : List Ca
   pub piece : IsAtMostOnePiece given
   pub calls : did (call.Read end given ∷ [])
   pub counted : count ≡ count_of_failed_read given
-  pub raises : CountsRiseBy before after 0 1 (count_of_failed_read given)
+  pub raises : CallCountsRiseBy before after 0 1 (count_of_failed_read given)
 
 -- no call was made
 pub record NoEndIsRead (s : EngineModel) (e : State) (did : List Call → Type 0) (before after : Calls)
@@ -77,22 +78,23 @@ pub record NoEndIsRead (s : EngineModel) (e : State) (did : List Call → Type 0
   pub calls : did []
 
 -- ends were read, each once
-pub record SomeEndsAreRead (s : EngineModel) (reads : List EndRead) (e : State) (did : List Call → Type 0)
+pub record EndsAreReadOnceEach (s : EngineModel) (reads : List EndRead) (e : State) (did : List Call → Type 0)
     (before after : Calls) : Type 0 where
   pub last : EngineModel
   pub are : ReadsAreTaken s reads last
   pub represents : EngineRepresents e last
   pub calls : did (calls_of_reads reads)
-  pub raises : CountsRiseBy before after 0 (length reads) (count_of_failed_reads reads)
+  pub raises : CallCountsRiseBy before after 0 (length reads) (count_of_failed_reads reads)
 
-abbrev pub ReadsReport : List EndRead → List End → Result (ℕ × ℕ) TurnFault → Type 0
-ReadsReport reads rest (Ok counts) = (rest ≡ []) × (counts.0 ≡ length reads) × (counts.1 ≡ count_of_failed_reads reads)
-ReadsReport reads rest (Err fault) = fault ≡ faults.NoMemory
+abbrev pub ReadsAreReported : List EndRead → List End → Result (ℕ × ℕ) TurnFault → Type 0
+ReadsAreReported reads rest (Ok counts) = (rest ≡ []) × (counts.0 ≡ length reads)
+    × (counts.1 ≡ count_of_failed_reads reads)
+ReadsAreReported reads rest (Err fault) = fault ≡ faults.NoMemory
 
 -- what became of an effect whose calls answered this
-abbrev pub fate_of : Result (Unit {0}) FailKind → EffectFate
-fate_of (Ok done) = Carried
-fate_of (Err kind) = Lost kind
+abbrev pub fate_of_effect_result : Result (Unit {0}) FailKind → EffectFate
+fate_of_effect_result (Ok done) = Carried
+fate_of_effect_result (Err kind) = Lost kind
 
 -- an effect was carried out, or not, and so many calls failed
 pub record EffectWasCarriedOut (s : EngineModel) (gone : List End) (effect : Effect) (e : State) (more : List End)
@@ -101,9 +103,9 @@ pub record EffectWasCarriedOut (s : EngineModel) (gone : List End) (effect : Eff
   pub last : EngineModel
   pub carries : EffectIsCarriedOut s gone effect fate last more
   pub represents : EngineRepresents e last
-  pub counted : count ≡ count_of_lost_effect fate
+  pub counted : count ≡ count_of_failed_effect fate
   pub calls : did (calls_of_effect effect fate)
-  pub raises : CountsRiseBy before after 0 0 (count_of_lost_effect fate)
+  pub raises : CallCountsRiseBy before after 0 0 (count_of_failed_effect fate)
 
 pub record EffectsWereCarriedOut (s : EngineModel) (gone : List End) (emitted : List Effect) (e : State)
     (more : List End)
@@ -112,32 +114,33 @@ pub record EffectsWereCarriedOut (s : EngineModel) (gone : List End) (emitted : 
   pub last : EngineModel
   pub carries : EffectsAreCarriedOut s gone emitted fates last more
   pub represents : EngineRepresents e last
-  pub counted : count ≡ count_of_lost_effects fates
+  pub counted : count ≡ count_of_failed_effects fates
   pub calls : did (calls_of_effects emitted fates)
-  pub raises : CountsRiseBy before after 0 0 (count_of_lost_effects fates)
+  pub raises : CallCountsRiseBy before after 0 0 (count_of_failed_effects fates)
 
 -- acts were done, one after another
-pub record SomeActsAreDone (now : ℕ) (s : EngineModel) (rounds : List ActRound) (e : State) (gone : List End)
+pub record ActsAreDoneOneAfterAnother (now : ℕ) (s : EngineModel) (rounds : List ActWithEffectFates) (e : State)
+    (gone : List End)
     (did : List Call → Type 0) (before after : Calls) : Type 0 where
   pub last : EngineModel
   pub works : ActsAreCarriedOut now s (failed_links s) rounds last gone
   pub represents : EngineRepresents e last
   pub calls : did (calls_of_rounds rounds)
-  pub raises : CountsRiseBy before after 0 0 (count_of_lost_in_rounds rounds)
+  pub raises : CallCountsRiseBy before after 0 0 (count_of_failed_in_rounds rounds)
 
-abbrev pub ActsReport : List ActRound → EngineModel → Result (ℕ × ℕ) TurnFault → Type 0
-ActsReport rounds t (Ok counts) =
+abbrev pub ActsAreReported : List ActWithEffectFates → EngineModel → Result (ℕ × ℕ) TurnFault → Type 0
+ActsAreReported rounds t (Ok counts) =
     ((length rounds ≡ 1000) ⊎ IsDueFirst t None) × (counts.0 ≡ length rounds) ×
-    (counts.1 ≡ count_of_lost_in_rounds rounds)
-ActsReport rounds t (Err faults.Listener) = ⊥
-ActsReport rounds t (Err faults.NoMemory) = Unit {0}
-ActsReport rounds t (Err faults.Spent) = EngineFailed t engine.Spent
+    (counts.1 ≡ count_of_failed_in_rounds rounds)
+ActsAreReported rounds t (Err faults.Listener) = ⊥
+ActsAreReported rounds t (Err faults.NoMemory) = Unit {0}
+ActsAreReported rounds t (Err faults.Spent) = EngineFailed t engine.Spent
 
 pub record DueActsAreDone (now : ℕ) (s : EngineModel) (e : State) (did : List Call → Type 0) (before after : Calls)
     (result : Result (ℕ × ℕ) TurnFault) : Type 0 where
-  pub rounds : List ActRound
+  pub rounds : List ActWithEffectFates
   pub gone : List End
-  pub some : SomeActsAreDone now s rounds e gone did before after
+  pub some : ActsAreDoneOneAfterAnother now s rounds e gone did before after
   pub bound : length rounds ≤ 1000
-  pub few : count_of_lost_in_rounds rounds ≤ 3000
-  pub reports : ActsReport rounds some.last result
+  pub few : count_of_failed_in_rounds rounds ≤ 3000
+  pub reports : ActsAreReported rounds some.last result

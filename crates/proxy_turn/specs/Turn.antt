@@ -1,12 +1,12 @@
 -- What a turn does with an engine: the happenings that it takes and the acts that it does, over the models of the
 -- engine.
 --
--- AcceptCall, asks_for_connection: the call of accept
+-- AcceptCall, may_accept_below_256: the call of accept
 -- ReadOutcome, EndRead, ReadsAreTaken: reads, and what each gave, as a happening
 -- EffectFate, EffectIsCarriedOut, EffectsAreCarriedOut: what became of the effects of an act
--- ActRound, ActsAreCarriedOut: acts with their effects
--- calls_of_turn: the calls of a turn, in order       TurnAsFarAsItCame: a turn, whole or as far as it came
--- TurnReports: what it answers      EngineTurns: both      EngineTurnsWithCalls: with its calls
+-- ActWithEffectFates, ActsAreCarriedOut: acts with their effects
+-- calls_of_turn: the calls of a turn, in order       TurnIsDoneInOrder: a turn, whole or as far as it came
+-- TurnIsReported: what it answers      EngineTurnIsServed: both      EngineTurnsWithCalls: with its calls
 use Rattle.std.specs.Prelude.{◌≡◌, ℕ, ◌+◌, ◌≤◌, List, [], ◌∷◌, ◌++◌, length, sum_by, map, Bool, true, false, ◌&&◌, ◌==◌}
 use Rattle.std.specs.Prelude.{nat_lt, Option, None, Some, is_some, cond, Result, Ok, Err, ◌⊎◌}
 use Rattle.std.specs.List.{list_any}
@@ -15,25 +15,25 @@ use Rattle.hx_status.specs.declared.cause.FailKind.{FailKind}
 use Rattle.hx_status.specs.declared.cause.FailKind.TheVariants as kinds
 use Rattle.proxy_script.specs.declared.effect_list.Effect.{Effect}
 use Rattle.proxy_script.specs.declared.effect_list.Effect.TheVariants as effects
-use Rattle.proxy_engine.specs.Happenings.{PlainHappening, Accepts, Sends, Hears, Ends, Leaves, Shuts, Fails}
+use Rattle.proxy_engine.specs.Happenings.{HappeningModel, Accepts, Sends, Hears, Ends, Leaves, Shuts, Fails}
 use Rattle.proxy_engine.specs.EngineModel.{EngineModel, model_after_happening, happening_fault}
 use Rattle.proxy_engine.specs.Due.{Act, IsDueFirst}
 use Rattle.proxy_engine.specs.Acts.{ActIsDone}
 use Rattle.proxy_engine.specs.Reading.{readable_ends_of, failed_links, open_connection_count, next_connection_number}
-use Rattle.proxy_engine.specs.State.{State, EngineRepresents, NoActWasDoneSince as EngineFailed}
+use Rattle.proxy_engine.specs.State.{State, EngineRepresents, NoActWasDoneBecauseOf as EngineFailed}
 use Rattle.proxy_engine.specs.declared.work.EngineFault.TheVariants as engine
 use Rattle.proxy_engine.specs.declared.work.End.{End}
 use Rattle.proxy_engine.specs.declared.work.End.TheVariants as ends
 use Rattle.proxy_turn.specs.Calls as call
 use Rattle.proxy_turn.specs.Calls.{Call}
 pub use Rattle.proxy_turn.specs.Calls.{ReadOutcome, Nothing, Ended, Broken, Bytes}
-use Rattle.proxy_turn.specs.Counts.{Calls, CountsRiseBy}
+use Rattle.proxy_turn.specs.Counts.{Calls, CallCountsRiseBy}
 use Rattle.proxy_turn.specs.declared.report.Report.{Report}
 use Rattle.proxy_turn.specs.declared.report.TurnFault.{TurnFault}
 use Rattle.proxy_turn.specs.declared.report.TurnFault.TheVariants as faults
 
 -- a happening is taken, if there is one
-abbrev pub HappeningIfAnyIsTaken : EngineModel → Option PlainHappening → EngineModel → Type 0
+abbrev pub HappeningIfAnyIsTaken : EngineModel → Option HappeningModel → EngineModel → Type 0
 HappeningIfAnyIsTaken s None t = t ≡ s
 HappeningIfAnyIsTaken s (Some h) t = (happening_fault s h ≡ None) × (t ≡ model_after_happening s h)
 
@@ -44,8 +44,8 @@ pub data AcceptCall : Type 0 where
   NotAsked Failed NoneCame Came : AcceptCall
 
 -- where fewer than 256 connections are open, and a number is left
-abbrev pub asks_for_connection : EngineModel → Bool
-asks_for_connection s = nat_lt (open_connection_count s) 256 && is_some (next_connection_number s)
+abbrev pub may_accept_below_256 : EngineModel → Bool
+may_accept_below_256 s = nat_lt (open_connection_count s) 256 && is_some (next_connection_number s)
 
 abbrev pub accept_was_called : AcceptCall → Bool
 accept_was_called NotAsked = false
@@ -53,7 +53,7 @@ accept_was_called Failed = true
 accept_was_called NoneCame = true
 accept_was_called Came = true
 
-abbrev pub happening_of_accept : EngineModel → AcceptCall → Option PlainHappening
+abbrev pub happening_of_accept : EngineModel → AcceptCall → Option HappeningModel
 happening_of_accept s NotAsked = None
 happening_of_accept s Failed = None
 happening_of_accept s NoneCame = None
@@ -61,17 +61,17 @@ happening_of_accept s Came = Some (Accepts (length s.connections + 1))
 
 -- ---- what comes of an end, as a happening
 
-abbrev pub happening_of_bytes : End → List ℕ → Option PlainHappening
+abbrev pub happening_of_bytes : End → List ℕ → Option HappeningModel
 happening_of_bytes ends.Listener bytes = None
 happening_of_bytes (ends.Client n) bytes = Some (Sends n bytes)
 happening_of_bytes (ends.Link l) bytes = Some (Hears l bytes)
 
-abbrev pub happening_of_end : End → Option PlainHappening
+abbrev pub happening_of_end : End → Option HappeningModel
 happening_of_end ends.Listener = None
 happening_of_end (ends.Client n) = Some (Ends n)
 happening_of_end (ends.Link l) = Some (Shuts l)
 
-abbrev pub happening_of_loss : End → FailKind → Option PlainHappening
+abbrev pub happening_of_loss : End → FailKind → Option HappeningModel
 happening_of_loss ends.Listener kind = None
 happening_of_loss (ends.Client n) kind = Some (Leaves n)
 happening_of_loss (ends.Link l) kind = Some (Fails l kind)
@@ -85,7 +85,7 @@ IsAtMostOnePiece Ended = Unit {0}
 IsAtMostOnePiece Broken = Unit {0}
 IsAtMostOnePiece (Bytes bytes) = length bytes ≤ 4096
 
-abbrev pub happening_of_read : End → ReadOutcome → Option PlainHappening
+abbrev pub happening_of_read : End → ReadOutcome → Option HappeningModel
 happening_of_read end Nothing = None
 happening_of_read end Ended = happening_of_end end
 happening_of_read end Broken = happening_of_loss end kinds.Closed
@@ -112,20 +112,20 @@ pub data EffectFate : Type 0 where
   Carried Passed : EffectFate
   Lost : (kind : FailKind) → EffectFate
 
-abbrev pub same_end : End → End → Bool
-same_end ends.Listener ends.Listener = true
-same_end ends.Listener (ends.Client n) = false
-same_end ends.Listener (ends.Link l) = false
-same_end (ends.Client n) ends.Listener = false
-same_end (ends.Client n) (ends.Client m) = n == m
-same_end (ends.Client n) (ends.Link l) = false
-same_end (ends.Link l) ends.Listener = false
-same_end (ends.Link l) (ends.Client n) = false
-same_end (ends.Link l) (ends.Link k) = l == k
+abbrev pub ends_are_equal : End → End → Bool
+ends_are_equal ends.Listener ends.Listener = true
+ends_are_equal ends.Listener (ends.Client n) = false
+ends_are_equal ends.Listener (ends.Link l) = false
+ends_are_equal (ends.Client n) ends.Listener = false
+ends_are_equal (ends.Client n) (ends.Client m) = n == m
+ends_are_equal (ends.Client n) (ends.Link l) = false
+ends_are_equal (ends.Link l) ends.Listener = false
+ends_are_equal (ends.Link l) (ends.Client n) = false
+ends_are_equal (ends.Link l) (ends.Link k) = l == k
 
 -- a call on that end has failed
-abbrev pub end_is_lost : List End → End → Bool
-end_is_lost gone end = list_any (λ other. same_end other end) gone
+abbrev pub end_has_failed : List End → End → Bool
+end_has_failed gone end = list_any (λ other. ends_are_equal other end) gone
 
 abbrev pub end_of_effect : Effect → End
 end_of_effect (effects.Client n bytes replied) = ends.Client n
@@ -134,18 +134,18 @@ end_of_effect (effects.Forward l address bytes) = ends.Link l
 end_of_effect (effects.Drop l) = ends.Link l
 
 -- A link that can't be opened counts as refused by the origin, a write that fails as its closing.
-abbrev pub EffectFailsAs : Effect → FailKind → Type 0
-EffectFailsAs (effects.Client n bytes replied) kind = kind ≡ kinds.Closed
-EffectFailsAs (effects.Close n) kind = kind ≡ kinds.Closed
-EffectFailsAs (effects.Forward l address bytes) kind = (kind ≡ kinds.Refused) ⊎ (kind ≡ kinds.Closed)
-EffectFailsAs (effects.Drop l) kind = kind ≡ kinds.Closed
+abbrev pub EffectFailureCountsAs : Effect → FailKind → Type 0
+EffectFailureCountsAs (effects.Client n bytes replied) kind = kind ≡ kinds.Closed
+EffectFailureCountsAs (effects.Close n) kind = kind ≡ kinds.Closed
+EffectFailureCountsAs (effects.Forward l address bytes) kind = (kind ≡ kinds.Refused) ⊎ (kind ≡ kinds.Closed)
+EffectFailureCountsAs (effects.Drop l) kind = kind ≡ kinds.Closed
 
 -- No call is made on an end on which one has failed before. A loss is taken at once.
 abbrev pub EffectIsCarriedOut : EngineModel → List End → Effect → EffectFate → EngineModel → List End → Type 0
-EffectIsCarriedOut s gone e Carried t more = (end_is_lost gone (end_of_effect e) ≡ false) × (t ≡ s) × (more ≡ gone)
-EffectIsCarriedOut s gone e Passed t more = (end_is_lost gone (end_of_effect e) ≡ true) × (t ≡ s) × (more ≡ gone)
+EffectIsCarriedOut s gone e Carried t more = (end_has_failed gone (end_of_effect e) ≡ false) × (t ≡ s) × (more ≡ gone)
+EffectIsCarriedOut s gone e Passed t more = (end_has_failed gone (end_of_effect e) ≡ true) × (t ≡ s) × (more ≡ gone)
 EffectIsCarriedOut s gone e (Lost kind) t more =
-    (end_is_lost gone (end_of_effect e) ≡ false) × EffectFailsAs e kind × HappeningIfAnyIsTaken s
+    (end_has_failed gone (end_of_effect e) ≡ false) × EffectFailureCountsAs e kind × HappeningIfAnyIsTaken s
     (happening_of_loss (end_of_effect e) kind) t
     × (more ≡ gone ++ end_of_effect e ∷ [])
 
@@ -162,13 +162,13 @@ EffectsAreCarriedOut s gone (e ∷ es) (f ∷ fs) t more =
 -- ---- acts
 
 -- an act, its effects, and what became of each
-pub record ActRound : Type 0 where
+pub record ActWithEffectFates : Type 0 where
   pub act : Act
   pub emitted : List Effect
   pub fates : List EffectFate
 
 -- each act is the first that was due, and its effects are carried out before the next
-abbrev pub ActsAreCarriedOut : ℕ → EngineModel → List End → List ActRound → EngineModel → List End → Type 0
+abbrev pub ActsAreCarriedOut : ℕ → EngineModel → List End → List ActWithEffectFates → EngineModel → List End → Type 0
 ActsAreCarriedOut now s gone [] t more = (t ≡ s) × (more ≡ gone)
 ActsAreCarriedOut now s gone (r ∷ rs) t more =
     (done : EngineModel) × (after : EngineModel) × (then : List End)
@@ -213,12 +213,12 @@ calls_of_effects [] fates = []
 calls_of_effects (e ∷ es) [] = []
 calls_of_effects (e ∷ es) (f ∷ fs) = calls_of_effect e f ++ calls_of_effects es fs
 
-abbrev pub calls_of_rounds : List ActRound → List Call
+abbrev pub calls_of_rounds : List ActWithEffectFates → List Call
 calls_of_rounds [] = []
 calls_of_rounds (r ∷ rs) = calls_of_effects r.emitted r.fates ++ calls_of_rounds rs
 
 -- all of a turn, in order
-abbrev pub calls_of_turn : EngineModel → AcceptCall → List EndRead → List ActRound → List Call
+abbrev pub calls_of_turn : EngineModel → AcceptCall → List EndRead → List ActWithEffectFates → List Call
 calls_of_turn s asked reads rounds = calls_of_accept s asked ++ (calls_of_reads reads ++ calls_of_rounds rounds)
 
 -- ---- counts
@@ -244,29 +244,29 @@ count_of_failed_read Ended = 0
 count_of_failed_read Broken = 1
 count_of_failed_read (Bytes bytes) = 0
 
-abbrev pub count_of_lost_effect : EffectFate → ℕ
-count_of_lost_effect Carried = 0
-count_of_lost_effect Passed = 0
-count_of_lost_effect (Lost kind) = 1
+abbrev pub count_of_failed_effect : EffectFate → ℕ
+count_of_failed_effect Carried = 0
+count_of_failed_effect Passed = 0
+count_of_failed_effect (Lost kind) = 1
 
 abbrev pub count_of_failed_reads : List EndRead → ℕ
 count_of_failed_reads reads = sum_by (λ (r : EndRead). count_of_failed_read r.given) reads
 
-abbrev pub count_of_lost_effects : List EffectFate → ℕ
-count_of_lost_effects fates = sum_by count_of_lost_effect fates
+abbrev pub count_of_failed_effects : List EffectFate → ℕ
+count_of_failed_effects fates = sum_by count_of_failed_effect fates
 
-abbrev pub count_of_lost_in_rounds : List ActRound → ℕ
-count_of_lost_in_rounds rounds = sum_by (λ (r : ActRound). count_of_lost_effects r.fates) rounds
+abbrev pub count_of_failed_in_rounds : List ActWithEffectFates → ℕ
+count_of_failed_in_rounds rounds = sum_by (λ (r : ActWithEffectFates). count_of_failed_effects r.fates) rounds
 
 -- ---- a turn
 
 -- As far as it came: accept, one read of each end from which bytes may come, in order, but for the rest, and then acts.
-pub record TurnAsFarAsItCame (now : ℕ) (s : EngineModel) (asked : AcceptCall) (reads : List EndRead) (rest : List End)
-    (rounds : List ActRound) (t : EngineModel) : Type 0 where
+pub record TurnIsDoneInOrder (now : ℕ) (s : EngineModel) (asked : AcceptCall) (reads : List EndRead) (rest : List End)
+    (rounds : List ActWithEffectFates) (t : EngineModel) : Type 0 where
   pub begun : EngineModel
   pub read : EngineModel
   pub gone : List End
-  pub only : accept_was_called asked ≡ true → asks_for_connection s ≡ true
+  pub only : accept_was_called asked ≡ true → may_accept_below_256 s ≡ true
   pub accepts : HappeningIfAnyIsTaken s (happening_of_accept s asked) begun
   pub ends : ends_of_reads reads ++ rest ≡ readable_ends_of begun
   pub reads_are : ReadsAreTaken begun reads read
@@ -276,45 +276,45 @@ pub record TurnAsFarAsItCame (now : ℕ) (s : EngineModel) (asked : AcceptCall) 
 
 -- nothing was left out, and this was counted
 pub record TurnIsWholeAndCounted (s : EngineModel) (asked : AcceptCall) (reads : List EndRead) (rest : List End)
-    (rounds : List ActRound)
+    (rounds : List ActWithEffectFates)
     (t : EngineModel) (report : Report) : Type 0 where
-  pub asked_is : accept_was_called asked ≡ asks_for_connection s
+  pub asked_is : accept_was_called asked ≡ may_accept_below_256 s
   pub unbroken : count_of_failed_accepts asked ≡ 0
   pub rest_is : rest ≡ []
   pub worked : (length rounds ≡ 1000) ⊎ IsDueFirst t None
   pub accepted : report.accepted ≡ count_of_accepted asked
   pub reads_are : report.reads ≡ length reads
   pub works : report.works ≡ length rounds
-  pub faults : report.faults ≡ count_of_failed_reads reads + count_of_lost_in_rounds rounds
+  pub faults : report.faults ≡ count_of_failed_reads reads + count_of_failed_in_rounds rounds
 
 -- what a turn answers
-abbrev pub TurnReports : EngineModel → AcceptCall → List EndRead → List End → List ActRound → EngineModel
+abbrev pub TurnIsReported : EngineModel → AcceptCall → List EndRead → List End → List ActWithEffectFates → EngineModel
     → Result Report TurnFault
     → Type 0
-TurnReports s asked reads rest rounds t (Ok report) = TurnIsWholeAndCounted s asked reads rest rounds t report
-TurnReports s asked reads rest rounds t (Err faults.Listener) = (asked ≡ Failed) × (reads ≡ []) × (rounds ≡ [])
-TurnReports s asked reads rest rounds t (Err faults.NoMemory) = count_of_failed_accepts asked ≡ 0
-TurnReports s asked reads rest rounds t (Err faults.Spent) =
-    (count_of_failed_accepts asked ≡ 0) × (accept_was_called asked ≡ asks_for_connection s) × (rest ≡ [])
+TurnIsReported s asked reads rest rounds t (Ok report) = TurnIsWholeAndCounted s asked reads rest rounds t report
+TurnIsReported s asked reads rest rounds t (Err faults.Listener) = (asked ≡ Failed) × (reads ≡ []) × (rounds ≡ [])
+TurnIsReported s asked reads rest rounds t (Err faults.NoMemory) = count_of_failed_accepts asked ≡ 0
+TurnIsReported s asked reads rest rounds t (Err faults.Spent) =
+    (count_of_failed_accepts asked ≡ 0) × (accept_was_called asked ≡ may_accept_below_256 s) × (rest ≡ [])
     × EngineFailed t engine.Spent
 
 -- a turn of an engine, with how the counts of calls rose
-pub record EngineTurns (now : ℕ) (s : EngineModel) (e : State) (before after : Calls)
+pub record EngineTurnIsServed (now : ℕ) (s : EngineModel) (e : State) (before after : Calls)
     (result : Result Report TurnFault) : Type 0 where
   pub asked : AcceptCall
   pub reads : List EndRead
   pub rest : List End
-  pub rounds : List ActRound
+  pub rounds : List ActWithEffectFates
   pub last : EngineModel
-  pub turn : TurnAsFarAsItCame now s asked reads rest rounds last
+  pub turn : TurnIsDoneInOrder now s asked reads rest rounds last
   pub represents : EngineRepresents e last
-  pub reports : TurnReports s asked reads rest rounds last result
-  pub raises : CountsRiseBy before after (count_of_accept_calls asked) (length reads)
-      (count_of_failed_accepts asked + (count_of_failed_reads reads + count_of_lost_in_rounds rounds))
+  pub reports : TurnIsReported s asked reads rest rounds last result
+  pub raises : CallCountsRiseBy before after (count_of_accept_calls asked) (length reads)
+      (count_of_failed_accepts asked + (count_of_failed_reads reads + count_of_failed_in_rounds rounds))
 
 -- A turn of an engine, and its calls: `did` says that just these were made on the sockets.
 pub record EngineTurnsWithCalls (now : ℕ) (s : EngineModel) (e : State) (did : List Call → Type 0)
     (before after : Calls)
     (result : Result Report TurnFault) : Type 0 where
-  pub turns : EngineTurns now s e before after result
+  pub turns : EngineTurnIsServed now s e before after result
   pub calls : did (calls_of_turn s turns.asked turns.reads turns.rounds)

@@ -1,7 +1,7 @@
 //! Copies of what is told of a reply, for a log of calls.
 ghost use Rattle.std.specs.Prelude.{◌≡◌, IfOk, option_copied};
 
-use hx_status::{AskedTarget, Question, Replied};
+use hx_status::{AskedTarget, Question, ReplyData};
 use std::alloc::{AllocError, Global};
 
 fn copy_target(alloc: Global, target: &AskedTarget) -> Result<AskedTarget, AllocError>
@@ -28,12 +28,12 @@ fn copy_question(alloc: Global, question: Option<&Question>) -> Result<Option<Qu
 /// What is told of a reply, once more. Its only error is out of memory.
 pub(crate) fn copy_replied(
     alloc: Global,
-    replied: Option<&Replied>,
-) -> Result<Option<Replied>, AllocError>
+    replied: Option<&ReplyData>,
+) -> Result<Option<ReplyData>, AllocError>
     ensures { IfOk result (λ copied. copied ≡ option_copied replied.entry) }
 {
     match replied {
-        Some(replied) => Ok(Some(Replied {
+        Some(replied) => Ok(Some(ReplyData {
             about: replied.about,
             question: copy_question(alloc, replied.question.as_ref())?,
         })),

@@ -4,13 +4,14 @@ ghost use Rattle.std.specs.Prelude.{◌≡◌, ◌<◌, ◌≤◌, ◌+◌, ◌�
 ghost use Rattle.std.specs.Prelude.{vec_len, vec_capacity};
 ghost use Rattle.hx_status.specs.declared.cause.FailKind.TheVariants.{Refused, Closed};
 ghost use Rattle.proxy_script.specs.declared.effect_list.Effect.TheVariants.{Forward};
-ghost use Rattle.proxy_engine.specs.Happenings.{plain_happening};
+ghost use Rattle.proxy_engine.specs.Happenings.{model_of_happening};
 ghost use Rattle.proxy_engine.specs.EngineModel.{EngineModel};
 ghost use Rattle.proxy_engine.specs.State.{EngineRepresents};
 ghost use Rattle.proxy_turn.specs.Counts.{CountRisesBy, calls, failed};
-ghost use Rattle.proxy_turn.specs.Turn.{end_of_effect, end_is_lost, EffectFailsAs, calls_of_effect};
+ghost use Rattle.proxy_turn.specs.Turn.{end_of_effect, end_has_failed, EffectFailureCountsAs, calls_of_effect};
 ghost use Rattle.proxy_turn.specs.Parts.{HappeningIfAnyWasTaken, HappeningCanBeTaken, HappeningIfAnyFindsMemory};
-ghost use Rattle.proxy_turn.specs.Parts.{EndWasNumbered, EndsWereNumbered, fate_of, EffectWasCarriedOut};
+ghost use Rattle.proxy_turn.specs.Parts.{EndNumberWasGiven, EndNumbersWereGiven, fate_of_effect_result};
+ghost use Rattle.proxy_turn.specs.Parts.{EffectWasCarriedOut};
 ghost use Rattle.proxy_turn.specs.Parts.{EffectsWereCarriedOut};
 
 use crate::happenings::happening_of_lost_end;
@@ -18,7 +19,7 @@ use crate::report::TurnFault;
 use crate::sockets::Sockets;
 use hx_status::FailKind;
 use hx_store::Shelf;
-use proxy_engine::laws::what_ends_stays_ended;
+use proxy_engine::laws::ended_connections_and_links_stay_ended;
 use proxy_engine::{End, Engine, Happening};
 use proxy_script::Effect;
 use std::alloc::Global;
@@ -31,10 +32,10 @@ pub(crate) fn take<S: Shelf>(
     happening: Option<Happening<'_>>,
 ) -> Result<(), TurnFault>
     ensures ok { OnOk result ((s : EngineModel) → EngineRepresents engine.old s
-        → HappeningIfAnyWasTaken s (option_map plain_happening happening.entry) engine.new) }
+        → HappeningIfAnyWasTaken s (option_map model_of_happening happening.entry) engine.new) }
     ensures never { OnErr result ((s : EngineModel) → EngineRepresents engine.old s
-        → HappeningCanBeTaken s (option_map plain_happening happening.entry) → HappeningIfAnyFindsMemory engine.old
-        (option_map plain_happening happening.entry) → ⊥) }
+        → HappeningCanBeTaken s (option_map model_of_happening happening.entry) → HappeningIfAnyFindsMemory engine.old
+        (option_map model_of_happening happening.entry) → ⊥) }
 {
     if let Some(happening) = happening {
         engine.take(alloc, happening)?;
@@ -55,8 +56,8 @@ fn end_of_effect(effect: &Effect) -> End
 }
 
 /// Whether a call on that end has failed.
-fn end_is_lost(failed: &[End], end: End) -> bool
-    ensures { result ≡ end_is_lost failed.now end }
+fn end_has_failed(failed: &[End], end: End) -> bool
+    ensures { result ≡ end_has_failed failed.now end }
 {
     failed.contains(&end)
 }
@@ -69,7 +70,7 @@ fn open<K: Sockets>(
     bytes: &[u8],
 ) -> Result<(), FailKind>
     ensures did { K.Did sockets.old (calls_of_effect (Forward link address bytes.now)
-        (fate_of result)) sockets.new }
+        (fate_of_effect_result result)) sockets.new }
     ensures kinds { IfErr result (λ kind. (kind ≡ Refused) ⊎ (kind ≡ Closed)) }
     ensures accepts { K.accepts sockets.new ≡ K.accepts sockets.old }
     ensures reads { K.reads sockets.new ≡ K.reads sockets.old }
@@ -86,8 +87,8 @@ fn open<K: Sockets>(
 
 /// Makes the calls of an effect. The error says as what a failed call on a link counts.
 fn call<K: Sockets>(sockets: &mut K, effect: &Effect) -> Result<(), FailKind>
-    ensures did { K.Did sockets.old (calls_of_effect effect.now (fate_of result)) sockets.new }
-    ensures kinds { IfErr result (EffectFailsAs effect.now) }
+    ensures did { K.Did sockets.old (calls_of_effect effect.now (fate_of_effect_result result)) sockets.new }
+    ensures kinds { IfErr result (EffectFailureCountsAs effect.now) }
     ensures accepts { K.accepts sockets.new ≡ K.accepts sockets.old }
     ensures reads { K.reads sockets.new ≡ K.reads sockets.old }
     ensures failures { CountRisesBy (K.failures sockets.old) (K.failures sockets.new) (failed result) }
@@ -117,20 +118,20 @@ fn carry_out_effect<S: Shelf, K: Sockets>(
     effect: &Effect,
     failed: &mut Vec<End>,
 ) -> Result<u64, TurnFault>
-    ensures ok { IfOk result (λ count. (s : EngineModel) → EngineRepresents engine.old s → EndWasNumbered s
+    ensures ok { IfOk result (λ count. (s : EngineModel) → EngineRepresents engine.old s → EndNumberWasGiven s
         (end_of_effect effect.now)
         → EffectWasCarriedOut s failed.old.items effect.now engine.new failed.new.items
         (λ made. K.Did sockets.old made sockets.new)
         (calls (K.accepts sockets.old) (K.reads sockets.old) (K.failures sockets.old))
         (calls (K.accepts sockets.new) (K.reads sockets.new) (K.failures sockets.new)) count) }
     ensures never { OnErr result (vec_len failed.old < vec_capacity failed.old → (s : EngineModel)
-        → EngineRepresents engine.old s → EndWasNumbered s (end_of_effect effect.now) → ⊥) }
+        → EngineRepresents engine.old s → EndNumberWasGiven s (end_of_effect effect.now) → ⊥) }
     ensures room { vec_capacity failed.old ≤ vec_capacity failed.new }
     ensures one { vec_len failed.new ≤ vec_len failed.old + 1 }
     ensures few { IfOk result (λ count. count ≤ 1) }
 {
     let end = end_of_effect(effect);
-    if end_is_lost(failed, end) {
+    if end_has_failed(failed, end) {
         return Ok(0);
     }
     let Err(kind) = call(sockets, effect) else {
@@ -152,17 +153,17 @@ pub(crate) fn carry_out<S: Shelf, K: Sockets>(
     effects: &[Effect],
     failed: &mut Vec<End>,
 ) -> Result<u64, TurnFault>
-    ensures ok { IfOk result (λ count. (s : EngineModel) → EngineRepresents engine.old s → EndsWereNumbered s
+    ensures ok { IfOk result (λ count. (s : EngineModel) → EngineRepresents engine.old s → EndNumbersWereGiven s
         (map end_of_effect effects.now)
         → EffectsWereCarriedOut s failed.old.items effects.now engine.new failed.new.items
         (λ made. K.Did sockets.old made sockets.new)
         (calls (K.accepts sockets.old) (K.reads sockets.old) (K.failures sockets.old))
         (calls (K.accepts sockets.new) (K.reads sockets.new) (K.failures sockets.new)) count) }
     ensures never { OnErr result (vec_len failed.old + length effects.now ≤ vec_capacity failed.old → (s : EngineModel)
-        → EngineRepresents engine.old s → EndsWereNumbered s (map end_of_effect effects.now) → ⊥) }
+        → EngineRepresents engine.old s → EndNumbersWereGiven s (map end_of_effect effects.now) → ⊥) }
     ensures few { IfOk result (λ count. count ≤ length effects.now) }
 {
-    what_ends_stays_ended();
+    ended_connections_and_links_stay_ended();
     let mut faults = 0u64;
     for effect in effects {
         let more = carry_out_effect(engine, sockets, alloc, effect, failed)?;

@@ -1,7 +1,7 @@
 //! What the calls on an end come to, as what happened. Nothing of it happens at the listener.
 
 ghost use Rattle.std.specs.Prelude.{◌≡◌, option_map};
-ghost use Rattle.proxy_engine.specs.Happenings.{plain_happening};
+ghost use Rattle.proxy_engine.specs.Happenings.{model_of_happening};
 ghost use Rattle.proxy_turn.specs.Calls.{read_outcome_of};
 ghost use Rattle.proxy_turn.specs.Turn.{happening_of_bytes, happening_of_end, happening_of_loss, happening_of_read};
 
@@ -12,7 +12,7 @@ use proxy_reads::Received;
 
 /// Bytes came from an end.
 pub fn happening_of_bytes_from(end: End, bytes: &[u8]) -> Option<Happening<'_>>
-    ensures { option_map plain_happening result ≡ happening_of_bytes end bytes.now }
+    ensures { option_map model_of_happening result ≡ happening_of_bytes end bytes.now }
 {
     match end {
         End::Listener => None,
@@ -23,7 +23,7 @@ pub fn happening_of_bytes_from(end: End, bytes: &[u8]) -> Option<Happening<'_>>
 
 /// No more comes from an end.
 pub fn happening_of_end_of_input(end: End) -> Option<Happening<'static>>
-    ensures { option_map plain_happening result ≡ happening_of_end end }
+    ensures { option_map model_of_happening result ≡ happening_of_end end }
 {
     match end {
         End::Listener => None,
@@ -34,7 +34,7 @@ pub fn happening_of_end_of_input(end: End) -> Option<Happening<'static>>
 
 /// An end is lost; a link by a failure of this kind.
 pub fn happening_of_lost_end(end: End, kind: FailKind) -> Option<Happening<'static>>
-    ensures { option_map plain_happening result ≡ happening_of_loss end kind }
+    ensures { option_map model_of_happening result ≡ happening_of_loss end kind }
 {
     match end {
         End::Listener => None,
@@ -49,7 +49,7 @@ pub fn happening_of_read<'a>(
     received: &Result<Received, SocketFailed>,
     buf: &'a [u8],
 ) -> Option<Happening<'a>>
-    ensures { option_map plain_happening result ≡ happening_of_read end (read_outcome_of received.now buf.now) }
+    ensures { option_map model_of_happening result ≡ happening_of_read end (read_outcome_of received.now buf.now) }
 {
     match received {
         Ok(Received::Nothing) => None,

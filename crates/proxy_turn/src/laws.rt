@@ -1,12 +1,14 @@
 //! Laws on the definitions that the contracts cite.
 ghost use Rattle.proxy_turn.specs.TurnSteps.{TurnStepsAreExecuted, TurnStepsEmitTheirEffects};
-ghost use Rattle.proxy_turn.specs.OverSteps.{TurnOverStepsAreExecuted, TurnOverStepsEmitTheirEffects};
-ghost use Rattle.proxy_turn.specs.Served.{NoLossIsALossList, OneLossIsTaken, LossesAreTakenTransitively};
-ghost use Rattle.proxy_turn.specs.Served.{LossesAreTakenOneAfterAnother, LossesKeepOrder};
-ghost use Rattle.proxy_turn.specs.Served.{EngineGoesOnByLosses, TurnIsServedByLossesAndTurn};
-ghost use Rattle.proxy_turn.specs.Served.{NewEngineIsReachable, EngineGoesOnByNothing, EngineGoesOnTransitively};
-ghost use Rattle.proxy_turn.specs.Served.{EngineGoesOnByHappening, EngineGoesOnByTurn, ReachableEngineStaysReachable};
-ghost use Rattle.proxy_turn.specs.Served.{ReachableEngineIsServing, TurnExecutesItsSteps, ExecutedEngineIsServing};
+ghost use Rattle.proxy_turn.specs.OverSteps.{TurnOverEndsStepsAreExecuted, TurnOverEndsStepsEmitTheirEffects};
+ghost use Rattle.proxy_turn.specs.Served.{EndLossesMayBeNone, OneEndLossIsTaken, EndLossesAreTakenTransitively};
+ghost use Rattle.proxy_turn.specs.Served.{EndLossesAreTakenInOrder, EndLossesKeepModelConsistent};
+ghost use Rattle.proxy_turn.specs.Served.{EngineContinuesByEndLosses, TurnIsServedByEndLossesAndTurn};
+ghost use Rattle.proxy_turn.specs.Served.{NewEngineIsReachable, EngineContinuesByNothing, EngineContinuesTransitively};
+ghost use Rattle.proxy_turn.specs.Served.{EngineContinuesByHappening, EngineContinuesByTurn};
+ghost use Rattle.proxy_turn.specs.Served.{ReachableEngineStaysReachable};
+ghost use Rattle.proxy_turn.specs.Served.{ReachableEngineHasServedAGoodRun, TurnExecutesItsSteps};
+ghost use Rattle.proxy_turn.specs.Served.{ExecutedEngineHasServedAGoodRun};
 ghost use Rattle.proxy_turn.specs.Served.{EngineKeepsItsTable};
 
 pub use crate::over_cases::{a_turn_over_ends_refuses_what_is_not_done, worked_accepts};
@@ -14,28 +16,29 @@ pub use crate::turn_cases::{
     a_turn_refuses_what_is_not_done, worked_calls_of_effects, worked_happenings_of_reads,
     worked_order_of_steps,
 };
-use proxy_engine::laws::{effects_name_open_ends, executions_are_runs};
+use proxy_engine::laws::{core_steps_of_executions_are_good_runs, effects_name_open_ends};
 
 /// A turn is lived by its own steps, after whatever was lived before it: it takes the connections that came and what
 /// its reads gave, does its acts at its moment, and takes the ends on which a call failed. The effects of these steps
-/// are those that it carried out. So what `proxy_engine::executions_are_runs` says of whatever an engine lives through,
+/// are those that it carried out. So what `proxy_engine::core_steps_of_executions_are_good_runs` says of whatever an
+/// engine lives through,
 /// it says of turns over sockets.
-pub fn turns_are_executed()
+pub fn turns_execute_their_steps()
     ensures executed { TurnStepsAreExecuted }
     ensures reports { TurnStepsEmitTheirEffects }
-    ensures over { TurnOverStepsAreExecuted }
-    ensures over_reports { TurnOverStepsEmitTheirEffects }
+    ensures over { TurnOverEndsStepsAreExecuted }
+    ensures over_reports { TurnOverEndsStepsEmitTheirEffects }
 {}
 
 /// Ends that are lost between two turns are taken, one after another; after them a turn is served.
-pub fn a_turn_is_served_after_losses()
-    ensures none { NoLossIsALossList }
-    ensures one { OneLossIsTaken }
-    ensures more { LossesAreTakenTransitively }
-    ensures joined { LossesAreTakenOneAfterAnother }
-    ensures order { LossesKeepOrder }
-    ensures on { EngineGoesOnByLosses }
-    ensures served { TurnIsServedByLossesAndTurn }
+pub fn a_turn_is_served_after_end_losses()
+    ensures none { EndLossesMayBeNone }
+    ensures one { OneEndLossIsTaken }
+    ensures more { EndLossesAreTakenTransitively }
+    ensures joined { EndLossesAreTakenInOrder }
+    ensures order { EndLossesKeepModelConsistent }
+    ensures on { EngineContinuesByEndLosses }
+    ensures served { TurnIsServedByEndLossesAndTurn }
 {
     effects_name_open_ends();
 }
@@ -45,19 +48,19 @@ pub fn a_turn_is_served_after_losses()
 ///
 /// Its steps after a turn of a server are those of the turn, after those before it. Its table and the room of its
 /// store stay.
-pub fn engines_go_on()
+pub fn a_reachable_engine_stays_reachable()
     ensures begins { NewEngineIsReachable }
-    ensures stays { EngineGoesOnByNothing }
-    ensures on { EngineGoesOnTransitively }
-    ensures takes { EngineGoesOnByHappening }
-    ensures turns { EngineGoesOnByTurn }
+    ensures stays { EngineContinuesByNothing }
+    ensures on { EngineContinuesTransitively }
+    ensures takes { EngineContinuesByHappening }
+    ensures turns { EngineContinuesByTurn }
     ensures executed { ReachableEngineStaysReachable }
-    ensures serves { ReachableEngineIsServing }
+    ensures serves { ReachableEngineHasServedAGoodRun }
     ensures by_steps { TurnExecutesItsSteps }
-    ensures runs { ExecutedEngineIsServing }
+    ensures runs { ExecutedEngineHasServedAGoodRun }
     ensures table { EngineKeepsItsTable }
 {
-    turns_are_executed();
+    turns_execute_their_steps();
     effects_name_open_ends();
-    executions_are_runs();
+    core_steps_of_executions_are_good_runs();
 }

@@ -3,10 +3,10 @@ ghost use Rattle.std.specs.Prelude.{◌≡◌, ◌<◌, [], ◌∷◌, ◌++◌,
 ghost use Rattle.hx_fields.specs.declared.limits.TheConstants.{END_OF_TIME};
 ghost use Rattle.proxy_engine.specs.EngineModel.{EngineModel};
 ghost use Rattle.proxy_engine.specs.State.{EngineRepresents};
-ghost use Rattle.proxy_engine.specs.Orderly.{ModelIsOrderly};
+ghost use Rattle.proxy_engine.specs.Orderly.{ModelIsConsistent};
 ghost use Rattle.proxy_turn.specs.Calls as call;
 ghost use Rattle.proxy_turn.specs.Calls.{read_outcome_of};
-ghost use Rattle.proxy_turn.specs.Logs.{logged_call, LogGrewByCalls, log_grew_by_no_call, log_growth_joined};
+ghost use Rattle.proxy_turn.specs.Logs.{logged_call, LogGrewByCalls, log_grew_by_no_call, log_growths_concatenate};
 ghost use Rattle.proxy_turn.specs.Counts.{calls};
 ghost use Rattle.proxy_turn.specs.Turn.{EngineTurnsWithCalls};
 
@@ -15,7 +15,7 @@ use crate::report::{Report, TurnFault};
 use crate::sockets::{SocketFailed, Sockets};
 use crate::turns::turn;
 use hx_fields::Bytes;
-use hx_status::Replied;
+use hx_status::ReplyData;
 use hx_store::Shelf;
 use proxy_engine::{End, Engine};
 use proxy_reads::Received;
@@ -37,7 +37,7 @@ pub enum LoggedReadOutcome {
 pub enum LoggedCall {
     Accept(u64, Result<bool, SocketFailed>),
     Read(End, LoggedReadOutcome),
-    Write(End, Bytes, Option<Replied>, bool),
+    Write(End, Bytes, Option<ReplyData>, bool),
     Connect(u64, SocketAddrV4, bool),
     Shut(End, bool),
 }
@@ -47,7 +47,7 @@ fn write_call(
     alloc: Global,
     end: End,
     bytes: &[u8],
-    replied: Option<&Replied>,
+    replied: Option<&ReplyData>,
     done: bool,
 ) -> Result<LoggedCall, AllocError>
     ensures { IfOk result
@@ -127,7 +127,7 @@ impl<K: Sockets + Drop> LoggedSockets<K> {
         self.keep_call(LoggedCall::Read(end, gave));
     }
 
-    fn keep_write(&mut self, end: End, bytes: &[u8], replied: Option<&Replied>, done: bool)
+    fn keep_write(&mut self, end: End, bytes: &[u8], replied: Option<&ReplyData>, done: bool)
         ensures sockets { self.new.sockets ≡ self.old.sockets }
         ensures kept { LogGrewByCalls self.old.lost self.old.calls.items self.new.lost self.new.calls.items
             (call.Write end bytes.now (option_copied replied.entry) done ∷ []) }
@@ -151,7 +151,7 @@ impl<K: Sockets + Drop> Sockets for LoggedSockets<K> {
     ghost none = { λ s. log_grew_by_no_call s.lost s.calls.items };
 
     ghost joined = { λ s t u a b first then.
-        log_growth_joined s.lost s.calls.items t.lost t.calls.items u.lost u.calls.items a b first then };
+        log_growths_concatenate s.lost s.calls.items t.lost t.calls.items u.lost u.calls.items a b first then };
 
     fn accept(&mut self, n: u64) -> Result<bool, SocketFailed> {
         let came = self.sockets.accept(n);
@@ -169,7 +169,7 @@ impl<K: Sockets + Drop> Sockets for LoggedSockets<K> {
         &mut self,
         end: End,
         bytes: &[u8],
-        replied: Option<&Replied>,
+        replied: Option<&ReplyData>,
     ) -> Result<(), SocketFailed> {
         let written = self.sockets.write(end, bytes, replied);
         self.keep_write(end, bytes, replied, written.is_ok());
@@ -190,14 +190,14 @@ impl<K: Sockets + Drop> Sockets for LoggedSockets<K> {
 }
 
 /// Serves one turn, as `turn` does. The log grows by its calls, each with its bytes, in order.
-pub fn turn_with_log<S: Shelf, K: Sockets + Drop>(
+pub fn turn_with_call_log<S: Shelf, K: Sockets + Drop>(
     engine: &mut Engine<S>,
     sockets: &mut LoggedSockets<K>,
     alloc: Global,
     now: u64,
 ) -> Result<Report, TurnFault>
     requires { now < END_OF_TIME }
-    ensures { (s : EngineModel) → EngineRepresents engine.old s → ModelIsOrderly s
+    ensures { (s : EngineModel) → EngineRepresents engine.old s → ModelIsConsistent s
         → EngineTurnsWithCalls now s engine.new
         (λ made. LogGrewByCalls sockets.old.lost sockets.old.calls.items sockets.new.lost sockets.new.calls.items made)
         (calls (K.accepts sockets.old.sockets) (K.reads sockets.old.sockets) (K.failures sockets.old.sockets))

@@ -7,15 +7,17 @@ ghost use Rattle.proxy_engine.specs.Executions.{Took};
 ghost use Rattle.proxy_engine.specs.declared.work.End.TheVariants as ends;
 ghost use Rattle.proxy_turn.specs.Calls as call;
 ghost use Rattle.proxy_turn.specs.Calls.{Came, NoneCame, Failed};
-ghost use Rattle.proxy_turn.specs.Over.{accepted_ends, calls_of_accepts, count_of_connections, count_of_failed_answers};
+ghost use Rattle.proxy_turn.specs.Over.{accepted_ends, calls_of_accepts, count_of_accepted_connections};
+ghost use Rattle.proxy_turn.specs.Over.{count_of_failed_accept_outcomes};
 ghost use Rattle.proxy_turn.specs.OverSteps.{steps_of_accepts};
-ghost use Rattle.proxy_turn.specs.OverCases.{NoMoreCallsThanMayBe, NoCallWhereAllAreOpen, NoCallBehindNone};
-ghost use Rattle.proxy_turn.specs.OverCases.{NoSilentEndIsRead, NoEndIsReadTwice, NoGivenEndIsPassedOver};
-ghost use Rattle.proxy_turn.specs.OverCases.{NoAcceptedEndIsPassedOver, NoReadBeforeTheAccepts, NoActBeforeTheEnds};
-ghost use Rattle.proxy_turn.specs.OverCases.{NoMoreActsThanAThousand, NoReportLeavesAnEndOut};
-ghost use Rattle.proxy_turn.specs.OverCases.{NoReportLeavesAConnectionOut, NoReportCountsWhatWasNotDone};
-ghost use Rattle.proxy_turn.specs.OverCases.{NoFaultOfAListenerThatWorks, NoSilentEndIsListed};
-ghost use Rattle.proxy_turn.specs.OverCases.{CallsOfATurnOverStandInOrder};
+ghost use Rattle.proxy_turn.specs.OverCases.{NoMoreAcceptsThanTheBound, NoAcceptAtTheConnectionBound};
+ghost use Rattle.proxy_turn.specs.OverCases.{NoAcceptAfterNoConnectionCame};
+ghost use Rattle.proxy_turn.specs.OverCases.{NoUnreadableEndIsRead, NoEndIsReadTwice, NoHandedInEndIsSkipped};
+ghost use Rattle.proxy_turn.specs.OverCases.{NoAcceptedEndIsSkipped, NoReadBeforeTheAccepts, NoActBeforeAllEndsAreRead};
+ghost use Rattle.proxy_turn.specs.OverCases.{NoMoreActsThanAThousand, NoReportOmitsAnUnreadEnd};
+ghost use Rattle.proxy_turn.specs.OverCases.{NoReportOmitsAConnection, NoReportCountsWhatWasNotDone};
+ghost use Rattle.proxy_turn.specs.OverCases.{ListenerFaultOnlyAfterFailedAccept, NoUnreadableEndIsListed};
+ghost use Rattle.proxy_turn.specs.OverCases.{CallsOfATurnOverEndsStandInOrder};
 
 /// Each call of accept is for the next number; what came is an end of that number, and a step.
 pub fn worked_accepts()
@@ -26,9 +28,9 @@ pub fn worked_accepts()
     ensures ends { accepted_ends 5 (Came ∷ Came ∷ NoneCame ∷ []) ≡ ends.Client 5 ∷ ends.Client 6 ∷ [] }
     ensures no_end { accepted_ends 5 (Failed ∷ []) ≡ [] }
     ensures steps { steps_of_accepts 5 (Came ∷ Came ∷ NoneCame ∷ []) [] ≡ Took (Accepts 6) ∷ Took (Accepts 5) ∷ [] }
-    ensures count { count_of_connections (Came ∷ Came ∷ NoneCame ∷ []) ≡ 2 }
-    ensures failures { count_of_failed_answers (Came ∷ Failed ∷ []) ≡ 1 }
-    ensures no_failure { count_of_failed_answers (Came ∷ NoneCame ∷ []) ≡ 0 }
+    ensures count { count_of_accepted_connections (Came ∷ Came ∷ NoneCame ∷ []) ≡ 2 }
+    ensures failures { count_of_failed_accept_outcomes (Came ∷ Failed ∷ []) ≡ 1 }
+    ensures no_failure { count_of_failed_accept_outcomes (Came ∷ NoneCame ∷ []) ≡ 0 }
 {}
 
 /// No turn asks the listener more often than it may, where all are open that may be, or behind a call that gave none.
@@ -36,20 +38,20 @@ pub fn worked_accepts()
 /// accepted. It reads nothing before it has accepted, and acts on nothing before it has read. Its report leaves nothing
 /// out, and counts what was done.
 pub fn a_turn_over_ends_refuses_what_is_not_done()
-    ensures calls { NoMoreCallsThanMayBe }
-    ensures full { NoCallWhereAllAreOpen }
-    ensures behind { NoCallBehindNone }
-    ensures silent { NoSilentEndIsRead }
+    ensures calls { NoMoreAcceptsThanTheBound }
+    ensures full { NoAcceptAtTheConnectionBound }
+    ensures behind { NoAcceptAfterNoConnectionCame }
+    ensures silent { NoUnreadableEndIsRead }
     ensures twice { NoEndIsReadTwice }
-    ensures given { NoGivenEndIsPassedOver }
-    ensures accepted { NoAcceptedEndIsPassedOver }
+    ensures given { NoHandedInEndIsSkipped }
+    ensures accepted { NoAcceptedEndIsSkipped }
     ensures reads { NoReadBeforeTheAccepts }
-    ensures acts { NoActBeforeTheEnds }
+    ensures acts { NoActBeforeAllEndsAreRead }
     ensures many { NoMoreActsThanAThousand }
-    ensures whole { NoReportLeavesAnEndOut }
-    ensures connections { NoReportLeavesAConnectionOut }
+    ensures whole { NoReportOmitsAnUnreadEnd }
+    ensures connections { NoReportOmitsAConnection }
     ensures counts { NoReportCountsWhatWasNotDone }
-    ensures failure { NoFaultOfAListenerThatWorks }
-    ensures listed { NoSilentEndIsListed }
-    ensures order { CallsOfATurnOverStandInOrder }
+    ensures failure { ListenerFaultOnlyAfterFailedAccept }
+    ensures listed { NoUnreadableEndIsListed }
+    ensures order { CallsOfATurnOverEndsStandInOrder }
 {}

@@ -2,9 +2,9 @@
 ghost use Rattle.std.specs.Prelude.{◌≡◌, ℕ, List, [], ◌∷◌, ◌++◌, length, IfOk, is_ok, option_copied};
 ghost use Rattle.proxy_turn.specs.Calls.{Call, Accept, Read, Write, Connect, Shut, accept_outcome_of, read_outcome_of};
 ghost use Rattle.proxy_turn.specs.Counts.{CountRisesBy, failed};
-ghost use Rattle.proxy_reads.specs.Received.{FitsTheBuffer};
+ghost use Rattle.proxy_reads.specs.Received.{ReceivedBytesAreAtMostRoom};
 
-use hx_status::Replied;
+use hx_status::ReplyData;
 use proxy_engine::End;
 use proxy_reads::Received;
 use std::net::SocketAddrV4;
@@ -37,7 +37,7 @@ pub trait Sockets {
     /// Reads what has come from a client or on a link, at most as many bytes as there is room for.
     fn read(&mut self, end: End, buf: &mut [u8]) -> Result<Received, SocketFailed>
         ensures did { Did self.old (Read end (read_outcome_of result buf.new) ∷ []) self.new }
-        ensures within { IfOk result (FitsTheBuffer (length buf.old)) }
+        ensures within { IfOk result (ReceivedBytesAreAtMostRoom (length buf.old)) }
         ensures length { length buf.new ≡ length buf.old }
         ensures accepts { accepts self.new ≡ accepts self.old }
         ensures reads { CountRisesBy (reads self.old) (reads self.new) 1 }
@@ -49,7 +49,7 @@ pub trait Sockets {
         &mut self,
         end: End,
         bytes: &[u8],
-        replied: Option<&Replied>,
+        replied: Option<&ReplyData>,
     ) -> Result<(), SocketFailed>
         ensures did { Did self.old (Write end bytes.now (option_copied replied.entry) (is_ok result) ∷ []) self.new }
         ensures accepts { accepts self.new ≡ accepts self.old }

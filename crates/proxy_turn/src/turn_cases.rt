@@ -12,15 +12,16 @@ ghost use Rattle.proxy_engine.specs.ModelCases.{replied_to_a};
 ghost use Rattle.proxy_engine.specs.declared.work.End.TheVariants as ends;
 ghost use Rattle.proxy_turn.specs.Calls as call;
 ghost use Rattle.proxy_turn.specs.Calls.{Nothing, Ended, Broken, Bytes};
-ghost use Rattle.proxy_turn.specs.Turn.{Carried, Passed, Lost, calls_of_effect, calls_of_effects, end_is_lost};
+ghost use Rattle.proxy_turn.specs.Turn.{Carried, Passed, Lost, calls_of_effect, calls_of_effects, end_has_failed};
 ghost use Rattle.proxy_turn.specs.Turn.{happening_of_loss, happening_of_read};
-ghost use Rattle.proxy_turn.specs.TurnSteps.{steps_of_losses, steps_of_reads, steps_of_rounds};
-ghost use Rattle.proxy_turn.specs.Served.{IsLostEnd, steps_of_taking};
-ghost use Rattle.proxy_turn.specs.TurnCases.{TurnHasAtMostAThousandActs, ListenerIsNotAskedInVain, NoOtherEndIsRead};
-ghost use Rattle.proxy_turn.specs.TurnCases.{NoActBeforeTheReads, NoReadGivesMoreThanAPiece};
-ghost use Rattle.proxy_turn.specs.TurnCases.{ReportedTurnLeavesNoEndOut, ReportedTurnCountsWhatWasDone};
-ghost use Rattle.proxy_turn.specs.TurnCases.{ListenerFaultNeedsAFailedAccept, NoCallOnALostEnd};
-ghost use Rattle.proxy_turn.specs.TurnCases.{NoEffectIsPassedOverWithoutLoss, NoClientWriteCountsAsRefused};
+ghost use Rattle.proxy_turn.specs.TurnSteps.{steps_of_lost_ends, steps_of_reads, steps_of_rounds};
+ghost use Rattle.proxy_turn.specs.Served.{IsLossOfAnEnd, steps_taking_happenings};
+ghost use Rattle.proxy_turn.specs.TurnCases.{TurnHasAtMostAThousandActs, NoAcceptWhereNoneMayBeAccepted};
+ghost use Rattle.proxy_turn.specs.TurnCases.{NoUnreadableEndIsReadInATurn};
+ghost use Rattle.proxy_turn.specs.TurnCases.{NoActBeforeAllReads, NoReadGivesMoreThanAPiece};
+ghost use Rattle.proxy_turn.specs.TurnCases.{ReportedTurnOmitsNoEnd, ReportedTurnCountsWhatWasDone};
+ghost use Rattle.proxy_turn.specs.TurnCases.{ListenerFaultNeedsAFailedAccept, NoCallOnAFailedEnd};
+ghost use Rattle.proxy_turn.specs.TurnCases.{NoEffectIsSkippedWithoutFailure, NoClientWriteCountsAsRefused};
 
 /// The calls of an effect: its bytes go to its end, whole and once, with what reply they are and what it answers, and
 /// behind a failed call none is made. Of a forward that failed as refused the connect failed, of any other the write.
@@ -47,9 +48,9 @@ pub fn worked_calls_of_effects()
         ≡ call.Write (ends.Client 1) (codes "x") None true ∷ call.Shut (ends.Client 1) true ∷ [] }
     ensures none_behind { calls_of_effects (effects.Client 1 (codes "x") None ∷ effects.Close 1 ∷ [])
         (Lost kinds.Closed ∷ Passed ∷ []) ≡ call.Write (ends.Client 1) (codes "x") None false ∷ [] }
-    ensures one_is_lost { end_is_lost (ends.Client 1 ∷ []) (ends.Client 1) ≡ true }
-    ensures another_is_not { end_is_lost (ends.Client 1 ∷ []) (ends.Client 2) ≡ false }
-    ensures a_link_is_no_client { end_is_lost (ends.Client 1 ∷ []) (ends.Link 1) ≡ false }
+    ensures one_is_lost { end_has_failed (ends.Client 1 ∷ []) (ends.Client 1) ≡ true }
+    ensures another_is_not { end_has_failed (ends.Client 1 ∷ []) (ends.Client 2) ≡ false }
+    ensures a_link_is_no_client { end_has_failed (ends.Client 1 ∷ []) (ends.Link 1) ≡ false }
 {}
 
 /// What a read gave, and a failed call, as happenings.
@@ -77,8 +78,8 @@ pub fn worked_order_of_steps()
     ensures losses { steps_of_rounds 9
         (record { act = Wakes 0; emitted = effects.Close 1 ∷ []; fates = Lost kinds.Closed ∷ [] } ∷ []) []
         ≡ Took (Leaves 1) ∷ Worked 9 (Wakes 0) (effects.Close 1 ∷ []) ∷ [] }
-    ensures passed { steps_of_losses (effects.Close 1 ∷ []) (Passed ∷ []) [] ≡ [] }
-    ensures taken { steps_of_taking (Leaves 1 ∷ Leaves 2 ∷ []) [] ≡ Took (Leaves 2) ∷ Took (Leaves 1) ∷ [] }
+    ensures passed { steps_of_lost_ends (effects.Close 1 ∷ []) (Passed ∷ []) [] ≡ [] }
+    ensures taken { steps_taking_happenings (Leaves 1 ∷ Leaves 2 ∷ []) [] ≡ Took (Leaves 2) ∷ Took (Leaves 1) ∷ [] }
 {}
 
 /// No turn does more than a thousand acts, asks the listener in vain, reads another end, takes a piece that is too
@@ -87,21 +88,21 @@ pub fn worked_order_of_steps()
 /// losses.
 pub fn a_turn_refuses_what_is_not_done()
     ensures acts { TurnHasAtMostAThousandActs }
-    ensures listener { ListenerIsNotAskedInVain }
-    ensures ends { NoOtherEndIsRead }
-    ensures order { NoActBeforeTheReads }
+    ensures listener { NoAcceptWhereNoneMayBeAccepted }
+    ensures ends { NoUnreadableEndIsReadInATurn }
+    ensures order { NoActBeforeAllReads }
     ensures pieces { NoReadGivesMoreThanAPiece }
-    ensures whole { ReportedTurnLeavesNoEndOut }
+    ensures whole { ReportedTurnOmitsNoEnd }
     ensures counts { ReportedTurnCountsWhatWasDone }
     ensures failure { ListenerFaultNeedsAFailedAccept }
-    ensures lost { NoCallOnALostEnd }
-    ensures passed { NoEffectIsPassedOverWithoutLoss }
+    ensures lost { NoCallOnAFailedEnd }
+    ensures passed { NoEffectIsSkippedWithoutFailure }
     ensures refused { NoClientWriteCountsAsRefused }
-    ensures bytes_are_no_loss { IsLostEnd (Sends 1 (codes "x")) → ⊥ }
-    ensures answers_are_no_loss { IsLostEnd (Hears 5 (codes "x")) → ⊥ }
-    ensures a_connection_is_no_loss { IsLostEnd (Accepts 1) → ⊥ }
-    ensures who_is_to_end_is_one { IsLostEnd (Retires 1) }
-    ensures who_is_overdue_is_one { IsLostEnd (Overdues 1) }
-    ensures an_end_is_no_loss { IsLostEnd (Ends 1) → ⊥ }
-    ensures a_shut_link_is_no_loss { IsLostEnd (Shuts 5) → ⊥ }
+    ensures bytes_are_no_loss { IsLossOfAnEnd (Sends 1 (codes "x")) → ⊥ }
+    ensures answers_are_no_loss { IsLossOfAnEnd (Hears 5 (codes "x")) → ⊥ }
+    ensures a_connection_is_no_loss { IsLossOfAnEnd (Accepts 1) → ⊥ }
+    ensures who_is_to_end_is_one { IsLossOfAnEnd (Retires 1) }
+    ensures who_is_overdue_is_one { IsLossOfAnEnd (Overdues 1) }
+    ensures an_end_is_no_loss { IsLossOfAnEnd (Ends 1) → ⊥ }
+    ensures a_shut_link_is_no_loss { IsLossOfAnEnd (Shuts 5) → ⊥ }
 {}

@@ -4,24 +4,25 @@ ghost use Rattle.std.specs.Prelude.{◌<◌, ◌≤◌, ◌≡◌, ◌^◌, leng
 ghost use Rattle.hx_fields.specs.declared.limits.TheConstants.{END_OF_TIME};
 ghost use Rattle.proxy_engine.specs.EngineModel.{EngineModel};
 ghost use Rattle.proxy_engine.specs.State.{EngineRepresents};
-ghost use Rattle.proxy_engine.specs.Orderly.{ModelIsOrderly};
+ghost use Rattle.proxy_engine.specs.Orderly.{ModelIsConsistent};
 ghost use Rattle.proxy_engine.specs.Reading.{end_may_send};
 ghost use Rattle.proxy_turn.specs.Counts.{calls};
 ghost use Rattle.proxy_turn.specs.Turn.{EngineTurnsWithCalls};
-ghost use Rattle.proxy_turn.specs.Parts.{EndWasNumbered, EndsWereNumbered, OneEndIsRead, NoEndIsRead, DueActsAreDone};
-ghost use Rattle.proxy_turn.specs.Over.{EngineTurnsOverWithCalls};
-ghost use Rattle.proxy_turn.specs.OverParts.{ListenerIsAsked, ConnectionsAreAccepted, ListedEndsAreRead};
+ghost use Rattle.proxy_turn.specs.Parts.{EndNumberWasGiven, EndNumbersWereGiven, OneEndIsRead, NoEndIsRead};
+ghost use Rattle.proxy_turn.specs.Parts.{DueActsAreDone};
+ghost use Rattle.proxy_turn.specs.Over.{EngineTurnsOverEndsWithCalls};
+ghost use Rattle.proxy_turn.specs.OverParts.{ListenerIsAskedAtMostOnce, ConnectionsAreAccepted, EndsOfListAreRead};
 
 use crate::bounds::TurnBounds;
 use crate::effects::{carry_out, take};
 use crate::happenings::happening_of_read;
-use crate::limits::{MOST_EFFECTS, MOST_OPEN, MOST_WORKS};
+use crate::limits::{MOST_ACTS_OF_A_TURN, MOST_EFFECTS_OF_AN_ACT, MOST_OPEN_CONNECTIONS};
 use crate::report::{Report, TurnFault};
 use crate::sockets::Sockets;
 use hx_store::Shelf;
 use proxy_engine::laws::{
-    an_act_has_three_effects_at_most, effects_name_open_ends, readable_ends_may_send,
-    what_ends_stays_ended,
+    an_act_has_three_effects_at_most, effects_name_open_ends,
+    ended_connections_and_links_stay_ended, readable_ends_may_send,
 };
 use proxy_engine::{End, Engine, Happening, Work};
 use proxy_reads::PIECE;
@@ -37,7 +38,7 @@ fn accept<S: Shelf, K: Sockets>(
     ends: &mut Vec<End>,
 ) -> Result<bool, TurnFault>
     ensures { (s : EngineModel) → EngineRepresents engine.old s
-        → ListenerIsAsked most_open s ends.old.items engine.new ends.new.items
+        → ListenerIsAskedAtMostOnce most_open s ends.old.items engine.new ends.new.items
         (λ made. K.Did sockets.old made sockets.new)
         (calls (K.accepts sockets.old) (K.reads sockets.old) (K.failures sockets.old))
         (calls (K.accepts sockets.new) (K.reads sockets.new) (K.failures sockets.new)) result }
@@ -111,11 +112,11 @@ fn read_from_end<S: Shelf, K: Sockets>(
     requires { length buf.old ≡ 4096 }
     ensures length { length buf.new ≡ length buf.old }
     ensures few { IfOk result (λ count. count ≤ 1) }
-    ensures ok { IfOk result (λ count. (s : EngineModel) → EngineRepresents engine.old s → EndWasNumbered s end
+    ensures ok { IfOk result (λ count. (s : EngineModel) → EngineRepresents engine.old s → EndNumberWasGiven s end
         → OneEndIsRead s end engine.new (λ made. K.Did sockets.old made sockets.new)
         (calls (K.accepts sockets.old) (K.reads sockets.old) (K.failures sockets.old))
         (calls (K.accepts sockets.new) (K.reads sockets.new) (K.failures sockets.new)) count) }
-    ensures err { IfErr result (λ fault. (s : EngineModel) → EngineRepresents engine.old s → EndWasNumbered s end
+    ensures err { IfErr result (λ fault. (s : EngineModel) → EngineRepresents engine.old s → EndNumberWasGiven s end
         → NoEndIsRead s engine.new (λ made. K.Did sockets.old made sockets.new)
         (calls (K.accepts sockets.old) (K.reads sockets.old) (K.failures sockets.old))
         (calls (K.accepts sockets.new) (K.reads sockets.new) (K.failures sockets.new)) fault) }
@@ -137,12 +138,12 @@ fn read_all<S: Shelf, K: Sockets>(
     requires { length buf.old ≡ 4096 }
     ensures length { length buf.new ≡ length buf.old }
     ensures few { IfOk result (λ counts. counts.1 < 2 ^ 63) }
-    ensures reads { (s : EngineModel) → EngineRepresents engine.old s → EndsWereNumbered s ends.now
-        → ListedEndsAreRead s ends.now engine.new (λ made. K.Did sockets.old made sockets.new)
+    ensures reads { (s : EngineModel) → EngineRepresents engine.old s → EndNumbersWereGiven s ends.now
+        → EndsOfListAreRead s ends.now engine.new (λ made. K.Did sockets.old made sockets.new)
         (calls (K.accepts sockets.old) (K.reads sockets.old) (K.failures sockets.old))
         (calls (K.accepts sockets.new) (K.reads sockets.new) (K.failures sockets.new)) result }
 {
-    what_ends_stays_ended();
+    ended_connections_and_links_stay_ended();
     let mut faults = 0u64;
     for end in ends {
         match read_from_end(engine, sockets, alloc, *end, buf) {
@@ -161,21 +162,21 @@ fn work_all<S: Shelf, K: Sockets>(
     now: u64,
 ) -> Result<(u64, u64), TurnFault>
     requires { now < END_OF_TIME }
-    ensures { (s : EngineModel) → EngineRepresents engine.old s → ModelIsOrderly s
+    ensures { (s : EngineModel) → EngineRepresents engine.old s → ModelIsConsistent s
         → DueActsAreDone now s engine.new (λ made. K.Did sockets.old made sockets.new)
         (calls (K.accepts sockets.old) (K.reads sockets.old) (K.failures sockets.old))
         (calls (K.accepts sockets.new) (K.reads sockets.new) (K.failures sockets.new)) result }
 {
     effects_name_open_ends();
-    what_ends_stays_ended();
+    ended_connections_and_links_stay_ended();
     an_act_has_three_effects_at_most();
     let Ok(mut failed) = engine.failed_links(alloc) else {
         return Err(TurnFault::NoMemory);
     };
     let mut faults = 0u64;
-    for works in 0..MOST_WORKS {
+    for works in 0..MOST_ACTS_OF_A_TURN {
         // Room comes first: what an act did has to be carried out whole.
-        if failed.reserve(MOST_EFFECTS).is_err() {
+        if failed.reserve(MOST_EFFECTS_OF_AN_ACT).is_err() {
             return Err(TurnFault::NoMemory);
         }
         match engine.work(alloc, now) {
@@ -189,7 +190,7 @@ fn work_all<S: Shelf, K: Sockets>(
             Err(fault) => return Err(TurnFault::from(fault)),
         }
     }
-    Ok((MOST_WORKS, faults))
+    Ok((MOST_ACTS_OF_A_TURN, faults))
 }
 
 /// Serves one turn over ends that are handed in, in any order: those, say, that are told to be ready. `now` is in Unix
@@ -203,8 +204,8 @@ fn work_all<S: Shelf, K: Sockets>(
 /// link as its closing. After a fault the engine stands where the whole takes and works of the turn left it.
 ///
 /// What each read gave is what the engine takes, and each effect's bytes go to its end, whole, once and in order: the
-/// calls on the sockets are those of the turn (`calls_of_turn_over`), and no others.
-pub fn turn_over<S: Shelf, K: Sockets>(
+/// calls on the sockets are those of the turn (`calls_of_turn_over_ends`), and no others.
+pub fn turn_over_ends<S: Shelf, K: Sockets>(
     engine: &mut Engine<S>,
     sockets: &mut K,
     alloc: Global,
@@ -216,8 +217,8 @@ pub fn turn_over<S: Shelf, K: Sockets>(
     requires early { now < END_OF_TIME }
     requires piece { length buf.old ≡ 4096 }
     ensures length { length buf.new ≡ length buf.old }
-    ensures turns { (s : EngineModel) → EngineRepresents engine.old s → ModelIsOrderly s
-        → EngineTurnsOverWithCalls now bounds s ends.old.items engine.new ends.new.items
+    ensures turns { (s : EngineModel) → EngineRepresents engine.old s → ModelIsConsistent s
+        → EngineTurnsOverEndsWithCalls now bounds s ends.old.items engine.new ends.new.items
         (λ made. K.Did sockets.old made sockets.new)
         (calls (K.accepts sockets.old) (K.reads sockets.old) (K.failures sockets.old))
         (calls (K.accepts sockets.new) (K.reads sockets.new) (K.failures sockets.new)) result }
@@ -249,7 +250,8 @@ pub fn turn_over<S: Shelf, K: Sockets>(
 /// Serves one turn over each end from which bytes may come: one connection is asked for, where fewer than 256 are open.
 /// `now` is in Unix seconds, up to the end of the year 9999.
 ///
-/// The rest is as `turn_over` says; the calls on the sockets are those of the turn (`calls_of_turn`), and no others.
+/// The rest is as `turn_over_ends` says; the calls on the sockets are those of the turn (`calls_of_turn`), and no
+/// others.
 pub fn turn<S: Shelf, K: Sockets>(
     engine: &mut Engine<S>,
     sockets: &mut K,
@@ -257,17 +259,17 @@ pub fn turn<S: Shelf, K: Sockets>(
     now: u64,
 ) -> Result<Report, TurnFault>
     requires { now < END_OF_TIME }
-    ensures { (s : EngineModel) → EngineRepresents engine.old s → ModelIsOrderly s
+    ensures { (s : EngineModel) → EngineRepresents engine.old s → ModelIsConsistent s
         → EngineTurnsWithCalls now s engine.new (λ made. K.Did sockets.old made sockets.new)
         (calls (K.accepts sockets.old) (K.reads sockets.old) (K.failures sockets.old))
         (calls (K.accepts sockets.new) (K.reads sockets.new) (K.failures sockets.new)) result }
 {
     let mut buf = [0u8; PIECE];
-    turn_through(engine, sockets, alloc, now, &mut buf)
+    turn_with_buffer(engine, sockets, alloc, now, &mut buf)
 }
 
 /// The same by a buffer of 4,096 bytes, into which each read goes. Who serves many turns clears it once.
-pub fn turn_through<S: Shelf, K: Sockets>(
+pub fn turn_with_buffer<S: Shelf, K: Sockets>(
     engine: &mut Engine<S>,
     sockets: &mut K,
     alloc: Global,
@@ -277,7 +279,7 @@ pub fn turn_through<S: Shelf, K: Sockets>(
     requires early { now < END_OF_TIME }
     requires piece { length buf.old ≡ 4096 }
     ensures length { length buf.new ≡ length buf.old }
-    ensures turns { (s : EngineModel) → EngineRepresents engine.old s → ModelIsOrderly s
+    ensures turns { (s : EngineModel) → EngineRepresents engine.old s → ModelIsConsistent s
         → EngineTurnsWithCalls now s engine.new (λ made. K.Did sockets.old made sockets.new)
         (calls (K.accepts sockets.old) (K.reads sockets.old) (K.failures sockets.old))
         (calls (K.accepts sockets.new) (K.reads sockets.new) (K.failures sockets.new)) result }
@@ -287,8 +289,8 @@ pub fn turn_through<S: Shelf, K: Sockets>(
         return Err(TurnFault::NoMemory);
     };
     let bounds = TurnBounds {
-        most_open: MOST_OPEN,
+        most_open: MOST_OPEN_CONNECTIONS,
         most_accepts: 1,
     };
-    turn_over(engine, sockets, alloc, now, bounds, &mut ends, buf)
+    turn_over_ends(engine, sockets, alloc, now, bounds, &mut ends, buf)
 }

@@ -19,7 +19,7 @@ use Rattle.hx_reuse.specs.Rules.{decision_of}
 use Rattle.hx_reuse.specs.declared.rule.ReuseRule.{ReuseRule}
 use Rattle.hx_reuse.specs.declared.decision.Decision.{Decision}
 use Rattle.hx_reuse.specs.declared.decision.Decision.TheVariants as decision
-use Rattle.hx_status.specs.declared.about.Replied.{Replied}
+use Rattle.hx_status.specs.declared.about.ReplyData.{ReplyData}
 use Rattle.hx_status.specs.declared.question.Question.{Question}
 use Rattle.hx_status.specs.declared.cause.Cause.{Cause}
 use Rattle.hx_status.specs.declared.cause.Cause.TheVariants as cause
@@ -39,10 +39,10 @@ use Rattle.proxy_core.specs.declared.steps.fallback.Fallback.TheVariants as fall
 use Rattle.proxy_core.specs.Validating.{condition_about_serial}
 use Rattle.proxy_core.specs.Leading.{is_forwarded, waits_for}
 use Rattle.proxy_core.specs.Awaiting.{leader_of_request}
-use Rattle.proxy_core.specs.Outcomes.{find_exchange, exchange_id_of_event, fault_at_exchange, fallback_for, outcome_of, outcome_of_arrival, outcome_of_allowed_request, outcome_without_stored_response, outcome_of_waiting_or_forwarding, outcome_of_failure, outcome_of_wake, is_only_if_cached}
+use Rattle.proxy_core.specs.Outcomes.{find_exchange, exchange_id_of_event, fault_at_exchange, fallback_for_failed_answer, outcome_for_exchange, outcome_of_arrival, outcome_of_allowed_request, outcome_without_stored_response, outcome_of_waiting_or_forwarding, outcome_of_failure, outcome_of_wake, is_only_if_cached}
 use Rattle.proxy_core.specs.Promises.{is_arrival_event, outcome_ends_exchange, outcome_goes_forward}
-use Rattle.proxy_core.specs.Scopes.{Scope, is_in_scope}
-use Rattle.proxy_core.specs.State.{State as CoreState, state_after, released_exchange, overtaken_exchange, forwarded_exchange, waiting_exchange, StepIsAccepted, exchange_past_its_wait}
+use Rattle.proxy_core.specs.Scopes.{Scope, key_is_in_scope}
+use Rattle.proxy_core.specs.State.{State as CoreState, state_after_event, released_exchange, overtaken_exchange, forwarded_exchange, waiting_exchange, StepIsAccepted, exchange_released_by_timeout}
 use Rattle.proxy_core.specs.TraceMeaning.{opens_an_exchange}
 use Rattle.proxy_engine.proofs.Asking.{overdue_steps}
 use Rattle.proxy_core.specs.Starts.{StoreAtStart}
@@ -54,23 +54,23 @@ use Rattle.proxy_script.specs.declared.effect_list.Effect.{Effect}
 use Rattle.proxy_script.specs.declared.effect_list.Effect.TheVariants as effects
 use Rattle.proxy_engine.specs.Activities.{has_exchange, link_place_of_activity, forwarded_or_waiting}
 use Rattle.proxy_engine.specs.Questions.{question_of}
-use Rattle.proxy_engine.specs.Acts.{asks_head, OutcomeOnConnection, Replies, Forwards, Queues, Nothing, outcome_by_table, effects_of_outcome, model_after_outcome, next_link_number, CoreIsStepped, RequestIsRefused, ConnectionIsClosed, RequestArrives, ConnectionIsServed, ActIsDone, drop_effects}
+use Rattle.proxy_engine.specs.Acts.{request_is_head, OutcomeOnConnection, Replies, Forwards, Queues, Nothing, outcome_with_origin_address, effects_of_outcome, model_after_outcome, next_link_number, CoreIsStepped, RequestIsRefused, ConnectionIsClosed, RequestArrives, ConnectionIsServed, ActIsDone, effects_of_link_drop}
 use Rattle.proxy_engine.specs.Admitted.{Refusal, RequestIsAdmittedOrRefused, asked_on_connection}
-use Rattle.proxy_engine.specs.Due.{Act, Abandons, Finishes, Wakes, Serves, Gives, Breaks, IsDueFirst, ConnectionActionUnlessBusy, takes_no_request}
-use Rattle.proxy_engine.specs.EngineModel.{EngineModel, ConnectionModel, no_connection, connection_at, link_at, with_core, happening_fault, model_after_happening}
-use Rattle.proxy_engine.specs.Happenings.{PlainHappening, Accepts, Sends, Hears, Ends, Leaves, Retires, Overdues, Shuts, Fails}
-use Rattle.proxy_engine.specs.Orderly.{ModelIsOrderly, activity_of_model, EndedStaysEnded, NewModelIsOrderly, HappeningKeepsOrder, ActKeepsOrder, HappeningKeepsEnded, ActKeepsEnded}
+use Rattle.proxy_engine.specs.Due.{Act, Abandons, Finishes, Wakes, Serves, Gives, Breaks, IsDueFirst, ConnectionActionUnlessBusy, accepts_no_request}
+use Rattle.proxy_engine.specs.EngineModel.{EngineModel, ConnectionModel, no_connection, connection_at, link_at, model_with_core, happening_fault, model_after_happening}
+use Rattle.proxy_engine.specs.Happenings.{HappeningModel, Accepts, Sends, Hears, Ends, Leaves, Retires, Overdues, Shuts, Fails}
+use Rattle.proxy_engine.specs.Orderly.{ModelIsConsistent, activity_of_model, EndedEndsStayEnded, NewModelIsConsistent, HappeningKeepsModelConsistent, ActKeepsModelConsistent, EndedEndsStayEndedAfterHappening, EndedEndsStayEndedAfterAct}
 use Rattle.proxy_engine.specs.Pairing.{activity_at}
 use Rattle.proxy_engine.specs.State.{new_engine_model}
-use Rattle.proxy_engine.specs.Executions.{ExecutionStep, Took, Worked, StepLeads, StepsLead}
+use Rattle.proxy_engine.specs.Executions.{ExecutionStep, Took, Worked, StepLeadsToModel, StepsLeadToModel}
 use Rattle.proxy_engine.specs.declared.endpoints.activities.Activity.{Activity}
 use Rattle.proxy_engine.specs.declared.endpoints.activities.Activity.TheVariants.{Free, Forwarded, Waiting}
 use Rattle.proxy_engine.proofs.Shown.{lost_by}
-use Rattle.proxy_turn_laws.specs.Dialogue.{Said, RequestCame, ReplyWent, ClientLeft, replies_to, final_replies_to, said_by_act, said_by_steps, Standing, Answered, Awaited, Left, StandsAt, RequestCameAs, LastRequestIsOpen, requests_in, replies_in, RepliesFollowRequests, EachRequestHasOneReply, NoRequestIsAnsweredTwice, NoReplyComesUnasked, NoRequestIsPassedOver, NothingIsSaidAfterALeave, NoActAnswersTwice}
+use Rattle.proxy_turn_laws.specs.Dialogue.{DialogueEvent, RequestCame, ReplyWent, ClientLeft, replies_to, final_replies_to, dialogue_of_act, dialogue_of_steps, DialogueState, Answered, Awaited, Left, DialogueIsInState, CoreIsHandedTheRequest, LastRequestIsOpen, count_of_requests_in_dialogue, count_of_replies_in_dialogue, RepliesFollowRequests, EachRequestHasOneReply, NoRequestIsAnsweredTwice, NoReplyWithoutARequest, NoRequestIsLeftUnanswered, NothingFollowsALeave, NoActAnswersTwice}
 
 -- ---- the replies among effects
 
-abbrev told_by : Outcome → List Said
+abbrev told_by : Outcome → List DialogueEvent
 told_by (outcomes.Reply r) = ReplyWent r.bytes ∷ []
 told_by (outcomes.Forward line bytes) = []
 told_by (outcomes.Waits leader) = []
@@ -84,25 +84,25 @@ closing : (n m : ℕ) (close : Bool) → replies_to n (cond close (effects.Close
 closing n m true = refl
 closing n m false = refl
 
-client_told : (n m : ℕ) (bytes : List ℕ) (replied : Option Replied) (close b : Bool) → (m == n) ≡ b → replies_to n (effects.Client m bytes replied ∷ cond close (effects.Close m ∷ []) []) ≡ cond b (ReplyWent bytes ∷ []) []
+client_told : (n m : ℕ) (bytes : List ℕ) (replied : Option ReplyData) (close b : Bool) → (m == n) ≡ b → replies_to n (effects.Client m bytes replied ∷ cond close (effects.Close m ∷ []) []) ≡ cond b (ReplyWent bytes ∷ []) []
 client_told n m bytes replied close b test =
-    ap (λ (xs : List Said). xs ++ cond (m == n) (ReplyWent bytes ∷ []) []) (closing n m close) ∙ ap (λ (c : Bool). cond c (ReplyWent bytes ∷ []) []) test
+    ap (λ (xs : List DialogueEvent). xs ++ cond (m == n) (ReplyWent bytes ∷ []) []) (closing n m close) ∙ ap (λ (c : Bool). cond c (ReplyWent bytes ∷ []) []) test
 
-told_here : (i n : ℕ) (question : Option Question) (table : Table) (o : Outcome) → replies_to (i + 1) (effects_of_outcome i n question (outcome_by_table table o)) ≡ told_by o
+told_here : (i n : ℕ) (question : Option Question) (table : Table) (o : Outcome) → replies_to (i + 1) (effects_of_outcome i n question (outcome_with_origin_address table o)) ≡ told_by o
 told_here i n question table (outcomes.Reply r) = client_told (i + 1) (i + 1) r.bytes (Some (record { about = r.about; question = question })) r.close true (eq-eqb (i + 1) (i + 1) refl)
 told_here i n question table (outcomes.Forward line bytes) = refl
 told_here i n question table (outcomes.Waits leader) = refl
 told_here i n question table outcomes.Ended = refl
 told_here i n question table outcomes.WaitsNoMore = refl
 
-told_away : (i p n : ℕ) (question : Option Question) (table : Table) (o : Outcome) → (p == i) ≡ false → replies_to (i + 1) (effects_of_outcome p n question (outcome_by_table table o)) ≡ []
+told_away : (i p n : ℕ) (question : Option Question) (table : Table) (o : Outcome) → (p == i) ≡ false → replies_to (i + 1) (effects_of_outcome p n question (outcome_with_origin_address table o)) ≡ []
 told_away i p n question table (outcomes.Reply r) off = client_told (i + 1) (p + 1) r.bytes (Some (record { about = r.about; question = question })) r.close false (off_more p i off)
 told_away i p n question table (outcomes.Forward line bytes) off = refl
 told_away i p n question table (outcomes.Waits leader) off = refl
 told_away i p n question table outcomes.Ended off = refl
 told_away i p n question table outcomes.WaitsNoMore off = refl
 
-drops_silent : (n first : ℕ) (l : Option ℕ) (es : List Effect) → replies_to n (drop_effects first l ++ es) ≡ replies_to n es
+drops_silent : (n first : ℕ) (l : Option ℕ) (es : List Effect) → replies_to n (effects_of_link_drop first l ++ es) ≡ replies_to n es
 drops_silent n first None es = refl
 drops_silent n first (Some l) es = refl
 
@@ -143,21 +143,21 @@ either_tells (outcomes.Waits leader) h = refl
 either_tells outcomes.Ended h = absurd (false≢true h)
 either_tells outcomes.WaitsNoMore h = absurd (false≢true h)
 
-answer_tells : (table : Table) (es : List Stored) (xs : List Exchange) (next_serial : Option ℕ) (now id : ℕ) (r : Response) (w : Option Exchange) → fault_at_exchange w (events.Answer now id r) ≡ None → is_end (outcome_of table es xs w next_serial (events.Answer now id r)) ≡ false
+answer_tells : (table : Table) (es : List Stored) (xs : List Exchange) (next_serial : Option ℕ) (now id : ℕ) (r : Response) (w : Option Exchange) → fault_at_exchange w (events.Answer now id r) ≡ None → is_end (outcome_for_exchange table es xs w next_serial (events.Answer now id r)) ≡ false
 answer_tells table es xs next_serial now id r None a = absurd (cc)
 answer_tells table es xs next_serial now id r (Some x) a =
     let d = decision_of (policy_of table.lines x.line) es x.asked now in
     either_tells _ (answer_either table es now x r next_serial d)
 
-fail_tells : (table : Table) (es : List Stored) (xs : List Exchange) (next_serial : Option ℕ) (now id : ℕ) (kind : FailKind) (w : Option Exchange) → fault_at_exchange w (events.Fail now id kind) ≡ None → is_end (outcome_of table es xs w next_serial (events.Fail now id kind)) ≡ false
+fail_tells : (table : Table) (es : List Stored) (xs : List Exchange) (next_serial : Option ℕ) (now id : ℕ) (kind : FailKind) (w : Option Exchange) → fault_at_exchange w (events.Fail now id kind) ≡ None → is_end (outcome_for_exchange table es xs w next_serial (events.Fail now id kind)) ≡ false
 fail_tells table es xs next_serial now id kind None a = absurd (cc)
-fail_tells table es xs next_serial now id kind (Some x) a = by_fallback (fallback_for (policy_of table.lines x.line) es x.asked now (decision_of (policy_of table.lines x.line) es x.asked now))
+fail_tells table es xs next_serial now id kind (Some x) a = by_fallback (fallback_for_failed_answer (policy_of table.lines x.line) es x.asked now (decision_of (policy_of table.lines x.line) es x.asked now))
   where
     by_fallback : (f : Fallback) → is_end (outcome_of_failure table es now x kind None f) ≡ false
     by_fallback (fallback.Sends serial detail) = refl
     by_fallback (fallback.Refuses rule error) = refl
 
-wake_tells : (table : Table) (es : List Stored) (xs : List Exchange) (next_serial : Option ℕ) (now id : ℕ) (w : Option Exchange) → fault_at_exchange w (events.Wake now id) ≡ None → is_end (outcome_of table es xs w next_serial (events.Wake now id)) ≡ false
+wake_tells : (table : Table) (es : List Stored) (xs : List Exchange) (next_serial : Option ℕ) (now id : ℕ) (w : Option Exchange) → fault_at_exchange w (events.Wake now id) ≡ None → is_end (outcome_for_exchange table es xs w next_serial (events.Wake now id)) ≡ false
 wake_tells table es xs next_serial now id None a = absurd (cc)
 wake_tells table es xs next_serial now id (Some x) a = by_decision (decision_of (policy_of table.lines x.line) es x.asked now)
   where
@@ -167,48 +167,48 @@ wake_tells table es xs next_serial now id (Some x) a = by_decision (decision_of 
 
 -- ---- how a connection stands, and what is open on it
 
-record Here (G : Type 0) (said : List Said) (w : Option Exchange) : Type 0 where
-  standing : Standing
-  stands : StandsAt standing said
+record Here (G : Type 0) (said : List DialogueEvent) (w : Option Exchange) : Type 0 where
+  standing : DialogueState
+  stands : DialogueIsInState standing said
   last : LastRequestIsOpen standing said w
   gone : standing ≡ Left → G
 
-weaker_here : (G H : Type 0) (said : List Said) (w : Option Exchange) → (G → H) → Here G said w → Here H said w
+weaker_here : (G H : Type 0) (said : List DialogueEvent) (w : Option Exchange) → (G → H) → Here G said w → Here H said w
 weaker_here G H said w f here = record { standing = here.standing; stands = here.stands; last = here.last; gone = λ e. f (here.gone e) }
 
 -- the request that waits, where an exchange is open
-record IsAwaited (said : List Said) (z : Exchange) : Type 0 where
+record IsAwaited (said : List DialogueEvent) (z : Exchange) : Type 0 where
   request : Request
-  past : List Said
+  past : List DialogueEvent
   said_is : said ≡ RequestCame (next.Message request) ∷ past
-  admitted : RequestCameAs request z.asked
-  stands : StandsAt Awaited said
+  admitted : CoreIsHandedTheRequest request z.asked
+  stands : DialogueIsInState Awaited said
 
-awaited_there : (G : Type 0) (said : List Said) (x : Option Exchange) (z : Exchange) → Here G said x → x ≡ Some z → IsAwaited said z
+awaited_there : (G : Type 0) (said : List DialogueEvent) (x : Option Exchange) (z : Exchange) → Here G said x → x ≡ Some z → IsAwaited said z
 awaited_there G said x z here is = by_standing here.standing here.stands here.last
   where
-    by_standing : (o : Standing) → StandsAt o said → LastRequestIsOpen o said x → IsAwaited said z
+    by_standing : (o : DialogueState) → DialogueIsInState o said → LastRequestIsOpen o said x → IsAwaited said z
     by_standing Answered stands last = let no : None ≡ Some z = sym last ∙ is in absurd (cc)
     by_standing Left stands last = let no : None ≡ Some z = sym last ∙ is in absurd (cc)
     by_standing Awaited stands (r, past, y, said_is, found, admitted) =
         let seen : Some y ≡ Some z = sym found ∙ is in
         let same : y ≡ z = cc in
-        record { request = r; past = past; said_is = said_is; admitted = subst (λ (v : Exchange). RequestCameAs r v.asked) same admitted; stands = stands }
+        record { request = r; past = past; said_is = said_is; admitted = subst (λ (v : Exchange). CoreIsHandedTheRequest r v.asked) same admitted; stands = stands }
 
 -- a request arrives where none is open
-module _ (G : Type 0) (id now : ℕ) (asked : Asked) (r : Request) (v x y : Option Exchange) (said : List Said) (admitted : RequestCameAs r asked) (stands : StandsAt Answered said) where
+module _ (G : Type 0) (id now : ℕ) (asked : Asked) (r : Request) (v x y : Option Exchange) (said : List DialogueEvent) (admitted : CoreIsHandedTheRequest r asked) (stands : DialogueIsInState Answered said) where
   abbrev After : Outcome → Type 0
   After o = Here G (told_by o ++ (RequestCame (next.Message r) ∷ said)) y
 
   waiting : (o : Outcome) → outcome_ends_exchange o ≡ false → (z : Exchange) → z.asked ≡ asked → y ≡ Some z → After o
   waiting (outcomes.Reply p) e z same is = absurd (false≢true (sym e))
   waiting (outcomes.Forward line bytes) e z same is =
-      record { standing = Awaited; stands = (refl, stands); last = (r, said, z, refl, is, subst (λ (a : Asked). RequestCameAs r a) (sym same) admitted); gone = λ e. absurd (cc) }
+      record { standing = Awaited; stands = (refl, stands); last = (r, said, z, refl, is, subst (λ (a : Asked). CoreIsHandedTheRequest r a) (sym same) admitted); gone = λ e. absurd (cc) }
   waiting (outcomes.Waits leader) e z same is =
-      record { standing = Awaited; stands = (refl, stands); last = (r, said, z, refl, is, subst (λ (a : Asked). RequestCameAs r a) (sym same) admitted); gone = λ e. absurd (cc) }
+      record { standing = Awaited; stands = (refl, stands); last = (r, said, z, refl, is, subst (λ (a : Asked). CoreIsHandedTheRequest r a) (sym same) admitted); gone = λ e. absurd (cc) }
   waiting outcomes.Ended e z same is = absurd (false≢true (sym e))
   waiting outcomes.WaitsNoMore e z same is =
-      record { standing = Awaited; stands = (refl, stands); last = (r, said, z, refl, is, subst (λ (a : Asked). RequestCameAs r a) (sym same) admitted); gone = λ e. absurd (cc) }
+      record { standing = Awaited; stands = (refl, stands); last = (r, said, z, refl, is, subst (λ (a : Asked). CoreIsHandedTheRequest r a) (sym same) admitted); gone = λ e. absurd (cc) }
 
   answered : (o : Outcome) → opens_an_exchange o ≡ false → is_end o ≡ false → y ≡ None → After o
   answered (outcomes.Reply p) e tells is = record { standing = Answered; stands = (refl, (refl, stands)); last = is; gone = λ e. absurd (cc) }
@@ -233,19 +233,19 @@ module _ (G : Type 0) (id now : ℕ) (asked : Asked) (r : Request) (v x y : Opti
   arrives_here o tells (lapses z ev xi st f yi) = absurd (cc)
 
 -- the open exchange goes on, or is answered
-module _ (G : Type 0) (id : ℕ) (event : Event) (v x y : Option Exchange) (said : List Said) (own : exchange_id_of_event event ≡ id) (late : is_arrival_event event ≡ false) (here : Here G said x) where
+module _ (G : Type 0) (id : ℕ) (event : Event) (v x y : Option Exchange) (said : List DialogueEvent) (own : exchange_id_of_event event ≡ id) (late : is_arrival_event event ≡ false) (here : Here G said x) where
   waits_on : (o : Outcome) → outcome_ends_exchange o ≡ false → (z z2 : Exchange) → x ≡ Some z → z2.asked ≡ z.asked → y ≡ Some z2 → Here G (told_by o ++ said) y
   waits_on (outcomes.Reply p) e z z2 xi same yi = absurd (false≢true (sym e))
   waits_on (outcomes.Forward line bytes) e z z2 xi same yi =
       let f = awaited_there G said x z here xi in
-      record { standing = Awaited; stands = f.stands; last = (f.request, f.past, z2, f.said_is, yi, subst (λ (a : Asked). RequestCameAs f.request a) (sym same) f.admitted); gone = λ e. absurd (cc) }
+      record { standing = Awaited; stands = f.stands; last = (f.request, f.past, z2, f.said_is, yi, subst (λ (a : Asked). CoreIsHandedTheRequest f.request a) (sym same) f.admitted); gone = λ e. absurd (cc) }
   waits_on (outcomes.Waits leader) e z z2 xi same yi =
       let f = awaited_there G said x z here xi in
-      record { standing = Awaited; stands = f.stands; last = (f.request, f.past, z2, f.said_is, yi, subst (λ (a : Asked). RequestCameAs f.request a) (sym same) f.admitted); gone = λ e. absurd (cc) }
+      record { standing = Awaited; stands = f.stands; last = (f.request, f.past, z2, f.said_is, yi, subst (λ (a : Asked). CoreIsHandedTheRequest f.request a) (sym same) f.admitted); gone = λ e. absurd (cc) }
   waits_on outcomes.Ended e z z2 xi same yi = absurd (false≢true (sym e))
   waits_on outcomes.WaitsNoMore e z z2 xi same yi =
       let f = awaited_there G said x z here xi in
-      record { standing = Awaited; stands = f.stands; last = (f.request, f.past, z2, f.said_is, yi, subst (λ (a : Asked). RequestCameAs f.request a) (sym same) f.admitted); gone = λ e. absurd (cc) }
+      record { standing = Awaited; stands = f.stands; last = (f.request, f.past, z2, f.said_is, yi, subst (λ (a : Asked). CoreIsHandedTheRequest f.request a) (sym same) f.admitted); gone = λ e. absurd (cc) }
 
   is_answered : (o : Outcome) → outcome_ends_exchange o ≡ true → is_end o ≡ false → (z : Exchange) → x ≡ Some z → y ≡ None → Here G (told_by o ++ said) y
   is_answered (outcomes.Reply p) e tells z xi yn = record { standing = Answered; stands = (refl, (awaited_there G said x z here xi).stands); last = yn; gone = λ e. absurd (cc) }
@@ -267,7 +267,7 @@ module _ (G : Type 0) (id : ℕ) (event : Event) (v x y : Option Exchange) (said
   later_here o tells (wakes table es z now2 ev xi st g yi) = waits_on o (forward_goes_on o g) z (woken_form table es now2 z) xi refl yi
   later_here o tells (closes z t a xi en yn) = is_answered o en tells z xi yn
   later_here o tells (turns z j m ev n xi st f yi) = absurd (its_own j ev n)
-  later_here o tells (lapses z ev xi st f yi) = waits_on o (ap outcome_ends_exchange f) z (exchange_past_its_wait z) xi refl yi
+  later_here o tells (lapses z ev xi st f yi) = waits_on o (ap outcome_ends_exchange f) z (exchange_released_by_timeout z) xi refl yi
 
   -- it waits no more
   overdue_here : Move id v event outcomes.WaitsNoMore x y → Here G said y
@@ -279,9 +279,9 @@ module _ (G : Type 0) (id : ℕ) (event : Event) (v x y : Option Exchange) (said
   overdue_here (wakes table es z now2 ev xi st g yi) = absurd (false≢true g)
   overdue_here (closes z t a xi en yn) = absurd (false≢true en)
   overdue_here (turns z j m ev n xi st f yi) = absurd (its_own j ev n)
-  overdue_here (lapses z ev xi st f yi) = waits_on outcomes.WaitsNoMore refl z (exchange_past_its_wait z) xi refl yi
+  overdue_here (lapses z ev xi st f yi) = waits_on outcomes.WaitsNoMore refl z (exchange_released_by_timeout z) xi refl yi
 
-  abandoned_here : (o : Outcome) → o ≡ outcomes.Ended → Move id v event o x y → StandsAt Awaited said × (y ≡ None)
+  abandoned_here : (o : Outcome) → o ≡ outcomes.Ended → Move id v event o x y → DialogueIsInState Awaited said × (y ≡ None)
   abandoned_here o ends (apart n e) = absurd (false≢true (sym n ∙ eq-eqb (exchange_id_of_event event) id own))
   abandoned_here o ends (opens table es now2 asked2 line ev xn goes yi) = absurd (false≢true (sym late ∙ ap is_arrival_event ev))
   abandoned_here o ends (queues table es now2 asked2 line leader ev xn oi li yi) = absurd (false≢true (sym late ∙ ap is_arrival_event ev))
@@ -303,7 +303,7 @@ released_asked i x = by_test (waits_for i x.stage)
     by_test false = refl
 
 overtaken_asked : (key : Scope) (x : Exchange) → (overtaken_exchange key x).asked ≡ x.asked
-overtaken_asked key x = by_test (is_in_scope key x.asked.target.key)
+overtaken_asked key x = by_test (key_is_in_scope key x.asked.target.key)
   where
     by_test : (b : Bool) → (cond b (record x { overtaken = true }) x).asked ≡ x.asked
     by_test true = refl
@@ -321,21 +321,21 @@ changed_some None (Some i) x = (released_exchange i x, refl, released_asked i x)
 changed_some (Some key) None x = (overtaken_exchange key x, refl, overtaken_asked key x)
 changed_some (Some key) (Some i) x = (overtaken_exchange key (released_exchange i x), refl, overtaken_asked key (released_exchange i x) ∙ released_asked i x)
 
-changed_here : (G : Type 0) (key : Option Scope) (i : Option ℕ) (x : Option Exchange) (said : List Said) → Here G said x → Here G said (changed_by key i x)
+changed_here : (G : Type 0) (key : Option Scope) (i : Option ℕ) (x : Option Exchange) (said : List DialogueEvent) → Here G said x → Here G said (changed_by key i x)
 changed_here G key i x said here = record { standing = here.standing; stands = here.stands; last = by_standing here.standing here.last; gone = here.gone }
   where
     none : x ≡ None → changed_by key i x ≡ None
     none is = ap (changed_by key i) is ∙ changed_none key i
 
-    by_standing : (o : Standing) → LastRequestIsOpen o said x → LastRequestIsOpen o said (changed_by key i x)
+    by_standing : (o : DialogueState) → LastRequestIsOpen o said x → LastRequestIsOpen o said (changed_by key i x)
     by_standing Answered last = none last
     by_standing Left last = none last
     by_standing Awaited (r, past, y, said_is, found, admitted) =
         let c = changed_some key i y in
-        (r, past, c.0, said_is, ap (changed_by key i) found ∙ c.1, subst (λ (a : Asked). RequestCameAs r a) (sym c.2) admitted)
+        (r, past, c.0, said_is, ap (changed_by key i) found ∙ c.1, subst (λ (a : Asked). CoreIsHandedTheRequest r a) (sym c.2) admitted)
 
 -- it waits for the next leader
-turned_here : (G : Type 0) (x y : Option Exchange) (said : List Said) (z : Exchange) (m : ℕ) → x ≡ Some z → y ≡ Some (record z { stage = stages.Waiting m }) → Here G said x → Here G said y
+turned_here : (G : Type 0) (x y : Option Exchange) (said : List DialogueEvent) (z : Exchange) (m : ℕ) → x ≡ Some z → y ≡ Some (record z { stage = stages.Waiting m }) → Here G said x → Here G said y
 turned_here G x y said z m xi yi here = record { standing = here.standing; stands = here.stands; last = by_standing here.standing here.last; gone = here.gone }
   where
     never : x ≡ None → ⊥
@@ -343,13 +343,13 @@ turned_here G x y said z m xi yi here = record { standing = here.standing; stand
         let no : None ≡ Some z = sym none ∙ xi in
         absurd (cc)
 
-    by_standing : (o : Standing) → LastRequestIsOpen o said x → LastRequestIsOpen o said y
+    by_standing : (o : DialogueState) → LastRequestIsOpen o said x → LastRequestIsOpen o said y
     by_standing Answered last = absurd (never last)
     by_standing Left last = absurd (never last)
     by_standing Awaited (r, past, v, said_is, found, admitted) =
-        (r, past, record z { stage = stages.Waiting m }, said_is, yi, subst (λ (a : Asked). RequestCameAs r a) (ap (λ (u : Exchange). u.asked) (same_Some v z (sym found ∙ xi))) admitted)
+        (r, past, record z { stage = stages.Waiting m }, said_is, yi, subst (λ (a : Asked). CoreIsHandedTheRequest r a) (ap (λ (u : Exchange). u.asked) (same_Some v z (sym found ∙ xi))) admitted)
 
-away_here : (G : Type 0) (id : ℕ) (event : Event) (o : Outcome) (v x y : Option Exchange) (said : List Said) → eqb (exchange_id_of_event event) id ≡ false → Here G said x → Move id v event o x y → Here G said y
+away_here : (G : Type 0) (id : ℕ) (event : Event) (o : Outcome) (v x y : Option Exchange) (said : List DialogueEvent) → eqb (exchange_id_of_event event) id ≡ false → Here G said x → Move id v event o x y → Here G said y
 away_here G id event o v x y said off here (apart n e) = subst (Here G said) (sym e) (changed_here G _ _ x said here)
 away_here G id event o v x y said off here (opens table es now2 asked2 line ev xn goes yi) = absurd (false≢true (sym off ∙ eq-eqb (exchange_id_of_event event) id (ap exchange_id_of_event ev)))
 away_here G id event o v x y said off here (queues table es now2 asked2 line leader ev xn oi li yi) = absurd (false≢true (sym off ∙ eq-eqb (exchange_id_of_event event) id (ap exchange_id_of_event ev)))
@@ -381,7 +381,7 @@ not_busy : (b : Bool) (c : ConnectionModel) (w : Next Request) → ConnectionAct
 not_busy true c w h = absurd (cc)
 not_busy false c w h = refl
 
-idle_parts : (gone closed : Bool) (a : Activity) → takes_no_request gone closed a ≡ false → (gone ≡ false) × (a ≡ Free)
+idle_parts : (gone closed : Bool) (a : Activity) → accepts_no_request gone closed a ≡ false → (gone ≡ false) × (a ≡ Free)
 idle_parts true closed a e = absurd (false≢true (sym e))
 idle_parts false true a e = absurd (false≢true (sym e))
 idle_parts false false Free e = (refl, refl)
@@ -397,31 +397,31 @@ module _ (i : ℕ) where
   abbrev IsGone : EngineModel → Type 0
   IsGone s = (i < length s.connections) × ((connection_at s i).gone ≡ true)
 
-  gone_stays : (s t : EngineModel) → EndedStaysEnded s t → IsGone s → IsGone t
+  gone_stays : (s t : EngineModel) → EndedEndsStayEnded s t → IsGone s → IsGone t
   gone_stays s t h g = let more = h.connections in let less = g.0 in (omega (arith, more, less), h.gone i g.0 g.1)
 
   -- an act by a step of the core, in this model, which led to that one
-  module _ (s base t : EngineModel) (p : ℕ) (asked : Option Asked) (event : Event) (before emitted : List Effect) (said : List Said) (d : CoreIsStepped s base p asked event before emitted t) (own : exchange_id_of_event event ≡ p + 1) (silent : (es : List Effect) → replies_to (i + 1) (before ++ es) ≡ replies_to (i + 1) es) where
+  module _ (s base t : EngineModel) (p : ℕ) (asked : Option Asked) (event : Event) (before emitted : List Effect) (said : List DialogueEvent) (d : CoreIsStepped s base p asked event before emitted t) (own : exchange_id_of_event event ≡ p + 1) (silent : (es : List Effect) → replies_to (i + 1) (before ++ es) ≡ replies_to (i + 1) es) where
     abbrev behind : CoreState
-    behind = state_after s.core event d.outcome
+    behind = state_after_event s.core event d.outcome
 
     core_is : t.core ≡ behind
-    core_is = (ap (λ (u : EngineModel). u.core) d.after_is ∙ core_after p (asks_head asked) (outcome_by_table s.core.table d.outcome) (with_core base d.core)) ∙ d.steps.leaves
+    core_is = (ap (λ (u : EngineModel). u.core) d.after_is ∙ core_after p (request_is_head asked) (outcome_with_origin_address s.core.table d.outcome) (model_with_core base d.core)) ∙ d.steps.leaves
 
     moved : Move (i + 1) (find_exchange (exchange_id_of_event event) s.core.exchanges) event d.outcome (open_at s) (find_exchange (i + 1) behind.exchanges)
     moved = move_of s.core.table s.core (record { event = event; outcome = d.outcome }) (i + 1) refl (record { allowed = d.steps.allowed; outcome_is = d.steps.outcome_is })
 
-    on_t : (G : Type 0) (told : List Said) → Here G told (find_exchange (i + 1) behind.exchanges) → Here G told (open_at t)
+    on_t : (G : Type 0) (told : List DialogueEvent) → Here G told (find_exchange (i + 1) behind.exchanges) → Here G told (open_at t)
     on_t G told h = subst (λ (c : CoreState). Here G told (find_exchange (i + 1) c.exchanges)) (sym core_is) h
 
     says_here : p ≡ i → replies_to (i + 1) emitted ≡ told_by d.outcome
     says_here same =
-        (ap (replies_to (i + 1)) d.emitted_is ∙ silent (effects_of_outcome p (next_link_number s) (option_map question_of asked) (outcome_by_table s.core.table d.outcome)))
-        ∙ subst (λ (q : ℕ). replies_to (i + 1) (effects_of_outcome q (next_link_number s) (option_map question_of asked) (outcome_by_table s.core.table d.outcome)) ≡ told_by d.outcome) (sym same) (told_here i (next_link_number s) (option_map question_of asked) s.core.table d.outcome)
+        (ap (replies_to (i + 1)) d.emitted_is ∙ silent (effects_of_outcome p (next_link_number s) (option_map question_of asked) (outcome_with_origin_address s.core.table d.outcome)))
+        ∙ subst (λ (q : ℕ). replies_to (i + 1) (effects_of_outcome q (next_link_number s) (option_map question_of asked) (outcome_with_origin_address s.core.table d.outcome)) ≡ told_by d.outcome) (sym same) (told_here i (next_link_number s) (option_map question_of asked) s.core.table d.outcome)
 
     says_away : (p == i) ≡ false → replies_to (i + 1) emitted ≡ []
     says_away off =
-        (ap (replies_to (i + 1)) d.emitted_is ∙ silent (effects_of_outcome p (next_link_number s) (option_map question_of asked) (outcome_by_table s.core.table d.outcome)))
+        (ap (replies_to (i + 1)) d.emitted_is ∙ silent (effects_of_outcome p (next_link_number s) (option_map question_of asked) (outcome_with_origin_address s.core.table d.outcome)))
         ∙ told_away i p (next_link_number s) (option_map question_of asked) s.core.table d.outcome off
 
     own_here : p ≡ i → exchange_id_of_event event ≡ i + 1
@@ -432,7 +432,7 @@ module _ (i : ℕ) where
 
     away_step : (G : Type 0) → (p == i) ≡ false → Here G said (open_at s) → Here G (replies_to (i + 1) emitted ++ said) (open_at t)
     away_step G off here =
-        subst (λ (told : List Said). Here G (told ++ said) (open_at t)) (sym (says_away off))
+        subst (λ (told : List DialogueEvent). Here G (told ++ said) (open_at t)) (sym (says_away off))
         (on_t G said (away_here G (i + 1) event d.outcome (find_exchange (exchange_id_of_event event) s.core.exchanges) (open_at s) (find_exchange (i + 1) behind.exchanges) said (own_away off) here moved))
 
     later_step : (G : Type 0) → is_arrival_event event ≡ false → is_end d.outcome ≡ false → Here G said (open_at s) → Here G (replies_to (i + 1) emitted ++ said) (open_at t)
@@ -441,7 +441,7 @@ module _ (i : ℕ) where
         by_place : ((p == i) ≡ true) ⊎ ((p == i) ≡ false) → Here G (replies_to (i + 1) emitted ++ said) (open_at t)
         by_place (inl test) =
             let same = eqb-true p i test in
-            subst (λ (told : List Said). Here G (told ++ said) (open_at t)) (sym (says_here same))
+            subst (λ (told : List DialogueEvent). Here G (told ++ said) (open_at t)) (sym (says_here same))
             (on_t G (told_by d.outcome ++ said) (later_here G (i + 1) event (find_exchange (exchange_id_of_event event) s.core.exchanges) (open_at s) (find_exchange (i + 1) behind.exchanges) said (own_here same) late here d.outcome tells moved))
         by_place (inr off) = away_step G off here
 
@@ -456,16 +456,16 @@ module _ (i : ℕ) where
             let is = abandoned_here (IsGone s) (i + 1) event (find_exchange (exchange_id_of_event event) s.core.exchanges) (open_at s) (find_exchange (i + 1) behind.exchanges) said (own_here same) late here d.outcome ends moved in
             let gone : IsGone s = subst (λ (q : ℕ). (q < length s.connections) × ((connection_at s q).gone ≡ true)) same away in
             let left : Here (IsGone s) (ClientLeft ∷ said) (open_at t) = on_t (IsGone s) (ClientLeft ∷ said) (record { standing = Left; stands = (refl, is.0); last = is.1; gone = λ e. gone }) in
-            subst (λ (told : List Said). Here (IsGone s) ((told ++ cond (p == i) (ClientLeft ∷ []) []) ++ said) (open_at t)) (sym none)
+            subst (λ (told : List DialogueEvent). Here (IsGone s) ((told ++ cond (p == i) (ClientLeft ∷ []) []) ++ said) (open_at t)) (sym none)
             (subst (λ (b : Bool). Here (IsGone s) (cond b (ClientLeft ∷ []) [] ++ said) (open_at t)) (sym test) left)
         by_place (inr off) =
-            subst (λ (told : List Said). Here (IsGone s) ((told ++ cond (p == i) (ClientLeft ∷ []) []) ++ said) (open_at t)) (sym (says_away off))
+            subst (λ (told : List DialogueEvent). Here (IsGone s) ((told ++ cond (p == i) (ClientLeft ∷ []) []) ++ said) (open_at t)) (sym (says_away off))
             (subst (λ (b : Bool). Here (IsGone s) (cond b (ClientLeft ∷ []) [] ++ said) (open_at t)) (sym off)
-            (subst (λ (told : List Said). Here (IsGone s) (told ++ said) (open_at t)) (says_away off) (away_step (IsGone s) off here)))
+            (subst (λ (told : List DialogueEvent). Here (IsGone s) (told ++ said) (open_at t)) (says_away off) (away_step (IsGone s) off here)))
 
   -- a request arrives at the core
-  arrived_step : (G : Type 0) (s base t : EngineModel) (p now : ℕ) (r : Request) (asked : Asked) (emitted : List Effect) (said : List Said) → RequestCameAs r asked → CoreIsStepped s base p (Some asked) (events.Arrive now (p + 1) asked) [] emitted t
-      → (p ≡ i → StandsAt Answered said) → Here G said (open_at s) → Here G ((replies_to (i + 1) emitted ++ cond (p == i) (RequestCame (next.Message r) ∷ []) []) ++ said) (open_at t)
+  arrived_step : (G : Type 0) (s base t : EngineModel) (p now : ℕ) (r : Request) (asked : Asked) (emitted : List Effect) (said : List DialogueEvent) → CoreIsHandedTheRequest r asked → CoreIsStepped s base p (Some asked) (events.Arrive now (p + 1) asked) [] emitted t
+      → (p ≡ i → DialogueIsInState Answered said) → Here G said (open_at s) → Here G ((replies_to (i + 1) emitted ++ cond (p == i) (RequestCame (next.Message r) ∷ []) []) ++ said) (open_at t)
   arrived_step G s base t p now r asked emitted said admitted d ready here = by_place (cases_Bool (p == i))
     where
       event : Event
@@ -477,27 +477,27 @@ module _ (i : ℕ) where
       by_place : ((p == i) ≡ true) ⊎ ((p == i) ≡ false) → Here G ((replies_to (i + 1) emitted ++ cond (p == i) (RequestCame (next.Message r) ∷ []) []) ++ said) (open_at t)
       by_place (inl test) =
           let same : p ≡ i = eqb-true p i test in
-          let came : List Said = RequestCame (next.Message r) ∷ [] in
-          let there : Move (i + 1) (find_exchange (p + 1) s.core.exchanges) (events.Arrive now (i + 1) asked) d.outcome (open_at s) (find_exchange (i + 1) (state_after s.core event d.outcome).exchanges) =
-          subst (λ (q : ℕ). Move (i + 1) (find_exchange (p + 1) s.core.exchanges) (events.Arrive now (q + 1) asked) d.outcome (open_at s) (find_exchange (i + 1) (state_after s.core event d.outcome).exchanges)) same
+          let came : List DialogueEvent = RequestCame (next.Message r) ∷ [] in
+          let there : Move (i + 1) (find_exchange (p + 1) s.core.exchanges) (events.Arrive now (i + 1) asked) d.outcome (open_at s) (find_exchange (i + 1) (state_after_event s.core event d.outcome).exchanges) =
+          subst (λ (q : ℕ). Move (i + 1) (find_exchange (p + 1) s.core.exchanges) (events.Arrive now (q + 1) asked) d.outcome (open_at s) (find_exchange (i + 1) (state_after_event s.core event d.outcome).exchanges)) same
           (moved s base t p (Some asked) event [] emitted said d refl (λ es. refl)) in
-          let told = arrives_here G (i + 1) now asked r (find_exchange (p + 1) s.core.exchanges) (open_at s) (find_exchange (i + 1) (state_after s.core event d.outcome).exchanges) said admitted (ready same) d.outcome tells there in
+          let told = arrives_here G (i + 1) now asked r (find_exchange (p + 1) s.core.exchanges) (open_at s) (find_exchange (i + 1) (state_after_event s.core event d.outcome).exchanges) said admitted (ready same) d.outcome tells there in
           let joined : Here G ((told_by d.outcome ++ came) ++ said) (open_at t) =
-          subst (λ (xs : List Said). Here G xs (open_at t)) (sym (append_assoc (told_by d.outcome) came said)) (on_t s base t p (Some asked) event [] emitted said d refl (λ es. refl) G (told_by d.outcome ++ (RequestCame (next.Message r) ∷ said)) told) in
-          subst (λ (xs : List Said). Here G ((xs ++ cond (p == i) came []) ++ said) (open_at t)) (sym (says_here s base t p (Some asked) event [] emitted said d refl (λ es. refl) same))
+          subst (λ (xs : List DialogueEvent). Here G xs (open_at t)) (sym (append_assoc (told_by d.outcome) came said)) (on_t s base t p (Some asked) event [] emitted said d refl (λ es. refl) G (told_by d.outcome ++ (RequestCame (next.Message r) ∷ said)) told) in
+          subst (λ (xs : List DialogueEvent). Here G ((xs ++ cond (p == i) came []) ++ said) (open_at t)) (sym (says_here s base t p (Some asked) event [] emitted said d refl (λ es. refl) same))
           (subst (λ (b : Bool). Here G ((told_by d.outcome ++ cond b came []) ++ said) (open_at t)) (sym test) joined)
       by_place (inr off) =
           let none = says_away s base t p (Some asked) event [] emitted said d refl (λ es. refl) off in
-          subst (λ (xs : List Said). Here G ((xs ++ cond (p == i) (RequestCame (next.Message r) ∷ []) []) ++ said) (open_at t)) (sym none)
+          subst (λ (xs : List DialogueEvent). Here G ((xs ++ cond (p == i) (RequestCame (next.Message r) ∷ []) []) ++ said) (open_at t)) (sym none)
           (subst (λ (b : Bool). Here G (cond b (RequestCame (next.Message r) ∷ []) [] ++ said) (open_at t)) (sym off)
-          (subst (λ (xs : List Said). Here G (xs ++ said) (open_at t)) none (away_step s base t p (Some asked) event [] emitted said d refl (λ es. refl) G off here)))
+          (subst (λ (xs : List DialogueEvent). Here G (xs ++ said) (open_at t)) none (away_step s base t p (Some asked) event [] emitted said d refl (λ es. refl) G off here)))
 
   -- the proxy answers what is no request that it passes on, and closes
-  refused_step : (G : Type 0) (s t : EngineModel) (p : ℕ) (what : Next Request) (bytes : List ℕ) (replied : Option Replied) (emitted : List Effect) (said : List Said) → emitted ≡ effects.Client (p + 1) bytes replied ∷ effects.Close (p + 1) ∷ [] → t.core ≡ s.core
-      → (p ≡ i → StandsAt Answered said × (open_at s ≡ None)) → Here G said (open_at s) → Here G ((replies_to (i + 1) emitted ++ cond (p == i) (RequestCame what ∷ []) []) ++ said) (open_at t)
+  refused_step : (G : Type 0) (s t : EngineModel) (p : ℕ) (what : Next Request) (bytes : List ℕ) (replied : Option ReplyData) (emitted : List Effect) (said : List DialogueEvent) → emitted ≡ effects.Client (p + 1) bytes replied ∷ effects.Close (p + 1) ∷ [] → t.core ≡ s.core
+      → (p ≡ i → DialogueIsInState Answered said × (open_at s ≡ None)) → Here G said (open_at s) → Here G ((replies_to (i + 1) emitted ++ cond (p == i) (RequestCame what ∷ []) []) ++ said) (open_at t)
   refused_step G s t p what bytes replied emitted said emitted_is core ready here = by_place (cases_Bool (p == i))
     where
-      on : (xs : List Said) → Here G xs (open_at s) → Here G xs (open_at t)
+      on : (xs : List DialogueEvent) → Here G xs (open_at s) → Here G xs (open_at t)
       on xs h = subst (λ (c : CoreState). Here G xs (find_exchange (i + 1) c.exchanges)) (sym core) h
 
       says : (b : Bool) → (p + 1 == i + 1) ≡ b → replies_to (i + 1) emitted ≡ cond b (ReplyWent bytes ∷ []) []
@@ -508,36 +508,36 @@ module _ (i : ℕ) where
           let same : p ≡ i = eqb-true p i test in
           let h = ready same in
           let told : Here G (ReplyWent bytes ∷ RequestCame what ∷ said) (open_at s) = record { standing = Answered; stands = (refl, (refl, h.0)); last = h.1; gone = λ e. absurd (cc) } in
-          subst (λ (xs : List Said). Here G ((xs ++ cond (p == i) (RequestCame what ∷ []) []) ++ said) (open_at t)) (sym (says true (eq-eqb (p + 1) (i + 1) (ap (λ (q : ℕ). q + 1) same))))
+          subst (λ (xs : List DialogueEvent). Here G ((xs ++ cond (p == i) (RequestCame what ∷ []) []) ++ said) (open_at t)) (sym (says true (eq-eqb (p + 1) (i + 1) (ap (λ (q : ℕ). q + 1) same))))
           (subst (λ (b : Bool). Here G ((ReplyWent bytes ∷ cond b (RequestCame what ∷ []) []) ++ said) (open_at t)) (sym test) (on (ReplyWent bytes ∷ RequestCame what ∷ said) told))
       by_place (inr off) =
-          subst (λ (xs : List Said). Here G ((xs ++ cond (p == i) (RequestCame what ∷ []) []) ++ said) (open_at t)) (sym (says false (off_more p i off)))
+          subst (λ (xs : List DialogueEvent). Here G ((xs ++ cond (p == i) (RequestCame what ∷ []) []) ++ said) (open_at t)) (sym (says false (off_more p i off)))
           (subst (λ (b : Bool). Here G (cond b (RequestCame what ∷ []) [] ++ said) (open_at t)) (sym off) (on said here))
 
   -- nothing is said
-  quiet_step : (G : Type 0) (s t : EngineModel) (told said : List Said) → told ≡ [] → t.core ≡ s.core → Here G said (open_at s) → Here G (told ++ said) (open_at t)
+  quiet_step : (G : Type 0) (s t : EngineModel) (told said : List DialogueEvent) → told ≡ [] → t.core ≡ s.core → Here G said (open_at s) → Here G (told ++ said) (open_at t)
   quiet_step G s t told said none core here =
-      subst (λ (xs : List Said). Here G (xs ++ said) (open_at t)) (sym none) (subst (λ (c : CoreState). Here G said (find_exchange (i + 1) c.exchanges)) (sym core) here)
+      subst (λ (xs : List DialogueEvent). Here G (xs ++ said) (open_at t)) (sym none) (subst (λ (c : CoreState). Here G said (find_exchange (i + 1) c.exchanges)) (sym core) here)
 
-  choice_of_none : (b : Bool) → ◌≡◌ {A = List Said} (cond b [] []) []
+  choice_of_none : (b : Bool) → ◌≡◌ {A = List DialogueEvent} (cond b [] []) []
   choice_of_none true = refl
   choice_of_none false = refl
 
   -- ---- acts
 
-  module _ (s t : EngineModel) (now : ℕ) (emitted : List Effect) (said : List Said) (orderly : ModelIsOrderly s) (here : Here (IsGone s) said (open_at s)) where
+  module _ (s t : EngineModel) (now : ℕ) (emitted : List Effect) (said : List DialogueEvent) (orderly : ModelIsConsistent s) (here : Here (IsGone s) said (open_at s)) where
     abbrev Goes : Act → Type 0
-    Goes act = Here (IsGone s) (said_by_act i act emitted ++ said) (open_at t)
+    Goes act = Here (IsGone s) (dialogue_of_act i act emitted ++ said) (open_at t)
 
     -- where a connection may be served, each of its requests was answered
-    ready : (p : ℕ) (w : Next Request) → IsDueFirst s (Some (Serves p w)) → p ≡ i → StandsAt Answered said × (open_at s ≡ None)
+    ready : (p : ℕ) (w : Next Request) → IsDueFirst s (Some (Serves p w)) → p ≡ i → DialogueIsInState Answered said × (open_at s ≡ None)
     ready p w due same = (by_standing here.standing here.stands here.last here.gone, none)
       where
         c : ConnectionModel
         c = connection_at s p
 
         parts : (c.gone ≡ false) × (c.activity ≡ Free)
-        parts = idle_parts c.gone c.closed c.activity (not_busy (takes_no_request c.gone c.closed c.activity) c w due.3.1)
+        parts = idle_parts c.gone c.closed c.activity (not_busy (accepts_no_request c.gone c.closed c.activity) c w due.3.1)
 
         still : (connection_at s i).gone ≡ false
         still = subst (λ (q : ℕ). (connection_at s q).gone ≡ false) same parts.0
@@ -548,7 +548,7 @@ module _ (i : ℕ) where
         none : open_at s ≡ None
         none = none_there (open_at s) (orderly.paired.opened i ∙ ap forwarded_or_waiting (doing_there s.connections i ∙ free))
 
-        by_standing : (o : Standing) → StandsAt o said → LastRequestIsOpen o said (open_at s) → (o ≡ Left → IsGone s) → StandsAt Answered said
+        by_standing : (o : DialogueState) → DialogueIsInState o said → LastRequestIsOpen o said (open_at s) → (o ≡ Left → IsGone s) → DialogueIsInState Answered said
         by_standing Answered stands last gone = stands
         by_standing Awaited stands (r, past, x, said_is, found, admitted) gone = let no : None ≡ Some x = sym none ∙ found in absurd (cc)
         by_standing Left stands last gone = absurd (false≢true (sym still ∙ (gone refl).1))
@@ -569,7 +569,7 @@ module _ (i : ℕ) where
         quiet_step (IsGone s) s t (final_replies_to (i + 1) emitted) said (ap (final_replies_to (i + 1)) h.0) (ap (λ (u : EngineModel). u.core) h.1) here
     serves p (next.Message r) due h = arrives p r h.0 due h.1 h.2
     serves p (next.Refused frame.Truncated) due h =
-        quiet_step (IsGone s) s t (replies_to (i + 1) emitted ++ cond (p == i) [] []) said (ap (λ (xs : List Said). xs ++ cond (p == i) [] []) (closed_silent p h) ∙ choice_of_none (p == i)) (ap (λ (u : EngineModel). u.core) h.1) here
+        quiet_step (IsGone s) s t (replies_to (i + 1) emitted ++ cond (p == i) [] []) said (ap (λ (xs : List DialogueEvent). xs ++ cond (p == i) [] []) (closed_silent p h) ∙ choice_of_none (p == i)) (ap (λ (u : EngineModel). u.core) h.1) here
     serves p (next.Refused frame.Head) due h = refused p frame.Head (cause.Frame frame.Head) due h
     serves p (next.Refused frame.Version) due h = refused p frame.Version (cause.Frame frame.Version) due h
     serves p (next.Refused frame.BothLengths) due h = refused p frame.BothLengths (cause.Frame frame.BothLengths) due h
@@ -601,7 +601,7 @@ module _ (i : ℕ) where
     by_act (Abandons p l) due d =
         let c = connection_at s p in
         let lost = lost_by c.gone (has_exchange c.activity) (link_place_of_activity c.activity) l (sym due.1) in
-        abandoned_step s _ t p None (events.Abandon (p + 1)) (drop_effects s.first l) emitted said d refl (drops_silent (i + 1) s.first l) (due.0, lost.0) refl d.steps.outcome_is here
+        abandoned_step s _ t p None (events.Abandon (p + 1)) (effects_of_link_drop s.first l) emitted said d refl (drops_silent (i + 1) s.first l) (due.0, lost.0) refl d.steps.outcome_is here
     by_act (Finishes j (Gives r)) due d = finishes j (link_at s j).connection r _ _ d.1
     by_act (Finishes j (Breaks kind)) due d = fails j (link_at s j).connection kind _ _ d
     by_act (Wakes p) due d = woken p _ _ d.1
@@ -610,10 +610,10 @@ module _ (i : ℕ) where
   -- ---- what is taken
 
   abbrev past_wait : EngineModel → ℕ → CoreState
-  past_wait s n = state_after s.core (events.Overdue n) outcomes.WaitsNoMore
+  past_wait s n = state_after_event s.core (events.Overdue n) outcomes.WaitsNoMore
 
   -- the request of some connection has waited as long as it is to wait
-  overdue_taken : (G : Type 0) (s : EngineModel) (n : ℕ) (said : List Said) → happening_fault s (Overdues n) ≡ None → Here G said (open_at s) → Here G said (open_at (model_after_happening s (Overdues n)))
+  overdue_taken : (G : Type 0) (s : EngineModel) (n : ℕ) (said : List DialogueEvent) → happening_fault s (Overdues n) ≡ None → Here G said (open_at s) → Here G said (open_at (model_after_happening s (Overdues n)))
   overdue_taken G s n said free here = by_place (cases_Bool (n == i + 1))
     where
       steps : StepIsAccepted s.core (events.Overdue n) outcomes.WaitsNoMore (past_wait s n)
@@ -626,7 +626,7 @@ module _ (i : ℕ) where
       by_place (inl test) = overdue_here G (i + 1) (events.Overdue n) (find_exchange n s.core.exchanges) (open_at s) (find_exchange (i + 1) (past_wait s n).exchanges) said (eqb-true n (i + 1) test) refl here moved
       by_place (inr off) = away_here G (i + 1) (events.Overdue n) outcomes.WaitsNoMore (find_exchange n s.core.exchanges) (open_at s) (find_exchange (i + 1) (past_wait s n).exchanges) said off here moved
 
-  heard_here : (G : Type 0) (s : EngineModel) (h : PlainHappening) (said : List Said) → happening_fault s h ≡ None → Here G said (open_at s) → Here G said (open_at (model_after_happening s h))
+  heard_here : (G : Type 0) (s : EngineModel) (h : HappeningModel) (said : List DialogueEvent) → happening_fault s h ≡ None → Here G said (open_at s) → Here G said (open_at (model_after_happening s h))
   heard_here G s (Accepts n) said free here = here
   heard_here G s (Sends n bytes) said free here = here
   heard_here G s (Hears l bytes) said free here = here
@@ -639,55 +639,55 @@ module _ (i : ℕ) where
 
   -- ---- what an engine lives through
 
-  record InStep (s : EngineModel) (said : List Said) : Type 0 where
-    orderly : ModelIsOrderly s
+  record InStep (s : EngineModel) (said : List DialogueEvent) : Type 0 where
+    orderly : ModelIsConsistent s
     here : Here (IsGone s) said (open_at s)
 
-  module _ (first_in_order : NewModelIsOrderly) (takes : HappeningKeepsOrder) (acts : ActKeepsOrder) (heard : HappeningKeepsEnded) (ended : ActKeepsEnded) (table : Table) (start : StoreAtStart) (first link : ℕ) where
-    stepped : (step : ExecutionStep) (s t : EngineModel) (past : List ExecutionStep) → StepLeads s step t → InStep s (said_by_steps i past) → InStep t (said_by_steps i (step ∷ past))
+  module _ (first_in_order : NewModelIsConsistent) (takes : HappeningKeepsModelConsistent) (acts : ActKeepsModelConsistent) (heard : EndedEndsStayEndedAfterHappening) (ended : EndedEndsStayEndedAfterAct) (table : Table) (start : StoreAtStart) (first link : ℕ) where
+    stepped : (step : ExecutionStep) (s t : EngineModel) (past : List ExecutionStep) → StepLeadsToModel s step t → InStep s (dialogue_of_steps i past) → InStep t (dialogue_of_steps i (step ∷ past))
     stepped (Took h) s t past leads st =
         let after = model_after_happening s h in
-        let next_one : InStep after (said_by_steps i past) = record {
+        let next_one : InStep after (dialogue_of_steps i past) = record {
           orderly = takes s h st.orderly;
-          here = weaker_here (IsGone s) (IsGone after) (said_by_steps i past) (open_at after) (gone_stays s after (heard s h))
-              (heard_here (IsGone s) s h (said_by_steps i past) leads.0 st.here);
+          here = weaker_here (IsGone s) (IsGone after) (dialogue_of_steps i past) (open_at after) (gone_stays s after (heard s h))
+              (heard_here (IsGone s) s h (dialogue_of_steps i past) leads.0 st.here);
         } in
-        subst (λ (u : EngineModel). InStep u (said_by_steps i past)) (sym leads.1) next_one
+        subst (λ (u : EngineModel). InStep u (dialogue_of_steps i past)) (sym leads.1) next_one
     stepped (Worked now act emitted) s t past leads st = record {
       orderly = (acts s now act emitted t st.orderly leads.0 leads.1).0;
-      here = weaker_here (IsGone s) (IsGone t) (said_by_act i act emitted ++ said_by_steps i past) (open_at t) (gone_stays s t (ended s now act emitted t leads.1))
-          (by_act s t now emitted (said_by_steps i past) st.orderly st.here act leads.0 leads.1);
+      here = weaker_here (IsGone s) (IsGone t) (dialogue_of_act i act emitted ++ dialogue_of_steps i past) (open_at t) (gone_stays s t (ended s now act emitted t leads.1))
+          (by_act s t now emitted (dialogue_of_steps i past) st.orderly st.here act leads.0 leads.1);
     }
 
-    lives : (steps : List ExecutionStep) (t : EngineModel) → StepsLead (new_engine_model (core_begun table start first) link) steps t → InStep t (said_by_steps i steps)
+    lives : (steps : List ExecutionStep) (t : EngineModel) → StepsLeadToModel (new_engine_model (core_begun table start first) link) steps t → InStep t (dialogue_of_steps i steps)
     lives [] t is =
         let begin = new_engine_model (core_begun table start first) link in
         let new : InStep begin [] = record { orderly = first_in_order (core_begun table start first) link refl; here = record { standing = Answered; stands = refl; last = refl; gone = λ e. absurd (cc) } } in
         subst (λ (u : EngineModel). InStep u []) (sym is) new
     lives (step ∷ past) t (s, executed, leads) = stepped step s t past leads (lives past s executed)
 
-pub replies_follow_requests : NewModelIsOrderly → HappeningKeepsOrder → ActKeepsOrder → HappeningKeepsEnded → ActKeepsEnded → RepliesFollowRequests
+pub replies_follow_requests : NewModelIsConsistent → HappeningKeepsModelConsistent → ActKeepsModelConsistent → EndedEndsStayEndedAfterHappening → EndedEndsStayEndedAfterAct → RepliesFollowRequests
 replies_follow_requests first_in_order takes acts heard ended table start first link steps t i executed =
     let st = lives i first_in_order takes acts heard ended table start first link steps t executed in
     (st.here.standing, st.here.stands, st.here.last)
 
 -- ---- what it comes to
 
-abbrev one_if_open : Standing → ℕ
+abbrev one_if_open : DialogueState → ℕ
 one_if_open Answered = 0
 one_if_open Awaited = 1
 one_if_open Left = 1
 
-standing_counts : (standing : Standing) (said : List Said) → StandsAt standing said → requests_in said ≡ replies_in said + one_if_open standing
-standing_counts standing [] h = subst (λ (o : Standing). 0 ≡ 0 + one_if_open o) (sym h) (omega arith)
+standing_counts : (standing : DialogueState) (said : List DialogueEvent) → DialogueIsInState standing said → count_of_requests_in_dialogue said ≡ count_of_replies_in_dialogue said + one_if_open standing
+standing_counts standing [] h = subst (λ (o : DialogueState). 0 ≡ 0 + one_if_open o) (sym h) (omega arith)
 standing_counts standing (RequestCame what ∷ past) h =
-    subst (λ (o : Standing). requests_in past + 1 ≡ replies_in past + one_if_open o) (sym h.0) (let e : requests_in past ≡ replies_in past + 0 = standing_counts Answered past h.1 in omega (arith, e))
+    subst (λ (o : DialogueState). count_of_requests_in_dialogue past + 1 ≡ count_of_replies_in_dialogue past + one_if_open o) (sym h.0) (let e : count_of_requests_in_dialogue past ≡ count_of_replies_in_dialogue past + 0 = standing_counts Answered past h.1 in omega (arith, e))
 standing_counts standing (ReplyWent bytes ∷ past) h =
-    subst (λ (o : Standing). requests_in past ≡ replies_in past + 1 + one_if_open o) (sym h.0) (let e : requests_in past ≡ replies_in past + 1 = standing_counts Awaited past h.1 in omega (arith, e))
+    subst (λ (o : DialogueState). count_of_requests_in_dialogue past ≡ count_of_replies_in_dialogue past + 1 + one_if_open o) (sym h.0) (let e : count_of_requests_in_dialogue past ≡ count_of_replies_in_dialogue past + 1 = standing_counts Awaited past h.1 in omega (arith, e))
 standing_counts standing (ClientLeft ∷ past) h =
-    subst (λ (o : Standing). requests_in past ≡ replies_in past + one_if_open o) (sym h.0) (standing_counts Awaited past h.1)
+    subst (λ (o : DialogueState). count_of_requests_in_dialogue past ≡ count_of_replies_in_dialogue past + one_if_open o) (sym h.0) (standing_counts Awaited past h.1)
 
-at_most_one : (standing : Standing) → one_if_open standing ≤ 1
+at_most_one : (standing : DialogueState) → one_if_open standing ≤ 1
 at_most_one Answered = omega arith
 at_most_one Awaited = omega arith
 at_most_one Left = omega arith
@@ -701,13 +701,13 @@ each_request_has_one_reply standing said h =
 pub none_is_answered_twice : NoRequestIsAnsweredTwice
 none_is_answered_twice standing one other past h = let no : Awaited ≡ Answered = h.1.0 in absurd (cc)
 
-pub none_comes_unasked : NoReplyComesUnasked
+pub none_comes_unasked : NoReplyWithoutARequest
 none_comes_unasked standing bytes h = let no : Awaited ≡ Answered = h.1 in absurd (cc)
 
-pub none_is_passed_over : NoRequestIsPassedOver
+pub none_is_passed_over : NoRequestIsLeftUnanswered
 none_is_passed_over standing one other past h = let no : Answered ≡ Awaited = h.1.0 in absurd (cc)
 
-pub nothing_behind_a_leave : NothingIsSaidAfterALeave
+pub nothing_behind_a_leave : NothingFollowsALeave
 nothing_behind_a_leave standing what bytes past =
     (λ h. let no : Answered ≡ Left = h.1.0 in absurd (cc), λ h. let no : Awaited ≡ Left = h.1.0 in absurd (cc))
 
@@ -715,6 +715,6 @@ pub no_act_answers_twice : RepliesFollowRequests → NoActAnswersTwice
 no_act_answers_twice follows table start first link now i past one other of_one of_other t executed =
     let emitted = effects.Client (i + 1) one of_one ∷ effects.Client (i + 1) other of_other ∷ [] in
     let h = follows table start first link (Worked now (Wakes i) emitted ∷ past) t i executed in
-    let two : StandsAt h.0 (ReplyWent other ∷ ReplyWent one ∷ said_by_steps i past) =
-    subst (λ (b : Bool). StandsAt h.0 (((([] ++ cond b (ReplyWent other ∷ []) []) ++ cond b (ReplyWent one ∷ []) [])) ++ said_by_steps i past)) (eq-eqb (i + 1) (i + 1) refl) h.1 in
-    none_is_answered_twice h.0 other one (said_by_steps i past) two
+    let two : DialogueIsInState h.0 (ReplyWent other ∷ ReplyWent one ∷ dialogue_of_steps i past) =
+    subst (λ (b : Bool). DialogueIsInState h.0 (((([] ++ cond b (ReplyWent other ∷ []) []) ++ cond b (ReplyWent one ∷ []) [])) ++ dialogue_of_steps i past)) (eq-eqb (i + 1) (i + 1) refl) h.1 in
+    none_is_answered_twice h.0 other one (dialogue_of_steps i past) two

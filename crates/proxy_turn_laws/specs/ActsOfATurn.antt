@@ -1,7 +1,8 @@
 -- A turn amid which no call fails: its acts are done one after another, as the play of a script does them, and each
 -- effect to a client and each forward is written whole, once, in order.
 --
--- EffectIsntLost, NothingIsLostAmid: acts whose calls all went well     done_acts_of: acts with their effects
+-- EffectDidNotFail, NoCallOfRoundsFailed: acts whose calls all went well     done_acts_of_rounds: acts with their
+-- effects
 -- successful_calls_of_effect, writes_of_effects: the calls of effects, but for the shut of a link
 -- without_link_shuts: all calls but the shuts of links
 -- RoundsAreActsInOrder, ATurnDoesActsInOrder, ATurnWritesItsEffects: the statements
@@ -15,30 +16,31 @@ use Rattle.proxy_engine.specs.Executions.{ExecutionStep}
 use Rattle.proxy_engine.specs.State.{State}
 use Rattle.proxy_engine.specs.declared.work.End.{End}
 use Rattle.proxy_engine.specs.declared.work.End.TheVariants as ends
-use Rattle.proxy_replay.specs.Played.{DoneAct, ActsAreDoneInOrder}
+use Rattle.proxy_replay.specs.Played.{DoneActWithEffects, ActsAreDoneInOrder}
 use Rattle.proxy_turn.specs.Calls as call
 use Rattle.proxy_turn.specs.Calls.{Call, AcceptOutcome}
-use Rattle.proxy_turn.specs.Turn.{EndRead, EffectFate, Carried, Passed, Lost, ActRound, ActsAreCarriedOut}
+use Rattle.proxy_turn.specs.Turn.{EndRead, EffectFate, Carried, Passed, Lost, ActWithEffectFates, ActsAreCarriedOut}
 use Rattle.proxy_turn.specs.Turn.{calls_of_rounds}
 use Rattle.proxy_turn.specs.TurnSteps.{effects_of_rounds}
-use Rattle.proxy_turn.specs.Over.{TurnOverAsFarAsItCame}
-use Rattle.proxy_turn.specs.Served.{EngineExecuted}
+use Rattle.proxy_turn.specs.Over.{TurnOverEndsIsDoneInOrder}
+use Rattle.proxy_turn.specs.Served.{EngineLivedThroughSteps}
 use Rattle.proxy_turn.specs.declared.bounds.TurnBounds.{TurnBounds}
 
 -- ---- nothing is lost
 
-abbrev pub EffectIsntLost : EffectFate → Type 0
-EffectIsntLost Carried = Unit {0}
-EffectIsntLost Passed = Unit {0}
-EffectIsntLost (Lost kind) = ⊥
+abbrev pub EffectDidNotFail : EffectFate → Type 0
+EffectDidNotFail Carried = Unit {0}
+EffectDidNotFail Passed = Unit {0}
+EffectDidNotFail (Lost kind) = ⊥
 
 -- no call that an act of these made failed
-abbrev pub NothingIsLostAmid : List ActRound → Type 0
-NothingIsLostAmid rounds = AllByRecursion (λ (r : ActRound). AllByRecursion EffectIsntLost r.fates) rounds
+abbrev pub NoCallOfRoundsFailed : List ActWithEffectFates → Type 0
+NoCallOfRoundsFailed rounds =
+    AllByRecursion (λ (r : ActWithEffectFates). AllByRecursion EffectDidNotFail r.fates) rounds
 
-abbrev pub done_acts_of : List ActRound → List DoneAct
-done_acts_of [] = []
-done_acts_of (r ∷ rounds) = record { act = r.act; effects = r.emitted } ∷ done_acts_of rounds
+abbrev pub done_acts_of_rounds : List ActWithEffectFates → List DoneActWithEffects
+done_acts_of_rounds [] = []
+done_acts_of_rounds (r ∷ rounds) = record { act = r.act; effects = r.emitted } ∷ done_acts_of_rounds rounds
 
 -- ---- what is written
 
@@ -72,18 +74,19 @@ without_link_shuts (call.Shut (ends.Link l) done ∷ more) = without_link_shuts 
 -- acts that lose nothing are acts one after another, each the first that was due; and no end was lost
 abbrev pub RoundsAreActsInOrder : Type 0
 RoundsAreActsInOrder =
-    (now : ℕ) (s t : EngineModel) (gone more : List End) (rounds : List ActRound) → NothingIsLostAmid rounds
+    (now : ℕ) (s t : EngineModel) (gone more : List End) (rounds : List ActWithEffectFates)
+    → NoCallOfRoundsFailed rounds
     → ActsAreCarriedOut now s gone rounds t more
-    → ActsAreDoneInOrder s now (done_acts_of rounds) t × (more ≡ gone)
+    → ActsAreDoneInOrder s now (done_acts_of_rounds rounds) t × (more ≡ gone)
 
 -- so are those of a turn, behind all that it took
 abbrev pub ATurnDoesActsInOrder : Type 0
 ATurnDoesActsInOrder =
     (now : ℕ) (bounds : TurnBounds) (s : EngineModel) (given : List End) (accepts : List AcceptOutcome)
     (reads : List EndRead)
-    (rest : List End) (rounds : List ActRound) (t : EngineModel) → NothingIsLostAmid rounds
-    → (turn : TurnOverAsFarAsItCame now bounds s given accepts reads rest rounds t)
-    → ActsAreDoneInOrder turn.read now (done_acts_of rounds) t
+    (rest : List End) (rounds : List ActWithEffectFates) (t : EngineModel) → NoCallOfRoundsFailed rounds
+    → (turn : TurnOverEndsIsDoneInOrder now bounds s given accepts reads rest rounds t)
+    → ActsAreDoneInOrder turn.read now (done_acts_of_rounds rounds) t
 
 -- And then the turn of an engine that has lived by some steps writes each effect to a client and each forward whole,
 -- once, in order.
@@ -92,7 +95,7 @@ ATurnWritesItsEffects =
     (e : State) (held : List Stored) (first link : ℕ) (steps : List ExecutionStep) (now : ℕ) (bounds : TurnBounds)
     (s : EngineModel)
     (given : List End)
-    (accepts : List AcceptOutcome) (reads : List EndRead) (rest : List End) (rounds : List ActRound)
-    (t : EngineModel) → EngineExecuted e held first link steps s → NothingIsLostAmid rounds
-    → TurnOverAsFarAsItCame now bounds s given accepts reads rest rounds t
+    (accepts : List AcceptOutcome) (reads : List EndRead) (rest : List End) (rounds : List ActWithEffectFates)
+    (t : EngineModel) → EngineLivedThroughSteps e held first link steps s → NoCallOfRoundsFailed rounds
+    → TurnOverEndsIsDoneInOrder now bounds s given accepts reads rest rounds t
     → without_link_shuts (calls_of_rounds rounds) ≡ writes_of_effects (effects_of_rounds rounds)

@@ -10,11 +10,11 @@ use Rattle.hx_fields.specs.declared.limits.TheConstants.{END_OF_TIME}
 use Rattle.hx_framing.specs.Text.{continue_text}
 use Rattle.hx_hop.specs.Forwarding.{forwarded_of}
 use Rattle.hx_hop_laws.specs.OneMessage.{RequestIsWithinLimits}
-use Rattle.hx_status.specs.declared.about.Replied.{Replied}
+use Rattle.hx_status.specs.declared.about.ReplyData.{ReplyData}
 use Rattle.hx_store.specs.Stored.{Stored}
-use Rattle.proxy_core.specs.Starts.{EachHeldAtFirst}
+use Rattle.proxy_core.specs.Starts.{HoldsForEachResponseAtStart}
 use Rattle.proxy_core_laws.specs.SentMessages.{CanBeSent, BytesAreOneRequest, BytesAreOneResponse}
-use Rattle.proxy_engine.specs.Beginnings.{store_with}
+use Rattle.proxy_engine.specs.Beginnings.{store_holding}
 use Rattle.hx_allow.specs.Tables.{TableWasRead}
 use Rattle.proxy_engine.specs.EngineModel.{EngineModel}
 use Rattle.proxy_engine.specs.Executions.{ExecutionStep}
@@ -23,9 +23,9 @@ use Rattle.proxy_engine.specs.declared.work.End.{End}
 use Rattle.proxy_engine.specs.declared.work.End.TheVariants as ends
 use Rattle.proxy_turn.specs.Calls as call
 use Rattle.proxy_turn.specs.Calls.{Call, AcceptOutcome}
-use Rattle.proxy_turn.specs.Turn.{EndRead, ActRound, AcceptCall, TurnAsFarAsItCame, calls_of_turn}
-use Rattle.proxy_turn.specs.Over.{TurnOverAsFarAsItCame, calls_of_turn_over}
-use Rattle.proxy_turn.specs.Served.{EngineExecuted}
+use Rattle.proxy_turn.specs.Turn.{EndRead, ActWithEffectFates, AcceptCall, TurnIsDoneInOrder, calls_of_turn}
+use Rattle.proxy_turn.specs.Over.{TurnOverEndsIsDoneInOrder, calls_of_turn_over_ends}
+use Rattle.proxy_turn.specs.Served.{EngineLivedThroughSteps}
 use Rattle.proxy_turn.specs.declared.bounds.TurnBounds.{TurnBounds}
 
 -- ---- each write is one message
@@ -53,21 +53,21 @@ EachWriteOfATurnIsOneMessage =
     (e : State) (held : List Stored) (first link : ℕ) (steps : List ExecutionStep) (now : ℕ) (bounds : TurnBounds)
     (s : EngineModel)
     (given : List End) (accepts : List AcceptOutcome) (reads : List EndRead) (rest : List End)
-    (rounds : List ActRound) (t : EngineModel)
-    → TableWasRead e.core.table → EachHeldAtFirst CanBeSent (store_with e.core.table held)
-    → EngineExecuted e held first link steps s → now < END_OF_TIME
-    → TurnOverAsFarAsItCame now bounds s given accepts reads rest rounds t
-    → All (CallWritesOneMessage e.core.table.name) (calls_of_turn_over s accepts reads rounds)
+    (rounds : List ActWithEffectFates) (t : EngineModel)
+    → TableWasRead e.core.table → HoldsForEachResponseAtStart CanBeSent (store_holding e.core.table held)
+    → EngineLivedThroughSteps e held first link steps s → now < END_OF_TIME
+    → TurnOverEndsIsDoneInOrder now bounds s given accepts reads rest rounds t
+    → All (CallWritesOneMessage e.core.table.name) (calls_of_turn_over_ends s accepts reads rounds)
 
 -- So is each write of a turn over all ends that may send.
 abbrev pub EachWriteOfAWholeTurnIsOneMessage : Type 0
 EachWriteOfAWholeTurnIsOneMessage =
     (e : State) (held : List Stored) (first link : ℕ) (steps : List ExecutionStep) (now : ℕ) (s : EngineModel)
     (asked : AcceptCall)
-    (reads : List EndRead) (rest : List End) (rounds : List ActRound) (t : EngineModel)
-    → TableWasRead e.core.table → EachHeldAtFirst CanBeSent (store_with e.core.table held)
-    → EngineExecuted e held first link steps s → now < END_OF_TIME
-    → TurnAsFarAsItCame now s asked reads rest rounds t
+    (reads : List EndRead) (rest : List End) (rounds : List ActWithEffectFates) (t : EngineModel)
+    → TableWasRead e.core.table → HoldsForEachResponseAtStart CanBeSent (store_holding e.core.table held)
+    → EngineLivedThroughSteps e held first link steps s → now < END_OF_TIME
+    → TurnIsDoneInOrder now s asked reads rest rounds t
     → All (CallWritesOneMessage e.core.table.name) (calls_of_turn s asked reads rounds)
 
 -- ---- what a turn doesn't write
@@ -78,24 +78,24 @@ ATurnWritesNothingElse =
     (e : State) (held : List Stored) (first link : ℕ) (steps : List ExecutionStep) (now : ℕ) (bounds : TurnBounds)
     (s : EngineModel)
     (given : List End) (accepts : List AcceptOutcome) (reads : List EndRead) (rest : List End)
-    (rounds : List ActRound) (t : EngineModel) (other : Call)
-    → TableWasRead e.core.table → EachHeldAtFirst CanBeSent (store_with e.core.table held)
-    → EngineExecuted e held first link steps s → now < END_OF_TIME
+    (rounds : List ActWithEffectFates) (t : EngineModel) (other : Call)
+    → TableWasRead e.core.table → HoldsForEachResponseAtStart CanBeSent (store_holding e.core.table held)
+    → EngineLivedThroughSteps e held first link steps s → now < END_OF_TIME
     → (CallWritesOneMessage e.core.table.name other → ⊥)
-    → Contains (calls_of_turn_over s accepts reads rounds) other
-    → TurnOverAsFarAsItCame now bounds s given accepts reads rest rounds t → ⊥
+    → Contains (calls_of_turn_over_ends s accepts reads rounds) other
+    → TurnOverEndsIsDoneInOrder now bounds s given accepts reads rest rounds t → ⊥
 
 -- no bytes are no request
 abbrev pub NoRequestIsEmpty : Type 0
 NoRequestIsEmpty =
-    (name : List ℕ) (l : ℕ) (replied : Option Replied) (done : Bool)
+    (name : List ℕ) (l : ℕ) (replied : Option ReplyData) (done : Bool)
     → CallWritesOneMessage name (call.Write (ends.Link l) [] replied done) → ⊥
 
 -- Two requests in one write are no write of a turn, within the limits of a reader: who reads them finds the first, and
 -- the second behind it.
-abbrev pub TwoRequestsAreNotOne : Type 0
-TwoRequestsAreNotOne =
-    (name one other : List ℕ) (l most : ℕ) (replied : Option Replied) (done : Bool)
+abbrev pub TwoRequestsAreNoWriteOfATurn : Type 0
+TwoRequestsAreNoWriteOfATurn =
+    (name one other : List ℕ) (l most : ℕ) (replied : Option ReplyData) (done : Bool)
     (first : BytesAreOneRequest name one)
     → BytesAreOneRequest name other → most < 2 ^ 64
     → RequestIsWithinLimits most (forwarded_of first.keeps first.asked name first.conditions)
@@ -104,5 +104,5 @@ TwoRequestsAreNotOne =
 
 abbrev pub NothingIsWrittenToTheListener : Type 0
 NothingIsWrittenToTheListener =
-    (name bytes : List ℕ) (replied : Option Replied) (done : Bool)
+    (name bytes : List ℕ) (replied : Option ReplyData) (done : Bool)
     → CallWritesOneMessage name (call.Write ends.Listener bytes replied done) → ⊥

@@ -1,9 +1,9 @@
 //! Laws on what is said on a connection: which reply answers which request.
 ghost use Rattle.proxy_turn_laws.specs.Dialogue.{RepliesFollowRequests, EachRequestHasOneReply};
-ghost use Rattle.proxy_turn_laws.specs.Dialogue.{NoRequestIsAnsweredTwice, NoReplyComesUnasked};
-ghost use Rattle.proxy_turn_laws.specs.Dialogue.{NoRequestIsPassedOver, NothingIsSaidAfterALeave, NoActAnswersTwice};
+ghost use Rattle.proxy_turn_laws.specs.Dialogue.{NoRequestIsAnsweredTwice, NoReplyWithoutARequest};
+ghost use Rattle.proxy_turn_laws.specs.Dialogue.{NoRequestIsLeftUnanswered, NothingFollowsALeave, NoActAnswersTwice};
 
-use proxy_engine::laws::{effects_name_open_ends, what_ends_stays_ended};
+use proxy_engine::laws::{effects_name_open_ends, ended_connections_and_links_stay_ended};
 
 /// Whatever an engine lives through, on each connection each reply follows its own request (RFC 9112, section 9.3.2):
 /// a request is served only where each before it was answered, the nth reply answers the nth request, none is answered
@@ -12,7 +12,7 @@ pub fn replies_follow_requests()
     ensures { RepliesFollowRequests }
 {
     effects_name_open_ends();
-    what_ends_stays_ended();
+    ended_connections_and_links_stay_ended();
 }
 
 /// So a client has as many replies as it sent requests, or one fewer. A trace in which two replies come for one request
@@ -21,9 +21,9 @@ pub fn replies_follow_requests()
 pub fn a_dialogue_refuses_what_is_no_answer()
     ensures counts { EachRequestHasOneReply }
     ensures twice { NoRequestIsAnsweredTwice }
-    ensures unasked { NoReplyComesUnasked }
-    ensures passed_over { NoRequestIsPassedOver }
-    ensures behind { NothingIsSaidAfterALeave }
+    ensures unasked { NoReplyWithoutARequest }
+    ensures passed_over { NoRequestIsLeftUnanswered }
+    ensures behind { NothingFollowsALeave }
     ensures life { NoActAnswersTwice }
 {
     replies_follow_requests();

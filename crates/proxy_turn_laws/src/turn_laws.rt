@@ -1,14 +1,15 @@
 //! Laws on what a turn writes, and on the order in which it acts.
 ghost use Rattle.proxy_turn_laws.specs.ActsOfATurn.{RoundsAreActsInOrder, ATurnDoesActsInOrder, ATurnWritesItsEffects};
-ghost use Rattle.proxy_turn_laws.specs.ToldOfATurn.{EachWriteTellsItsEffect};
+ghost use Rattle.proxy_turn_laws.specs.ToldOfATurn.{EachWriteReportsItsEffect};
 ghost use Rattle.proxy_turn_laws.specs.WritesOfATurn.{EachWriteOfATurnIsOneMessage, EachWriteOfAWholeTurnIsOneMessage};
-ghost use Rattle.proxy_turn_laws.specs.WritesOfATurn.{ATurnWritesNothingElse, NoRequestIsEmpty, TwoRequestsAreNotOne};
+ghost use Rattle.proxy_turn_laws.specs.WritesOfATurn.{ATurnWritesNothingElse, NoRequestIsEmpty};
+ghost use Rattle.proxy_turn_laws.specs.WritesOfATurn.{TwoRequestsAreNoWriteOfATurn};
 ghost use Rattle.proxy_turn_laws.specs.WritesOfATurn.{NothingIsWrittenToTheListener};
 
 use proxy_core_laws::a_core_sends_one_message_each_time;
-use proxy_engine::laws::{effects_name_open_ends, what_ends_stays_ended};
-use proxy_engine_laws::{what_a_client_gets_is_one_response, what_goes_forward_is_one_request};
-use proxy_turn::laws::turns_are_executed;
+use proxy_engine::laws::{effects_name_open_ends, ended_connections_and_links_stay_ended};
+use proxy_engine_laws::{each_forward_is_one_request, each_reply_is_one_response};
+use proxy_turn::laws::turns_execute_their_steps;
 
 /// Where an engine whose table was read has lived by some steps, each write of its next turn is one message: on a link
 /// one request, to a client a continue or one response (RFC 9112, sections 11.1 and 11.2).
@@ -16,9 +17,9 @@ pub fn each_write_of_a_turn_is_one_message()
     ensures over { EachWriteOfATurnIsOneMessage }
     ensures whole { EachWriteOfAWholeTurnIsOneMessage }
 {
-    what_goes_forward_is_one_request();
-    what_a_client_gets_is_one_response();
-    turns_are_executed();
+    each_forward_is_one_request();
+    each_reply_is_one_response();
+    turns_execute_their_steps();
 }
 
 /// So a turn among whose calls stands one that writes no message, or more than one, is none: a write of no bytes on a
@@ -26,7 +27,7 @@ pub fn each_write_of_a_turn_is_one_message()
 pub fn a_turn_writes_nothing_else()
     ensures turn { ATurnWritesNothingElse }
     ensures empty { NoRequestIsEmpty }
-    ensures two { TwoRequestsAreNotOne }
+    ensures two { TwoRequestsAreNoWriteOfATurn }
     ensures listener { NothingIsWrittenToTheListener }
 {
     each_write_of_a_turn_is_one_message();
@@ -47,12 +48,12 @@ pub fn a_turn_writes_its_effects()
     ensures { ATurnWritesItsEffects }
 {
     effects_name_open_ends();
-    what_ends_stays_ended();
-    turns_are_executed();
+    ended_connections_and_links_stay_ended();
+    turns_execute_their_steps();
 }
 
 /// What sockets are told of bytes to a client is what the effect tells whose bytes they are, and `proxy_engine` says
-/// that this is what the reply is (`replies_are_told_as_they_are`). Of a request on a link they are told nothing.
-pub fn each_write_tells_its_effect()
-    ensures { EachWriteTellsItsEffect }
+/// that this is what the reply is (`replies_are_reported_truthfully`). Of a request on a link they are told nothing.
+pub fn each_write_reports_its_effect()
+    ensures { EachWriteReportsItsEffect }
 {}

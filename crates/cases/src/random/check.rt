@@ -367,8 +367,8 @@ impl<'a> Check<'a> {
 
     /// Whether a request waits where one leads: a GET, over a line with the word without a no-cache that counts.
     fn could_wait(&self, asked: &Asked) -> bool {
-        let asks_the_origin = asked.has_no_cache && heeds_no_cache(asked.host);
-        asked.method == "GET" && !(self.lets_wait(asked) && asks_the_origin)
+        let no_cache_request_is_heeded = asked.has_no_cache && heeds_no_cache(asked.host);
+        asked.method == "GET" && !(self.lets_wait(asked) && no_cache_request_is_heeded)
     }
 
     /// A request of this connection comes now.

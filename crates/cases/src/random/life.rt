@@ -1,7 +1,7 @@
 //! One process among several that serve one after another: each begins with the store that the one before it has left.
 
 use crate::text::push_item;
-use proxy_replay::replay_over;
+use proxy_replay::replay_over_store;
 use proxy_script::{Effect, Happening, Item, effects_text};
 use std::alloc::{AllocError, Global};
 
@@ -109,7 +109,7 @@ impl Life {
         };
         let mut script = self.script.as_slice();
         let mut text = Vec::new(alloc);
-        match replay_over(alloc, store.as_slice(), &mut script, &mut text) {
+        match replay_over_store(alloc, store.as_slice(), &mut script, &mut text) {
             Ok(()) => text.as_slice() == self.effects.as_slice(),
             Err(_) => false,
         }

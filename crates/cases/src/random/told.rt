@@ -3,7 +3,7 @@
 use super::fields::last_value;
 use super::requests::Asked;
 use bstr::ByteSlice;
-use hx_status::{About, AskedTarget, Cause, Question, Replied, Told, push_reason};
+use hx_status::{AskedTarget, Cause, Question, ReplyData, StatusAndReason, Told, push_reason};
 use std::alloc::{AllocError, Global};
 
 /// What the line says that the proxy adds by itself, as a log has it.
@@ -56,7 +56,7 @@ fn is_question_of(question: &Question, asked: &Asked) -> bool {
 
 /// Whether what is told of the request that a reply answers is what it asks for: nothing where its head or its content
 /// is refused, and only there.
-pub fn is_told_of(replied: &Replied, asked: &Asked) -> bool {
+pub fn is_told_of(replied: &ReplyData, asked: &Asked) -> bool {
     match &replied.question {
         Some(question) => is_question_of(question, asked),
         None => matches!(replied.about.told, Told::Refused(Cause::Frame(_))),
@@ -65,7 +65,7 @@ pub fn is_told_of(replied: &Replied, asked: &Asked) -> bool {
 
 /// Whether what is told of these bytes is what they say: of a reply its status and its reason. Its only error is out of
 /// memory.
-pub fn is_told(alloc: Global, bytes: &[u8], about: &About) -> Result<bool, AllocError> {
+pub fn is_told(alloc: Global, bytes: &[u8], about: &StatusAndReason) -> Result<bool, AllocError> {
     let Some((head, _content)) = bytes.split_once_str(b"\r\n\r\n") else {
         return Ok(false);
     };

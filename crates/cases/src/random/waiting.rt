@@ -53,7 +53,7 @@ pub struct Exchange {
 
 impl Exchange {
     /// Whether its answer may be sent to a request that has come, where that is known.
-    fn may_serve(&self, asked: &Asked) -> Option<bool> {
+    fn answer_may_be_shared_with(&self, asked: &Asked) -> Option<bool> {
         let is_for_both = self.asked.has_authorization == asked.has_authorization;
         if self.asked.has_no_store || self.has_own_condition || !is_for_both {
             return Some(false);
@@ -72,7 +72,7 @@ impl Exchange {
             && self.asked.connection != asked.connection
             && self.asked.has_target_of(asked);
         if is_beside && lets_wait {
-            self.may_serve(asked)
+            self.answer_may_be_shared_with(asked)
         } else {
             Some(is_beside)
         }

@@ -10,7 +10,7 @@ use super::tables::Table;
 use super::told::{is_told, is_told_of};
 use crate::text::push_item;
 use hx_allow::Config;
-use hx_status::{FailKind, Replied};
+use hx_status::{FailKind, ReplyData};
 use hx_store::ListShelf;
 use proxy_engine::{Engine, EngineFault, Work};
 use proxy_kept_store::read_kept_store;
@@ -617,7 +617,7 @@ impl World {
         &mut self,
         number: u64,
         bytes: &[u8],
-        replied: Option<&Replied>,
+        replied: Option<&ReplyData>,
     ) -> Result<(), Stopped> {
         let Some(replied) = replied else {
             return match bytes.starts_with(b"HTTP/1.1 100 ") {

@@ -3,7 +3,7 @@
 use super::entries::{entry, key};
 use super::stop::Stop;
 use http::Method;
-use hx_allow::{Config, Route, Verdict};
+use hx_allow::{Config, RequestRoute, Verdict};
 use hx_fields::{Bytes, Fields};
 use hx_framing::Request;
 use hx_hop::{Asked, ask};
@@ -118,7 +118,7 @@ fn call_core(core: &mut Core<ListShelf>, asked: &Asked) -> Result<(), Stop> {
     let verdict = core
         .config()
         .judge(&asked.method, &asked.target, &asked.fields);
-    expect_that(verdict == Verdict::Allowed(Route::over(1)))?;
+    expect_that(verdict == Verdict::Allowed(RequestRoute::over(1)))?;
     expect_that(matches!(core.abandon(1), Ok(Outcome::Ended)))?;
     expect_that(matches!(core.abandon(1), Err(CoreFault::UnknownId)))
 }

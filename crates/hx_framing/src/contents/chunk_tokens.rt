@@ -3,22 +3,22 @@
 //! `specs/ChunkTokens.antt` says what it means to take one. Nothing here takes memory.
 ghost use Rattle.std.specs.Prelude.{◌≡◌, ◌≤◌, ◌<◌, ◌+◌, ◌-◌, ℕ, List, true, cond, nat_lt, length, take, vec_len};
 ghost use Rattle.std.specs.Prelude.{vec_capacity, IfSome, IfNone};
-ghost use Rattle.hx_framing.specs.declared.contents.chunk_tokens.Phase.TheVariants as phase;
+ghost use Rattle.hx_framing.specs.declared.contents.chunk_tokens.ChunkPhase.TheVariants as phase;
 ghost use Rattle.hx_framing.specs.declared.contents.chunk_tokens.ChunkToken.TheVariants as token;
 ghost use Rattle.hx_framing.specs.declared.frame_fault.FrameFault.TheVariants as fault;
 ghost use Rattle.hx_framing.specs.ChunkGrammar.{has_no_lf};
-ghost use Rattle.hx_framing.specs.Chunking.{StillNeedsData, chunking_of_state};
+ghost use Rattle.hx_framing.specs.ChunkDecoder.{DataPhaseNeedsBytes, decoder_of_state};
 ghost use Rattle.hx_framing.specs.Decoding.{ChunksAreDecoded};
-ghost use Rattle.hx_framing.specs.ChunkTokens.{TokenIsTaken, IsFirstLineFeed, bytes_of_token};
+ghost use Rattle.hx_framing.specs.ChunkTokens.{ChunkTokenIsTaken, IsIndexOfFirstLineFeed, chunk_token_length};
 
-use crate::contents::size_line::{ends_in_cr, size_of_line};
+use crate::contents::size_line::{chunk_size_of_line, ends_in_cr};
 use crate::frame_fault::FrameFault;
-use crate::limits::{MOST_SIZE_LINE_BYTES, MOST_TRAILER_BYTES};
-use crate::slices::rest_from;
+use crate::limits::{MOST_CHUNK_SIZE_LINE_BYTES, MOST_TRAILER_BYTES};
+use crate::slices::bytes_from_index;
 
 /// What comes next.
 #[derive(Clone, Copy)]
-pub(crate) enum Phase {
+pub(crate) enum ChunkPhase {
     /// A size line.
     Size,
     /// Data of a chunk, at least one byte.
@@ -32,7 +32,7 @@ pub(crate) enum Phase {
 /// What comes next, and what the limits leave.
 #[derive(Clone, Copy)]
 pub(crate) struct ChunkState {
-    pub(crate) phase: Phase,
+    pub(crate) phase: ChunkPhase,
     /// Bytes of data that are still to come of this chunk.
     pub(crate) need: u64,
     /// Bytes of content that later chunks may have.
@@ -68,7 +68,7 @@ pub(crate) enum ChunkProgress {
 fn line_feed_within(bytes: &[u8], from: usize, limit: usize) -> Option<usize>
     requires within { from ≤ length bytes.now }
     requires none { has_no_lf (take from bytes.now) ≡ true }
-    ensures found { IfSome result (IsFirstLineFeed bytes.now limit) }
+    ensures found { IfSome result (IsIndexOfFirstLineFeed bytes.now limit) }
     ensures none { IfNone result (has_no_lf (take limit bytes.now) ≡ true) }
 {
     for at in from..bytes.len() {
@@ -97,25 +97,25 @@ fn size_token(place: ChunkState, bytes: &[u8], searched: usize) -> ChunkToken
     requires phase { place.phase ≡ phase.Size }
     requires within { searched ≤ length bytes.now }
     requires none { has_no_lf (take searched bytes.now) ≡ true }
-    ensures { (content : List ℕ) → TokenIsTaken place content bytes.now content result }
+    ensures { (content : List ℕ) → ChunkTokenIsTaken place content bytes.now content result }
 {
-    let Some(at) = line_feed_within(bytes, searched, MOST_SIZE_LINE_BYTES) else {
-        return open_line(bytes, MOST_SIZE_LINE_BYTES);
+    let Some(at) = line_feed_within(bytes, searched, MOST_CHUNK_SIZE_LINE_BYTES) else {
+        return open_line(bytes, MOST_CHUNK_SIZE_LINE_BYTES);
     };
     let (line, _) = bytes.split_at(at);
-    match size_of_line(line, place.left) {
+    match chunk_size_of_line(line, place.left) {
         Err(fault) => ChunkToken::Faulty(fault),
         Ok(0) => ChunkToken::Whole(
             at + 1,
             ChunkState {
-                phase: Phase::Trailers,
+                phase: ChunkPhase::Trailers,
                 ..place
             },
         ),
         Ok(size) => ChunkToken::Whole(
             at + 1,
             ChunkState {
-                phase: Phase::Data,
+                phase: ChunkPhase::Data,
                 need: size,
                 left: place.left - size,
                 ..place
@@ -128,8 +128,8 @@ fn data_token(place: ChunkState, content: &mut Vec<u8>, bytes: &[u8]) -> ChunkTo
     requires phase { place.phase ≡ phase.Data }
     requires need { 0 < place.need }
     requires room { vec_len content.now + length bytes.now ≤ vec_capacity content.now }
-    ensures takes { TokenIsTaken place content.old.items bytes.now content.new.items result }
-    ensures room { vec_len content.new + (length bytes.now - bytes_of_token result) ≤ vec_capacity content.new }
+    ensures takes { ChunkTokenIsTaken place content.old.items bytes.now content.new.items result }
+    ensures room { vec_len content.new + (length bytes.now - chunk_token_length result) ≤ vec_capacity content.new }
 {
     if bytes.is_empty() {
         return ChunkToken::Incomplete;
@@ -141,9 +141,9 @@ fn data_token(place: ChunkState, content: &mut Vec<u8>, bytes: &[u8]) -> ChunkTo
     };
     let need = place.need - taken;
     let phase = if need > 0 {
-        Phase::Data
+        ChunkPhase::Data
     } else {
-        Phase::DataEnd
+        ChunkPhase::DataEnd
     };
     ChunkToken::Whole(
         taken as usize,
@@ -158,14 +158,14 @@ fn data_token(place: ChunkState, content: &mut Vec<u8>, bytes: &[u8]) -> ChunkTo
 /// The CRLF behind data.
 fn data_end_token(place: ChunkState, bytes: &[u8]) -> ChunkToken
     requires { place.phase ≡ phase.DataEnd }
-    ensures { (content : List ℕ) → TokenIsTaken place content bytes.now content result }
+    ensures { (content : List ℕ) → ChunkTokenIsTaken place content bytes.now content result }
 {
     match bytes {
         [] | [b'\r'] => ChunkToken::Incomplete,
         [b'\r', b'\n', ..] => ChunkToken::Whole(
             2,
             ChunkState {
-                phase: Phase::Size,
+                phase: ChunkPhase::Size,
                 ..place
             },
         ),
@@ -178,7 +178,7 @@ fn trailer_token(place: ChunkState, bytes: &[u8], searched: usize) -> ChunkToken
     requires phase { place.phase ≡ phase.Trailers }
     requires within { searched ≤ length bytes.now }
     requires none { has_no_lf (take searched bytes.now) ≡ true }
-    ensures { (content : List ℕ) → TokenIsTaken place content bytes.now content result }
+    ensures { (content : List ℕ) → ChunkTokenIsTaken place content bytes.now content result }
 {
     let limit = MOST_TRAILER_BYTES.saturating_sub(place.used);
     let Some(at) = line_feed_within(bytes, searched, limit) else {
@@ -202,41 +202,41 @@ fn trailer_token(place: ChunkState, bytes: &[u8], searched: usize) -> ChunkToken
 
 /// The token at the front of the bytes, for whose data there is room. No LF stands in the first `searched` of them.
 fn next_token(place: ChunkState, content: &mut Vec<u8>, bytes: &[u8], searched: usize) -> ChunkToken
-    requires need { StillNeedsData place.phase place.need }
+    requires need { DataPhaseNeedsBytes place.phase place.need }
     requires within { searched ≤ length bytes.now }
     requires none { has_no_lf (take searched bytes.now) ≡ true }
     requires room { vec_len content.now + length bytes.now ≤ vec_capacity content.now }
-    ensures takes { TokenIsTaken place content.old.items bytes.now content.new.items result }
-    ensures room { vec_len content.new + (length bytes.now - bytes_of_token result) ≤ vec_capacity content.new }
+    ensures takes { ChunkTokenIsTaken place content.old.items bytes.now content.new.items result }
+    ensures room { vec_len content.new + (length bytes.now - chunk_token_length result) ≤ vec_capacity content.new }
 {
     match place.phase {
-        Phase::Size => size_token(place, bytes, searched),
-        Phase::Data => data_token(place, content, bytes),
-        Phase::DataEnd => data_end_token(place, bytes),
-        Phase::Trailers => trailer_token(place, bytes, searched),
+        ChunkPhase::Size => size_token(place, bytes, searched),
+        ChunkPhase::Data => data_token(place, content, bytes),
+        ChunkPhase::DataEnd => data_end_token(place, bytes),
+        ChunkPhase::Trailers => trailer_token(place, bytes, searched),
     }
 }
 
 /// Takes the whole tokens at the front of the bytes, for whose data there is room. No LF stands in the first
 /// `searched` of them.
-pub(crate) fn take_tokens(
+pub(crate) fn take_chunk_tokens(
     place: &mut ChunkState,
     content: &mut Vec<u8>,
     bytes: &[u8],
     searched: usize,
 ) -> ChunkProgress
-    requires need { StillNeedsData place.now.phase place.now.need }
+    requires need { DataPhaseNeedsBytes place.now.phase place.now.need }
     requires within { searched ≤ length bytes.now }
     requires none { has_no_lf (take searched bytes.now) ≡ true }
     requires room { vec_len content.now + length bytes.now ≤ vec_capacity content.now }
-    ensures decodes { ChunksAreDecoded (chunking_of_state place.old content.old.items) bytes.now
-        (chunking_of_state place.new content.new.items) result }
-    ensures need { StillNeedsData place.new.phase place.new.need }
+    ensures decodes { ChunksAreDecoded (decoder_of_state place.old content.old.items) bytes.now
+        (decoder_of_state place.new content.new.items) result }
+    ensures need { DataPhaseNeedsBytes place.new.phase place.new.need }
 {
     let mut taken = 0;
     let mut searched = searched;
     loop {
-        match next_token(*place, content, rest_from(bytes, taken), searched) {
+        match next_token(*place, content, bytes_from_index(bytes, taken), searched) {
             ChunkToken::Incomplete => return ChunkProgress::Incomplete(taken),
             ChunkToken::Whole(n, next) => {
                 taken += n;

@@ -5,7 +5,7 @@
 //! here; it stays with the caller.
 ghost use Rattle.std.specs.Prelude.{◌≡◌, ◌≤◌, IfOk, OnErr, true, length, take};
 
-use crate::contents::chunk_tokens::{ChunkProgress, ChunkState, Phase, take_tokens};
+use crate::contents::chunk_tokens::{ChunkPhase, ChunkProgress, ChunkState, take_chunk_tokens};
 use hx_fields::Bytes;
 use std::alloc::{AllocError, Global};
 use std::marker::Model;
@@ -19,27 +19,27 @@ pub struct Chunks {
 }
 
 impl Model for Chunks {
-    ghost use Rattle.hx_framing.specs.Chunking.{Chunking, StillNeedsData, chunking_of_state};
+    ghost use Rattle.hx_framing.specs.ChunkDecoder.{ChunkDecoder, DataPhaseNeedsBytes, decoder_of_state};
 
-    ghost Value = { Chunking };
+    ghost Value = { ChunkDecoder };
 
-    ghost view = { λ s. chunking_of_state s.place s.content.items };
+    ghost view = { λ s. decoder_of_state s.place s.content.items };
 
-    ghost invariant = { λ s. StillNeedsData s.place.phase s.place.need };
+    ghost invariant = { λ s. DataPhaseNeedsBytes s.place.phase s.place.need };
 }
 
 impl Chunks {
-    ghost use Rattle.hx_framing.specs.Chunks.{first_chunking};
+    ghost use Rattle.hx_framing.specs.Chunks.{decoder_at_start};
     ghost use Rattle.hx_framing.specs.ChunkGrammar.{has_no_lf};
     ghost use Rattle.hx_framing.specs.Decoding.{ChunksAreDecoded};
 
     /// Before the first chunk of a content of at most `max_body` bytes.
     pub(crate) fn start(alloc: Global, max_body: u64) -> Chunks
-        ensures { result ≡ first_chunking max_body }
+        ensures { result ≡ decoder_at_start max_body }
     {
         Chunks {
             place: ChunkState {
-                phase: Phase::Size,
+                phase: ChunkPhase::Size,
                 need: 0,
                 left: max_body,
                 used: 0,
@@ -61,7 +61,7 @@ impl Chunks {
         ensures err { OnErr result (self.new ≡ self.old) }
     {
         self.content.reserve(bytes.len())?;
-        Ok(take_tokens(&mut self.place, &mut self.content, bytes, searched))
+        Ok(take_chunk_tokens(&mut self.place, &mut self.content, bytes, searched))
     }
 
     /// The data so far, which its copies share where they are many.

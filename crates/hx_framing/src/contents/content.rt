@@ -2,12 +2,12 @@
 ghost use Rattle.std.specs.Prelude.{◌≡◌, ◌≤◌, IfOk, OnErr, Bool, true, length, take};
 ghost use Rattle.hx_framing.specs.declared.contents.content.Content.TheVariants as content;
 ghost use Rattle.hx_framing.specs.ChunkGrammar.{has_no_lf};
-ghost use Rattle.hx_framing.specs.Contents.{content_begun, ContentAdvances};
-ghost use Rattle.hx_framing.specs.ContentReading.{ContentGoesOn, bytes_behind_content};
+ghost use Rattle.hx_framing.specs.Contents.{content_before_first_byte, ContentAdvances};
+ghost use Rattle.hx_framing.specs.ContentReading.{ContentIsReadFurther, bytes_behind_content};
 
 use crate::contents::chunk_tokens::ChunkProgress;
 use crate::contents::chunks::Chunks;
-use crate::contents::plain::Plain;
+use crate::contents::plain::PlainContentBuffer;
 use crate::frame_fault::FrameFault;
 use crate::lengths::framing::Framing;
 use hx_fields::Bytes;
@@ -27,10 +27,10 @@ pub(crate) enum ContentProgress {
 pub enum Content {
     Nothing,
     /// As many bytes as were announced.
-    Announced(Plain),
+    Announced(PlainContentBuffer),
     Chunked(Chunks),
     /// All until the stream's end, within a limit.
-    UntilClose(Plain),
+    UntilClose(PlainContentBuffer),
 }
 
 /// One call drops it, wherever that is, so its cases stand in one proof alone.
@@ -48,13 +48,13 @@ impl Drop for Content {
 impl Content {
     /// A content of which nothing was taken.
     pub(crate) fn begun(alloc: Global, max_body: u64, framing: Framing) -> Content
-        ensures { result ≡ content_begun max_body framing }
+        ensures { result ≡ content_before_first_byte max_body framing }
     {
         match framing {
             Framing::Nothing => Content::Nothing,
-            Framing::Announced(n) => Content::Announced(Plain::start(alloc, n)),
+            Framing::Announced(n) => Content::Announced(PlainContentBuffer::start(alloc, n)),
             Framing::Chunked => Content::Chunked(Chunks::start(alloc, max_body)),
-            Framing::UntilClose => Content::UntilClose(Plain::start(alloc, max_body)),
+            Framing::UntilClose => Content::UntilClose(PlainContentBuffer::start(alloc, max_body)),
         }
     }
 
@@ -94,7 +94,8 @@ impl Content {
         requires within { searched ≤ length bytes.now }
         requires none { has_no_lf (take searched bytes.now) ≡ true }
         ensures reads { IfOk result (λ progress.
-            ContentGoesOn ended closed bytes.now self.old progress self.new (bytes_behind_content progress bytes.now)) }
+            ContentIsReadFurther ended closed bytes.now self.old progress self.new
+            (bytes_behind_content progress bytes.now)) }
         ensures err { OnErr result (self.new ≡ self.old) }
     {
         match self.advance(alloc, closed, bytes, searched)? {

@@ -10,13 +10,13 @@ use std::mem;
 
 /// The content so far. Where it is full, room is made for as much again, but for no more than may come.
 #[derive(Drop)]
-pub struct Plain {
+pub struct PlainContentBuffer {
     /// So many bytes may still come.
     left: u64,
     content: Vec<u8>,
 }
 
-impl Model for Plain {
+impl Model for PlainContentBuffer {
     ghost use Rattle.hx_framing.specs.PlainContent.{PlainContent};
 
     ghost Value = { PlainContent };
@@ -24,16 +24,16 @@ impl Model for Plain {
     ghost view = { λ p. record { left = p.left; content = p.content.items } };
 }
 
-impl Plain {
-    ghost use Rattle.hx_framing.specs.PlainContent.{no_plain_content, plain_content_with};
+impl PlainContentBuffer {
+    ghost use Rattle.hx_framing.specs.PlainContent.{empty_plain_content, plain_content_with};
     ghost use Rattle.hx_framing.specs.declared.contents.content.Content.TheVariants as content;
     ghost use Rattle.hx_framing.specs.Contents.{ContentAdvances};
 
     /// A content of which nothing has come.
-    pub(crate) fn start(alloc: Global, left: u64) -> Plain
-        ensures { result ≡ no_plain_content left }
+    pub(crate) fn start(alloc: Global, left: u64) -> PlainContentBuffer
+        ensures { result ≡ empty_plain_content left }
     {
-        Plain {
+        PlainContentBuffer {
             left,
             content: Vec::new(alloc),
         }

@@ -2,28 +2,29 @@
 ghost use Rattle.std.specs.Prelude.{◌≡◌, ◌≤◌, length};
 ghost use Rattle.std.specs.List.{list_all};
 ghost use Rattle.std.specs.Str.Parse.{digits_value};
-ghost use Rattle.hx_framing.specs.SizeLine.{begins_with_extension, is_line_byte, is_extension, hex_length, is_size};
+ghost use Rattle.hx_framing.specs.SizeLine.{begins_with_chunk_extension, is_chunk_extension_byte, is_chunk_extension};
+ghost use Rattle.hx_framing.specs.SizeLine.{leading_hex_digit_count, is_chunk_size_text};
 ghost use Rattle.hx_framing.specs.SizeLine.{ends_in_cr};
-ghost use Rattle.hx_framing.specs.SizeLine.{without_last_byte, number_at_most, size_of_line};
+ghost use Rattle.hx_framing.specs.SizeLine.{without_last_byte, number_at_most, chunk_size_of_line};
 
 use crate::frame_fault::FrameFault;
-use crate::limits::{MOST_EXTENSION_BYTES, MOST_SIZE_DIGITS};
+use crate::limits::{MOST_CHUNK_EXTENSION_BYTES, MOST_CHUNK_SIZE_DIGITS};
 use hx_fields::number_up_to;
 
-fn is_line_byte(b: u8) -> bool
-    ensures { result ≡ is_line_byte b }
+fn is_chunk_extension_byte(b: u8) -> bool
+    ensures { result ≡ is_chunk_extension_byte b }
 {
     (b == b'\t' || b >= b' ') && b != 127
 }
 
 fn are_line_bytes(text: &[u8]) -> bool
-    ensures { result ≡ list_all is_line_byte text.now }
+    ensures { result ≡ list_all is_chunk_extension_byte text.now }
 {
-    text.iter().all(|b| is_line_byte(*b))
+    text.iter().all(|b| is_chunk_extension_byte(*b))
 }
 
-fn begins_with_extension(text: &[u8]) -> bool
-    ensures { result ≡ begins_with_extension text.now }
+fn begins_with_chunk_extension(text: &[u8]) -> bool
+    ensures { result ≡ begins_with_chunk_extension text.now }
 {
     for b in text {
         if *b != b' ' && *b != b'\t' {
@@ -33,15 +34,17 @@ fn begins_with_extension(text: &[u8]) -> bool
     true
 }
 
-fn is_extension(text: &[u8]) -> bool
-    ensures { result ≡ is_extension text.now }
+fn is_chunk_extension(text: &[u8]) -> bool
+    ensures { result ≡ is_chunk_extension text.now }
 {
-    text.len() <= MOST_EXTENSION_BYTES && are_line_bytes(text) && begins_with_extension(text)
+    text.len() <= MOST_CHUNK_EXTENSION_BYTES
+        && are_line_bytes(text)
+        && begins_with_chunk_extension(text)
 }
 
 /// How many hexadecimal digits stand at the front.
-fn hex_length(text: &[u8]) -> usize
-    ensures value { result ≡ hex_length text.now }
+fn leading_hex_digit_count(text: &[u8]) -> usize
+    ensures value { result ≡ leading_hex_digit_count text.now }
     ensures within { result ≤ length text.now }
 {
     for (i, b) in text.iter().enumerate() {
@@ -52,12 +55,12 @@ fn hex_length(text: &[u8]) -> usize
     text.len()
 }
 
-fn is_size(text: &[u8]) -> bool
-    ensures { result ≡ is_size text.now }
+fn is_chunk_size_text(text: &[u8]) -> bool
+    ensures { result ≡ is_chunk_size_text text.now }
 {
-    let digits = hex_length(text);
+    let digits = leading_hex_digit_count(text);
     let (_, extension) = text.split_at(digits);
-    digits > 0 && digits <= MOST_SIZE_DIGITS && is_extension(extension)
+    digits > 0 && digits <= MOST_CHUNK_SIZE_DIGITS && is_chunk_extension(extension)
 }
 
 /// Whether the last byte is CR.
@@ -80,13 +83,13 @@ fn without_last_byte(line: &[u8]) -> &[u8]
 }
 
 /// The size that a line without its LF spells, or its fault, where `left` bytes of content may still come.
-pub(crate) fn size_of_line(line: &[u8], left: u64) -> Result<u64, FrameFault>
-    ensures { result ≡ size_of_line line.now left }
+pub(crate) fn chunk_size_of_line(line: &[u8], left: u64) -> Result<u64, FrameFault>
+    ensures { result ≡ chunk_size_of_line line.now left }
 {
     let text = without_last_byte(line);
-    if !ends_in_cr(line) || !is_size(text) {
+    if !ends_in_cr(line) || !is_chunk_size_text(text) {
         return Err(FrameFault::Chunk);
     }
-    let (digits, _) = text.split_at(hex_length(text));
+    let (digits, _) = text.split_at(leading_hex_digit_count(text));
     number_up_to(left, 16, digits).ok_or(FrameFault::TooLarge)
 }

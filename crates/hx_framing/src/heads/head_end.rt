@@ -2,10 +2,10 @@
 ghost use Rattle.std.specs.Prelude.{◌≡◌, ◌≤◌, ◌<◌, ◌+◌, ◌++◌, ℕ, List, length, drop, take, slice_index, IfSome};
 ghost use Rattle.hx_framing.specs.HeadEnd.{empty_line_at, empty_lines_from, head_end_at, empty_lines_length};
 ghost use Rattle.hx_framing.specs.HeadEnd.{head_end_from, head_length};
-ghost use Rattle.hx_framing.specs.Searching.{SearchReaches, IsSearchResult};
+ghost use Rattle.hx_framing.specs.Searching.{NoHeadEndsBeforeSearch, IsHeadSearchResult};
 
-use crate::heads::quiet_blocks::behind_quiet_blocks;
-use crate::slices::{first_bytes, rest_from};
+use crate::heads::quiet_blocks::end_of_blocks_without_head_end;
+use crate::slices::{bytes_from_index, first_bytes};
 use memchr::memchr;
 
 /// A search goes on from here when more bytes come.
@@ -14,12 +14,12 @@ pub(crate) struct HeadSearch {
     /// The bytes in front of this index are looked at no more.
     pub(crate) at: usize,
     /// It is behind the empty lines in front of the head.
-    pub(crate) in_lines: bool,
+    pub(crate) is_past_empty_lines: bool,
 }
 
 /// What a search finds.
 #[derive(Clone, Copy)]
-pub(crate) enum Searched {
+pub(crate) enum HeadSearchResult {
     /// The head takes so many bytes.
     Ended(usize),
     Open(HeadSearch),
@@ -67,8 +67,8 @@ fn empty_lines_from(bytes: &[u8], from: usize) -> usize
     ensures within { result ≤ length bytes.now }
 {
     let mut at = from;
-    while empty_line_at(rest_from(bytes, at)) > 0 {
-        at += empty_line_at(rest_from(bytes, at));
+    while empty_line_at(bytes_from_index(bytes, at)) > 0 {
+        at += empty_line_at(bytes_from_index(bytes, at));
     }
     at
 }
@@ -88,10 +88,10 @@ fn head_end_from(bytes: &[u8], from: usize) -> Option<usize>
     ensures within { IfSome result (λ end. end ≤ length bytes.now) }
     ensures some { IfSome result (λ end. 0 < end) }
 {
-    let mut at = behind_quiet_blocks(bytes, from);
-    while let Some(skipped) = memchr(b'\n', rest_from(bytes, at)) {
+    let mut at = end_of_blocks_without_head_end(bytes, from);
+    while let Some(skipped) = memchr(b'\n', bytes_from_index(bytes, at)) {
         at += skipped;
-        let empty = head_end_at(rest_from(bytes, at));
+        let empty = head_end_at(bytes_from_index(bytes, at));
         if empty > 0 {
             return Some(at + empty);
         }
@@ -101,35 +101,35 @@ fn head_end_from(bytes: &[u8], from: usize) -> Option<usize>
 }
 
 /// Searches the lines of a head from an index on, in front of which none is empty.
-fn search_lines(bytes: &[u8], from: usize) -> Searched
+fn search_lines(bytes: &[u8], from: usize) -> HeadSearchResult
     requires room { from + 2 ≤ length bytes.now }
     requires lines { (more : List ℕ) → head_length (bytes.now ++ more)
         ≡ head_end_from from (drop from (bytes.now ++ more)) }
-    ensures { IsSearchResult bytes.now result }
+    ensures { IsHeadSearchResult bytes.now result }
 {
     match head_end_from(bytes, from) {
-        Some(end) => Searched::Ended(end),
+        Some(end) => HeadSearchResult::Ended(end),
         // An empty line takes three bytes at most with the line end in front of it.
-        None => Searched::Open(HeadSearch {
+        None => HeadSearchResult::Open(HeadSearch {
             at: bytes.len() - 2,
-            in_lines: true,
+            is_past_empty_lines: true,
         }),
     }
 }
 
 /// Goes on with a search for the end of a head.
-pub(crate) fn search_head(bytes: &[u8], search: HeadSearch) -> Searched
-    requires { SearchReaches bytes.now search }
-    ensures { IsSearchResult bytes.now result }
+pub(crate) fn search_head_end(bytes: &[u8], search: HeadSearch) -> HeadSearchResult
+    requires { NoHeadEndsBeforeSearch bytes.now search }
+    ensures { IsHeadSearchResult bytes.now result }
 {
-    if search.in_lines {
+    if search.is_past_empty_lines {
         return search_lines(bytes, search.at);
     }
     let first_line = empty_lines_from(bytes, search.at);
     if bytes.len() - first_line < 2 {
-        return Searched::Open(HeadSearch {
+        return HeadSearchResult::Open(HeadSearch {
             at: first_line,
-            in_lines: false,
+            is_past_empty_lines: false,
         });
     }
     search_lines(bytes, first_line)

@@ -8,7 +8,11 @@ use hx_fields::{Bytes, Field, Fields};
 use std::alloc::{AllocError, Global};
 
 /// The bytes of a head that a span covers.
-pub(crate) fn part_at(alloc: Global, head: &Bytes, span: Span) -> Result<Bytes, AllocError>
+pub(crate) fn head_bytes_at_span(
+    alloc: Global,
+    head: &Bytes,
+    span: Span,
+) -> Result<Bytes, AllocError>
     requires ordered { span.start ≤ span.end }
     requires within { span.end ≤ length head.now }
     ensures { IfOk result (λ part. part ≡ span_bytes head.now span) }
@@ -30,7 +34,7 @@ fn field_at_span(alloc: Global, head: &Bytes, span: HeaderSpan) -> Result<Field,
 }
 
 /// The field lines of a head that the spans cover.
-pub(crate) fn fields_at(
+pub(crate) fn fields_at_spans(
     alloc: Global,
     head: &Bytes,
     spans: &[HeaderSpan],

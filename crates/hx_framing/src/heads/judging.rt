@@ -3,7 +3,7 @@ ghost use Rattle.std.specs.Prelude.{ℕ, List, ◌≤◌, length, IfOk, IfSome, 
 ghost use Rattle.httparse.specs.declared.spans.HeaderSpan.{HeaderSpan};
 ghost use Rattle.hx_framing.specs.HeadEnd.{most_field_lines};
 
-use crate::limits::{FEW_FIELD_LINES, MOST_FIELD_LINES, SHORT_HEAD_BYTES};
+use crate::limits::{INITIAL_FIELD_LINES, MOST_FIELD_LINES, SHORT_HEAD_BYTES};
 use httparse::spans::{EMPTY_HEADER_SPAN, HeaderSpan};
 use std::alloc::{AllocError, Global};
 
@@ -54,7 +54,7 @@ pub(crate) fn judge_head<S: HeadSpans>(alloc: Global, bytes: &[u8]) -> Result<S:
     if bytes.len() > SHORT_HEAD_BYTES {
         return judge_long_head::<S>(alloc, bytes);
     }
-    let mut spans = [EMPTY_HEADER_SPAN; FEW_FIELD_LINES];
+    let mut spans = [EMPTY_HEADER_SPAN; INITIAL_FIELD_LINES];
     match S::find(bytes, &mut spans) {
         Some(found) => found.judge(alloc, bytes, &spans),
         None => judge_long_head::<S>(alloc, bytes),

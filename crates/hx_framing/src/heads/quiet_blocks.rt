@@ -20,7 +20,7 @@ fn is_quiet_block(bytes: &[u8], at: usize) -> bool
 }
 
 /// From an index on, the end of such blocks: no empty line begins in front of it.
-pub(crate) fn behind_quiet_blocks(bytes: &[u8], from: usize) -> usize
+pub(crate) fn end_of_blocks_without_head_end(bytes: &[u8], from: usize) -> usize
     requires { from ≤ length bytes.now }
     ensures place { head_end_from result (drop result bytes.now) ≡ head_end_from from (drop from bytes.now) }
     ensures within { result ≤ length bytes.now }

@@ -8,10 +8,10 @@ ghost use Rattle.hx_framing.specs.declared.heads.request_head.Head.{Head};
 ghost use Rattle.hx_framing.specs.RequestReading.{request_of_head};
 
 use crate::frame_fault::FrameFault;
-use crate::heads::head_fields::{fields_at, part_at};
+use crate::heads::head_fields::{fields_at_spans, head_bytes_at_span};
 use crate::heads::judging::HeadSpans;
-use crate::heads::version::request_has_other_version;
-use crate::lengths::framing::without_lengths;
+use crate::heads::version::request_has_unsupported_version;
+use crate::lengths::framing::without_length_fields;
 use crate::messages::Request;
 use http::Method;
 use http::method::MethodError;
@@ -55,7 +55,7 @@ impl Head {
             method,
             target,
             minor,
-            fields: without_lengths(fields),
+            fields: without_length_fields(fields),
             content,
         }
     }
@@ -87,9 +87,9 @@ fn copy_head(
     let head = Bytes::shared_copy_of(alloc, bytes)?;
     Ok(Head {
         method,
-        target: part_at(alloc, &head, found.path)?,
+        target: head_bytes_at_span(alloc, &head, found.path)?,
         minor: found.version,
-        fields: fields_at(alloc, &head, &spans[..found.headers])?,
+        fields: fields_at_spans(alloc, &head, &spans[..found.headers])?,
     })
 }
 
@@ -97,7 +97,7 @@ fn copy_head(
 fn request_head_fault(bytes: &[u8]) -> FrameFault
     ensures { result ≡ request_head_fault bytes.now }
 {
-    if request_has_other_version(bytes) {
+    if request_has_unsupported_version(bytes) {
         FrameFault::Version
     } else {
         FrameFault::Head

@@ -7,9 +7,9 @@ ghost use Rattle.hx_framing.specs.declared.heads.status_head.Judged.TheVariants 
 ghost use Rattle.hx_framing.specs.StatusHead.{IsStatusHead, status_head_at, status_head_fault};
 
 use crate::frame_fault::FrameFault;
-use crate::heads::head_fields::fields_at;
+use crate::heads::head_fields::fields_at_spans;
 use crate::heads::judging::HeadSpans;
-use crate::heads::version::response_has_other_version;
+use crate::heads::version::response_has_unsupported_version;
 use crate::lengths::framing::is_interim;
 use httparse::Status;
 use httparse::spans::{HeaderSpan, ResponseSpans, parse_response};
@@ -47,7 +47,7 @@ fn copy_head(
     Ok(StatusHead {
         status: found.code,
         minor: found.version,
-        fields: fields_at(alloc, &head, &spans[..found.headers])?,
+        fields: fields_at_spans(alloc, &head, &spans[..found.headers])?,
     })
 }
 
@@ -55,7 +55,7 @@ fn copy_head(
 fn status_head_fault(bytes: &[u8]) -> FrameFault
     ensures { result ≡ status_head_fault bytes.now }
 {
-    if response_has_other_version(bytes) {
+    if response_has_unsupported_version(bytes) {
         FrameFault::Version
     } else {
         FrameFault::Head

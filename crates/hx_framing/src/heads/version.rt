@@ -1,20 +1,21 @@
 //! Start lines that name another version of HTTP. The definitions are in `specs/Version.antt`.
 ghost use Rattle.std.specs.Prelude.{◌≡◌};
-ghost use Rattle.hx_framing.specs.Version.{start_line, without_return, is_other_version, ends_with_other_version};
-ghost use Rattle.hx_framing.specs.Version.{begins_with_other_version};
+ghost use Rattle.hx_framing.specs.Version.{start_line, without_trailing_cr, is_unsupported_version};
+ghost use Rattle.hx_framing.specs.Version.{ends_with_unsupported_version};
+ghost use Rattle.hx_framing.specs.Version.{begins_with_unsupported_version};
 
 use crate::heads::head_end::empty_lines_length;
-use crate::slices::{before_byte, first_bytes, rest_from};
+use crate::slices::{bytes_from_index, first_bytes, text_before_byte};
 
 /// The start line of a head, without its LF.
 fn start_line(bytes: &[u8]) -> &[u8]
     ensures { result.now ≡ start_line bytes.now }
 {
-    before_byte(rest_from(bytes, empty_lines_length(bytes)), b'\n')
+    text_before_byte(bytes_from_index(bytes, empty_lines_length(bytes)), b'\n')
 }
 
-fn without_return(line: &[u8]) -> &[u8]
-    ensures { result.now ≡ without_return line.now }
+fn without_trailing_cr(line: &[u8]) -> &[u8]
+    ensures { result.now ≡ without_trailing_cr line.now }
 {
     match line {
         [front @ .., b'\r'] => front,
@@ -22,8 +23,8 @@ fn without_return(line: &[u8]) -> &[u8]
     }
 }
 
-fn is_other_version(text: &[u8]) -> bool
-    ensures { result ≡ is_other_version text.now }
+fn is_unsupported_version(text: &[u8]) -> bool
+    ensures { result ≡ is_unsupported_version text.now }
 {
     if text.len() != 8 || !text.starts_with(b"HTTP/") {
         return false;
@@ -36,22 +37,22 @@ fn is_other_version(text: &[u8]) -> bool
 }
 
 /// Whether a request line, without its line end, ends with another version.
-fn ends_with_other_version(line: &[u8]) -> bool
-    ensures { result ≡ ends_with_other_version line.now }
+fn ends_with_unsupported_version(line: &[u8]) -> bool
+    ensures { result ≡ ends_with_unsupported_version line.now }
 {
-    is_other_version(rest_from(line, line.len().saturating_sub(8)))
+    is_unsupported_version(bytes_from_index(line, line.len().saturating_sub(8)))
 }
 
 /// Whether the request line of a head ends with another version.
-pub(crate) fn request_has_other_version(bytes: &[u8]) -> bool
-    ensures { result ≡ ends_with_other_version (without_return (start_line bytes.now)) }
+pub(crate) fn request_has_unsupported_version(bytes: &[u8]) -> bool
+    ensures { result ≡ ends_with_unsupported_version (without_trailing_cr (start_line bytes.now)) }
 {
-    ends_with_other_version(without_return(start_line(bytes)))
+    ends_with_unsupported_version(without_trailing_cr(start_line(bytes)))
 }
 
 /// Whether the status line of a head begins with another version.
-pub(crate) fn response_has_other_version(bytes: &[u8]) -> bool
-    ensures { result ≡ begins_with_other_version (start_line bytes.now) }
+pub(crate) fn response_has_unsupported_version(bytes: &[u8]) -> bool
+    ensures { result ≡ begins_with_unsupported_version (start_line bytes.now) }
 {
-    is_other_version(first_bytes(start_line(bytes), 8))
+    is_unsupported_version(first_bytes(start_line(bytes), 8))
 }

@@ -1,22 +1,22 @@
 //! Laws of content in chunks: the definition by bytes and the grammar say the same.
 ghost use Rattle.std.specs.Prelude.{◌≡◌, ◌≤◌, ◌++◌, ◌∷◌, [], ℕ, List, None, Some, codes, length, replicate};
-ghost use Rattle.hx_framing.specs.declared.contents.chunk_tokens.Phase.TheVariants as phase;
+ghost use Rattle.hx_framing.specs.declared.contents.chunk_tokens.ChunkPhase.TheVariants as phase;
 ghost use Rattle.hx_framing.specs.declared.frame_fault.FrameFault.TheVariants as fault;
-ghost use Rattle.hx_framing.specs.Body.{Short, Bad, Whole, ContentIsDecided, content_reading_with_more};
+ghost use Rattle.hx_framing.specs.Body.{Short, Bad, Whole, ContentIsWholeOrFaulty, content_result_with_more_bytes};
 ghost use Rattle.hx_framing.specs.ChunkGrammar.{ChunkedBody, IsChunkedBody, chunked_body_text, data_of_chunks};
-ghost use Rattle.hx_framing.specs.Chunking.{Chunking};
-ghost use Rattle.hx_framing.specs.Chunks.{Fail, Go, chunked_content, content_from_chunking, first_chunking};
-ghost use Rattle.hx_framing.specs.Chunks.{chunking_after_bytes, step_in_trailers};
+ghost use Rattle.hx_framing.specs.ChunkDecoder.{ChunkDecoder};
+ghost use Rattle.hx_framing.specs.Chunks.{Fail, Go, chunked_content, content_from_decoder, decoder_at_start};
+ghost use Rattle.hx_framing.specs.Chunks.{decoder_after_bytes, step_in_trailers};
 ghost use Rattle.hx_framing.specs.Chunks.{most_trailer_bytes};
 
 /// What spells content in chunks is read, whatever follows it.
-pub fn spelled_chunks_are_read()
+pub fn every_chunked_body_is_decoded()
     ensures { (max_body : ℕ) (body : ChunkedBody) (rest : List ℕ) → IsChunkedBody max_body body
         → chunked_content max_body (chunked_body_text body rest) ≡ Whole (Some (data_of_chunks body.chunks)) rest }
 {}
 
 /// What is read as content in chunks is spelled so.
-pub fn read_chunks_are_spelled()
+pub fn decoded_content_is_of_a_chunked_body()
     ensures { (max_body : ℕ) (bytes data_of rest : List ℕ)
         → chunked_content max_body bytes ≡ Whole (Some data_of) rest
         → (body : ChunkedBody) × IsChunkedBody max_body body × (bytes ≡ chunked_body_text body rest) ×
@@ -24,16 +24,16 @@ pub fn read_chunks_are_spelled()
 {}
 
 /// What is decided stays decided, whatever comes behind it: so it doesn't matter how the stream is cut.
-pub fn decided_chunks_stay_decided()
-    ensures { (bytes more : List ℕ) (state : Chunking) → ContentIsDecided (content_from_chunking bytes state)
-        → content_from_chunking (bytes ++ more) state ≡ content_reading_with_more
-        (content_from_chunking bytes state) more }
+pub fn more_bytes_change_no_decided_content()
+    ensures { (bytes more : List ℕ) (state : ChunkDecoder) → ContentIsWholeOrFaulty (content_from_decoder bytes state)
+        → content_from_decoder (bytes ++ more) state ≡ content_result_with_more_bytes
+        (content_from_decoder bytes state) more }
 {}
 
 /// The line that isn't whole yet is never longer than trailers may be.
-pub fn open_lines_are_bounded()
-    ensures { (max_body : ℕ) (bytes : List ℕ) (state : Chunking)
-        → chunking_after_bytes bytes (first_chunking max_body) ≡ Some state → length state.line ≤ most_trailer_bytes }
+pub fn unfinished_chunk_lines_are_bounded()
+    ensures { (max_body : ℕ) (bytes : List ℕ) (state : ChunkDecoder)
+        → decoder_after_bytes bytes (decoder_at_start max_body) ≡ Some state → length state.line ≤ most_trailer_bytes }
 {}
 
 /// Chunks, extensions and trailers give their data and what follows.
@@ -102,24 +102,24 @@ pub fn worked_chunks_are_limited()
 {}
 
 /// The state behind bytes that neither end the content nor are at fault: what comes next, and what the limits leave.
-pub fn worked_chunks_go_on()
-    ensures nothing { chunking_after_bytes [] (first_chunking 9) ≡ Some (first_chunking 9) }
-    ensures size { chunking_after_bytes (codes "5\r") (first_chunking 9)
+pub fn worked_decoder_states_behind_bytes()
+    ensures nothing { decoder_after_bytes [] (decoder_at_start 9) ≡ Some (decoder_at_start 9) }
+    ensures size { decoder_after_bytes (codes "5\r") (decoder_at_start 9)
         ≡ Some (record { phase = phase.Size; need = 0; left = 9; used = 0; content = []; line = codes "5\r" }) }
-    ensures data { chunking_after_bytes (codes "5\r\nhell") (first_chunking 9)
+    ensures data { decoder_after_bytes (codes "5\r\nhell") (decoder_at_start 9)
         ≡ Some (record { phase = phase.Data; need = 1; left = 4; used = 0; content = codes "hell"; line = [] }) }
-    ensures end { chunking_after_bytes (codes "5\r\nhello\r") (first_chunking 9)
+    ensures end { decoder_after_bytes (codes "5\r\nhello\r") (decoder_at_start 9)
         ≡ Some (record { phase = phase.DataEnd; need = 0; left = 4; used = 0; content = codes "hello"; line = codes "\r" }) }
-    ensures second { chunking_after_bytes (codes "5\r\nhello\r\n4") (first_chunking 9)
+    ensures second { decoder_after_bytes (codes "5\r\nhello\r\n4") (decoder_at_start 9)
         ≡ Some (record { phase = phase.Size; need = 0; left = 4; used = 0; content = codes "hello"; line = codes "4" }) }
-    ensures trailers { chunking_after_bytes (codes "0\r\nA: 1\r\nB") (first_chunking 9)
+    ensures trailers { decoder_after_bytes (codes "0\r\nA: 1\r\nB") (decoder_at_start 9)
         ≡ Some (record { phase = phase.Trailers; need = 0; left = 9; used = 6; content = []; line = codes "B" }) }
     ensures last_trailer_byte { step_in_trailers
-        (record (first_chunking 9) { phase = phase.Trailers; used = 32766; line = codes "a" }) 98
-        ≡ Go (record (first_chunking 9) { phase = phase.Trailers; used = 32766; line = codes "ab" }) }
+        (record (decoder_at_start 9) { phase = phase.Trailers; used = 32766; line = codes "a" }) 98
+        ≡ Go (record (decoder_at_start 9) { phase = phase.Trailers; used = 32766; line = codes "ab" }) }
     ensures trailer_past_the_limit { step_in_trailers
-        (record (first_chunking 9) { phase = phase.Trailers; used = 32766; line = codes "ab" }) 99
+        (record (decoder_at_start 9) { phase = phase.Trailers; used = 32766; line = codes "ab" }) 99
         ≡ Fail fault.Chunk }
-    ensures whole { chunking_after_bytes (codes "0\r\n\r\n") (first_chunking 9) ≡ None }
-    ensures fault { chunking_after_bytes (codes "x\r\n") (first_chunking 9) ≡ None }
+    ensures whole { decoder_after_bytes (codes "0\r\n\r\n") (decoder_at_start 9) ≡ None }
+    ensures fault { decoder_after_bytes (codes "x\r\n") (decoder_at_start 9) ≡ None }
 {}

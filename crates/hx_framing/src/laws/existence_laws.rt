@@ -28,7 +28,7 @@ pub fn all_bytes_are_judged()
 /// Each request stream has a reading, and each that spells the requests given an answer.
 pub fn each_request_stream_is_read()
     ensures reading { (max_body : ℕ) → (ended : Bool) → (continue_sent : Bool) → (bytes : List ℕ)
-        → (reading : StreamReading Request) × request.Reads max_body ended continue_sent bytes reading }
+        → (reading : StreamReading Request) × request.ReadsAs max_body ended continue_sent bytes reading }
     ensures answer { (p : Progress Request) → (rest : List ℕ)
         → request_stream.StreamSpells p.max_body p.stream p.given rest
         → (answer : Next Request) × request_stream.Answers p answer }
@@ -37,7 +37,7 @@ pub fn each_request_stream_is_read()
 /// Each response stream has a reading, and each that spells the response given an answer.
 pub fn each_response_stream_is_read()
     ensures reading { (max_body : ℕ) → (to_head : Bool) → (ended : Bool) → (bytes : List ℕ)
-        → (reading : StreamReading Response) × response.Reads max_body to_head ended bytes reading }
-    ensures answer { (p : Progress Response) → response_stream.OneResponseIsGiven p p.given
+        → (reading : StreamReading Response) × response.ReadsAs max_body to_head ended bytes reading }
+    ensures answer { (p : Progress Response) → response_stream.StreamSpellsGivenResponse p p.given
         → (answer : Next Response) × response_stream.Answers p answer }
 {}

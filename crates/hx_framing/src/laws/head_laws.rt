@@ -8,8 +8,8 @@ ghost use Rattle.hx_framing.specs.Head as requests;
 ghost use Rattle.hx_framing.specs.Head.{request_head_fault};
 ghost use Rattle.hx_framing.specs.StatusHead as responses;
 ghost use Rattle.hx_framing.specs.StatusHead.{status_head_fault};
-ghost use Rattle.hx_framing.specs.Version.{is_other_version};
-ghost use Rattle.hx_framing.specs.HeadLines.{is_field_line, HasFieldLines, is_sound_field};
+ghost use Rattle.hx_framing.specs.Version.{is_unsupported_version};
+ghost use Rattle.hx_framing.specs.HeadLines.{is_field_line, HeadHasFieldLines, is_wellformed_field};
 
 /// Version takes the place of Head where the request line ends with another version.
 pub fn worked_versions_of_requests()
@@ -35,12 +35,12 @@ pub fn worked_versions_of_requests()
 /// HTTP-version = "HTTP/" DIGIT "." DIGIT (RFC 9112, section 2.3): what is another version than 1.0
 /// and 1.1 has this form, and each two digits but theirs are one.
 pub fn versions_have_two_digits()
-    ensures form { (text : List ℕ) → is_other_version text ≡ true
+    ensures form { (text : List ℕ) → is_unsupported_version text ≡ true
         → (major : ℕ) × (minor : ℕ) × (major ≤ 9) × (minor ≤ 9)
         × (text ≡ codes "HTTP/" ++ (48 + major) ∷ 46 ∷ (48 + minor) ∷ []) }
     ensures others { (major : ℕ) → (minor : ℕ) → major ≤ 9 → minor ≤ 9 → ¬ ((major ≡ 1) × (minor ≤ 1))
-        → is_other_version (codes "HTTP/" ++ (48 + major) ∷ 46 ∷ (48 + minor) ∷ []) ≡ true }
-    ensures known { (minor : ℕ) → minor ≤ 1 → is_other_version (codes "HTTP/1." ++ (48 + minor) ∷ []) ≡ false }
+        → is_unsupported_version (codes "HTTP/" ++ (48 + major) ∷ 46 ∷ (48 + minor) ∷ []) ≡ true }
+    ensures known { (minor : ℕ) → minor ≤ 1 → is_unsupported_version (codes "HTTP/1." ++ (48 + minor) ∷ []) ≡ false }
 {}
 
 /// Version takes the place of Head where the status line begins with another version.
@@ -62,19 +62,19 @@ pub fn worked_versions_of_responses()
 
 /// Behind the start line of a request that is taken stand its field lines, each with a token before
 /// its first colon and no line end inside, and an empty line.
-pub fn request_heads_are_lines()
+pub fn request_heads_have_wellformed_lines()
     ensures lines { (bytes : List ℕ) → (head : Head) → requests.RequestHeadIsJudged bytes (Ok head)
-        → HasFieldLines bytes head.fields }
+        → HeadHasFieldLines bytes head.fields }
     ensures sound { (bytes : List ℕ) → (head : Head) → requests.RequestHeadIsJudged bytes (Ok head)
-        → list_all is_sound_field head.fields ≡ true }
+        → list_all is_wellformed_field head.fields ≡ true }
 {}
 
 /// The same of a response.
-pub fn response_heads_are_lines()
+pub fn response_heads_have_wellformed_lines()
     ensures lines { (bytes : List ℕ) → (head : StatusHead) → responses.ResponseHeadIsJudged bytes (Ok head)
-        → HasFieldLines bytes head.fields }
+        → HeadHasFieldLines bytes head.fields }
     ensures sound { (bytes : List ℕ) → (head : StatusHead) → responses.ResponseHeadIsJudged bytes (Ok head)
-        → list_all is_sound_field head.fields ≡ true }
+        → list_all is_wellformed_field head.fields ≡ true }
 {}
 
 /// A folded line, one with a space before its colon and one without a name are no field lines.

@@ -3,15 +3,15 @@ ghost use Rattle.std.specs.Prelude.{◌≡◌, ℕ, Bool, false, Ok, Err};
 ghost use Rattle.hx_framing.specs.declared.frame_fault.FrameFault.{FrameFault};
 ghost use Rattle.hx_framing.specs.declared.frame_fault.FrameFault.TheVariants as fault;
 ghost use Rattle.hx_framing.specs.declared.lengths.framing.Framing.{Framing};
-ghost use Rattle.hx_framing.specs.declared.lengths.framing.RequestBody.{RequestBody};
+ghost use Rattle.hx_framing.specs.declared.lengths.framing.RequestFraming.{RequestFraming};
 ghost use Rattle.hx_framing.specs.declared.heads.request_head.Head.{Head};
 ghost use Rattle.hx_framing.specs.declared.heads.status_head.StatusHead.{StatusHead};
 ghost use Rattle.hx_framing.specs.Fault.{frame_fault_number};
 ghost use Rattle.hx_framing.specs.FaultOrder.{fault_applies_to_request, fault_applies_to_response, IsLeastFault};
-ghost use Rattle.hx_framing.specs.Lengths.{request_body_of, framing_of_response};
+ghost use Rattle.hx_framing.specs.Lengths.{request_framing_of, framing_of_response};
 
 /// The numbers of the faults.
-pub fn faults_have_numbers()
+pub fn worked_frame_fault_numbers()
     ensures head { frame_fault_number fault.Head ≡ 1 }
     ensures version { frame_fault_number fault.Version ≡ 2 }
     ensures both_lengths { frame_fault_number fault.BothLengths ≡ 3 }
@@ -27,9 +27,9 @@ pub fn faults_have_numbers()
 /// Of the faults that stand at the end of a request's head the one of the least number is told, and
 /// none where none stands.
 pub fn the_least_fault_of_a_request_is_named()
-    ensures fault { (max_body : ℕ) → (head : Head) → (fault : FrameFault) → request_body_of max_body head ≡ Err fault
+    ensures fault { (max_body : ℕ) → (head : Head) → (fault : FrameFault) → request_framing_of max_body head ≡ Err fault
         → IsLeastFault (fault_applies_to_request max_body head) fault }
-    ensures none { (max_body : ℕ) → (head : Head) → (body : RequestBody) → request_body_of max_body head ≡ Ok body
+    ensures none { (max_body : ℕ) → (head : Head) → (body : RequestFraming) → request_framing_of max_body head ≡ Ok body
         → (fault : FrameFault)
         → fault_applies_to_request max_body head fault ≡ false }
 {}

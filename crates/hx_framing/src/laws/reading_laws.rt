@@ -4,7 +4,7 @@ ghost use Rattle.hx_fields.specs.Examples.{line};
 ghost use Rattle.hx_framing.specs.declared.frame_fault.FrameFault.TheVariants as fault;
 ghost use Rattle.hx_framing.specs.declared.lengths.framing.Framing.TheVariants as framing;
 ghost use Rattle.hx_framing.specs.Body.{Bad, Short, Whole};
-ghost use Rattle.hx_framing.specs.Contents.{content_at};
+ghost use Rattle.hx_framing.specs.Contents.{content_by_framing};
 ghost use Rattle.hx_framing.specs.LengthExamples.{coding_line, expect_line, length_line, request_head, response_head};
 ghost use Rattle.hx_framing.specs.RequestReading as request;
 ghost use Rattle.hx_framing.specs.ResponseReading as response;
@@ -13,15 +13,16 @@ ghost use Rattle.hx_framing.specs.ReadingExamples.{request_stream_reads, ended_r
 ghost use Rattle.hx_framing.specs.ReadingExamples.{continued_request_stream_reads, response_stream_reads};
 ghost use Rattle.hx_framing.specs.ReadingExamples.{ended_response_stream_reads};
 ghost use Rattle.hx_framing.specs.ReadingExamples.{head_response_stream_reads};
-ghost use Rattle.hx_framing.specs.ReadingExamples.{hello_request, hello_asked, hello_response, hello_answered};
+ghost use Rattle.hx_framing.specs.ReadingExamples.{hello_request, hello_request_read, hello_response};
+ghost use Rattle.hx_framing.specs.ReadingExamples.{hello_response_read};
 ghost use Rattle.hx_framing.specs.ReadingExamples.{put_request_with};
 ghost use Rattle.hx_framing.specs.ReadingExamples.{put_request_read, ok_response_with, response_with};
 
 /// The request of RFC 9110, section 3.9, is read whole, and what follows it is left; without its last byte it waits.
 pub fn a_request_head_is_read()
-    ensures whole { request_stream_reads hello_request (Spelled hello_asked []) }
-    ensures behind { request_stream_reads (hello_request ++ codes "GET / HT") (Spelled hello_asked (codes "GET / HT")) }
-    ensures last { ended_request_stream_reads hello_request (Spelled hello_asked []) }
+    ensures whole { request_stream_reads hello_request (Spelled hello_request_read []) }
+    ensures behind { request_stream_reads (hello_request ++ codes "GET / HT") (Spelled hello_request_read (codes "GET / HT")) }
+    ensures last { ended_request_stream_reads hello_request (Spelled hello_request_read []) }
     ensures open { request_stream_reads (codes "GET /hello.txt HTTP/1.1\r\nHost: www.example.com\r\n\r") Incomplete }
     ensures cut { ended_request_stream_reads (codes "GET /hello.txt HTTP/1.1\r\nHost: www.example.com\r\n\r") (Faulty fault.Truncated) }
 {}
@@ -50,15 +51,15 @@ pub fn heads_in_other_forms_are_read()
 
 /// The response of RFC 9110, section 3.9, with its 51 bytes of content; one byte less, and it waits.
 pub fn a_response_is_read()
-    ensures whole { response_stream_reads hello_response (Spelled hello_answered []) }
-    ensures behind { response_stream_reads (hello_response ++ codes "x") (Spelled hello_answered (codes "x")) }
+    ensures whole { response_stream_reads hello_response (Spelled hello_response_read []) }
+    ensures behind { response_stream_reads (hello_response ++ codes "x") (Spelled hello_response_read (codes "x")) }
     ensures short { response_stream_reads (ok_response_with (codes "Content-Length: 3\r\n") ++ codes "hi") Incomplete }
     ensures cut { ended_response_stream_reads (ok_response_with (codes "Content-Length: 3\r\n") ++ codes "hi") (Faulty fault.Truncated) }
 {}
 
 /// Content-Length tells how many bytes a request has; two lines have to agree, and without one there is no content (RFC
 /// 9112, section 6.3).
-pub fn lengths_of_contents_are_read()
+pub fn content_length_delimits_the_content()
     ensures none { request_stream_reads (put_request_with [] ++ codes "hello") (Spelled (put_request_read [] None)
         (codes "hello")) }
     ensures zero { request_stream_reads (put_request_with (codes "Content-Length: 0\r\n") ++ codes "hello")
@@ -117,7 +118,7 @@ pub fn chunked_contents_are_read()
 {}
 
 /// Interim responses are passed over, as that of RFC 8297, section 2; 101 is refused.
-pub fn interim_responses_are_passed()
+pub fn interim_responses_are_skipped()
     ensures early_hints { response_stream_reads (codes "HTTP/1.1 103 Early Hints\r\nLink: </style.css>; rel=preload; as=style\r\nLink: </script.js>; rel=preload; as=script\r\n\r\n" ++ ok_response_with (codes "Content-Length: 2\r\n") ++ codes "hi")
         (Spelled (response_with 200 [] (codes "hi") None) []) }
     ensures two { response_stream_reads (codes "HTTP/1.1 100 Continue\r\n\r\nHTTP/1.1 199 \r\nContent-Length: x\r\n\r\nHTTP/1.1 204 \r\n\r\n") (Spelled (response_with 204 [] [] None) []) }
@@ -155,7 +156,7 @@ pub fn contents_run_until_the_close()
 {}
 
 /// A final status is from 200 to 599; its fault is told last.
-pub fn statuses_are_read()
+pub fn final_statuses_are_200_to_599()
     ensures high { response_stream_reads (codes "HTTP/1.1 600 \r\nContent-Length: 0\r\n\r\n") (Faulty fault.Status) }
     ensures low { response_stream_reads (codes "HTTP/1.1 099 \r\nContent-Length: 0\r\n\r\n") (Faulty fault.Status) }
     ensures last { response_stream_reads (codes "HTTP/1.1 599 \r\nContent-Length: 0\r\n\r\n") (Spelled (response_with 599 [] [] None) []) }
@@ -164,7 +165,7 @@ pub fn statuses_are_read()
 {}
 
 /// A client that expects a continue gets it before its content (RFC 9110, section 10.1.1); no other expectation is met.
-pub fn expectations_are_read()
+pub fn only_100_continue_is_met()
     ensures waits { request_stream_reads (put_request_with (codes "Expect: 100-continue\r\nContent-Length: 2\r\n")) Continue }
     ensures one_byte { request_stream_reads (put_request_with (codes "Expect: 100-continue\r\nContent-Length: 1\r\n")) Continue }
     ensures content_there { request_stream_reads (put_request_with (codes "Expect: 100-Continue\r\nContent-Length: 2\r\n") ++ codes "hi") Continue }
@@ -184,7 +185,7 @@ pub fn expectations_are_read()
 {}
 
 /// A request stream may end before a message, behind empty lines alone too; a response stream may not.
-pub fn ends_of_streams_are_read()
+pub fn only_request_streams_end_without_message()
     ensures nothing { request_stream_reads [] Incomplete }
     ensures nothing_more { ended_request_stream_reads [] Over }
     ensures empty_lines { ended_request_stream_reads (codes "\r\n\n\r\n") Over }
@@ -197,19 +198,20 @@ pub fn ends_of_streams_are_read()
 {}
 
 /// The content that bytes spell, by its framing, and what follows it (RFC 9112, section 6.3).
-pub fn contents_are_taken()
-    ensures none { content_at 9 framing.Nothing false (codes "hi") ≡ Whole None (codes "hi") }
-    ensures announced { content_at 9 (framing.Announced 3) false (codes "hi!x") ≡ Whole (Some (codes "hi!")) (codes "x") }
-    ensures announced_short { content_at 9 (framing.Announced 3) true (codes "hi") ≡ Short }
-    ensures chunks { content_at 2 framing.Chunked false (codes "2\r\nhi\r\n0\r\n\r\nx") ≡ Whole (Some (codes "hi")) (codes "x") }
-    ensures large_chunk { content_at 1 framing.Chunked false (codes "2\r\n") ≡ Bad fault.TooLarge }
-    ensures open { content_at 2 framing.UntilClose false (codes "hi") ≡ Short }
-    ensures closed { content_at 2 framing.UntilClose true (codes "hi") ≡ Whole (Some (codes "hi")) [] }
-    ensures large { content_at 2 framing.UntilClose true (codes "hi!") ≡ Bad fault.TooLarge }
+pub fn worked_contents_by_framing()
+    ensures none { content_by_framing 9 framing.Nothing false (codes "hi") ≡ Whole None (codes "hi") }
+    ensures announced { content_by_framing 9 (framing.Announced 3) false (codes "hi!x")
+        ≡ Whole (Some (codes "hi!")) (codes "x") }
+    ensures announced_short { content_by_framing 9 (framing.Announced 3) true (codes "hi") ≡ Short }
+    ensures chunks { content_by_framing 2 framing.Chunked false (codes "2\r\nhi\r\n0\r\n\r\nx") ≡ Whole (Some (codes "hi")) (codes "x") }
+    ensures large_chunk { content_by_framing 1 framing.Chunked false (codes "2\r\n") ≡ Bad fault.TooLarge }
+    ensures open { content_by_framing 2 framing.UntilClose false (codes "hi") ≡ Short }
+    ensures closed { content_by_framing 2 framing.UntilClose true (codes "hi") ≡ Whole (Some (codes "hi")) [] }
+    ensures large { content_by_framing 2 framing.UntilClose true (codes "hi!") ≡ Bad fault.TooLarge }
 {}
 
 /// What stands behind a request's head that was judged, and where no head ends.
-pub fn judged_requests_are_read()
+pub fn worked_readings_behind_request_heads()
     ensures whole { request.reading_behind_request_head 9 false false (codes "hi!")
         (Ok (request_head 1 (length_line (codes "2") ∷ [])))
         ≡ Spelled (put_request_read [] (Some (codes "hi"))) (codes "!") }
@@ -251,7 +253,7 @@ pub fn judged_requests_are_read()
 {}
 
 /// The same of a response.
-pub fn judged_responses_are_read()
+pub fn worked_readings_behind_response_heads()
     ensures whole { response.reading_behind_response_head 9 false false (codes "hi!")
         (Ok (response_head 404 1 (length_line (codes "2") ∷ [])))
         ≡ Spelled (response_with 404 [] (codes "hi") None) (codes "!") }

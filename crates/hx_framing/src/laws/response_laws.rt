@@ -9,87 +9,90 @@ ghost use Rattle.hx_framing.specs.declared.heads.status_head.StatusHead.{StatusH
 ghost use Rattle.hx_framing.specs.declared.messages.Next.{Next};
 ghost use Rattle.hx_framing.specs.declared.frame_fault.FrameFault.{FrameFault};
 ghost use Rattle.hx_framing.specs.ChunkGrammar.{has_no_lf};
-ghost use Rattle.hx_framing.specs.Chunking.{Chunking};
-ghost use Rattle.hx_framing.specs.Chunks.{chunking_after_bytes};
-ghost use Rattle.hx_framing.specs.Lengths.{without_lengths};
+ghost use Rattle.hx_framing.specs.ChunkDecoder.{ChunkDecoder};
+ghost use Rattle.hx_framing.specs.Chunks.{decoder_after_bytes};
+ghost use Rattle.hx_framing.specs.Lengths.{without_length_fields};
 ghost use Rattle.hx_framing.specs.HeadEnd.{head_length};
 ghost use Rattle.hx_framing.specs.PlainContent.{PlainContent};
-ghost use Rattle.hx_framing.specs.Reading.{StreamReading, Faulty, ReadingIsSettled, Spelled, reading_with_more};
-ghost use Rattle.hx_framing.specs.ResponseReading.{Reads};
-ghost use Rattle.hx_framing.specs.ResponseStream.{SpellsResponse, OneResponseIsGiven, Answers, NeedsMemory};
-ghost use Rattle.hx_framing.specs.Progress.{Progress, AnswerIsDue, cost_of_answer, stream_with_piece, stream_finished};
+ghost use Rattle.hx_framing.specs.Reading.{StreamReading, Faulty, ReadingIsSettled, Spelled, reading_with_more_bytes};
+ghost use Rattle.hx_framing.specs.ResponseReading.{ReadsAs};
+ghost use Rattle.hx_framing.specs.ResponseStream.{SpellsResponse, StreamSpellsGivenResponse, Answers};
+ghost use Rattle.hx_framing.specs.ResponseStream.{OutOfMemoryIsAllowed};
+ghost use Rattle.hx_framing.specs.Progress.{Progress, AnswerIsDue, cost_of_answer, progress_after_piece};
+ghost use Rattle.hx_framing.specs.Progress.{progress_after_end};
 ghost use Rattle.hx_framing.specs.ResponseState.{State, RepresentsStream, weight, response_kind};
 
 /// A stream has one response: behind it nothing is given but the end.
-pub fn one_response_is_given()
+pub fn at_most_one_response_is_given()
     ensures { (p : Progress Response) → (answer : Next Response) → Answers p answer → length p.given ≤ 1 }
 {}
 
 /// One thing stands at the front of the stream.
-pub fn one_reading_stands_in_front()
+pub fn reading_of_bytes_is_unique()
     ensures { (max_body : ℕ) → (to_head ended : Bool) → (bytes : List ℕ) → (a b : StreamReading Response)
-        → Reads max_body to_head ended bytes a → Reads max_body to_head ended bytes b → a ≡ b }
+        → ReadsAs max_body to_head ended bytes a → ReadsAs max_body to_head ended bytes b → a ≡ b }
 {}
 
 /// What is due stays due, whatever comes behind it: so it doesn't matter how the stream is cut.
-pub fn due_readings_stay()
+pub fn more_bytes_change_no_settled_reading()
     ensures { (max_body : ℕ) → (to_head : Bool) → (bytes more : List ℕ)
         → (reading : StreamReading Response) → ReadingIsSettled reading
-        → Reads max_body to_head false bytes reading
-        → Reads max_body to_head false (bytes ++ more) (reading_with_more reading more) }
+        → ReadsAs max_body to_head false bytes reading
+        → ReadsAs max_body to_head false (bytes ++ more) (reading_with_more_bytes reading more) }
 {}
 
 /// A stream has one fault at most: where one of its beginnings is at fault, so is every longer one, by the same fault.
-pub fn a_stream_has_one_fault()
+pub fn a_stream_has_at_most_one_fault()
     ensures { (max_body : ℕ) → (to_head : Bool) → (bytes more : List ℕ) → (f g : FrameFault)
-        → Reads max_body to_head false bytes (Faulty f)
-        → Reads max_body to_head false (bytes ++ more) (Faulty g) → f ≡ g }
+        → ReadsAs max_body to_head false bytes (Faulty f)
+        → ReadsAs max_body to_head false (bytes ++ more) (Faulty g) → f ≡ g }
 {}
 
 /// A stream begins with one response.
-pub fn a_stream_spells_one_list()
+pub fn messages_spelled_by_a_stream_are_unique()
     ensures { (max_body : ℕ) → (to_head ended : Bool) → (stream : List ℕ) → (m n : Response)
         → (r q : List ℕ) → SpellsResponse max_body to_head ended stream m r
         → SpellsResponse max_body to_head ended stream n q → (m ≡ n) × (r ≡ q) }
 {}
 
 /// No response was given, or the one that the stream spells.
-pub fn given_messages_are_spelled()
-    ensures { (reader : State) → (p : Progress Response) → RepresentsStream reader p → OneResponseIsGiven p p.given }
+pub fn readers_give_only_spelled_messages()
+    ensures { (reader : State) → (p : Progress Response) → RepresentsStream reader p
+        → StreamSpellsGivenResponse p p.given }
 {}
 
 /// One answer is right.
-pub fn one_answer_is_right()
+pub fn answer_of_a_stream_is_unique()
     ensures { (p : Progress Response) → (a b : Next Response) → Answers p a → Answers p b → a ≡ b }
 {}
 
 /// An answer that is due stays the right one, whatever comes and where the stream ends.
-pub fn due_answers_stay()
+pub fn more_bytes_change_no_due_answer()
     ensures piece { (p : Progress Response) → (answer : Next Response) → (piece : List ℕ)
-        → p.ended ≡ false → AnswerIsDue answer → Answers p answer → Answers (stream_with_piece p piece) answer }
+        → p.ended ≡ false → AnswerIsDue answer → Answers p answer → Answers (progress_after_piece p piece) answer }
     ensures end { (p : Progress Response) → (answer : Next Response) → AnswerIsDue answer
-        → Answers p answer → Answers (stream_finished p) answer }
+        → Answers p answer → Answers (progress_after_end p) answer }
 {}
 
 /// What is read has a final status, from 200 to 599: interim responses are passed over, and others
 /// are refused. Its length fields are taken out, and what an answer to HEAD announces is told
 /// beside them; another answer announces nothing.
-pub fn what_is_read_is_final()
+pub fn responses_read_are_final()
     ensures status { (max_body : ℕ) → (to_head : Bool) → (ended : Bool) → (bytes : List ℕ) → (response : Response)
         → (rest : List ℕ)
-        → Reads max_body to_head ended bytes (Spelled response rest)
+        → ReadsAs max_body to_head ended bytes (Spelled response rest)
         → (200 ≤ response.status) × (response.status ≤ 599) }
     ensures lengths { (max_body : ℕ) → (to_head : Bool) → (ended : Bool) → (bytes : List ℕ) → (response : Response)
         → (rest : List ℕ)
-        → Reads max_body to_head ended bytes (Spelled response rest)
-        → (fields : List Field) × (response.fields ≡ without_lengths fields) }
+        → ReadsAs max_body to_head ended bytes (Spelled response rest)
+        → (fields : List Field) × (response.fields ≡ without_length_fields fields) }
     ensures announced { (max_body : ℕ) → (ended : Bool) → (bytes : List ℕ) → (response : Response) → (rest : List ℕ)
-        → Reads max_body false ended bytes (Spelled response rest) → response.announced ≡ None }
+        → ReadsAs max_body false ended bytes (Spelled response rest) → response.announced ≡ None }
 {}
 
 /// A reader weighs two for each byte before or in its response, two more in it, and one where the
 /// stream has ended before it was given; behind it or a fault it weighs one.
-pub fn readers_have_weights()
+pub fn readers_weigh_two_for_each_unread_byte()
     ensures before { (s : State) → s.phase ≡ phase.BeforeHead → s.ended ≡ false → weight s ≡ 2 * length s.unread }
     ensures before_the_end { (s : State) → s.phase ≡ phase.BeforeHead → s.ended ≡ true
         → weight s ≡ 2 * length s.unread + 1 }
@@ -102,13 +105,13 @@ pub fn readers_have_weights()
 {}
 
 /// What the contracts of a reader say by its kind, they say of responses.
-pub fn readers_of_responses_keep_to_responses()
+pub fn generic_reader_contracts_hold_of_responses()
     ensures represents { (s : State) → (p : Progress Response) → response_kind.RepresentsStream s p
         → RepresentsStream s p }
     ensures represented { (s : State) → (p : Progress Response) → RepresentsStream s p
         → response_kind.RepresentsStream s p }
     ensures answers { (p : Progress Response) → (a : Next Response) → response_kind.Answers p a → Answers p a }
-    ensures memory { (p : Progress Response) → response_kind.NeedsMemory p → NeedsMemory p }
+    ensures memory { (p : Progress Response) → response_kind.OutOfMemoryIsAllowed p → OutOfMemoryIsAllowed p }
     ensures weight { (s : State) → response_kind.weight s ≡ weight s }
     ensures due { (left : ℕ) → (a : Next Response) → response_kind.DueIsWeighed left a → AnswerIsDue a
         → 1 ≤ left + cost_of_answer a }

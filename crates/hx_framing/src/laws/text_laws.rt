@@ -2,7 +2,8 @@
 ghost use Rattle.std.specs.Prelude.{◌≡◌, ◌∷◌, [], codes, length, Some, None, true, false};
 ghost use Rattle.hx_fields.specs.Examples.{line};
 ghost use Rattle.hx_framing.specs.declared.writing.AddedLine.{AddedLine};
-ghost use Rattle.hx_framing.specs.Examples.{get_request, first_forwarded_request, stored_fields, hit_fields};
+ghost use Rattle.hx_framing.specs.Examples.{get_request, first_forwarded_request, stored_response_fields};
+ghost use Rattle.hx_framing.specs.Examples.{hit_response_fields};
 ghost use Rattle.hx_framing.specs.HeadEnd.{empty_lines_length, head_length};
 ghost use Rattle.hx_framing.specs.Text.{field_of_added_line, request_text, response_text, continue_text};
 
@@ -17,13 +18,13 @@ pub fn worked_forwarded_text()
 
 /// The two replies of the first run.
 pub fn worked_reply_texts()
-    ensures stored { response_text 200 stored_fields (Some 2) false (codes "hi")
+    ensures stored { response_text 200 stored_response_fields (Some 2) false (codes "hi")
         ≡ codes "HTTP/1.1 200 \r\nDate: Thu, 01 Jan 1970 00:01:41 GMT\r\nCache-Control: max-age=60\r\nETag: \"v1\"\r\nCache-Status: edge;fwd=uri-miss;ttl=59;stored\r\nContent-Length: 2\r\n\r\nhi" }
-    ensures stored_size { length (response_text 200 stored_fields (Some 2) false (codes "hi"))
+    ensures stored_size { length (response_text 200 stored_response_fields (Some 2) false (codes "hi"))
         ≡ 161 }
-    ensures hit { response_text 200 hit_fields (Some 2) false (codes "hi")
+    ensures hit { response_text 200 hit_response_fields (Some 2) false (codes "hi")
         ≡ codes "HTTP/1.1 200 \r\nDate: Thu, 01 Jan 1970 00:01:41 GMT\r\nCache-Control: max-age=60\r\nETag: \"v1\"\r\nAge: 30\r\nCache-Status: edge;hit;ttl=30\r\nContent-Length: 2\r\n\r\nhi" }
-    ensures hit_size { length (response_text 200 hit_fields (Some 2) false (codes "hi")) ≡ 154 }
+    ensures hit_size { length (response_text 200 hit_response_fields (Some 2) false (codes "hi")) ≡ 154 }
     ensures closed { response_text 400 [] (Some 0) true []
         ≡ codes "HTTP/1.1 400 \r\nContent-Length: 0\r\nConnection: close\r\n\r\n" }
     ensures no_length { response_text 304 [] None false [] ≡ codes "HTTP/1.1 304 \r\n\r\n" }

@@ -11,7 +11,7 @@ ghost use Rattle.hx_framing.specs.GivenFields.{LineSpellsField, HeadGivesFields,
 ghost use Rattle.hx_framing.specs.GivenFields.{LineSpellsStatusLine};
 ghost use Rattle.hx_framing.specs.Head as requests;
 ghost use Rattle.hx_framing.specs.StatusHead as responses;
-ghost use Rattle.hx_framing.specs.Lengths.{without_lengths};
+ghost use Rattle.hx_framing.specs.Lengths.{without_length_fields};
 ghost use Rattle.hx_framing.specs.HeadEnd.{head_length, most_head_bytes};
 ghost use Rattle.hx_framing.specs.Version.{start_line};
 ghost use Rattle.hx_framing.specs.Reading.{Spelled};
@@ -20,7 +20,7 @@ ghost use Rattle.hx_framing.specs.ResponseReading as response;
 
 /// The fields of a request's head are its lines, in order, each a name, a colon and a value with
 /// white space around it; its first line is the method, the target and the version.
-pub fn request_heads_give_their_lines()
+pub fn fields_of_request_heads_are_their_lines()
     ensures fields { (bytes : List ℕ) → (head : Head) → requests.RequestHeadIsJudged bytes (Ok head)
         → HeadGivesFields bytes head.fields }
     ensures first { (bytes : List ℕ) → (head : Head) → requests.RequestHeadIsJudged bytes (Ok head)
@@ -28,7 +28,7 @@ pub fn request_heads_give_their_lines()
 {}
 
 /// The same of a response, whose first line is the version and the status.
-pub fn response_heads_give_their_lines()
+pub fn fields_of_response_heads_are_their_lines()
     ensures fields { (bytes : List ℕ) → (head : StatusHead) → responses.ResponseHeadIsJudged bytes (Ok head)
         → HeadGivesFields bytes head.fields }
     ensures first { (bytes : List ℕ) → (head : StatusHead) → responses.ResponseHeadIsJudged bytes (Ok head)
@@ -37,37 +37,39 @@ pub fn response_heads_give_their_lines()
 
 /// What a reader gives of a head are the fields that its lines spell, but for the length fields: of
 /// a request at the front of its stream, of a response behind the interim ones.
-pub fn readers_give_the_lines_of_heads()
+pub fn readers_give_the_fields_of_heads()
     ensures requests { (max_body : ℕ) → (ended : Bool) → (continue_sent : Bool) → (bytes : List ℕ) → (given : Request)
         → (rest : List ℕ)
-        → request.Reads max_body ended continue_sent bytes (Spelled given rest)
+        → request.ReadsAs max_body ended continue_sent bytes (Spelled given rest)
         → (n : ℕ) × (head_length (take most_head_bytes bytes) ≡ Some n)
-        × ((fields : List Field) × HeadGivesFields (take n bytes) fields × (given.fields ≡ without_lengths fields)) }
+        × ((fields : List Field) × HeadGivesFields (take n bytes) fields
+        × (given.fields ≡ without_length_fields fields)) }
     ensures responses { (max_body : ℕ) → (to_head : Bool) → (ended : Bool) → (bytes : List ℕ) → (given : Response)
         → (rest : List ℕ)
-        → response.Reads max_body to_head ended bytes (Spelled given rest)
-        → (sizes : List ℕ) × (front : List ℕ) × response.PassesInterimResponses bytes sizes front
+        → response.ReadsAs max_body to_head ended bytes (Spelled given rest)
+        → (sizes : List ℕ) × (front : List ℕ) × response.SkipsInterimResponses bytes sizes front
         × ((n : ℕ) × (head_length (take most_head_bytes front) ≡ Some n)
-        × ((fields : List Field) × HeadGivesFields (take n front) fields × (given.fields ≡ without_lengths fields))) }
+        × ((fields : List Field) × HeadGivesFields (take n front) fields
+        × (given.fields ≡ without_length_fields fields))) }
 {}
 
 /// A request that is read is of HTTP/1.0 or HTTP/1.1, and no line of a message speaks of its content's length.
-pub fn what_is_read_is_plain()
+pub fn messages_read_have_no_length_fields()
     ensures minor { (max_body : ℕ) → (ended : Bool) → (continue_sent : Bool) → (bytes : List ℕ) → (given : Request)
         → (rest : List ℕ)
-        → request.Reads max_body ended continue_sent bytes (Spelled given rest) → given.minor ≤ 1 }
+        → request.ReadsAs max_body ended continue_sent bytes (Spelled given rest) → given.minor ≤ 1 }
     ensures request { (max_body : ℕ) → (ended : Bool) → (continue_sent : Bool) → (bytes : List ℕ) → (given : Request)
         → (rest : List ℕ)
-        → request.Reads max_body ended continue_sent bytes (Spelled given rest)
+        → request.ReadsAs max_body ended continue_sent bytes (Spelled given rest)
         → (has_field given.fields (codes "content-length") ≡ false) × (has_field given.fields (codes "transfer-encoding") ≡ false) }
     ensures response { (max_body : ℕ) → (to_head : Bool) → (ended : Bool) → (bytes : List ℕ) → (given : Response)
         → (rest : List ℕ)
-        → response.Reads max_body to_head ended bytes (Spelled given rest)
+        → response.ReadsAs max_body to_head ended bytes (Spelled given rest)
         → (has_field given.fields (codes "content-length") ≡ false) × (has_field given.fields (codes "transfer-encoding") ≡ false) }
 {}
 
 /// A line spells one field at most, and the lines of a head give one list of fields.
-pub fn lines_give_one_list()
+pub fn fields_of_head_lines_are_unique()
     ensures line { (line : List ℕ) → (f : Field) → (g : Field) → LineSpellsField line f → LineSpellsField line g → f
         ≡ g }
     ensures head { (bytes : List ℕ) → (fs : List Field) → (gs : List Field) → HeadGivesFields bytes fs

@@ -8,11 +8,11 @@ ghost use Rattle.httparse.specs.Grammar.{RequestHead};
 ghost use Rattle.hx_fields.specs.FieldLines.{has_field, values_of, without_named};
 ghost use Rattle.hx_framing.specs.declared.messages.Request.{Request};
 ghost use Rattle.hx_framing.specs.Examples.{first_forwarded_request};
-ghost use Rattle.hx_framing.specs.Head.{IsHeadOfRequest, head_of_grammar};
+ghost use Rattle.hx_framing.specs.Head.{IsHeadOfRequest, head_of_parsed_request};
 ghost use Rattle.hx_framing.specs.HeadEnd.{head_length, most_head_bytes};
 ghost use Rattle.hx_framing.specs.Reading.{Spelled};
-ghost use Rattle.hx_framing.specs.RequestReading.{Reads};
-ghost use Rattle.hx_framing.specs.ResponseReading.{Reads as ReadsResponse};
+ghost use Rattle.hx_framing.specs.RequestReading.{ReadsAs};
+ghost use Rattle.hx_framing.specs.ResponseReading.{ReadsAs as ReadsResponse};
 ghost use Rattle.hx_framing.specs.Text.{request_text, content_bytes};
 ghost use Rattle.hx_framing.specs.Written.{RequestIsWritable, request_head_text, request_head_sent};
 ghost use Rattle.hx_framing.specs.Written.{request_fields_sent, connection_close_field, request_as_read_back};
@@ -20,13 +20,13 @@ ghost use Rattle.hx_framing.specs.WrittenResponse.{ResponseIsWritable, SentRespo
 ghost use Rattle.hx_framing.specs.WrittenResponse.{sent_response_text};
 
 /// The head that is written is one, and has just the parts that were written.
-pub fn written_head_is_read()
+pub fn written_request_head_is_read_back()
     ensures { (r : Request) → RequestIsWritable r → (h : RequestHead) × IsHeadOfRequest (request_head_text r) h
-        × (head_of_grammar h ≡ request_head_sent r) }
+        × (head_of_parsed_request h ≡ request_head_sent r) }
 {}
 
 /// It ends where the content begins, whatever follows.
-pub fn written_head_ends()
+pub fn written_request_head_ends_at_its_content()
     ensures size { (r : Request) → RequestIsWritable r → (rest : List ℕ)
         → head_length (take most_head_bytes (request_text r ++ rest)) ≡ Some (length (request_head_text r)) }
     ensures head { (r : Request) → (rest : List ℕ)
@@ -36,7 +36,7 @@ pub fn written_head_ends()
 {}
 
 /// The fields that are sent tell the content's length, and nothing else of it.
-pub fn written_length_is_read()
+pub fn written_content_length_is_read_back()
     ensures none { (r : Request) → RequestIsWritable r → r.content ≡ None
         → values_of (request_fields_sent r) (codes "content-length") ≡ [] }
     ensures some { (r : Request) → (content : List ℕ) → RequestIsWritable r → r.content ≡ Some content
@@ -50,7 +50,7 @@ pub fn written_length_is_read()
 {}
 
 /// Without the length fields they are those that were written, and the line that closes the connection.
-pub fn written_fields_are_read()
+pub fn written_fields_are_read_back()
     ensures length { (r : Request) → RequestIsWritable r
         → without_named (request_fields_sent r) (codes "content-length") ≡ r.fields ++ connection_close_field ∷ [] }
     ensures coding { (r : Request) → RequestIsWritable r
@@ -59,10 +59,10 @@ pub fn written_fields_are_read()
 {}
 
 /// The request is read back, with the line that closes the connection, and what follows it is left.
-pub fn written_request_is_read()
+pub fn written_request_is_read_back()
     ensures { (r : Request) → (max_body : ℕ) → (ended : Bool) → (continue_sent : Bool) → (rest : List ℕ)
         → RequestIsWritable r → length (content_bytes r.content) ≤ max_body
-        → Reads max_body ended continue_sent (request_text r ++ rest) (Spelled (request_as_read_back r) rest) }
+        → ReadsAs max_body ended continue_sent (request_text r ++ rest) (Spelled (request_as_read_back r) rest) }
 {}
 
 /// There are such requests: the one of the first run is one.
@@ -72,7 +72,7 @@ pub fn worked_request_is_writable()
 
 /// A response is read back too, by a reader that knows whether it answers a HEAD, and what follows
 /// it is left: so a client takes what is sent for one response.
-pub fn written_response_is_read()
+pub fn written_response_is_read_back()
     ensures { (to_head : Bool) → (m : SentResponse) → (max_body : ℕ) → (ended : Bool) → (rest : List ℕ)
         → ResponseIsWritable to_head m → length m.content ≤ max_body
         → ReadsResponse max_body to_head ended (sent_response_text m ++ rest)

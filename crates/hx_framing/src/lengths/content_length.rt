@@ -7,12 +7,13 @@ ghost use Rattle.std.specs.List.{list_all};
 ghost use Rattle.std.specs.Char.{is_ascii_digit};
 ghost use Rattle.std.specs.Str.Parse.{digits_value};
 ghost use Rattle.hx_fields.specs.FieldLines.{is_named};
-ghost use Rattle.hx_framing.specs.ContentLength.{comma_pieces, is_digits, without_leading_zeros, is_number};
+ghost use Rattle.hx_framing.specs.ContentLength.{texts_between_commas, is_digits, without_leading_zeros};
+ghost use Rattle.hx_framing.specs.ContentLength.{is_text_of_same_number};
 ghost use Rattle.hx_framing.specs.ContentLength.{announced_length};
-ghost use Rattle.hx_framing.specs.ContentLength.{length_up_to, content_length_name};
+ghost use Rattle.hx_framing.specs.ContentLength.{announced_length_up_to, content_length_name};
 
 use crate::frame_fault::FrameFault;
-use crate::slices::{before_byte, rest_from};
+use crate::slices::{bytes_from_index, text_before_byte};
 use hx_fields::{Field, Fields, is_same_name, number_up_to};
 
 fn all_digits(text: &[u8]) -> bool
@@ -35,28 +36,29 @@ fn without_leading_zeros(text: &[u8]) -> &[u8]
     while at < text.len() && text[at] == b'0' {
         at += 1;
     }
-    rest_from(text, at)
+    bytes_from_index(text, at)
 }
 
 /// Whether a text is the number of these digits, of which the first isn't 0.
-fn is_number(digits: &[u8], text: &[u8]) -> bool
-    ensures { result ≡ is_number digits.now text.now }
+fn is_text_of_same_number(digits: &[u8], text: &[u8]) -> bool
+    ensures { result ≡ is_text_of_same_number digits.now text.now }
 {
     is_digits(text) && without_leading_zeros(text) == digits
 }
 
 /// Whether each part of a value between commas is the number of these digits.
 fn are_all_this_number(digits: &[u8], value: &[u8]) -> bool
-    ensures { result ≡ list_all (is_number digits.now) (comma_pieces value.now) }
+    ensures { result ≡ list_all (is_text_of_same_number digits.now) (texts_between_commas value.now) }
 {
     value
         .split(|b| *b == b',')
-        .all(|piece| is_number(digits, piece))
+        .all(|piece| is_text_of_same_number(digits, piece))
 }
 
 /// Whether each part between commas of each Content-Length line is the number of these digits.
 fn are_all_lengths_this_number(digits: &[u8], lines: &[Field]) -> bool
-    ensures { result ≡ list_all (λ (line : Field). list_all (is_number digits.now) (comma_pieces line.value))
+    ensures { result
+        ≡ list_all (λ (line : Field). list_all (is_text_of_same_number digits.now) (texts_between_commas line.value))
         (filter (is_named content_length_name) lines.now) }
 {
     lines
@@ -71,7 +73,7 @@ fn announced_digits(fields: &Fields) -> Option<&[u8]>
     ensures shown { MatchOption result (announced_length fields.now ≡ None)
         (λ digits. announced_length fields.now ≡ Some (digits_value 10 digits.now)) }
 {
-    let text = before_byte(fields.value(b"content-length")?, b',');
+    let text = text_before_byte(fields.value(b"content-length")?, b',');
     if !is_digits(text) {
         return None;
     }
@@ -86,14 +88,14 @@ fn announced_digits(fields: &Fields) -> Option<&[u8]>
 /// The number of these digits, if it is at most so much.
 fn value_up_to(most: u64, digits: &[u8]) -> Result<u64, FrameFault>
     requires { list_all is_ascii_digit digits.now ≡ true }
-    ensures { result ≡ length_up_to most (Some (digits_value 10 digits.now)) }
+    ensures { result ≡ announced_length_up_to most (Some (digits_value 10 digits.now)) }
 {
     number_up_to(most, 10, digits).ok_or(FrameFault::TooLarge)
 }
 
 /// The length that the lines tell, in bytes, if it is at most so much.
-pub(crate) fn length_up_to(most: u64, fields: &Fields) -> Result<u64, FrameFault>
-    ensures { result ≡ length_up_to most (announced_length fields.now) }
+pub(crate) fn announced_length_up_to(most: u64, fields: &Fields) -> Result<u64, FrameFault>
+    ensures { result ≡ announced_length_up_to most (announced_length fields.now) }
 {
     match announced_digits(fields) {
         Some(digits) => value_up_to(most, digits),

@@ -3,19 +3,20 @@
 ghost use Rattle.std.specs.Prelude.{◌≡◌, ◌&&◌, IfOk};
 ghost use Rattle.hx_framing.specs.Lengths.{framing_by_content_length, is_chunked, last_coding_is_chunked};
 ghost use Rattle.hx_framing.specs.Lengths.{is_only_chunked};
-ghost use Rattle.hx_framing.specs.Lengths.{framing_of_codings, has_both_lengths, framing_without_codings};
+ghost use Rattle.hx_framing.specs.Lengths.{framing_of_codings, has_both_length_fields, framing_without_codings};
 ghost use Rattle.hx_framing.specs.Lengths.{has_endless_coding};
 ghost use Rattle.hx_framing.specs.Lengths.{framing_of_lengths};
-ghost use Rattle.hx_framing.specs.Lengths.{framing_of_request, expected_of_server, framing_has_content};
-ghost use Rattle.hx_framing.specs.Lengths.{request_body_of, is_interim};
-ghost use Rattle.hx_framing.specs.Lengths.{response_has_no_content, framing_of_final, framing_if_accepted_status};
+ghost use Rattle.hx_framing.specs.Lengths.{framing_by_request_fields, expectation_of_head, framing_has_content};
+ghost use Rattle.hx_framing.specs.Lengths.{request_framing_of, is_interim};
+ghost use Rattle.hx_framing.specs.Lengths.{response_has_no_content, framing_of_final_response};
+ghost use Rattle.hx_framing.specs.Lengths.{framing_if_accepted_status};
 ghost use Rattle.hx_framing.specs.Lengths.{framing_of_response};
-ghost use Rattle.hx_framing.specs.Lengths.{announced_length_to_head, without_lengths};
+ghost use Rattle.hx_framing.specs.Lengths.{announced_length_in_answer_to_head, without_length_fields};
 
 use crate::frame_fault::FrameFault;
 use crate::heads::request_head::Head;
 use crate::heads::status_head::StatusHead;
-use crate::lengths::content_length::length_up_to;
+use crate::lengths::content_length::announced_length_up_to;
 use crate::limits::MOST_ANNOUNCED_BYTES;
 use hx_fields::{Bytes, Fields, is_same_name};
 use std::alloc::{AllocError, Global};
@@ -35,7 +36,7 @@ pub(crate) enum Framing {
 
 /// What a request head says of its content.
 #[derive(Clone, Copy)]
-pub(crate) struct RequestBody {
+pub(crate) struct RequestFraming {
     pub(crate) framing: Framing,
     /// The client waits for a continue before it sends the content.
     pub(crate) wants_continue: bool,
@@ -52,7 +53,7 @@ fn framing_by_content_length(
     if !fields.has(b"content-length") {
         return Ok(neither);
     }
-    match length_up_to(max_body, fields) {
+    match announced_length_up_to(max_body, fields) {
         Ok(length) => Ok(Framing::Announced(length)),
         Err(fault) => Err(fault),
     }
@@ -96,8 +97,8 @@ fn framing_of_codings(must_end: bool, codings: &[Bytes]) -> Result<Framing, Fram
     }
 }
 
-fn has_both_lengths(fields: &Fields) -> bool
-    ensures { result ≡ has_both_lengths fields.now }
+fn has_both_length_fields(fields: &Fields) -> bool
+    ensures { result ≡ has_both_length_fields fields.now }
 {
     fields.has(b"transfer-encoding") && fields.has(b"content-length")
 }
@@ -111,7 +112,7 @@ fn framing_without_codings(
 ) -> Option<Result<Framing, FrameFault>>
     ensures { result ≡ framing_without_codings max_body minor neither fields.now }
 {
-    if has_both_lengths(fields) {
+    if has_both_length_fields(fields) {
         Some(Err(FrameFault::BothLengths))
     } else if !fields.has(b"transfer-encoding") {
         Some(framing_by_content_length(max_body, neither, fields))
@@ -145,12 +146,12 @@ fn framing_of_lengths(
 }
 
 /// What the length fields of a request say.
-fn framing_of_request(
+fn framing_by_request_fields(
     alloc: Global,
     max_body: u64,
     head: &Head,
 ) -> Result<Result<Framing, FrameFault>, AllocError>
-    ensures { IfOk result (λ r. r ≡ framing_of_request max_body head.now) }
+    ensures { IfOk result (λ r. r ≡ framing_by_request_fields max_body head.now) }
 {
     framing_of_lengths(
         alloc,
@@ -163,8 +164,8 @@ fn framing_of_request(
 }
 
 /// What is expected of a server.
-fn expected_of_server(alloc: Global, head: &Head) -> Result<Option<Bytes>, AllocError>
-    ensures { IfOk result (λ r. r ≡ expected_of_server head.now) }
+fn expectation_of_head(alloc: Global, head: &Head) -> Result<Option<Bytes>, AllocError>
+    ensures { IfOk result (λ r. r ≡ expectation_of_head head.now) }
 {
     if head.minor == 1 {
         head.fields.combined(alloc, b"expect")
@@ -184,25 +185,25 @@ fn framing_has_content(framing: Framing) -> bool
 }
 
 /// How the content of a request is judged by its head.
-pub(crate) fn request_body_of(
+pub(crate) fn request_framing_of(
     alloc: Global,
     max_body: u64,
     head: &Head,
-) -> Result<Result<RequestBody, FrameFault>, AllocError>
-    ensures { IfOk result (λ r. r ≡ request_body_of max_body head.now) }
+) -> Result<Result<RequestFraming, FrameFault>, AllocError>
+    ensures { IfOk result (λ r. r ≡ request_framing_of max_body head.now) }
 {
-    let framing = match framing_of_request(alloc, max_body, head)? {
+    let framing = match framing_by_request_fields(alloc, max_body, head)? {
         Ok(framing) => framing,
         Err(fault) => return Ok(Err(fault)),
     };
-    match expected_of_server(alloc, head)? {
-        None => Ok(Ok(RequestBody {
+    match expectation_of_head(alloc, head)? {
+        None => Ok(Ok(RequestFraming {
             framing,
             wants_continue: false,
         })),
         Some(value) => {
             if is_same_name(value.as_slice(), b"100-continue") {
-                Ok(Ok(RequestBody {
+                Ok(Ok(RequestFraming {
                     framing,
                     wants_continue: framing_has_content(framing),
                 }))
@@ -227,12 +228,12 @@ fn response_has_no_content(to_head: bool, status: u16) -> bool
 }
 
 /// What the length fields of a response with content say.
-fn framing_of_final(
+fn framing_of_final_response(
     alloc: Global,
     max_body: u64,
     head: &StatusHead,
 ) -> Result<Result<Framing, FrameFault>, AllocError>
-    ensures { IfOk result (λ r. r ≡ framing_of_final max_body head.now) }
+    ensures { IfOk result (λ r. r ≡ framing_of_final_response max_body head.now) }
 {
     framing_of_lengths(
         alloc,
@@ -269,26 +270,26 @@ pub(crate) fn framing_of_response(
     if head.status == 101 || response_has_no_content(to_head, head.status) {
         return Ok(framing_if_accepted_status(head.status, Ok(Framing::Nothing)));
     }
-    let judged = framing_of_final(alloc, max_body, head)?;
+    let judged = framing_of_final_response(alloc, max_body, head)?;
     Ok(framing_if_accepted_status(head.status, judged))
 }
 
 /// The length that an answer to HEAD announces, in bytes.
-pub(crate) fn announced_length_to_head(to_head: bool, head: &StatusHead) -> Option<u64>
-    ensures { result ≡ announced_length_to_head to_head head.now }
+pub(crate) fn announced_length_in_answer_to_head(to_head: bool, head: &StatusHead) -> Option<u64>
+    ensures { result ≡ announced_length_in_answer_to_head to_head head.now }
 {
     if !to_head || head.fields.has(b"transfer-encoding") {
         return None;
     }
-    match length_up_to(MOST_ANNOUNCED_BYTES, &head.fields) {
+    match announced_length_up_to(MOST_ANNOUNCED_BYTES, &head.fields) {
         Ok(length) => Some(length),
         Err(_) => None,
     }
 }
 
 /// The lines that are no length fields.
-pub(crate) fn without_lengths(mut fields: Fields) -> Fields
-    ensures { result ≡ without_lengths fields }
+pub(crate) fn without_length_fields(mut fields: Fields) -> Fields
+    ensures { result ≡ without_length_fields fields }
 {
     fields.remove_named(b"content-length");
     fields.remove_named(b"transfer-encoding");

@@ -3,7 +3,7 @@ ghost use Rattle.std.specs.Prelude.{◌≡◌, IfOk, OnErr, take};
 ghost use Rattle.hx_framing.specs.HeadEnd.{head_length as head_length_of, most_head_bytes};
 ghost use Rattle.hx_framing.specs.ReaderKind.{ReaderKind};
 
-use crate::readers::progress::{HeadProgress, ReaderPhase, Rest};
+use crate::readers::progress::{HeadProgress, ReaderPhase, UnreadStreamBytes};
 use hx_fields::Bytes;
 use std::alloc::{AllocError, Global};
 
@@ -18,14 +18,14 @@ pub trait MessageHead: Drop {
     /// `to_head` says that the message answers a HEAD.
     fn read_next_head(
         alloc: Global,
-        rest: &Rest<'_>,
+        rest: &UnreadStreamBytes<'_>,
         to_head: bool,
         head_length: Option<usize>,
     ) -> Result<HeadProgress<Self, Self::Message>, AllocError>
         requires { head_length ≡ head_length_of (take most_head_bytes rest.now.bytes.now) }
         ensures found { IfOk result
             (kind.FrontIsFound rest.now.max_body to_head rest.now.ended rest.now.bytes.now) }
-        ensures memory_last { OnErr result (kind.HeadStands rest.now.bytes.now) };
+        ensures memory_last { OnErr result (kind.WholeHeadIsThere rest.now.bytes.now) };
 
     /// Whether a content until the close has ended, where the stream has or hasn't.
     fn is_closed_by(ended: bool) -> bool

@@ -3,8 +3,8 @@
 //! that it stands for (`specs/RequestState.antt`, `specs/ResponseState.antt`).
 ghost use Rattle.std.specs.Prelude.{◌≡◌, ◌+◌, ◌*◌, ◌≤◌, [], true, false, IsOk, IfOk, OnOk, OnErr, length};
 ghost use Rattle.hx_framing.specs.declared.messages.Request.{Request};
-ghost use Rattle.hx_framing.specs.Progress.{Progress, no_stream, stream_with_piece, stream_finished};
-ghost use Rattle.hx_framing.specs.Progress.{stream_after_answer, cost_of_answer};
+ghost use Rattle.hx_framing.specs.Progress.{Progress, empty_stream_progress, progress_after_piece, progress_after_end};
+ghost use Rattle.hx_framing.specs.Progress.{progress_after_answer, cost_of_answer};
 ghost use Rattle.hx_framing.specs.RequestStream.{StreamSpells};
 
 use crate::contents::content::{Content, ContentProgress};
@@ -13,7 +13,7 @@ use crate::heads::request_head::Head;
 use crate::heads::status_head::StatusHead;
 use crate::messages::Next;
 use crate::readers::message_head::MessageHead;
-use crate::readers::progress::{HeadProgress, ReaderPhase, Rest};
+use crate::readers::progress::{HeadProgress, ReaderPhase, UnreadStreamBytes};
 use crate::readers::unread::Unread;
 use std::alloc::{AllocError, Global};
 use std::fmt::{self, Debug, Formatter};
@@ -78,7 +78,7 @@ impl MessageReader<Head> {
 
     /// A reader of an empty stream. Contents have at most `max_body` bytes.
     pub fn new(alloc: Global, max_body: u64) -> RequestReader
-        ensures represents { RepresentsStream result (no_stream max_body false) }
+        ensures represents { RepresentsStream result (empty_stream_progress max_body false) }
         ensures weight { weight result ≤ 1 }
     {
         MessageReader {
@@ -105,7 +105,7 @@ impl MessageReader<StatusHead> {
     /// A reader of an empty stream. A content has at most `max_body` bytes; `to_head` says that it
     /// answers a HEAD.
     pub fn new(alloc: Global, max_body: u64, to_head: bool) -> ResponseReader
-        ensures represents { RepresentsStream result (no_stream max_body to_head) }
+        ensures represents { RepresentsStream result (empty_stream_progress max_body to_head) }
         ensures weight { weight result ≡ 0 }
     {
         MessageReader {
@@ -121,8 +121,9 @@ impl MessageReader<StatusHead> {
 impl<H: MessageHead> MessageReader<H> {
     ghost use Rattle.hx_framing.specs.declared.readers.progress.ReaderPhase.TheVariants as phase;
     ghost use Rattle.hx_framing.specs.declared.frame_fault.FrameFault.{FrameFault};
-    ghost use Rattle.hx_framing.specs.ReaderSteps.{StepsTo, LeadsOn, answer_of, bytes_taken, state_behind};
-    ghost use Rattle.hx_framing.specs.ReaderState.{kept, IsUnfinished};
+    ghost use Rattle.hx_framing.specs.ReaderSteps.{StepsTo, HeadProgressLeadsReaderOn, answer_of_progress, bytes_taken};
+    ghost use Rattle.hx_framing.specs.ReaderSteps.{state_after_progress};
+    ghost use Rattle.hx_framing.specs.ReaderState.{kept, KeepsOnlyUnfinished};
 
     /// Makes room, so that one `feed` of at most n bytes finds its memory. An `Err` changes nothing.
     pub fn reserve(&mut self, n: usize) -> Result<(), AllocError>
@@ -145,7 +146,7 @@ impl<H: MessageHead> MessageReader<H> {
     /// Takes the next piece of the stream, before `finish`. An `Err` changes nothing.
     pub fn feed(&mut self, piece: &[u8]) -> Result<(), AllocError>
         ensures represents { OnOk result ((p : Progress H.Message) → H.kind.RepresentsStream self.old p
-            → p.ended ≡ false → H.kind.RepresentsStream self.new (stream_with_piece p piece.now)) }
+            → p.ended ≡ false → H.kind.RepresentsStream self.new (progress_after_piece p piece.now)) }
         ensures weight { H.kind.weight self.new ≤ H.kind.weight self.old + 2 * length piece.now }
         ensures given { self.old.phase ≡ phase.Given → self.new ≡ self.old }
         ensures faulty { (fault : FrameFault) → self.old.phase ≡ phase.Faulty fault → self.new ≡ self.old }
@@ -164,7 +165,7 @@ impl<H: MessageHead> MessageReader<H> {
     /// The stream has ended. Nothing is allocated.
     pub fn finish(&mut self)
         ensures represents { (p : Progress H.Message) → H.kind.RepresentsStream self.old p
-            → H.kind.RepresentsStream self.new (stream_finished p) }
+            → H.kind.RepresentsStream self.new (progress_after_end p) }
         ensures weight { H.kind.weight self.new ≤ H.kind.weight self.old + 1 }
         ensures same { self.new ≡ record self.old { ended = true } }
     {
@@ -200,14 +201,14 @@ impl<H: MessageHead> MessageReader<H> {
         ensures answers { IfOk result (λ answer. (p : Progress H.Message) → H.kind.RepresentsStream self.old p
             → H.kind.Answers p answer) }
         ensures represents { IfOk result (λ answer. (p : Progress H.Message) → H.kind.RepresentsStream self.old p
-            → H.kind.RepresentsStream self.new (stream_after_answer p answer)) }
+            → H.kind.RepresentsStream self.new (progress_after_answer p answer)) }
         ensures weight { IfOk result (λ answer. H.kind.weight self.new + cost_of_answer answer
             ≤ H.kind.weight self.old) }
         ensures due { IfOk result (λ answer. H.kind.DueIsWeighed (H.kind.weight self.new) answer) }
-        ensures unfinished { IfOk result (λ answer. answer ≡ Next.More → IsUnfinished self.new) }
+        ensures unfinished { IfOk result (λ answer. answer ≡ Next.More → KeepsOnlyUnfinished self.new) }
         ensures room { self.old.spare ≤ self.new.spare }
         ensures memory_last { OnErr result ((p : Progress H.Message) → H.kind.RepresentsStream self.old p
-            → H.kind.NeedsMemory p) }
+            → H.kind.OutOfMemoryIsAllowed p) }
         ensures err { OnErr result (self.new ≡ self.old) }
     {
         self.step(alloc)
@@ -225,7 +226,7 @@ impl<H: MessageHead> MessageReader<H> {
         ensures steps { IfOk result (λ answer. StepsTo H.kind self.old answer self.new) }
         ensures room { self.old.spare ≤ self.new.spare }
         ensures memory_last { OnErr result ((p : Progress H.Message) → H.kind.RepresentsStream self.old p
-            → H.kind.NeedsMemory p) }
+            → H.kind.OutOfMemoryIsAllowed p) }
         ensures err { OnErr result (self.new ≡ self.old) }
     {
         match replace(&mut self.phase, ReaderPhase::BeforeHead) {
@@ -248,13 +249,13 @@ impl<H: MessageHead> MessageReader<H> {
     /// What stands at the front of the unread bytes, before a continue was given.
     fn look(&mut self, alloc: Global) -> Result<HeadProgress<H, H::Message>, AllocError>
         requires { self.old.phase ≡ phase.BeforeHead }
-        ensures found { IfOk result (LeadsOn H.kind self.old) }
+        ensures found { IfOk result (HeadProgressLeadsReaderOn H.kind self.old) }
         ensures memory_last { OnErr result ((p : Progress H.Message) → H.kind.RepresentsStream self.old p
-            → H.kind.NeedsMemory p) }
+            → H.kind.OutOfMemoryIsAllowed p) }
         ensures same { self.new ≡ self.old }
     {
         let head_length = self.unread.head_length();
-        let rest = Rest {
+        let rest = UnreadStreamBytes {
             max_body: self.max_body,
             ended: self.ended,
             bytes: self.unread.as_slice(),
@@ -266,9 +267,10 @@ impl<H: MessageHead> MessageReader<H> {
     fn pass(&mut self, found: HeadProgress<H, H::Message>) -> Next<H::Message>
         requires within { bytes_taken found ≤ length self.old.unread }
         requires waiting { self.old.phase ≡ phase.BeforeHead }
-        requires open { answer_of found ≡ Next.More → IsUnfinished (state_behind H.kind self.old self.old.spare found) }
-        ensures answer { result ≡ answer_of found }
-        ensures state { self.new ≡ state_behind H.kind self.old self.new.spare found }
+        requires open { answer_of_progress found ≡ Next.More
+            → KeepsOnlyUnfinished (state_after_progress H.kind self.old self.old.spare found) }
+        ensures answer { result ≡ answer_of_progress found }
+        ensures state { self.new ≡ state_after_progress H.kind self.old self.new.spare found }
         ensures room { self.old.spare ≤ self.new.spare }
     {
         match found {
@@ -283,7 +285,7 @@ impl<H: MessageHead> MessageReader<H> {
             }
             HeadProgress::InContent(head, content, n) => {
                 self.unread.take_front(n);
-                self.unread.note_open_line();
+                self.unread.note_no_line_feed();
                 self.phase = ReaderPhase::InContent(head, content);
                 Next::More
             }
@@ -312,7 +314,7 @@ impl<H: MessageHead> MessageReader<H> {
         ensures room { self.old.spare ≤ self.new.spare }
         ensures memory_last { OnErr result ((p : Progress H.Message)
             → H.kind.RepresentsStream (record self.old { phase = phase.InContent head content }) p
-            → H.kind.NeedsMemory p) }
+            → H.kind.OutOfMemoryIsAllowed p) }
         ensures err { OnErr result (self.new ≡ record self.old { phase = phase.InContent head content }) }
     {
         let ended = self.ended;

@@ -5,7 +5,7 @@ use crate::frame_fault::FrameFault;
 
 /// The bytes of a stream that no message has taken, and what they are read by.
 #[derive(Clone, Copy)]
-pub struct Rest<'a> {
+pub struct UnreadStreamBytes<'a> {
     /// Bytes of content that a message may have.
     pub(crate) max_body: u64,
     /// No more bytes come.

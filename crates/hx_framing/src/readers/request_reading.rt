@@ -3,28 +3,28 @@
 ghost use Rattle.std.specs.Prelude.{◌≡◌, ◌<◌, IfOk, OnErr, Some, None, Ok, Err, length, take, drop};
 ghost use Rattle.hx_framing.specs.HeadEnd.{head_length as head_length_of, most_head_bytes};
 ghost use Rattle.hx_framing.specs.Head.{RequestHeadIsJudged};
-ghost use Rattle.hx_framing.specs.Lengths.{request_body_of};
-ghost use Rattle.hx_framing.specs.RequestHeadProgress.{IsHeadProgress, RequestHeadStands};
+ghost use Rattle.hx_framing.specs.Lengths.{request_framing_of};
+ghost use Rattle.hx_framing.specs.RequestHeadProgress.{IsProgressOfBytes, BytesBeginWithRequestHead};
 
 use crate::contents::content::{Content, ContentProgress};
 use crate::frame_fault::FrameFault;
 use crate::heads::head_end::empty_lines_length;
 use crate::heads::judging::judge_head;
 use crate::heads::request_head::Head;
-use crate::lengths::framing::{RequestBody, request_body_of};
+use crate::lengths::framing::{RequestFraming, request_framing_of};
 use crate::limits::MOST_HEAD_BYTES;
 use crate::messages::Request;
 use crate::readers::message_head::MessageHead;
-use crate::readers::progress::{HeadProgress, ReaderPhase, Rest};
-use crate::slices::rest_from;
+use crate::readers::progress::{HeadProgress, ReaderPhase, UnreadStreamBytes};
+use crate::slices::bytes_from_index;
 use httparse::spans::RequestSpans;
 use hx_fields::Bytes;
 use std::alloc::{AllocError, Global};
 
 /// Where no head ends within the limit.
-fn progress_without_head(rest: &Rest<'_>) -> HeadProgress<Head, Request>
+fn progress_without_head(rest: &UnreadStreamBytes<'_>) -> HeadProgress<Head, Request>
     requires { head_length_of (take most_head_bytes rest.now.bytes.now) ≡ None }
-    ensures { IsHeadProgress rest.now.max_body rest.now.ended rest.now.bytes.now result }
+    ensures { IsProgressOfBytes rest.now.max_body rest.now.ended rest.now.bytes.now result }
 {
     if rest.bytes.len() > MOST_HEAD_BYTES {
         HeadProgress::Faulty(FrameFault::Head)
@@ -40,24 +40,30 @@ fn progress_without_head(rest: &Rest<'_>) -> HeadProgress<Head, Request>
 /// Behind a head of `at` bytes that tells its content.
 fn with_request_body(
     alloc: Global,
-    rest: &Rest<'_>,
+    rest: &UnreadStreamBytes<'_>,
     at: usize,
     head: Head,
-    body: RequestBody,
+    body: RequestFraming,
 ) -> Result<HeadProgress<Head, Request>, AllocError>
     requires place { head_length_of (take most_head_bytes rest.now.bytes.now) ≡ Some at }
     requires some { 0 < at }
     requires judged { RequestHeadIsJudged (take at rest.now.bytes.now) (Ok head) }
-    requires body { request_body_of rest.now.max_body head ≡ Ok body }
-    ensures progress { IfOk result (IsHeadProgress rest.now.max_body rest.now.ended rest.now.bytes.now) }
-    ensures memory_last { OnErr result (RequestHeadStands rest.now.bytes.now) }
+    requires body { request_framing_of rest.now.max_body head ≡ Ok body }
+    ensures progress { IfOk result (IsProgressOfBytes rest.now.max_body rest.now.ended rest.now.bytes.now) }
+    ensures memory_last { OnErr result (BytesBeginWithRequestHead rest.now.bytes.now) }
 {
     let mut content = Content::begun(alloc, rest.max_body, body.framing);
     if body.wants_continue {
         return Ok(HeadProgress::NeedsContinue(head, content, at));
     }
     // No content of a request runs until the close.
-    match content.read(alloc, rest.ended, false, rest_from(rest.bytes, at), 0)? {
+    match content.read(
+        alloc,
+        rest.ended,
+        false,
+        bytes_from_index(rest.bytes, at),
+        0,
+    )? {
         ContentProgress::Incomplete(n) => Ok(HeadProgress::InContent(head, content, at + n)),
         ContentProgress::Faulty(fault) => Ok(HeadProgress::Faulty(fault)),
         ContentProgress::Whole(content, n) => Ok(HeadProgress::Message(
@@ -70,12 +76,12 @@ fn with_request_body(
 /// What stands at the front of the unread bytes, before a continue was given. A head takes `head_length` of them.
 fn read_request(
     alloc: Global,
-    rest: &Rest<'_>,
+    rest: &UnreadStreamBytes<'_>,
     head_length: Option<usize>,
 ) -> Result<HeadProgress<Head, Request>, AllocError>
     requires { head_length ≡ head_length_of (take most_head_bytes rest.now.bytes.now) }
-    ensures progress { IfOk result (IsHeadProgress rest.now.max_body rest.now.ended rest.now.bytes.now) }
-    ensures memory_last { OnErr result (RequestHeadStands rest.now.bytes.now) }
+    ensures progress { IfOk result (IsProgressOfBytes rest.now.max_body rest.now.ended rest.now.bytes.now) }
+    ensures memory_last { OnErr result (BytesBeginWithRequestHead rest.now.bytes.now) }
 {
     let Some(at) = head_length else {
         return Ok(progress_without_head(rest));
@@ -83,7 +89,7 @@ fn read_request(
     let (front, _) = rest.bytes.split_at(at);
     match judge_head::<RequestSpans>(alloc, front)? {
         Err(fault) => Ok(HeadProgress::Faulty(fault)),
-        Ok(head) => match request_body_of(alloc, rest.max_body, &head)? {
+        Ok(head) => match request_framing_of(alloc, rest.max_body, &head)? {
             Err(fault) => Ok(HeadProgress::Faulty(fault)),
             Ok(body) => with_request_body(alloc, rest, at, head, body),
         },
@@ -99,7 +105,7 @@ impl MessageHead for Head {
 
     fn read_next_head(
         alloc: Global,
-        rest: &Rest<'_>,
+        rest: &UnreadStreamBytes<'_>,
         _to_head: bool,
         head_length: Option<usize>,
     ) -> Result<HeadProgress<Head, Request>, AllocError> {

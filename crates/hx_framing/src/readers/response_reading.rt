@@ -5,7 +5,8 @@ ghost use Rattle.hx_framing.specs.HeadEnd.{head_length as head_length_of, most_h
 ghost use Rattle.hx_framing.specs.declared.readers.response_reading.FinalHead.TheVariants as final_head;
 ghost use Rattle.hx_framing.specs.Lengths.{framing_of_response};
 ghost use Rattle.hx_framing.specs.ResponseReading.{content_bytes_of, response_of_head};
-ghost use Rattle.hx_framing.specs.ResponseHeadProgress.{IsHeadProgress, FinalHeadIsFound, FinalHeadStands};
+ghost use Rattle.hx_framing.specs.ResponseHeadProgress.{IsProgressOfBytes, FinalHeadIsFound};
+ghost use Rattle.hx_framing.specs.ResponseHeadProgress.{FinalHeadFollowsInterimResponses};
 
 use crate::contents::content::{Content, ContentProgress};
 use crate::frame_fault::FrameFault;
@@ -13,13 +14,13 @@ use crate::heads::head_end::head_length_within;
 use crate::heads::judging::judge_head;
 use crate::heads::status_head::{Judged, StatusHead};
 use crate::lengths::framing::{
-    Framing, announced_length_to_head, framing_of_response, without_lengths,
+    Framing, announced_length_in_answer_to_head, framing_of_response, without_length_fields,
 };
 use crate::limits::MOST_HEAD_BYTES;
 use crate::messages::Response;
 use crate::readers::message_head::MessageHead;
-use crate::readers::progress::{HeadProgress, ReaderPhase, Rest};
-use crate::slices::rest_from;
+use crate::readers::progress::{HeadProgress, ReaderPhase, UnreadStreamBytes};
+use crate::slices::bytes_from_index;
 use httparse::spans::ResponseSpans;
 use hx_fields::Bytes;
 use std::alloc::{AllocError, Global};
@@ -53,7 +54,7 @@ fn response_of_head(
 ) -> Response
     ensures { result ≡ response_of_head to_head head content }
 {
-    let announced = announced_length_to_head(to_head, &head);
+    let announced = announced_length_in_answer_to_head(to_head, &head);
     let StatusHead {
         status,
         minor: _,
@@ -61,7 +62,7 @@ fn response_of_head(
     } = head;
     Response {
         status,
-        fields: without_lengths(fields),
+        fields: without_length_fields(fields),
         content: content_bytes_of(alloc, content),
         announced,
     }
@@ -75,12 +76,12 @@ fn skip_interim(
 ) -> Result<FinalHead, AllocError>
     requires { head_length ≡ head_length_of (take most_head_bytes bytes.now) }
     ensures final_head { IfOk result (FinalHeadIsFound bytes.now) }
-    ensures memory_last { OnErr result (FinalHeadStands bytes.now) }
+    ensures memory_last { OnErr result (FinalHeadFollowsInterimResponses bytes.now) }
 {
     let mut at = 0;
     let mut next = head_length;
     loop {
-        let rest = rest_from(bytes, at);
+        let rest = bytes_from_index(bytes, at);
         let Some(n) = next else {
             return Ok(FinalHead::Incomplete(at));
         };
@@ -88,7 +89,7 @@ fn skip_interim(
         match judge_head::<ResponseSpans>(alloc, head)? {
             Judged::Interim => {
                 at += n;
-                next = head_length_within(rest_from(bytes, at), MOST_HEAD_BYTES);
+                next = head_length_within(bytes_from_index(bytes, at), MOST_HEAD_BYTES);
             }
             Judged::Final(head) => return Ok(FinalHead::Complete(head, at + n)),
             Judged::Faulty(fault) => return Ok(FinalHead::Faulty(fault)),
@@ -97,10 +98,13 @@ fn skip_interim(
 }
 
 /// Where no head ends within the limit behind the interim responses, which take `at` bytes.
-fn progress_without_head(rest: &Rest<'_>, at: usize) -> HeadProgress<StatusHead, Response>
+fn progress_without_head(
+    rest: &UnreadStreamBytes<'_>,
+    at: usize,
+) -> HeadProgress<StatusHead, Response>
     requires within { at ≤ length rest.now.bytes.now }
     requires open { FinalHeadIsFound rest.now.bytes.now (final_head.Incomplete at) }
-    ensures { (to_head : Bool) → IsHeadProgress rest.now.max_body to_head rest.now.ended rest.now.bytes.now result }
+    ensures { (to_head : Bool) → IsProgressOfBytes rest.now.max_body to_head rest.now.ended rest.now.bytes.now result }
 {
     if rest.bytes.len() - at > MOST_HEAD_BYTES {
         HeadProgress::Faulty(FrameFault::Head)
@@ -114,7 +118,7 @@ fn progress_without_head(rest: &Rest<'_>, at: usize) -> HeadProgress<StatusHead,
 /// Behind a final head, which ends at `at`.
 fn with_framing(
     alloc: Global,
-    rest: &Rest<'_>,
+    rest: &UnreadStreamBytes<'_>,
     to_head: bool,
     at: usize,
     head: StatusHead,
@@ -122,11 +126,17 @@ fn with_framing(
 ) -> Result<HeadProgress<StatusHead, Response>, AllocError>
     requires final_head { FinalHeadIsFound rest.now.bytes.now (final_head.Complete head at) }
     requires framing { framing_of_response rest.now.max_body to_head head ≡ Ok framing }
-    ensures progress { IfOk result (IsHeadProgress rest.now.max_body to_head rest.now.ended rest.now.bytes.now) }
-    ensures memory_last { OnErr result (FinalHeadStands rest.now.bytes.now) }
+    ensures progress { IfOk result (IsProgressOfBytes rest.now.max_body to_head rest.now.ended rest.now.bytes.now) }
+    ensures memory_last { OnErr result (FinalHeadFollowsInterimResponses rest.now.bytes.now) }
 {
     let mut content = Content::begun(alloc, rest.max_body, framing);
-    match content.read(alloc, rest.ended, rest.ended, rest_from(rest.bytes, at), 0)? {
+    match content.read(
+        alloc,
+        rest.ended,
+        rest.ended,
+        bytes_from_index(rest.bytes, at),
+        0,
+    )? {
         ContentProgress::Incomplete(n) => Ok(HeadProgress::InContent(head, content, at + n)),
         ContentProgress::Faulty(fault) => Ok(HeadProgress::Faulty(fault)),
         ContentProgress::Whole(content, n) => {
@@ -138,13 +148,13 @@ fn with_framing(
 /// What stands at the front of the unread bytes. The first head takes `head_length` of them.
 fn read_response(
     alloc: Global,
-    rest: &Rest<'_>,
+    rest: &UnreadStreamBytes<'_>,
     to_head: bool,
     head_length: Option<usize>,
 ) -> Result<HeadProgress<StatusHead, Response>, AllocError>
     requires { head_length ≡ head_length_of (take most_head_bytes rest.now.bytes.now) }
-    ensures progress { IfOk result (IsHeadProgress rest.now.max_body to_head rest.now.ended rest.now.bytes.now) }
-    ensures memory_last { OnErr result (FinalHeadStands rest.now.bytes.now) }
+    ensures progress { IfOk result (IsProgressOfBytes rest.now.max_body to_head rest.now.ended rest.now.bytes.now) }
+    ensures memory_last { OnErr result (FinalHeadFollowsInterimResponses rest.now.bytes.now) }
 {
     match skip_interim(alloc, rest.bytes, head_length)? {
         FinalHead::Incomplete(at) => Ok(progress_without_head(rest, at)),
@@ -167,7 +177,7 @@ impl MessageHead for StatusHead {
 
     fn read_next_head(
         alloc: Global,
-        rest: &Rest<'_>,
+        rest: &UnreadStreamBytes<'_>,
         to_head: bool,
         head_length: Option<usize>,
     ) -> Result<HeadProgress<StatusHead, Response>, AllocError> {

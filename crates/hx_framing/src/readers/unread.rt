@@ -5,9 +5,9 @@
 ghost use Rattle.std.specs.Prelude.{◌≡◌, ◌≤◌, ◌++◌, [], IsOk, OnOk, IfOk, OnErr, length, drop};
 
 use crate::contents::content::{Content, ContentProgress};
-use crate::heads::head_end::{HeadSearch, Searched, search_head};
+use crate::heads::head_end::{HeadSearch, HeadSearchResult, search_head_end};
 use crate::limits::MOST_HEAD_BYTES;
-use crate::slices::{first_bytes, rest_from};
+use crate::slices::{bytes_from_index, first_bytes};
 use std::alloc::{AllocError, Global};
 use std::marker::Model;
 
@@ -27,14 +27,14 @@ impl Model for Unread {
     ghost use Rattle.hx_framing.specs.ChunkGrammar.{has_no_lf};
     ghost use Rattle.hx_framing.specs.HeadEnd.{most_head_bytes};
     ghost use Rattle.hx_framing.specs.Queue.{ByteQueue};
-    ghost use Rattle.hx_framing.specs.Searching.{SearchReaches};
+    ghost use Rattle.hx_framing.specs.Searching.{NoHeadEndsBeforeSearch};
 
     ghost Value = { ByteQueue };
 
     ghost view = { λ u. record { items = drop u.taken u.bytes.items; spare = vec_capacity u.bytes - vec_len u.bytes } };
 
     ghost invariant = { λ u. (u.taken + u.taken ≤ vec_len u.bytes)
-        × SearchReaches (take most_head_bytes (drop u.taken u.bytes.items)) u.search
+        × NoHeadEndsBeforeSearch (take most_head_bytes (drop u.taken u.bytes.items)) u.search
         × (u.line ≤ length (drop u.taken u.bytes.items))
         × (has_no_lf (take u.line (drop u.taken u.bytes.items)) ≡ true) };
 }
@@ -42,13 +42,13 @@ impl Model for Unread {
 /// A search that has looked at nothing.
 const UNSEARCHED: HeadSearch = HeadSearch {
     at: 0,
-    in_lines: false,
+    is_past_empty_lines: false,
 };
 
 impl Unread {
     ghost use Rattle.std.specs.Prelude.{true, take};
     ghost use Rattle.hx_framing.specs.ChunkGrammar.{has_no_lf};
-    ghost use Rattle.hx_framing.specs.ContentReading.{ContentGoesOn};
+    ghost use Rattle.hx_framing.specs.ContentReading.{ContentIsReadFurther};
     ghost use Rattle.hx_framing.specs.HeadEnd.{head_length, most_head_bytes};
 
     pub(crate) fn new(alloc: Global) -> Unread
@@ -65,7 +65,7 @@ impl Unread {
     pub(crate) fn as_slice(&self) -> &[u8]
         ensures { result.now ≡ self.now.items }
     {
-        rest_from(self.bytes.as_slice(), self.taken)
+        bytes_from_index(self.bytes.as_slice(), self.taken)
     }
 
     pub(crate) fn len(&self) -> usize
@@ -133,12 +133,12 @@ impl Unread {
         ensures same { self.new ≡ self.old }
     {
         let front = first_bytes(
-            rest_from(self.bytes.as_slice(), self.taken),
+            bytes_from_index(self.bytes.as_slice(), self.taken),
             MOST_HEAD_BYTES,
         );
-        match search_head(front, self.search) {
-            Searched::Ended(n) => Some(n),
-            Searched::Open(search) => {
+        match search_head_end(front, self.search) {
+            HeadSearchResult::Ended(n) => Some(n),
+            HeadSearchResult::Open(search) => {
                 self.search = search;
                 None
             }
@@ -162,7 +162,8 @@ impl Unread {
         closed: bool,
     ) -> Result<ContentProgress, AllocError>
         ensures reads { IfOk result
-            (λ progress. ContentGoesOn ended closed self.old.items content.old progress content.new self.new.items) }
+            (λ progress. ContentIsReadFurther ended closed self.old.items content.old progress content.new
+            self.new.items) }
         ensures room { self.old.spare ≤ self.new.spare }
         ensures err { OnErr result (self.new ≡ self.old) }
         ensures err_content { OnErr result (content.new ≡ content.old) }
@@ -170,7 +171,7 @@ impl Unread {
         match content.read(alloc, ended, closed, self.as_slice(), self.searched())? {
             ContentProgress::Incomplete(n) => {
                 self.take_front(n);
-                self.note_open_line();
+                self.note_no_line_feed();
                 Ok(ContentProgress::Incomplete(n))
             }
             ContentProgress::Faulty(fault) => Ok(ContentProgress::Faulty(fault)),
@@ -182,7 +183,7 @@ impl Unread {
     }
 
     /// Remembers that the bytes hold no LF.
-    pub(crate) fn note_open_line(&mut self)
+    pub(crate) fn note_no_line_feed(&mut self)
         requires { has_no_lf self.old.items ≡ true }
         ensures { self.new ≡ self.old }
     {

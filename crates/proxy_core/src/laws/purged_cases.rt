@@ -4,8 +4,9 @@
 ghost use Rattle.std.specs.Prelude.{◌≡◌, ◌∷◌, [], Some, codes, negsuc, pos, true};
 ghost use Rattle.hx_policy.specs.Policies.{plain};
 ghost use Rattle.hx_reuse.specs.declared.rule.ReuseRule.TheVariants.{MustRevalidate, NoMaxStale};
-ghost use Rattle.proxy_core.specs.Cases.{first_stored, forwarded_on_stale, get_a_with, purged_at, stale_with};
-ghost use Rattle.proxy_core.specs.Cases.{stored_at_once, wait_for_stale_policy};
+ghost use Rattle.proxy_core.specs.Cases.{stored_from_first_answer, exchange_forwarded_on_stale, get_a_with, purged_at};
+ghost use Rattle.proxy_core.specs.Cases.{stale_stored_with_directives};
+ghost use Rattle.proxy_core.specs.Cases.{stored_without_response_delay, wait_for_stale_policy};
 ghost use Rattle.proxy_core.specs.Awaiting.{leader_of_request};
 ghost use Rattle.proxy_core.specs.Replies.{ttl_of_stored};
 
@@ -14,14 +15,15 @@ ghost use Rattle.proxy_core.specs.Replies.{ttl_of_stored};
 /// purge came at once.
 #[tactic(auto, unfolding(hx_age::specs::Lifetime::lifetime_of))]
 pub fn worked_ttl_after_a_purge()
-    ensures not_purged { ttl_of_stored (plain true) first_stored 110 ≡ pos 50 }
-    ensures at_the_purge { ttl_of_stored (plain true) (purged_at 110 first_stored) 110 ≡ pos 0 }
-    ensures later { ttl_of_stored (plain true) (purged_at 110 first_stored) 130 ≡ negsuc 19 }
-    ensures awaited { leader_of_request wait_for_stale_policy (purged_at 110 first_stored ∷ [])
-        (forwarded_on_stale ∷ []) (get_a_with []) NoMaxStale ≡ Some 1 }
-    ensures awaited_at_once { leader_of_request wait_for_stale_policy (purged_at 101 (stored_at_once first_stored) ∷ [])
-        (forwarded_on_stale ∷ []) (get_a_with []) NoMaxStale ≡ Some 1 }
+    ensures not_purged { ttl_of_stored (plain true) stored_from_first_answer 110 ≡ pos 50 }
+    ensures at_the_purge { ttl_of_stored (plain true) (purged_at 110 stored_from_first_answer) 110 ≡ pos 0 }
+    ensures later { ttl_of_stored (plain true) (purged_at 110 stored_from_first_answer) 130 ≡ negsuc 19 }
+    ensures awaited { leader_of_request wait_for_stale_policy (purged_at 110 stored_from_first_answer ∷ [])
+        (exchange_forwarded_on_stale ∷ []) (get_a_with []) NoMaxStale ≡ Some 1 }
+    ensures awaited_at_once { leader_of_request wait_for_stale_policy
+        (purged_at 101 (stored_without_response_delay stored_from_first_answer) ∷ [])
+        (exchange_forwarded_on_stale ∷ []) (get_a_with []) NoMaxStale ≡ Some 1 }
     ensures never_sent_stale { leader_of_request wait_for_stale_policy
-        (purged_at 101 (stored_at_once (stale_with (codes "max-age=10, must-revalidate"))) ∷ [])
-        (forwarded_on_stale ∷ []) (get_a_with []) MustRevalidate ≡ Some 1 }
+        (purged_at 101 (stored_without_response_delay (stale_stored_with_directives (codes "max-age=10, must-revalidate"))) ∷ [])
+        (exchange_forwarded_on_stale ∷ []) (get_a_with []) MustRevalidate ≡ Some 1 }
 {}

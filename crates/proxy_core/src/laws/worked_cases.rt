@@ -6,7 +6,7 @@ ghost use Rattle.std.specs.Prelude.{negsuc};
 ghost use Rattle.hx_policy.specs.Policies.{plain};
 ghost use Rattle.hx_fields.specs.Examples.{line};
 ghost use Rattle.hx_allow.specs.declared.verdicts.Verdict.TheVariants as verdict;
-ghost use Rattle.hx_allow.specs.Matching.{over_line};
+ghost use Rattle.hx_allow.specs.Matching.{route_over};
 ghost use Rattle.hx_store.specs.Shelf.{serials};
 ghost use Rattle.hx_reuse.specs.declared.decision.Decision.TheVariants as decision;
 ghost use Rattle.hx_reuse.specs.declared.rule.ReuseRule.TheVariants.{UriMiss, VaryMiss, ResponseNoCache};
@@ -25,48 +25,59 @@ ghost use Rattle.proxy_core.specs.declared.open.stage.Stage.TheVariants.{Waiting
 ghost use Rattle.proxy_core.specs.declared.core_fault.CoreFault.TheVariants.{IdTaken, UnknownId, MomentTooLate};
 ghost use Rattle.proxy_core.specs.declared.core_fault.CoreFault.TheVariants.{NotForwarded, NotReady, NotWaiting};
 ghost use Rattle.hx_storable.specs.declared.rule.StoreRule.TheVariants.{NothingToReuse};
-ghost use Rattle.proxy_core.specs.Replies.{passed_answer_text, refusal_reply_text, stored_text, ttl_of_stored};
+ghost use Rattle.proxy_core.specs.Replies.{passed_answer_text, refusal_reply_text, stored_reply_text, ttl_of_stored};
 ghost use Rattle.proxy_core.specs.Storing.{answer_invalidates, is_storable, is_304_without_condition};
-ghost use Rattle.proxy_core.specs.Storing.{stored_response_made, replaced_by, storing_rule_to_explain};
+ghost use Rattle.proxy_core.specs.Storing.{stored_response_made, serials_replaced_by_storing, storing_rule_to_explain};
 ghost use Rattle.proxy_core.specs.Validating.{condition_about_stored, stored_response_is_answered};
 ghost use Rattle.proxy_core.specs.Validating.{freshened_may_be_kept, is_304_to_own_conditions, freshened_by_304};
 ghost use Rattle.hx_validate.specs.Cases.{many_lines};
 ghost use Rattle.proxy_core.specs.Awaiting.{leader_of_request};
-ghost use Rattle.proxy_core.specs.Outcomes.{outcome_of_answer, outcome_of_arrival, hit_status_info, fallback_for};
+ghost use Rattle.proxy_core.specs.Outcomes.{outcome_of_answer, outcome_of_arrival, hit_status_info};
+ghost use Rattle.proxy_core.specs.Outcomes.{fallback_for_failed_answer};
 ghost use Rattle.proxy_core.specs.Outcomes.{fault_at_exchange, forwarded_status_info};
 ghost use Rattle.proxy_core.specs.Outcomes.{is_error_status, outcome_of_passing_on_or_stale, outcome_of_refusal};
 ghost use Rattle.proxy_core.specs.Outcomes.{outcome_after_origin, outcome_of_purge};
 ghost use Rattle.proxy_core.specs.Outcomes.{serials_removed_by_answer, outcome_of_sending_freshened, outcome_of_wake};
 ghost use Rattle.proxy_core.specs.State.{next_serial_after, serial_after_this, open_exchanges_after};
 ghost use Rattle.proxy_core.specs.State.{serials_removed_by_outcome, serial_stored_by_outcome, entries_after_storing};
-ghost use Rattle.proxy_core.specs.State.{cut_where_touched};
+ghost use Rattle.proxy_core.specs.State.{evicted_if_stored_or_used};
 ghost use Rattle.proxy_core.specs.State.{serial_used_by_outcome};
 ghost use Rattle.proxy_core.specs.State.{entries_after_use};
-ghost use Rattle.proxy_core.specs.Cases.{response_with, revalidates_e, request_for, get_a_with_authorization};
-ghost use Rattle.proxy_core.specs.Cases.{reply_bytes, connection_field, cache_control};
-ghost use Rattle.proxy_core.specs.Cases.{keeps_conditions_policy, get_a_with_cookie, lifetime_most_15_policy};
-ghost use Rattle.proxy_core.specs.Cases.{private_lifetime_policy, get_a_by_scheme, varied_by_scheme, varying_table};
-ghost use Rattle.proxy_core.specs.Cases.{set_cookie_field, date_101, explains_storing_policy, first_answer_fields};
-ghost use Rattle.proxy_core.specs.Cases.{first_stored, get_a_with, lifetime_60_policy, head_of_a};
-ghost use Rattle.proxy_core.specs.Cases.{key_of_path, wait_for_stale_policy, lines_of_304, no_cookies_policy};
-ghost use Rattle.proxy_core.specs.Cases.{no_errors_policy, forwarded_over_line_2, post_exchange};
-ghost use Rattle.proxy_core.specs.Cases.{forwarded_on_stale, accept_language, stored_without_lifetime, stored_with};
-ghost use Rattle.proxy_core.specs.Cases.{table, table_with_policy, three_held, etag_field};
-ghost use Rattle.proxy_core.specs.Cases.{vary_field, waiting, forwarded_on_miss, forwarded_on_stale_by, stale_with};
-ghost use Rattle.proxy_core.specs.Cases.{stale_held, get_a_if_changed, get_a_with_no_cache, get_a_with_no_store};
+ghost use Rattle.proxy_core.specs.Cases.{response_with, exchange_that_revalidates_e, request_for_path};
+ghost use Rattle.proxy_core.specs.Cases.{get_a_with_authorization};
+ghost use Rattle.proxy_core.specs.Cases.{bytes_of_reply_outcome, connection_field, cache_control};
+ghost use Rattle.proxy_core.specs.Cases.{keeps_conditions_policy, get_a_with_cookie, lifetime_at_most_15_policy};
+ghost use Rattle.proxy_core.specs.Cases.{lifetime_60_but_not_to_cookies_policy, get_a_by_scheme};
+ghost use Rattle.proxy_core.specs.Cases.{over_line_varying_by_scheme, table_varying_by_scheme};
+ghost use Rattle.proxy_core.specs.Cases.{set_cookie_field, date_at_101, explains_storing_policy, first_answer_fields};
+ghost use Rattle.proxy_core.specs.Cases.{stored_from_first_answer, get_a_with, lifetime_60_policy, head_request_for_a};
+ghost use Rattle.proxy_core.specs.Cases.{key_of_path, wait_for_stale_policy, lines_of_304, stores_no_cookies_policy};
+ghost use Rattle.proxy_core.specs.Cases.{stores_no_errors_policy, exchange_forwarded_over_line_2, post_exchange};
+ghost use Rattle.proxy_core.specs.Cases.{exchange_forwarded_on_stale, accept_language, stored_without_lifetime};
+ghost use Rattle.proxy_core.specs.Cases.{stored_with};
+ghost use Rattle.proxy_core.specs.Cases.{table, table_with_policy, three_held_responses, etag_field};
+ghost use Rattle.proxy_core.specs.Cases.{vary_field, waiting, forwarded_on_miss, exchange_forwarded_on_stale_by};
+ghost use Rattle.proxy_core.specs.Cases.{stale_stored_with_directives};
+ghost use Rattle.proxy_core.specs.Cases.{held_with_lifetime_10, get_a_if_changed, get_a_with_no_cache};
+ghost use Rattle.proxy_core.specs.Cases.{get_a_with_no_store};
 
 /// The stored response of the first run at 130: whole, to HEAD, and to a client that has it (RFC
 /// 9110, section 15.4.5); one that a 304 validated (RFC 9211, section 2.3); one of status 204 (RFC
 /// 9110, section 8.6).
 pub fn worked_stored_replies()
-    ensures whole { stored_text (codes "edge") first_stored 130 (hit_status_info (plain true)) (get_a_with []) ≡ codes "HTTP/1.1 200 \r\nDate: Thu, 01 Jan 1970 00:01:41 GMT\r\nCache-Control: max-age=60\r\nETag: \"v1\"\r\nAge: 30\r\nCache-Status: edge;hit;ttl=30\r\nContent-Length: 2\r\n\r\nhi" }
-    ensures to_head { stored_text (codes "edge") first_stored 130 (hit_status_info (plain true)) head_of_a ≡ codes "HTTP/1.1 200 \r\nDate: Thu, 01 Jan 1970 00:01:41 GMT\r\nCache-Control: max-age=60\r\nETag: \"v1\"\r\nAge: 30\r\nCache-Status: edge;hit;ttl=30\r\nContent-Length: 2\r\n\r\n" }
-    ensures has_it { stored_text (codes "edge") first_stored 130 (hit_status_info (plain true))
+    ensures whole { stored_reply_text (codes "edge") stored_from_first_answer 130 (hit_status_info (plain true))
+        (get_a_with [])
+        ≡ codes "HTTP/1.1 200 \r\nDate: Thu, 01 Jan 1970 00:01:41 GMT\r\nCache-Control: max-age=60\r\nETag: \"v1\"\r\nAge: 30\r\nCache-Status: edge;hit;ttl=30\r\nContent-Length: 2\r\n\r\nhi" }
+    ensures to_head { stored_reply_text (codes "edge") stored_from_first_answer 130
+        (hit_status_info (plain true)) head_request_for_a
+        ≡ codes "HTTP/1.1 200 \r\nDate: Thu, 01 Jan 1970 00:01:41 GMT\r\nCache-Control: max-age=60\r\nETag: \"v1\"\r\nAge: 30\r\nCache-Status: edge;hit;ttl=30\r\nContent-Length: 2\r\n\r\n" }
+    ensures has_it { stored_reply_text (codes "edge") stored_from_first_answer 130 (hit_status_info (plain true))
         (get_a_with (line (codes "If-None-Match") (codes "W/\"v1\"") ∷ [])) ≡ codes "HTTP/1.1 304 \r\nDate: Thu, 01 Jan 1970 00:01:41 GMT\r\nCache-Control: max-age=60\r\nETag: \"v1\"\r\nAge: 30\r\nCache-Status: edge;hit;ttl=30\r\n\r\n" }
-    ensures validated { stored_text (codes "edge") first_stored 130
-        (forwarded_status_info (plain true) (revalidates_e (get_a_with [])) (Some 304) None) (get_a_with [])
+    ensures validated { stored_reply_text (codes "edge") stored_from_first_answer 130
+        (forwarded_status_info (plain true) (exchange_that_revalidates_e (get_a_with [])) (Some 304) None)
+        (get_a_with [])
         ≡ codes "HTTP/1.1 200 \r\nDate: Thu, 01 Jan 1970 00:01:41 GMT\r\nCache-Control: max-age=60\r\nETag: \"v1\"\r\nAge: 30\r\nCache-Status: edge;fwd=stale;fwd-status=304;ttl=30;detail=no-lifetime\r\nContent-Length: 2\r\n\r\nhi" }
-    ensures no_content { stored_text (codes "edge") (record (stored_with 1
+    ensures no_content { stored_reply_text (codes "edge") (record (stored_with 1
         (cache_control (codes "max-age=60") ∷ [])) { status = 204; content = [] }) 102 (hit_status_info (plain true))
         (get_a_with [])
         ≡ codes "HTTP/1.1 204 \r\nCache-Control: max-age=60\r\nAge: 2\r\nCache-Status: edge;hit;ttl=58\r\n\r\n" }
@@ -80,12 +91,13 @@ pub fn worked_passed_answers()
         (response_with 200 first_answer_fields) 101 true None
         ≡ codes "HTTP/1.1 200 \r\nDate: Thu, 01 Jan 1970 00:01:41 GMT\r\nCache-Control: max-age=60\r\nETag: \"v1\"\r\nCache-Status: edge;fwd=uri-miss;ttl=59;stored\r\nContent-Length: 2\r\n\r\nhi" }
     ensures not_stored { passed_answer_text (plain true) (codes "edge") (forwarded_on_miss (get_a_with []))
-        (response_with 200 (date_101 ∷ [])) 101 false
+        (response_with 200 (date_at_101 ∷ [])) 101 false
         None ≡ codes "HTTP/1.1 200 \r\nDate: Thu, 01 Jan 1970 00:01:41 GMT\r\nCache-Status: edge;fwd=uri-miss\r\nContent-Length: 2\r\n\r\nhi" }
-    ensures to_head { passed_answer_text (plain true) (codes "edge") (forwarded_on_miss head_of_a)
-        (record (response_with 200 (date_101 ∷ [])) { content = []; announced = Some 6 }) 101 false None ≡ codes "HTTP/1.1 200 \r\nDate: Thu, 01 Jan 1970 00:01:41 GMT\r\nCache-Status: edge;fwd=uri-miss\r\nContent-Length: 6\r\n\r\n" }
-    ensures to_head_of_unknown_length { passed_answer_text (plain true) (codes "edge") (forwarded_on_miss head_of_a)
-        (record (response_with 200 (date_101 ∷ [])) { content = [] }) 101 false None
+    ensures to_head { passed_answer_text (plain true) (codes "edge") (forwarded_on_miss head_request_for_a)
+        (record (response_with 200 (date_at_101 ∷ [])) { content = []; announced = Some 6 }) 101 false None ≡ codes "HTTP/1.1 200 \r\nDate: Thu, 01 Jan 1970 00:01:41 GMT\r\nCache-Status: edge;fwd=uri-miss\r\nContent-Length: 6\r\n\r\n" }
+    ensures to_head_of_unknown_length { passed_answer_text (plain true) (codes "edge")
+        (forwarded_on_miss head_request_for_a)
+        (record (response_with 200 (date_at_101 ∷ [])) { content = [] }) 101 false None
         ≡ codes "HTTP/1.1 200 \r\nDate: Thu, 01 Jan 1970 00:01:41 GMT\r\nCache-Status: edge;fwd=uri-miss\r\n\r\n" }
     ensures kept { passed_answer_text keeps_conditions_policy (codes "edge")
         (forwarded_on_miss (get_a_with (line (codes "If-None-Match") (codes "\"v1\"")
@@ -96,11 +108,11 @@ pub fn worked_passed_answers()
         ∷ []))) (response_with 200 first_answer_fields) 101 true None
         ≡ codes "HTTP/1.1 200 \r\nDate: Thu, 01 Jan 1970 00:01:41 GMT\r\nCache-Control: max-age=60\r\nETag: \"v1\"\r\nCache-Status: edge;fwd=uri-miss;ttl=59;stored\r\nContent-Length: 2\r\n\r\nhi" }
     ensures kept_and_not_stored { passed_answer_text keeps_conditions_policy (codes "edge")
-        (forwarded_on_miss (get_a_with (line (codes "If-None-Match") (codes "*") ∷ []))) (response_with 200 (date_101
+        (forwarded_on_miss (get_a_with (line (codes "If-None-Match") (codes "*") ∷ []))) (response_with 200 (date_at_101
         ∷ [])) 101 false None
         ≡ codes "HTTP/1.1 304 \r\nDate: Thu, 01 Jan 1970 00:01:41 GMT\r\nCache-Status: edge;fwd=uri-miss;fwd-status=200\r\n\r\n" }
     ensures kept_and_missing { passed_answer_text keeps_conditions_policy (codes "edge")
-        (forwarded_on_miss (get_a_with (line (codes "If-None-Match") (codes "*") ∷ []))) (response_with 404 (date_101
+        (forwarded_on_miss (get_a_with (line (codes "If-None-Match") (codes "*") ∷ []))) (response_with 404 (date_at_101
         ∷ [])) 101 false None
         ≡ codes "HTTP/1.1 404 \r\nDate: Thu, 01 Jan 1970 00:01:41 GMT\r\nCache-Status: edge;fwd=uri-miss\r\nContent-Length: 2\r\n\r\nhi" }
     ensures forwarded { passed_answer_text (plain true) (codes "edge")
@@ -113,7 +125,7 @@ pub fn worked_passed_answers()
 {}
 
 /// The statuses in whose place a stored response may be sent (RFC 5861, section 4), and others.
-pub fn statuses_of_errors()
+pub fn worked_error_statuses()
     ensures status_500 { is_error_status 500 ≡ true }
     ensures status_501 { is_error_status 501 ≡ false }
     ensures status_502 { is_error_status 502 ≡ true }
@@ -126,7 +138,7 @@ pub fn statuses_of_errors()
 
 /// A 304 that the client asked for and one that nobody did (RFC 9110, section 15.4.5); a 304
 /// validates where the proxy had asked.
-pub fn which_304_was_asked_for()
+pub fn worked_304_asked_for()
     ensures nobody { is_304_without_condition (plain true) (get_a_with []) (response_with 304 []) ≡ true }
     ensures by_tag { is_304_without_condition (plain true) (get_a_with (line (codes "If-None-Match") (codes "\"e\"") ∷ []))
         (response_with 304 []) ≡ false }
@@ -139,43 +151,45 @@ pub fn which_304_was_asked_for()
     ensures of_a_range { is_304_without_condition keeps_conditions_policy (get_a_with (line (codes "Range") (codes "bytes=0-1")
         ∷ line (codes "If-None-Match") (codes "\"e\"") ∷ [])) (response_with 304 []) ≡ false }
     ensures other_status { is_304_without_condition (plain true) (get_a_with []) (response_with 200 []) ≡ false }
-    ensures by_the_proxy { is_304_to_own_conditions (revalidates_e (get_a_with [])) (response_with 304 []) ≡ true }
+    ensures by_the_proxy { is_304_to_own_conditions (exchange_that_revalidates_e (get_a_with []))
+        (response_with 304 []) ≡ true }
     ensures not_by_the_proxy { is_304_to_own_conditions (forwarded_on_miss (get_a_with [])) (response_with 304 [])
         ≡ false }
-    ensures no_304 { is_304_to_own_conditions (revalidates_e (get_a_with [])) (response_with 200 []) ≡ false }
+    ensures no_304 { is_304_to_own_conditions (exchange_that_revalidates_e (get_a_with [])) (response_with 200 [])
+        ≡ false }
 {}
 
 /// An unsafe method that isn't refused invalidates, whatever it is called (RFC 9111, section 4.4;
 /// RFC 9110, section 9.2.1).
 pub fn worked_invalidating_answers()
-    ensures post { answer_invalidates (forwarded_on_miss (request_for (codes "POST") (codes "/a") []))
+    ensures post { answer_invalidates (forwarded_on_miss (request_for_path (codes "POST") (codes "/a") []))
         (response_with 200 []) ≡ true }
-    ensures unknown { answer_invalidates (forwarded_on_miss (request_for (codes "BREW") (codes "/a") []))
+    ensures unknown { answer_invalidates (forwarded_on_miss (request_for_path (codes "BREW") (codes "/a") []))
         (response_with 204 []) ≡ true }
-    ensures redirected { answer_invalidates (forwarded_on_miss (request_for (codes "DELETE") (codes "/a") []))
+    ensures redirected { answer_invalidates (forwarded_on_miss (request_for_path (codes "DELETE") (codes "/a") []))
         (response_with 399 []) ≡ true }
-    ensures by_a_304 { answer_invalidates (forwarded_on_miss (request_for (codes "DELETE") (codes "/a") []))
+    ensures by_a_304 { answer_invalidates (forwarded_on_miss (request_for_path (codes "DELETE") (codes "/a") []))
         (response_with 304 []) ≡ true }
-    ensures interim { answer_invalidates (forwarded_on_miss (request_for (codes "DELETE") (codes "/a") []))
+    ensures interim { answer_invalidates (forwarded_on_miss (request_for_path (codes "DELETE") (codes "/a") []))
         (response_with 199 []) ≡ false }
-    ensures refusal { answer_invalidates (forwarded_on_miss (request_for (codes "POST") (codes "/a") []))
+    ensures refusal { answer_invalidates (forwarded_on_miss (request_for_path (codes "POST") (codes "/a") []))
         (response_with 400 []) ≡ false }
-    ensures failed { answer_invalidates (forwarded_on_miss (request_for (codes "POST") (codes "/a") []))
+    ensures failed { answer_invalidates (forwarded_on_miss (request_for_path (codes "POST") (codes "/a") []))
         (response_with 503 []) ≡ false }
     ensures by_get { answer_invalidates (forwarded_on_miss (get_a_with [])) (response_with 200 []) ≡ false }
-    ensures by_head { answer_invalidates (forwarded_on_miss head_of_a) (response_with 200 []) ≡ false }
-    ensures options { answer_invalidates (forwarded_on_miss (request_for (codes "OPTIONS") (codes "/a") []))
+    ensures by_head { answer_invalidates (forwarded_on_miss head_request_for_a) (response_with 200 []) ≡ false }
+    ensures options { answer_invalidates (forwarded_on_miss (request_for_path (codes "OPTIONS") (codes "/a") []))
         (response_with 200 []) ≡ false }
-    ensures query { answer_invalidates (forwarded_on_miss (request_for (codes "QUERY") (codes "/a") []))
+    ensures query { answer_invalidates (forwarded_on_miss (request_for_path (codes "QUERY") (codes "/a") []))
         (response_with 200 []) ≡ false }
-    ensures trace { answer_invalidates (forwarded_on_miss (request_for (codes "TRACE") (codes "/a") []))
+    ensures trace { answer_invalidates (forwarded_on_miss (request_for_path (codes "TRACE") (codes "/a") []))
         (response_with 200 []) ≡ false }
 {}
 
 /// An answer to a GET of /a at 101, with something against it in each of the cases but `whole`,
 /// `tag_alone` and `lasts`.
 #[tactic(auto, unfolding(httpdate::proofs::OnLiterals::httpdate_on_literals, hx_storable::specs::Rules::storage_rule_of, hx_allow::specs::Matching::policy_of))]
-pub fn which_answers_are_stored()
+pub fn worked_storable_answers()
     ensures whole { is_storable table (forwarded_on_miss (get_a_with [])) (response_with 200 first_answer_fields) 101
         (Some 4) ≡ true }
     ensures lasts { is_storable table (forwarded_on_miss (get_a_with []))
@@ -196,7 +210,7 @@ pub fn which_answers_are_stored()
         (Some 4) ≡ false }
     ensures no_serial { is_storable table (forwarded_on_miss (get_a_with []))
         (response_with 200 first_answer_fields) 101 None ≡ false }
-    ensures without_cache { is_storable table forwarded_over_line_2 (response_with 200 first_answer_fields) 101
+    ensures without_cache { is_storable table exchange_forwarded_over_line_2 (response_with 200 first_answer_fields) 101
         (Some 4) ≡ false }
 {}
 
@@ -217,20 +231,24 @@ pub fn worked_stored_responses()
           content = codes "hi";
           times = record { date = 101; age_value = 5; request_time = 100; response_time = 102; expired = None };
         } }
-    ensures varied { (stored_response_made 4 (varied_by_scheme (forwarded_on_miss (get_a_by_scheme (codes "https"))))
+    ensures varied { (stored_response_made 4
+        (over_line_varying_by_scheme (forwarded_on_miss (get_a_by_scheme (codes "https"))))
         (response_with 200 (vary_field (codes "Accept-Language") ∷ first_answer_fields)) 102).nominated
         ≡ record { name = codes "Accept-Language"; value = None }
         ∷ record { name = codes "X-Forwarded-Proto"; value = Some (codes "https") } ∷ [] }
     ensures told_as_it_came { (stored_response_made 4
-        (varied_by_scheme (forwarded_on_miss (get_a_by_scheme (codes "https"))))
+        (over_line_varying_by_scheme (forwarded_on_miss (get_a_by_scheme (codes "https"))))
         (response_with 200 first_answer_fields) 102).fields ≡ first_answer_fields }
-    ensures other_scheme { replaced_by (stored_response_made 4
-        (varied_by_scheme (forwarded_on_miss (get_a_by_scheme (codes "https")))) (response_with 200 first_answer_fields) 102
+    ensures other_scheme { serials_replaced_by_storing (stored_response_made 4
+        (over_line_varying_by_scheme (forwarded_on_miss (get_a_by_scheme (codes "https"))))
+        (response_with 200 first_answer_fields) 102
         ∷ []) (get_a_by_scheme (codes "http")) ≡ [] }
-    ensures same_scheme { replaced_by (stored_response_made 4
-        (varied_by_scheme (forwarded_on_miss (get_a_by_scheme (codes "https")))) (response_with 200 first_answer_fields) 102
+    ensures same_scheme { serials_replaced_by_storing (stored_response_made 4
+        (over_line_varying_by_scheme (forwarded_on_miss (get_a_by_scheme (codes "https"))))
+        (response_with 200 first_answer_fields) 102
         ∷ []) (get_a_by_scheme (codes "https")) ≡ 4 ∷ [] }
-    ensures replaced { replaced_by three_held (get_a_with (accept_language (codes "de") ∷ [])) ≡ 3 ∷ [] }
+    ensures replaced { serials_replaced_by_storing three_held_responses (get_a_with (accept_language (codes "de")
+        ∷ [])) ≡ 3 ∷ [] }
     ensures stored { serial_stored_by_outcome (outcome_of_passing_on_or_stale table [] 101
         (forwarded_on_miss (get_a_with [])) (response_with 200 first_answer_fields) (Some 4) false
         (Refuses UriMiss None)) ≡ Some 4 }
@@ -252,42 +270,50 @@ pub fn worked_stored_responses_after_a_304()
     ensures asked_about { condition_about_stored (stored_with 3 (etag_field (codes "\"e\"") ∷ []))
         ≡ Some (record { serial = 3; sent = record { etag = Some (codes "\"e\""); modified = None } }) }
     ensures not_asked_about { condition_about_stored (stored_with 3 (cache_control (codes "max-age=60") ∷ [])) ≡ None }
-    ensures times { (freshened_by_304 (revalidates_e (get_a_with [])) (response_with 304 (date_101 ∷ [])) 105
+    ensures times { (freshened_by_304 (exchange_that_revalidates_e (get_a_with [])) (response_with 304 (date_at_101
+        ∷ [])) 105
         (stored_with 1 (etag_field (codes "\"e\"") ∷ []))).times
         ≡ record { date = 101; age_value = 0; request_time = 100; response_time = 105; expired = None } }
-    ensures varied { (freshened_by_304 (varied_by_scheme (revalidates_e (get_a_by_scheme (codes "https"))))
-        (response_with 304 (date_101 ∷ [])) 105
+    ensures varied { (freshened_by_304
+        (over_line_varying_by_scheme (exchange_that_revalidates_e (get_a_by_scheme (codes "https"))))
+        (response_with 304 (date_at_101 ∷ [])) 105
         (stored_with 1 (etag_field (codes "\"e\"") ∷ []))).nominated
         ≡ record { name = codes "X-Forwarded-Proto"; value = Some (codes "https") } ∷ [] }
-    ensures whole { freshened_may_be_kept table (revalidates_e (get_a_with [])) (response_with 304 []) first_stored
+    ensures whole { freshened_may_be_kept table (exchange_that_revalidates_e (get_a_with []))
+        (response_with 304 []) stored_from_first_answer
         ≡ true }
-    ensures to_head { freshened_may_be_kept table (revalidates_e head_of_a) (response_with 304 []) first_stored ≡ true }
-    ensures tag_alone { freshened_may_be_kept table (revalidates_e (get_a_with [])) (response_with 304 [])
+    ensures to_head { freshened_may_be_kept table (exchange_that_revalidates_e head_request_for_a)
+        (response_with 304 []) stored_from_first_answer ≡ true }
+    ensures tag_alone { freshened_may_be_kept table (exchange_that_revalidates_e (get_a_with [])) (response_with 304 [])
         (stored_with 1 (etag_field (codes "\"e\"") ∷ [])) ≡ true }
-    ensures neither { freshened_may_be_kept table (revalidates_e (get_a_with [])) (response_with 304 [])
+    ensures neither { freshened_may_be_kept table (exchange_that_revalidates_e (get_a_with [])) (response_with 304 [])
         (stored_with 1 []) ≡ false }
-    ensures star { freshened_may_be_kept table (revalidates_e (get_a_with [])) (response_with 304 [])
+    ensures star { freshened_may_be_kept table (exchange_that_revalidates_e (get_a_with [])) (response_with 304 [])
         (stored_with 1 (vary_field (codes "*") ∷ first_answer_fields)) ≡ false }
-    ensures for_one_connection { freshened_may_be_kept table (revalidates_e (get_a_with []))
+    ensures for_one_connection { freshened_may_be_kept table (exchange_that_revalidates_e (get_a_with []))
         (response_with 304 (connection_field (codes "ETag") ∷ []))
-        first_stored ≡ false }
-    ensures longer { freshened_may_be_kept table (revalidates_e (get_a_with [])) (response_with 304 [])
-        (record first_stored { content = codes "hi!" }) ≡ false }
-    ensures without_cache { freshened_may_be_kept table forwarded_over_line_2 (response_with 304 []) first_stored
+        stored_from_first_answer ≡ false }
+    ensures longer { freshened_may_be_kept table (exchange_that_revalidates_e (get_a_with [])) (response_with 304 [])
+        (record stored_from_first_answer { content = codes "hi!" }) ≡ false }
+    ensures without_cache { freshened_may_be_kept table exchange_forwarded_over_line_2
+        (response_with 304 []) stored_from_first_answer
         ≡ false }
-    ensures lines_96 { freshened_may_be_kept table (revalidates_e (get_a_with [])) (response_with 304 [])
+    ensures lines_96 { freshened_may_be_kept table (exchange_that_revalidates_e (get_a_with [])) (response_with 304 [])
         (stored_with 1 (etag_field (codes "\"e\"") ∷ many_lines 95)) ≡ true }
-    ensures lines_97 { freshened_may_be_kept table (revalidates_e (get_a_with [])) (response_with 304 [])
+    ensures lines_97 { freshened_may_be_kept table (exchange_that_revalidates_e (get_a_with [])) (response_with 304 [])
         (stored_with 1 (etag_field (codes "\"e\"") ∷ many_lines 96)) ≡ false }
-    ensures bytes { (value : List ℕ) → freshened_may_be_kept table (revalidates_e (get_a_with []))
+    ensures bytes { (value : List ℕ) → freshened_may_be_kept table (exchange_that_revalidates_e (get_a_with []))
         (response_with 304 [])
         (stored_with 1 (line (codes "X") value ∷ etag_field (codes "\"e\"") ∷ [])) ≡ nat_le (length value + 11) 32507 }
-    ensures kept { serials_removed_by_outcome (outcome_of_sending_freshened table (revalidates_e (get_a_with []))
-        (response_with 304 []) 105 first_stored) ≡ [] }
-    ensures release { serials_removed_by_outcome (outcome_of_sending_freshened table (revalidates_e (get_a_with []))
+    ensures kept { serials_removed_by_outcome
+        (outcome_of_sending_freshened table (exchange_that_revalidates_e (get_a_with []))
+        (response_with 304 []) 105 stored_from_first_answer) ≡ [] }
+    ensures release { serials_removed_by_outcome
+        (outcome_of_sending_freshened table (exchange_that_revalidates_e (get_a_with []))
         (response_with 304 []) 105
         (stored_with 1 (vary_field (codes "*") ∷ first_answer_fields))) ≡ 1 ∷ [] }
-    ensures too_many { serials_removed_by_outcome (outcome_of_sending_freshened table (revalidates_e (get_a_with []))
+    ensures too_many { serials_removed_by_outcome
+        (outcome_of_sending_freshened table (exchange_that_revalidates_e (get_a_with []))
         (response_with 304 []) 105
         (stored_with 1 (etag_field (codes "\"e\"") ∷ many_lines 96))) ≡ 1 ∷ [] }
 {}
@@ -313,49 +339,58 @@ pub fn worked_line_options_in_storing()
         (record stored_without_lifetime { status = 404 }) 110 ≡ negsuc 9 }
     ensures none_given { ttl_of_stored (plain true) stored_without_lifetime 110 ≡ negsuc 9 }
     ensures stated { ttl_of_stored lifetime_60_policy (stored_with 1 (cache_control (codes "max-age=20") ∷ [])) 110 ≡ pos 10 }
-    ensures at_most { ttl_of_stored lifetime_most_15_policy (stored_with 1 (cache_control (codes "max-age=31536000") ∷ [])) 110
+    ensures at_most { ttl_of_stored lifetime_at_most_15_policy (stored_with 1 (cache_control (codes "max-age=31536000") ∷ [])) 110
         ≡ pos 5 }
-    ensures for_one { is_storable (table_with_policy private_lifetime_policy) (forwarded_on_miss get_a_with_cookie)
+    ensures for_one { is_storable (table_with_policy lifetime_60_but_not_to_cookies_policy)
+        (forwarded_on_miss get_a_with_cookie)
         (response_with 200 []) 101 (Some 4) ≡ false }
-    ensures for_all { is_storable (table_with_policy private_lifetime_policy) (forwarded_on_miss (get_a_with []))
+    ensures for_all { is_storable (table_with_policy lifetime_60_but_not_to_cookies_policy)
+        (forwarded_on_miss (get_a_with []))
         (response_with 200 []) 101 (Some 4) ≡ true }
     ensures for_one_who_shares { is_storable (table_with_policy lifetime_60_policy)
         (forwarded_on_miss get_a_with_cookie) (response_with 200 []) 101 (Some 4) ≡ true }
-    ensures for_one_of_his_own { is_storable (table_with_policy private_lifetime_policy)
+    ensures for_one_of_his_own { is_storable (table_with_policy lifetime_60_but_not_to_cookies_policy)
         (forwarded_on_miss get_a_with_cookie) (response_with 200 (cache_control (codes "max-age=60") ∷ [])) 101
         (Some 4) ≡ true }
-    ensures freshened_for_one { freshened_may_be_kept (table_with_policy private_lifetime_policy)
-        (revalidates_e get_a_with_cookie) (response_with 304 []) (stored_with 1 (etag_field (codes "\"e\"") ∷ [])) ≡ false }
-    ensures freshened_for_all { freshened_may_be_kept (table_with_policy private_lifetime_policy)
-        (revalidates_e (get_a_with [])) (response_with 304 []) (stored_with 1 (etag_field (codes "\"e\"") ∷ [])) ≡ true }
-    ensures cookie_kept { freshened_may_be_kept table (revalidates_e (get_a_with [])) (response_with 304 [])
+    ensures freshened_for_one { freshened_may_be_kept (table_with_policy lifetime_60_but_not_to_cookies_policy)
+        (exchange_that_revalidates_e get_a_with_cookie) (response_with 304 [])
+        (stored_with 1 (etag_field (codes "\"e\"") ∷ [])) ≡ false }
+    ensures freshened_for_all { freshened_may_be_kept (table_with_policy lifetime_60_but_not_to_cookies_policy)
+        (exchange_that_revalidates_e (get_a_with [])) (response_with 304 []) (stored_with 1 (etag_field (codes "\"e\"")
+        ∷ [])) ≡ true }
+    ensures cookie_kept { freshened_may_be_kept table (exchange_that_revalidates_e (get_a_with []))
+        (response_with 304 [])
         (stored_with 1 (set_cookie_field ∷ first_answer_fields))
         ≡ true }
-    ensures cookie_not_kept { freshened_may_be_kept (table_with_policy no_cookies_policy)
-        (revalidates_e (get_a_with [])) (response_with 304 [])
+    ensures cookie_not_kept { freshened_may_be_kept (table_with_policy stores_no_cookies_policy)
+        (exchange_that_revalidates_e (get_a_with [])) (response_with 304 [])
         (stored_with 1 (set_cookie_field ∷ first_answer_fields)) ≡ false }
-    ensures without_cookie { freshened_may_be_kept (table_with_policy no_cookies_policy)
-        (revalidates_e (get_a_with [])) (response_with 304 []) first_stored
+    ensures without_cookie { freshened_may_be_kept (table_with_policy stores_no_cookies_policy)
+        (exchange_that_revalidates_e (get_a_with [])) (response_with 304 []) stored_from_first_answer
         ≡ true }
-    ensures error_kept { freshened_may_be_kept table (revalidates_e (get_a_with [])) (response_with 304 [])
-        (record first_stored { status = 503 })
-        ≡ true }
-    ensures error_not_kept { freshened_may_be_kept (table_with_policy no_errors_policy) (revalidates_e (get_a_with []))
+    ensures error_kept { freshened_may_be_kept table (exchange_that_revalidates_e (get_a_with []))
         (response_with 304 [])
-        (record first_stored { status = 503 }) ≡ false }
+        (record stored_from_first_answer { status = 503 })
+        ≡ true }
+    ensures error_not_kept { freshened_may_be_kept (table_with_policy stores_no_errors_policy)
+        (exchange_that_revalidates_e (get_a_with []))
+        (response_with 304 [])
+        (record stored_from_first_answer { status = 503 }) ≡ false }
 {}
 
 /// What is held is sent after a failure: what may be reused, what stale-if-error allows (RFC 5861,
 /// section 4), each by its word, or nothing, by the rules against it.
 #[tactic(auto, unfolding(hx_reuse::specs::ErrorRules::error_rule_on))]
-pub fn what_is_sent_after_a_failure()
-    ensures reusable { fallback_for (plain true) [] (get_a_with []) 130 (decision.Hit 1) ≡ Sends 1 ReuseAfterError }
-    ensures allowed { fallback_for (plain true) (stored_with 1 (cache_control (codes "max-age=10, stale-if-error=60") ∷ [])
+pub fn worked_fallbacks_after_failure()
+    ensures reusable { fallback_for_failed_answer (plain true) [] (get_a_with []) 130 (decision.Hit 1)
+        ≡ Sends 1 ReuseAfterError }
+    ensures allowed { fallback_for_failed_answer (plain true) (stored_with 1 (cache_control (codes "max-age=10, stale-if-error=60") ∷ [])
         ∷ []) (get_a_with []) 130 (decision.Forward NoMaxStale (Some 1)) ≡ Sends 1 StaleIfError }
-    ensures not_allowed { fallback_for (plain true) (stored_with 1 (cache_control (codes "max-age=10") ∷ [])
+    ensures not_allowed { fallback_for_failed_answer (plain true) (stored_with 1 (cache_control (codes "max-age=10") ∷ [])
         ∷ []) (get_a_with []) 130 (decision.Forward NoMaxStale (Some 1)) ≡ Refuses NoMaxStale
         (Some on_error.NoDirective) }
-    ensures nothing_held { fallback_for (plain true) [] (get_a_with []) 130 (decision.Forward UriMiss None)
+    ensures nothing_held { fallback_for_failed_answer (plain true) [] (get_a_with []) 130
+        (decision.Forward UriMiss None)
         ≡ Refuses UriMiss None }
 {}
 
@@ -365,19 +400,23 @@ pub fn worked_leaders_of_requests()
     ensures first { leader_of_request (plain true) [] (forwarded_on_miss (get_a_with []) ∷ record
         (forwarded_on_miss (get_a_with [])) { id = 2 } ∷ []) (get_a_with []) UriMiss
         ≡ Some 1 }
-    ensures a_head { leader_of_request (plain true) [] (forwarded_on_miss (get_a_with []) ∷ []) head_of_a UriMiss
+    ensures a_head { leader_of_request (plain true) [] (forwarded_on_miss (get_a_with [])
+        ∷ []) head_request_for_a UriMiss
         ≡ None }
     ensures another_rule { leader_of_request (plain true) [] (forwarded_on_miss (get_a_with []) ∷ [])
         (get_a_with []) VaryMiss ≡ None }
     ensures another_path { leader_of_request (plain true) [] (forwarded_on_miss (get_a_with []) ∷ [])
-        (request_for (codes "GET") (codes "/b") []) UriMiss
+        (request_for_path (codes "GET") (codes "/b") []) UriMiss
         ≡ None }
-    ensures behind_a_head { leader_of_request (plain true) [] (forwarded_on_miss head_of_a ∷ []) (get_a_with []) UriMiss
+    ensures behind_a_head { leader_of_request (plain true) [] (forwarded_on_miss head_request_for_a
+        ∷ []) (get_a_with []) UriMiss
         ≡ None }
-    ensures behind_another_rule { leader_of_request (plain true) [] (forwarded_on_stale ∷ []) (get_a_with []) UriMiss
+    ensures behind_another_rule { leader_of_request (plain true) [] (exchange_forwarded_on_stale
+        ∷ []) (get_a_with []) UriMiss
         ≡ None }
     ensures behind_one_that_waits { leader_of_request (plain true) [] (waiting ∷ []) (get_a_with []) UriMiss ≡ None }
-    ensures stale { leader_of_request (plain true) stale_held (forwarded_on_stale ∷ []) (get_a_with []) NoMaxStale
+    ensures stale { leader_of_request (plain true) held_with_lifetime_10 (exchange_forwarded_on_stale
+        ∷ []) (get_a_with []) NoMaxStale
         ≡ None }
     ensures behind_authorization { leader_of_request (plain true) [] (forwarded_on_miss get_a_with_authorization ∷ [])
         (get_a_with []) UriMiss ≡ Some 1 }
@@ -395,42 +434,48 @@ pub fn worked_leaders_of_requests()
 /// names the chosen response, whichever rule that is, where that had a lifetime, which is over.
 #[tactic(auto, unfolding(hx_age::specs::Lifetime::lifetime_of))]
 pub fn worked_leaders_for_stale_responses()
-    ensures first { leader_of_request wait_for_stale_policy stale_held (forwarded_on_stale
-        ∷ record forwarded_on_stale { id = 2 } ∷ []) (get_a_with []) NoMaxStale ≡ Some 1 }
+    ensures first { leader_of_request wait_for_stale_policy held_with_lifetime_10 (exchange_forwarded_on_stale
+        ∷ record exchange_forwarded_on_stale { id = 2 } ∷ []) (get_a_with []) NoMaxStale ≡ Some 1 }
     ensures must_revalidate { leader_of_request wait_for_stale_policy
-        (stale_with (codes "max-age=10, must-revalidate") ∷ []) (forwarded_on_stale ∷ []) (get_a_with []) MustRevalidate
+        (stale_stored_with_directives (codes "max-age=10, must-revalidate") ∷ []) (exchange_forwarded_on_stale ∷ []) (get_a_with []) MustRevalidate
         ≡ Some 1 }
-    ensures past_max_stale { leader_of_request wait_for_stale_policy stale_held (forwarded_on_stale ∷ [])
+    ensures past_max_stale { leader_of_request wait_for_stale_policy held_with_lifetime_10 (exchange_forwarded_on_stale
+        ∷ [])
         (get_a_with []) PastMaxStale ≡ Some 1 }
-    ensures max_age { leader_of_request wait_for_stale_policy stale_held (forwarded_on_stale ∷ [])
+    ensures max_age { leader_of_request wait_for_stale_policy held_with_lifetime_10 (exchange_forwarded_on_stale ∷ [])
         (get_a_with []) StaleMaxAge ≡ Some 1 }
-    ensures min_fresh { leader_of_request wait_for_stale_policy stale_held (forwarded_on_stale ∷ [])
+    ensures min_fresh { leader_of_request wait_for_stale_policy held_with_lifetime_10 (exchange_forwarded_on_stale ∷ [])
         (get_a_with []) StaleMinFresh ≡ Some 1 }
-    ensures behind_no_cache { leader_of_request wait_for_stale_policy stale_held
+    ensures behind_no_cache { leader_of_request wait_for_stale_policy held_with_lifetime_10
         (record (forwarded_on_miss get_a_with_no_cache) { rule = StaleNoCache; named = Some 1 } ∷ []) (get_a_with [])
         NoMaxStale ≡ Some 1 }
-    ensures stale_behind_missing { leader_of_request wait_for_stale_policy stale_held
+    ensures stale_behind_missing { leader_of_request wait_for_stale_policy held_with_lifetime_10
         (forwarded_on_miss (get_a_with []) ∷ []) (get_a_with []) NoMaxStale ≡ None }
-    ensures missing_behind_stale { leader_of_request wait_for_stale_policy [] (forwarded_on_stale ∷ [])
+    ensures missing_behind_stale { leader_of_request wait_for_stale_policy [] (exchange_forwarded_on_stale ∷ [])
         (get_a_with []) UriMiss ≡ None }
-    ensures no_lifetime { leader_of_request wait_for_stale_policy (stale_with (codes "must-revalidate") ∷ [])
-        (forwarded_on_stale ∷ []) (get_a_with []) MustRevalidate ≡ None }
+    ensures no_lifetime { leader_of_request wait_for_stale_policy (stale_stored_with_directives (codes "must-revalidate") ∷ [])
+        (exchange_forwarded_on_stale ∷ []) (get_a_with []) MustRevalidate ≡ None }
     ensures lifetime_of_0 { leader_of_request wait_for_stale_policy
-        (stale_with (codes "public, max-age=0, must-revalidate") ∷ []) (forwarded_on_stale ∷ []) (get_a_with [])
+        (stale_stored_with_directives (codes "public, max-age=0, must-revalidate") ∷ []) (exchange_forwarded_on_stale ∷ []) (get_a_with [])
         MustRevalidate ≡ None }
     ensures lifetime_of_the_line { leader_of_request (record wait_for_stale_policy { lifetime = Some 10 })
-        (stale_with (codes "must-revalidate") ∷ []) (forwarded_on_stale ∷ []) (get_a_with []) MustRevalidate ≡ Some 1 }
+        (stale_stored_with_directives (codes "must-revalidate") ∷ []) (exchange_forwarded_on_stale
+        ∷ []) (get_a_with []) MustRevalidate ≡ Some 1 }
     ensures never_stated { leader_of_request wait_for_stale_policy (stored_without_lifetime ∷ [])
-        (record forwarded_on_stale { rule = NoLifetime } ∷ []) (get_a_with []) NoLifetime ≡ None }
+        (record exchange_forwarded_on_stale { rule = NoLifetime } ∷ []) (get_a_with []) NoLifetime ≡ None }
     ensures asked_each_time { leader_of_request wait_for_stale_policy
-        (stale_with (codes "max-age=10, no-cache") ∷ []) (record forwarded_on_stale { rule = ResponseNoCache } ∷ [])
+        (stale_stored_with_directives (codes "max-age=10, no-cache")
+        ∷ []) (record exchange_forwarded_on_stale { rule = ResponseNoCache } ∷ [])
         (get_a_with []) ResponseNoCache ≡ None }
-    ensures stale_no_cache { leader_of_request wait_for_stale_policy stale_held (forwarded_on_stale ∷ [])
+    ensures stale_no_cache { leader_of_request wait_for_stale_policy held_with_lifetime_10 (exchange_forwarded_on_stale
+        ∷ [])
         get_a_with_no_cache StaleNoCache ≡ None }
-    ensures a_head { leader_of_request wait_for_stale_policy stale_held (forwarded_on_stale ∷ []) head_of_a NoMaxStale
+    ensures a_head { leader_of_request wait_for_stale_policy held_with_lifetime_10 (exchange_forwarded_on_stale
+        ∷ []) head_request_for_a NoMaxStale
         ≡ None }
-    ensures another_path { leader_of_request wait_for_stale_policy stale_held (forwarded_on_stale ∷ [])
-        (request_for (codes "GET") (codes "/b") []) NoMaxStale ≡ None }
+    ensures another_path { leader_of_request wait_for_stale_policy held_with_lifetime_10 (exchange_forwarded_on_stale
+        ∷ [])
+        (request_for_path (codes "GET") (codes "/b") []) NoMaxStale ≡ None }
 {}
 
 /// Over such a line a request waits for none whose answer could not be sent to it: not for one about
@@ -439,39 +484,42 @@ pub fn worked_leaders_for_stale_responses()
 /// is held from it.
 #[tactic(auto, unfolding(hx_age::specs::Lifetime::lifetime_of))]
 pub fn worked_requests_that_do_not_wait()
-    ensures another_variant { leader_of_request wait_for_stale_policy stale_held
-        (record forwarded_on_stale { named = Some 2 } ∷ []) (get_a_with []) NoMaxStale ≡ None }
-    ensures a_missing_variant { leader_of_request wait_for_stale_policy stale_held
+    ensures another_variant { leader_of_request wait_for_stale_policy held_with_lifetime_10
+        (record exchange_forwarded_on_stale { named = Some 2 } ∷ []) (get_a_with []) NoMaxStale ≡ None }
+    ensures a_missing_variant { leader_of_request wait_for_stale_policy held_with_lifetime_10
         (record (forwarded_on_miss (get_a_with [])) { rule = VaryMiss } ∷ []) (get_a_with []) VaryMiss ≡ None }
-    ensures behind_a_head { leader_of_request wait_for_stale_policy stale_held
-        (forwarded_on_stale_by head_of_a ∷ []) (get_a_with []) NoMaxStale ≡ None }
-    ensures behind_one_that_waits { leader_of_request wait_for_stale_policy stale_held
-        (record forwarded_on_stale { stage = Waiting 7 } ∷ []) (get_a_with []) NoMaxStale ≡ None }
-    ensures behind_one_released { leader_of_request wait_for_stale_policy stale_held
-        (record forwarded_on_stale { stage = Released } ∷ []) (get_a_with []) NoMaxStale ≡ None }
-    ensures behind_no_store { leader_of_request wait_for_stale_policy stale_held
-        (forwarded_on_stale_by get_a_with_no_store ∷ []) (get_a_with []) NoMaxStale ≡ None }
+    ensures behind_a_head { leader_of_request wait_for_stale_policy held_with_lifetime_10
+        (exchange_forwarded_on_stale_by head_request_for_a ∷ []) (get_a_with []) NoMaxStale ≡ None }
+    ensures behind_one_that_waits { leader_of_request wait_for_stale_policy held_with_lifetime_10
+        (record exchange_forwarded_on_stale { stage = Waiting 7 } ∷ []) (get_a_with []) NoMaxStale ≡ None }
+    ensures behind_one_released { leader_of_request wait_for_stale_policy held_with_lifetime_10
+        (record exchange_forwarded_on_stale { stage = Released } ∷ []) (get_a_with []) NoMaxStale ≡ None }
+    ensures behind_no_store { leader_of_request wait_for_stale_policy held_with_lifetime_10
+        (exchange_forwarded_on_stale_by get_a_with_no_store ∷ []) (get_a_with []) NoMaxStale ≡ None }
     ensures behind_a_condition { leader_of_request wait_for_stale_policy []
         (forwarded_on_miss get_a_if_changed ∷ []) (get_a_with []) UriMiss ≡ None }
     ensures behind_a_kept_condition { leader_of_request
         (record wait_for_stale_policy { forwards_conditions = false }) []
         (forwarded_on_miss get_a_if_changed ∷ []) (get_a_with []) UriMiss ≡ Some 1 }
-    ensures behind_a_condition_about_stale { leader_of_request wait_for_stale_policy stale_held
-        (forwarded_on_stale_by get_a_if_changed ∷ []) (get_a_with []) NoMaxStale ≡ None }
-    ensures behind_a_condition_of_the_proxy { leader_of_request wait_for_stale_policy stale_held
-        (record (revalidates_e get_a_if_changed) { rule = NoMaxStale } ∷ []) (get_a_with []) NoMaxStale ≡ Some 1 }
+    ensures behind_a_condition_about_stale { leader_of_request wait_for_stale_policy held_with_lifetime_10
+        (exchange_forwarded_on_stale_by get_a_if_changed ∷ []) (get_a_with []) NoMaxStale ≡ None }
+    ensures behind_a_condition_of_the_proxy { leader_of_request wait_for_stale_policy held_with_lifetime_10
+        (record (exchange_that_revalidates_e get_a_if_changed) { rule = NoMaxStale } ∷ []) (get_a_with []) NoMaxStale
+        ≡ Some 1 }
     ensures behind_one_overtaken { leader_of_request wait_for_stale_policy []
         (record (forwarded_on_miss (get_a_with [])) { overtaken = true } ∷ []) (get_a_with []) UriMiss ≡ None }
-    ensures behind_authorization { leader_of_request wait_for_stale_policy stale_held
-        (forwarded_on_stale_by get_a_with_authorization ∷ []) (get_a_with []) NoMaxStale ≡ None }
-    ensures with_authorization { leader_of_request wait_for_stale_policy stale_held (forwarded_on_stale ∷ [])
+    ensures behind_authorization { leader_of_request wait_for_stale_policy held_with_lifetime_10
+        (exchange_forwarded_on_stale_by get_a_with_authorization ∷ []) (get_a_with []) NoMaxStale ≡ None }
+    ensures with_authorization { leader_of_request wait_for_stale_policy held_with_lifetime_10
+        (exchange_forwarded_on_stale ∷ [])
         get_a_with_authorization NoMaxStale ≡ None }
-    ensures both_with_authorization { leader_of_request wait_for_stale_policy stale_held
-        (forwarded_on_stale_by get_a_with_authorization ∷ []) get_a_with_authorization NoMaxStale ≡ Some 1 }
+    ensures both_with_authorization { leader_of_request wait_for_stale_policy held_with_lifetime_10
+        (exchange_forwarded_on_stale_by get_a_with_authorization ∷ []) get_a_with_authorization NoMaxStale ≡ Some 1 }
     ensures both_with_authorization_at_a_miss { leader_of_request wait_for_stale_policy []
         (forwarded_on_miss get_a_with_authorization ∷ []) get_a_with_authorization UriMiss ≡ Some 1 }
-    ensures past_authorization { leader_of_request wait_for_stale_policy stale_held
-        (forwarded_on_stale_by get_a_with_authorization ∷ record forwarded_on_stale { id = 2 } ∷ []) (get_a_with [])
+    ensures past_authorization { leader_of_request wait_for_stale_policy held_with_lifetime_10
+        (exchange_forwarded_on_stale_by get_a_with_authorization ∷ record exchange_forwarded_on_stale { id = 2 }
+        ∷ []) (get_a_with [])
         NoMaxStale ≡ Some 2 }
     ensures missing { leader_of_request wait_for_stale_policy [] (forwarded_on_miss (get_a_with []) ∷ [])
         (get_a_with []) UriMiss ≡ Some 1 }
@@ -480,7 +528,7 @@ pub fn worked_requests_that_do_not_wait()
     ensures no_cache_that_is_not_heeded { leader_of_request (record wait_for_stale_policy { heeds_requests = false })
         [] (forwarded_on_miss (get_a_with []) ∷ []) get_a_with_no_cache UriMiss ≡ Some 1 }
     ensures no_cache_about_stale { leader_of_request wait_for_stale_policy
-        (stale_with (codes "max-age=10, must-revalidate") ∷ []) (forwarded_on_stale ∷ []) get_a_with_no_cache
+        (stale_stored_with_directives (codes "max-age=10, must-revalidate") ∷ []) (exchange_forwarded_on_stale ∷ []) get_a_with_no_cache
         MustRevalidate ≡ None }
 {}
 
@@ -515,13 +563,14 @@ pub fn worked_step_faults_and_serials()
 /// waited, when it is woken.
 #[tactic(auto, unfolding(hx_reuse::specs::Rules::decision_of, hx_reuse::specs::Rules::reuse_rule_of, hx_allow::specs::Matching::policy_of, hx_hop::specs::Forwarding::forwarded_of, httpdate::proofs::OnLiterals::httpdate_on_literals))]
 pub fn worked_outcomes_of_arrivals()
-    ensures denied { outcome_of_arrival table (first_stored ∷ []) [] 130 (get_a_with []) (verdict.DeniedBy 3)
+    ensures denied { outcome_of_arrival table (stored_from_first_answer
+        ∷ []) [] 130 (get_a_with []) (verdict.DeniedBy 3)
         ≡ outcome_of_refusal 130 (Denied 3) (get_a_with []) }
-    ensures unmatched { outcome_of_arrival table (first_stored ∷ []) [] 130 (get_a_with []) verdict.NoLine
+    ensures unmatched { outcome_of_arrival table (stored_from_first_answer ∷ []) [] 130 (get_a_with []) verdict.NoLine
         ≡ outcome_of_refusal 130 NoLine (get_a_with []) }
-    ensures looped { outcome_of_arrival table (first_stored ∷ []) [] 130 (get_a_with []) (verdict.Looped 3)
+    ensures looped { outcome_of_arrival table (stored_from_first_answer ∷ []) [] 130 (get_a_with []) (verdict.Looped 3)
         ≡ outcome_of_refusal 130 (Looped 3) (get_a_with []) }
-    ensures purges { outcome_of_arrival table (first_stored ∷ []) [] 130 (get_a_with []) (verdict.Purged 3)
+    ensures purges { outcome_of_arrival table (stored_from_first_answer ∷ []) [] 130 (get_a_with []) (verdict.Purged 3)
         ≡ Reply (record {
           bytes = codes "HTTP/1.1 204 \r\nDate: Thu, 01 Jan 1970 00:02:10 GMT\r\nPurged: 1\r\n\r\n";
           close = false;
@@ -534,30 +583,33 @@ pub fn worked_outcomes_of_arrivals()
         }) }
     ensures purges_nothing { serials_removed_by_outcome
         (outcome_of_arrival table [] [] 130 (get_a_with []) (verdict.Purged 3)) ≡ [] }
-    ensures hit { serial_used_by_outcome (outcome_of_arrival table (first_stored ∷ []) [] 130 (get_a_with [])
-        (verdict.Allowed (over_line 1))) ≡ Some 1 }
-    ensures stays { serials_removed_by_outcome (outcome_of_arrival table (first_stored ∷ []) [] 130 (get_a_with [])
-        (verdict.Allowed (over_line 1))) ≡ [] }
-    ensures without_cache { outcome_of_arrival table (first_stored ∷ []) [] 130 (get_a_with [])
-        (verdict.Allowed (over_line 2))
-        ≡ Forward (over_line 2) (codes "GET /a HTTP/1.1\r\nHost: h\r\nVia: 1.1 edge\r\nConnection: close\r\n\r\n") }
+    ensures hit { serial_used_by_outcome (outcome_of_arrival table (stored_from_first_answer
+        ∷ []) [] 130 (get_a_with [])
+        (verdict.Allowed (route_over 1))) ≡ Some 1 }
+    ensures stays { serials_removed_by_outcome (outcome_of_arrival table (stored_from_first_answer
+        ∷ []) [] 130 (get_a_with [])
+        (verdict.Allowed (route_over 1))) ≡ [] }
+    ensures without_cache { outcome_of_arrival table (stored_from_first_answer ∷ []) [] 130 (get_a_with [])
+        (verdict.Allowed (route_over 2))
+        ≡ Forward (route_over 2) (codes "GET /a HTTP/1.1\r\nHost: h\r\nVia: 1.1 edge\r\nConnection: close\r\n\r\n") }
     ensures validates { outcome_of_arrival table (stored_without_lifetime ∷ []) [] 130 (get_a_with [])
-        (verdict.Allowed (over_line 1)) ≡ Forward (over_line 1) (codes "GET /a HTTP/1.1\r\nHost: h\r\nIf-None-Match: \"e\"\r\nVia: 1.1 edge\r\nConnection: close\r\n\r\n") }
+        (verdict.Allowed (route_over 1)) ≡ Forward (route_over 1) (codes "GET /a HTTP/1.1\r\nHost: h\r\nIf-None-Match: \"e\"\r\nVia: 1.1 edge\r\nConnection: close\r\n\r\n") }
     ensures conditional { outcome_of_arrival table [] [] 130 (get_a_with (line (codes "If-None-Match") (codes "\"v0\"") ∷ []))
-        (verdict.Allowed (over_line 1)) ≡ Forward (over_line 1) (codes "GET /a HTTP/1.1\r\nHost: h\r\nIf-None-Match: \"v0\"\r\nVia: 1.1 edge\r\nConnection: close\r\n\r\n") }
+        (verdict.Allowed (route_over 1)) ≡ Forward (route_over 1) (codes "GET /a HTTP/1.1\r\nHost: h\r\nIf-None-Match: \"v0\"\r\nVia: 1.1 edge\r\nConnection: close\r\n\r\n") }
     ensures conditional_kept { outcome_of_arrival (table_with_policy keeps_conditions_policy) [] [] 130
-        (get_a_with (line (codes "If-None-Match") (codes "\"v0\"") ∷ [])) (verdict.Allowed (over_line 1))
-        ≡ Forward (over_line 1) (codes "GET /a HTTP/1.1\r\nHost: h\r\nVia: 1.1 edge\r\nConnection: close\r\n\r\n") }
+        (get_a_with (line (codes "If-None-Match") (codes "\"v0\"") ∷ [])) (verdict.Allowed (route_over 1))
+        ≡ Forward (route_over 1) (codes "GET /a HTTP/1.1\r\nHost: h\r\nVia: 1.1 edge\r\nConnection: close\r\n\r\n") }
     ensures waits { outcome_of_arrival table [] (forwarded_on_miss (get_a_with []) ∷ []) 130 (get_a_with [])
-        (verdict.Allowed (over_line 1)) ≡ Waits 1 }
+        (verdict.Allowed (route_over 1)) ≡ Waits 1 }
     ensures only_if_cached { outcome_of_arrival table [] [] 130
-        (get_a_with (cache_control (codes "only-if-cached") ∷ [])) (verdict.Allowed (over_line 1))
+        (get_a_with (cache_control (codes "only-if-cached") ∷ [])) (verdict.Allowed (route_over 1))
         ≡ outcome_of_refusal 130 (OnlyIfCached UriMiss) (get_a_with (cache_control (codes "only-if-cached") ∷ [])) }
-    ensures woken_hit { reply_bytes (outcome_of_wake table (first_stored ∷ []) 130 waiting (decision.Hit 1))
+    ensures woken_hit { bytes_of_reply_outcome (outcome_of_wake table (stored_from_first_answer
+        ∷ []) 130 waiting (decision.Hit 1))
         ≡ codes "HTTP/1.1 200 \r\nDate: Thu, 01 Jan 1970 00:01:41 GMT\r\nCache-Control: max-age=60\r\nETag: \"v1\"\r\nAge: 30\r\nCache-Status: edge;fwd=uri-miss;ttl=30;collapsed\r\nContent-Length: 2\r\n\r\nhi" }
     ensures woken_goes_forward { outcome_of_wake table (stored_without_lifetime ∷ []) 130 waiting
         (decision.Forward NoLifetime (Some 1))
-        ≡ Forward (over_line 1) (codes "GET /a HTTP/1.1\r\nHost: h\r\nIf-None-Match: \"e\"\r\nVia: 1.1 edge\r\nConnection: close\r\n\r\n") }
+        ≡ Forward (route_over 1) (codes "GET /a HTTP/1.1\r\nHost: h\r\nIf-None-Match: \"e\"\r\nVia: 1.1 edge\r\nConnection: close\r\n\r\n") }
 {}
 
 /// What an answer of the origin gives: a 304 sends the stored response that was revalidated, with
@@ -566,25 +618,26 @@ pub fn worked_outcomes_of_arrivals()
 /// a stored response is sent (RFC 5861, section 4).
 #[tactic(auto, unfolding(hx_hop::specs::Forwarding::forwarded_of, hx_validate::specs::Answering::freshened_of, httpdate::proofs::OnLiterals::httpdate_on_literals))]
 pub fn worked_outcomes_of_answers()
-    ensures validated { reply_bytes (outcome_of_answer table (stored_without_lifetime ∷ []) 105
-        (revalidates_e (get_a_with [])) (response_with 304 lines_of_304)
+    ensures validated { bytes_of_reply_outcome (outcome_of_answer table (stored_without_lifetime ∷ []) 105
+        (exchange_that_revalidates_e (get_a_with [])) (response_with 304 lines_of_304)
         (Some 4) (decision.Forward NoLifetime (Some 1))) ≡ codes "HTTP/1.1 200 \r\nDate: Thu, 01 Jan 1970 00:01:41 GMT\r\nCache-Control: max-age=60\r\nETag: \"e\"\r\nAge: 5\r\nCache-Status: edge;fwd=stale;fwd-status=304;ttl=55;detail=no-lifetime\r\nContent-Length: 2\r\n\r\nhi" }
-    ensures another_tag { outcome_of_answer table (stored_without_lifetime ∷ []) 105 (revalidates_e (get_a_with []))
+    ensures another_tag { outcome_of_answer table (stored_without_lifetime
+        ∷ []) 105 (exchange_that_revalidates_e (get_a_with []))
         (response_with 304 (etag_field (codes "\"f\"") ∷ [])) (Some 4) (decision.Forward NoLifetime (Some 1))
-        ≡ Forward (over_line 1) (codes "GET /a HTTP/1.1\r\nHost: h\r\nVia: 1.1 edge\r\nConnection: close\r\n\r\n") }
-    ensures another_response { stored_response_is_answered (revalidates_e (get_a_with []))
+        ≡ Forward (route_over 1) (codes "GET /a HTTP/1.1\r\nHost: h\r\nVia: 1.1 edge\r\nConnection: close\r\n\r\n") }
+    ensures another_response { stored_response_is_answered (exchange_that_revalidates_e (get_a_with []))
         (response_with 304 lines_of_304) 105
         (record stored_without_lifetime { serial = 2 }) ≡ false }
     ensures unasked { outcome_of_answer table [] 105 (forwarded_on_miss (get_a_with [])) (response_with 304 [])
         (Some 4) (decision.Forward UriMiss None)
         ≡ outcome_after_origin (forwarded_on_miss (get_a_with [])).line []
         (outcome_of_refusal 105 (Origin BadAnswer UriMiss None) (get_a_with [])) }
-    ensures error { serial_used_by_outcome (outcome_of_passing_on_or_stale table (first_stored ∷ []) 130
+    ensures error { serial_used_by_outcome (outcome_of_passing_on_or_stale table (stored_from_first_answer ∷ []) 130
         (forwarded_on_miss (get_a_with [])) (response_with 503 []) (Some 4) true
         (Sends 1 StaleIfError)) ≡ Some 1 }
-    ensures invalidated { serials_removed_by_answer three_held (post_exchange 1 (codes "/a"))
+    ensures invalidated { serials_removed_by_answer three_held_responses (post_exchange 1 (codes "/a"))
         (response_with 204 []) None ≡ 2 ∷ 3 ∷ [] }
-    ensures in_place { serials_removed_by_answer three_held
+    ensures in_place { serials_removed_by_answer three_held_responses
         (forwarded_on_miss (get_a_with (accept_language (codes "en") ∷ []))) (response_with 200 first_answer_fields)
         (Some 4)
         ≡ 2 ∷ [] }
@@ -611,28 +664,31 @@ pub fn worked_open_exchanges_after_a_step()
     ensures denied { open_exchanges_after table [] (post_exchange 1 (codes "/a") ∷ []) (Arrive 130 3 (get_a_with []))
         (outcome_of_refusal 130 (Denied 1) (get_a_with [])) ≡ post_exchange 1 (codes "/a") ∷ [] }
     ensures behind { open_exchanges_after table [] (post_exchange 1 (codes "/b") ∷ []) (Arrive 130 2 (get_a_with []))
-        (Forward (over_line 1) [])
+        (Forward (route_over 1) [])
         ≡ post_exchange 1 (codes "/b") ∷ record (forwarded_on_miss (get_a_with [])) { id = 2; request_time = 130 } ∷ [] }
-    ensures varied { open_exchanges_after varying_table [] [] (Arrive 130 1 (get_a_with [])) (Forward (over_line 1) [])
-        ≡ record (varied_by_scheme (forwarded_on_miss (get_a_with []))) { request_time = 130 } ∷ [] }
+    ensures varied { open_exchanges_after table_varying_by_scheme [] [] (Arrive 130 1 (get_a_with []))
+        (Forward (route_over 1) [])
+        ≡ record (over_line_varying_by_scheme (forwarded_on_miss (get_a_with []))) { request_time = 130 } ∷ [] }
     ensures waits { open_exchanges_after table [] (forwarded_on_miss (get_a_with []) ∷ [])
         (Arrive 130 2 (get_a_with [])) (Waits 1)
         ≡ forwarded_on_miss (get_a_with []) ∷ record waiting { request_time = 130 } ∷ [] }
     ensures to_be_stored { open_exchanges_after table [] [] (Arrive 130 1 get_a_with_authorization)
-        (Forward (over_line 1) [])
+        (Forward (route_over 1) [])
         ≡ record (forwarded_on_miss get_a_with_authorization) { request_time = 130; no_store = false } ∷ [] }
     ensures not_to_be_stored { open_exchanges_after table [] [] (Arrive 130 1 get_a_with_no_store)
-        (Forward (over_line 1) [])
+        (Forward (route_over 1) [])
         ≡ record (forwarded_on_miss get_a_with_no_store) { request_time = 130; no_store = true } ∷ [] }
     ensures names_what_is_held { open_exchanges_after table (stored_without_lifetime ∷ []) []
-        (Arrive 130 1 (get_a_with [])) (Forward (over_line 1) [])
-        ≡ record (revalidates_e (get_a_with [])) { request_time = 130; named = Some 1 } ∷ [] }
+        (Arrive 130 1 (get_a_with [])) (Forward (route_over 1) [])
+        ≡ record (exchange_that_revalidates_e (get_a_with [])) { request_time = 130; named = Some 1 } ∷ [] }
     ensures woken_on { open_exchanges_after table (stored_without_lifetime ∷ []) (record waiting { overtaken = true }
         ∷ []) (Wake 130 2)
-        (Forward (over_line 1) []) ≡ record (revalidates_e (get_a_with [])) { id = 2; request_time = 130 } ∷ [] }
-    ensures again { open_exchanges_after table [] (record (revalidates_e (get_a_with [])) { overtaken = true }
-        ∷ []) (Answer 130 1 (response_with 304 [])) (Forward (over_line 1) [])
-        ≡ record (revalidates_e (get_a_with [])) { request_time = 130; condition = None } ∷ [] }
+        (Forward (route_over 1) [])
+        ≡ record (exchange_that_revalidates_e (get_a_with [])) { id = 2; request_time = 130 } ∷ [] }
+    ensures again { open_exchanges_after table []
+        (record (exchange_that_revalidates_e (get_a_with [])) { overtaken = true }
+        ∷ []) (Answer 130 1 (response_with 304 [])) (Forward (route_over 1) [])
+        ≡ record (exchange_that_revalidates_e (get_a_with [])) { request_time = 130; condition = None } ∷ [] }
 {}
 
 /// And of the stored responses: what is stored or used comes first, the last goes beyond the limit, and a 304 freshens.
@@ -640,12 +696,13 @@ pub fn worked_open_exchanges_after_a_step()
 pub fn worked_stored_responses_after_a_step()
     ensures stored { serials (entries_after_storing (Some (forwarded_on_miss (get_a_with [])))
         (Answer 101 1 (response_with 200 first_answer_fields)) (Some 4)
-        (3 ∷ []) three_held) ≡ 4 ∷ 2 ∷ 1 ∷ [] }
-    ensures cut { serials (cut_where_touched (record { entries = 2; bytes = None }) (Some 4) None
+        (3 ∷ []) three_held_responses) ≡ 4 ∷ 2 ∷ 1 ∷ [] }
+    ensures cut { serials (evicted_if_stored_or_used (record { entries = 2; bytes = None }) (Some 4) None
         (entries_after_storing (Some (forwarded_on_miss (get_a_with [])))
-        (Answer 101 1 (response_with 200 first_answer_fields)) (Some 4) (3 ∷ []) three_held)) ≡ 4 ∷ 2 ∷ [] }
-    ensures used { serials (entries_after_use (Some waiting) (Wake 130 2) (Some 2) three_held) ≡ 2 ∷ 3 ∷ 1 ∷ [] }
-    ensures freshened { entries_after_use (Some (revalidates_e (get_a_with [])))
+        (Answer 101 1 (response_with 200 first_answer_fields)) (Some 4) (3 ∷ []) three_held_responses)) ≡ 4 ∷ 2 ∷ [] }
+    ensures used { serials (entries_after_use (Some waiting) (Wake 130 2) (Some 2) three_held_responses) ≡ 2 ∷ 3 ∷ 1
+        ∷ [] }
+    ensures freshened { entries_after_use (Some (exchange_that_revalidates_e (get_a_with [])))
         (Answer 105 1 (response_with 304 lines_of_304)) (Some 1)
         (stored_without_lifetime ∷ []) ≡ record (stored_with 1 lines_of_304) {
           times = record { date = 101; age_value = 0; request_time = 100; response_time = 105; expired = None };

@@ -3,7 +3,9 @@
 //! So no crowd of those that wait, or of other requests, stands between a GET and its leader. A call costs the
 //! logarithm of how many are open.
 ghost use Rattle.std.specs.Prelude.{◌≡◌, OnOk, OnErr};
-ghost use Rattle.proxy_core.specs.ByKey.{ArrivalIsEntered, ArrivalHasLeft, AreSameArrivals, HasNoEmptyKeysInEither};
+ghost use Rattle.proxy_core.specs.ByKey.{ArrivalIsAddedToItsKeyIndex, ArrivalIsRemovedFromItsKeyIndex};
+ghost use Rattle.proxy_core.specs.ByKey.{ArrivalsByKeyAreUnchanged};
+ghost use Rattle.proxy_core.specs.ByKey.{NoIndexOfArrivalsHasEmptySet};
 ghost use Rattle.proxy_core.specs.ByKey.{IsEmptyKeyIndex, ArrivalIsMovedToOrigin};
 ghost use Rattle.proxy_core.specs.ByKey.{is_get_at_origin, is_get_not_at_origin};
 
@@ -32,7 +34,7 @@ impl ArrivalsByKey {
     pub(crate) fn new(alloc: Global) -> Self
         ensures no_gets { IsEmptyKeyIndex result.gets }
         ensures no_others { IsEmptyKeyIndex result.others }
-        ensures trim { HasNoEmptyKeysInEither result }
+        ensures trim { NoIndexOfArrivalsHasEmptySet result }
     {
         ArrivalsByKey {
             gets: KeyIndex::new(alloc),
@@ -42,9 +44,9 @@ impl ArrivalsByKey {
 
     /// Enters the arrival of an exchange. Out of memory changes nothing.
     pub(crate) fn enter(&mut self, exchange: &Exchange, arrival: u64) -> Result<(), AllocError>
-        ensures ok { OnOk result (ArrivalIsEntered exchange.now arrival self.old self.new) }
-        ensures err { OnErr result (AreSameArrivals self.old self.new) }
-        ensures trim { HasNoEmptyKeysInEither self.old → HasNoEmptyKeysInEither self.new }
+        ensures ok { OnOk result (ArrivalIsAddedToItsKeyIndex exchange.now arrival self.old self.new) }
+        ensures err { OnErr result (ArrivalsByKeyAreUnchanged self.old self.new) }
+        ensures trim { NoIndexOfArrivalsHasEmptySet self.old → NoIndexOfArrivalsHasEmptySet self.new }
     {
         if is_get_at_origin(exchange) {
             self.gets.insert(&exchange.asked.target.key, arrival)
@@ -60,8 +62,8 @@ impl ArrivalsByKey {
         arrival: u64,
     ) -> Result<(), AllocError>
         ensures ok { OnOk result (ArrivalIsMovedToOrigin exchange.now arrival self.old self.new) }
-        ensures err { OnErr result (AreSameArrivals self.old self.new) }
-        ensures trim { HasNoEmptyKeysInEither self.old → HasNoEmptyKeysInEither self.new }
+        ensures err { OnErr result (ArrivalsByKeyAreUnchanged self.old self.new) }
+        ensures trim { NoIndexOfArrivalsHasEmptySet self.old → NoIndexOfArrivalsHasEmptySet self.new }
     {
         if !is_get_not_at_origin(exchange) {
             return Ok(());
@@ -74,8 +76,8 @@ impl ArrivalsByKey {
 
     /// Takes the arrival of an exchange out. Nothing is allocated.
     pub(crate) fn remove_arrival(&mut self, exchange: &Exchange, arrival: u64)
-        ensures left { ArrivalHasLeft exchange.now arrival self.old self.new }
-        ensures trim { HasNoEmptyKeysInEither self.old → HasNoEmptyKeysInEither self.new }
+        ensures left { ArrivalIsRemovedFromItsKeyIndex exchange.now arrival self.old self.new }
+        ensures trim { NoIndexOfArrivalsHasEmptySet self.old → NoIndexOfArrivalsHasEmptySet self.new }
     {
         if is_get_at_origin(exchange) {
             self.gets.remove(&exchange.asked.target.key, arrival);

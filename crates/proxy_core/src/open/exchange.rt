@@ -1,15 +1,15 @@
 //! A request that went forward, or waits for the answer to another, and isn't answered yet.
 ghost use Rattle.std.specs.Prelude.{◌≡◌, Some};
-ghost use Rattle.proxy_core.specs.LeadingOn.{led_on_exchange};
-ghost use Rattle.proxy_core.specs.Scopes.{scope_of_keys, target_alone};
+ghost use Rattle.proxy_core.specs.LeadingOn.{after_abandon};
+ghost use Rattle.proxy_core.specs.Scopes.{scope_without_tag, scope_of_target_alone};
 ghost use Rattle.proxy_core.specs.State.{exchange_gone_forward, overtaken_exchange};
-ghost use Rattle.proxy_core.specs.State.{released_exchange, exchange_past_its_wait};
+ghost use Rattle.proxy_core.specs.State.{released_exchange, exchange_released_by_timeout};
 
+use crate::open::as_next_leader::{NextLeader, stage_after_leader};
 use crate::open::leading::waits_for;
-use crate::open::leading_on::{NextLeader, stage_after_leader};
 use crate::open::stage::Stage;
 use crate::steps::condition::Condition;
-use hx_allow::{Config, PurgeScope, Route};
+use hx_allow::{Config, PurgeScope, RequestRoute};
 use hx_hop::Asked;
 use hx_reuse::ReuseRule;
 use hx_target::Key;
@@ -20,7 +20,7 @@ pub struct Exchange {
     pub id: u64,
     pub asked: Asked,
     /// The line of the table that allowed it, and whether it goes past the store over that.
-    pub line: Route,
+    pub line: RequestRoute,
     /// The fields that count as if the Vary of its answer named them: those of its line when it arrived.
     pub vary: FieldNames,
     /// What is stored of its answer has no Set-Cookie, as its line said when it arrived (RFC 9111, section 7.3).
@@ -42,7 +42,7 @@ pub struct Exchange {
 
 impl Exchange {
     /// Its request.
-    pub(crate) fn into_asked(self) -> Asked
+    pub(crate) fn into_request_view(self) -> Asked
         ensures { result ≡ self.asked }
     {
         let Exchange {
@@ -92,7 +92,7 @@ impl Exchange {
     /// The client of the exchange of this id has gone. If it waited for that one it waits for the next leader, or may
     /// be woken.
     pub(crate) fn lead_on(&mut self, config: &Config, next: NextLeader, leader: u64)
-        ensures { self.new ≡ led_on_exchange config.now (Some next) leader self.old }
+        ensures { self.new ≡ after_abandon config.now (Some next) leader self.old }
     {
         if waits_for(self.stage, leader) {
             self.stage = stage_after_leader(config, next, self);
@@ -100,15 +100,15 @@ impl Exchange {
     }
 
     /// Its time to wait is over.
-    pub(crate) fn wait_no_more(&mut self)
-        ensures { self.new ≡ exchange_past_its_wait self.old }
+    pub(crate) fn stop_waiting(&mut self)
+        ensures { self.new ≡ exchange_released_by_timeout self.old }
     {
         self.stage = Stage::Released;
     }
 
     /// Marks it, if it is of a key that was invalidated (RFC 9111, section 4.4).
     pub(crate) fn overtake(&mut self, key: &Key)
-        ensures { self.new ≡ overtaken_exchange (target_alone key.now) self.old }
+        ensures { self.new ≡ overtaken_exchange (scope_of_target_alone key.now) self.old }
     {
         if self.asked.target.key.is_same(key) {
             self.overtaken = true;
@@ -117,7 +117,7 @@ impl Exchange {
 
     /// Marks it, if its target is within the scope of a purge that was asked for a key.
     pub(crate) fn overtake_within(&mut self, reach: PurgeScope, asked: &Key)
-        ensures { self.new ≡ overtaken_exchange (scope_of_keys reach asked.now) self.old }
+        ensures { self.new ≡ overtaken_exchange (scope_without_tag reach asked.now) self.old }
     {
         if reach.has(asked, &self.asked.target.key) {
             self.overtaken = true;

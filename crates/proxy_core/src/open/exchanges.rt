@@ -2,7 +2,7 @@
 //!
 //! Each has the number of its arrival, and a second map tells the number of an id. So one is found,
 //! opened and closed in the logarithm of how many are open, and each that a close releases costs
-//! that too. The first that may be woken is known: `first_ready` costs that logarithm where there
+//! that too. The first that may be woken is known: `first_wakeable` costs that logarithm where there
 //! is one, and nothing where there is none (see `released`). `leader` looks through the GETs of its
 //! key that are at the origin, up to the one that leads, and an invalidation goes through all
 //! exchanges of its key. `ready` goes through all of them, as does a purge of more than its target.
@@ -15,30 +15,36 @@ ghost use Rattle.std.specs.Ordering.{nat_cmp};
 ghost use Rattle.std.specs.Map.{remove_entry};
 ghost use Rattle.std.specs.Option.{ForNone, ForSome};
 ghost use Rattle.std.specs.BTreeMap.{get, keys, values, is_at};
-ghost use Rattle.proxy_core.specs.ByKey.{GetArrivalsPass, ArrivalIsEntered, ArrivalHasLeft, AreSameArrivals};
-ghost use Rattle.proxy_core.specs.ByKey.{IsInNeitherIndex, HasNoEmptyKeysInEither, is_in_key_index};
+ghost use Rattle.proxy_core.specs.ByKey.{ArrivalsOfGetsAtOriginPassTest, ArrivalIsAddedToItsKeyIndex};
+ghost use Rattle.proxy_core.specs.ByKey.{ArrivalIsRemovedFromItsKeyIndex};
+ghost use Rattle.proxy_core.specs.ByKey.{ArrivalsByKeyAreUnchanged};
+ghost use Rattle.proxy_core.specs.ByKey.{ArrivalIsInNeitherKeyIndex, NoIndexOfArrivalsHasEmptySet, is_in_key_index};
 ghost use Rattle.proxy_core.specs.ByKey.{ArrivalIsMovedToOrigin};
 ghost use Rattle.std.specs.BTreeSet.{contains};
-ghost use Rattle.proxy_core.specs.Arrivals.{WaitingArrivalsPass, map_exchanges, map_passing, is_arrival_of_selected};
-ghost use Rattle.proxy_core.specs.Waiters.{WaiterIsEntered, WaiterHasLeft, IsSameWaitIndex, IsNotInWaitIndex};
-ghost use Rattle.proxy_core.specs.Waiters.{HasNoEmptyWaiterSets};
+ghost use Rattle.proxy_core.specs.Arrivals.{WaitingArrivalsPassTest, map_exchanges, map_exchanges_that_pass};
+ghost use Rattle.proxy_core.specs.Arrivals.{is_arrival_of_selected};
+ghost use Rattle.proxy_core.specs.Waiters.{WaiterIsEntered, WaiterIsRemoved, WaitIndexesHaveSameMembers};
+ghost use Rattle.proxy_core.specs.Waiters.{ArrivalIsNotInWaitIndex};
+ghost use Rattle.proxy_core.specs.Waiters.{WaitIndexHasNoEmptySet};
 ghost use Rattle.proxy_core.specs.Outcomes.{find_exchange};
-ghost use Rattle.proxy_core.specs.Leading.{leader, ready_ids};
-ghost use Rattle.proxy_core.specs.Scopes.{scope_of_keys, target_alone};
+ghost use Rattle.proxy_core.specs.Leading.{leader, wakeable_ids};
+ghost use Rattle.proxy_core.specs.Scopes.{scope_without_tag, scope_of_target_alone};
 ghost use Rattle.proxy_core.specs.State.{exchanges_after_close, released_exchange, overtaken_exchange};
 ghost use Rattle.proxy_core.specs.State.{exchanges_after_end, exchange_forwarded_again, exchange_sent_forward};
 ghost use Rattle.proxy_core.specs.State.{overdue_exchange};
-ghost use Rattle.proxy_core.specs.LeadingOn.{next_leader, first_to_lead_on as first_of_list, exchanges_without};
+ghost use Rattle.proxy_core.specs.LeadingOn.{next_leader, first_waiter_to_lead as first_of_list, exchanges_without};
 ghost use Rattle.proxy_core.specs.LeadingOn.{exchanges_after_abandon};
-ghost use Rattle.proxy_core.specs.LeadingOn.{led_on_exchange, follows_leader as is_follower};
+ghost use Rattle.proxy_core.specs.LeadingOn.{after_abandon, follows_next_leader as is_follower};
 
 use crate::open::arrivals_by_key::ArrivalsByKey;
+use crate::open::as_next_leader::{
+    MOST_FOLLOWERS, NextLeader, follows_next_leader, may_become_next_leader,
+};
 use crate::open::awaited::Awaited;
 use crate::open::exchange::Exchange;
 use crate::open::ids::Ids;
 use crate::open::key_index::KeyIndex;
-use crate::open::leading::{is_released, is_waiting, leads_waiters};
-use crate::open::leading_on::{MOST_LED_ON, NextLeader, follows_leader, leads_on};
+use crate::open::leading::{is_leader_for_request, is_released, is_waiting};
 use crate::open::released::Released;
 use crate::open::stage::Stage;
 use crate::open::wait_index::WaitIndex;
@@ -84,13 +90,13 @@ impl Model for Exchanges {
     ghost use Rattle.std.specs.Ordering.{nat_cmp};
     ghost use Rattle.std.specs.BTreeMap.{get, values};
     ghost use Rattle.proxy_core.specs.declared.open.exchange.Exchange.{Exchange};
-    ghost use Rattle.proxy_core.specs.ExchangeIndexes.{IndexesAreRight};
+    ghost use Rattle.proxy_core.specs.ExchangeIndexes.{ExchangeIndexesAreExact};
 
     ghost Value = { List Exchange };
 
     ghost view = { λ x. values x.by_arrival };
 
-    ghost invariant = { λ x. IndexesAreRight x.by_arrival.entries (λ id. get nat_cmp x.arrivals id) x.waiting
+    ghost invariant = { λ x. ExchangeIndexesAreExact x.by_arrival.entries (λ id. get nat_cmp x.arrivals id) x.waiting
         x.released x.by_key };
 }
 
@@ -162,8 +168,8 @@ impl Exchanges {
     }
 
     /// The first exchange that may be woken. Nothing is allocated.
-    pub(crate) fn first_ready(&self) -> Option<u64>
-        ensures value { result ≡ slice_get (ready_ids self.now) 0 }
+    pub(crate) fn first_wakeable(&self) -> Option<u64>
+        ensures value { result ≡ slice_get (wakeable_ids self.now) 0 }
         ensures ready { IfSome result (λ id. ExchangeMayBeWoken id self.now) }
     {
         Some(self.by_arrival.get(&self.released.first()?)?.id)
@@ -171,7 +177,7 @@ impl Exchanges {
 
     /// Those that may be woken, in the order of arrival. Fails only where memory runs out.
     pub(crate) fn ready(&self, alloc: Global) -> Result<Ids, AllocError>
-        ensures { IfOk result (λ ids. ids ≡ ready_ids self.now) }
+        ensures { IfOk result (λ ids. ids ≡ wakeable_ids self.now) }
     {
         let mut ids = Ids::new(alloc);
         for (_, x) in &self.by_arrival {
@@ -218,10 +224,10 @@ impl Exchanges {
     {
         match self.waiting.find(id) {
             Some(waiting) => {
-                if waiting.len() > MOST_LED_ON {
+                if waiting.len() > MOST_FOLLOWERS {
                     return None;
                 }
-                first_to_lead_on(&self.by_arrival, waiting, config, id)
+                first_waiter_to_lead(&self.by_arrival, waiting, config, id)
             }
             None => None,
         }
@@ -231,7 +237,7 @@ impl Exchanges {
     /// has changed.
     fn lead_on(&mut self, config: &Config, next: NextLeader, id: u64) -> Result<(), AllocError>
         requires { (next.id == id) ≡ false }
-        ensures ok { OnOk result (self.new ≡ map (led_on_exchange config.now (Some next) id) self.old) }
+        ensures ok { OnOk result (self.new ≡ map (after_abandon config.now (Some next) id) self.old) }
         ensures err { OnErr result (self.new ≡ self.old) }
     {
         let alloc = self.waiting.alloc;
@@ -287,7 +293,7 @@ impl Exchanges {
         };
         if is_waiting(x.stage) {
             self.waiting.remove_arrival(x.stage, *arrival);
-            x.wait_no_more();
+            x.stop_waiting();
             self.released.enter(Stage::Released, *arrival);
             self.released.settle(&self.by_arrival);
         }
@@ -339,7 +345,7 @@ impl Exchanges {
     /// The exchange of an id ends, and the others of an invalidated key are overtaken. Gives it. Nothing is allocated.
     pub(crate) fn end_exchange(&mut self, id: u64, invalidated: Option<&Key>) -> Option<Exchange>
         ensures after { self.new
-            ≡ exchanges_after_end (option_map target_alone (option_copied invalidated.entry)) id self.old }
+            ≡ exchanges_after_end (option_map scope_of_target_alone (option_copied invalidated.entry)) id self.old }
         ensures taken { result ≡ find_exchange id self.old }
     {
         let taken = self.close(id);
@@ -352,7 +358,7 @@ impl Exchanges {
 
     /// Marks each exchange of a key that was invalidated or purged. It goes through those alone.
     pub(crate) fn overtake(&mut self, key: &Key)
-        ensures { self.new ≡ map (overtaken_exchange (target_alone key.now)) self.old }
+        ensures { self.new ≡ map (overtaken_exchange (scope_of_target_alone key.now)) self.old }
     {
         overtake_indexed(&mut self.by_arrival, &self.by_key.gets, key);
         overtake_indexed(&mut self.by_arrival, &self.by_key.others, key);
@@ -362,7 +368,7 @@ impl Exchanges {
     /// Marks each exchange within the scope of a purge that was asked for a key. For one target it goes through the
     /// exchanges of that key alone, else through all that are open.
     pub(crate) fn overtake_within(&mut self, reach: PurgeScope, asked: &Key)
-        ensures { self.new ≡ map (overtaken_exchange (scope_of_keys reach asked.now)) self.old }
+        ensures { self.new ≡ map (overtaken_exchange (scope_without_tag reach asked.now)) self.old }
     {
         match reach {
             PurgeScope::Target => self.overtake(asked),
@@ -373,7 +379,7 @@ impl Exchanges {
     }
 
     fn overtake_all(&mut self, reach: PurgeScope, asked: &Key)
-        ensures { self.new ≡ map (overtaken_exchange (scope_of_keys reach asked.now)) self.old }
+        ensures { self.new ≡ map (overtaken_exchange (scope_without_tag reach asked.now)) self.old }
     {
         overtake_each_within(&mut self.by_arrival, reach, asked);
         self.released.settle(&self.by_arrival);
@@ -399,12 +405,12 @@ fn push(
     exchange: Exchange,
 ) -> Result<(), AllocError>
     requires last { All (λ k. k < arrival) (keys by_arrival.old) }
-    requires asks_not { IsInNeitherIndex arrival by_key.old }
+    requires asks_not { ArrivalIsInNeitherKeyIndex arrival by_key.old }
     ensures ok { OnOk result (by_arrival.new.entries ≡ by_arrival.old.entries ++ (arrival, exchange) ∷ []) }
-    ensures entered { OnOk result (ArrivalIsEntered exchange arrival by_key.old by_key.new) }
+    ensures entered { OnOk result (ArrivalIsAddedToItsKeyIndex exchange arrival by_key.old by_key.new) }
     ensures err { OnErr result (by_arrival.new.entries ≡ by_arrival.old.entries) }
-    ensures left { OnErr result (AreSameArrivals by_key.old by_key.new) }
-    ensures trim { HasNoEmptyKeysInEither by_key.old → HasNoEmptyKeysInEither by_key.new }
+    ensures left { OnErr result (ArrivalsByKeyAreUnchanged by_key.old by_key.new) }
+    ensures trim { NoIndexOfArrivalsHasEmptySet by_key.old → NoIndexOfArrivalsHasEmptySet by_key.new }
 {
     by_key.enter(&exchange, arrival)?;
     match by_arrival.insert(arrival, exchange) {
@@ -427,16 +433,16 @@ fn enter(
     exchange: Exchange,
 ) -> Result<(), AllocError>
     requires last { All (λ k. k < arrival) (keys by_arrival.old) }
-    requires waits_not { IsNotInWaitIndex arrival waiting.old }
-    requires asks_not { IsInNeitherIndex arrival by_key.old }
+    requires waits_not { ArrivalIsNotInWaitIndex arrival waiting.old }
+    requires asks_not { ArrivalIsInNeitherKeyIndex arrival by_key.old }
     ensures ok { OnOk result (by_arrival.new.entries ≡ by_arrival.old.entries ++ (arrival, exchange) ∷ []) }
     ensures entered { OnOk result (WaiterIsEntered exchange.stage arrival waiting.old waiting.new) }
-    ensures asks { OnOk result (ArrivalIsEntered exchange arrival by_key.old by_key.new) }
+    ensures asks { OnOk result (ArrivalIsAddedToItsKeyIndex exchange arrival by_key.old by_key.new) }
     ensures err { OnErr result (by_arrival.new.entries ≡ by_arrival.old.entries) }
-    ensures left { OnErr result (IsSameWaitIndex waiting.old waiting.new) }
-    ensures asks_no_more { OnErr result (AreSameArrivals by_key.old by_key.new) }
-    ensures trim_waits { HasNoEmptyWaiterSets waiting.old → HasNoEmptyWaiterSets waiting.new }
-    ensures trim_keys { HasNoEmptyKeysInEither by_key.old → HasNoEmptyKeysInEither by_key.new }
+    ensures left { OnErr result (WaitIndexesHaveSameMembers waiting.old waiting.new) }
+    ensures asks_no_more { OnErr result (ArrivalsByKeyAreUnchanged by_key.old by_key.new) }
+    ensures no_empty_waiter_sets { WaitIndexHasNoEmptySet waiting.old → WaitIndexHasNoEmptySet waiting.new }
+    ensures no_empty_keys { NoIndexOfArrivalsHasEmptySet by_key.old → NoIndexOfArrivalsHasEmptySet by_key.new }
 {
     let stage = exchange.stage;
     waiting.enter(stage, arrival)?;
@@ -457,12 +463,12 @@ fn leave_for_origin(
     arrival: u64,
     exchange: &Exchange,
 ) -> Result<(), AllocError>
-    ensures left { OnOk result (WaiterHasLeft exchange.now.stage arrival waiting.old waiting.new) }
+    ensures left { OnOk result (WaiterIsRemoved exchange.now.stage arrival waiting.old waiting.new) }
     ensures asks { OnOk result (ArrivalIsMovedToOrigin exchange.now arrival by_key.old by_key.new) }
-    ensures waits_still { OnErr result (IsSameWaitIndex waiting.old waiting.new) }
-    ensures asks_still { OnErr result (AreSameArrivals by_key.old by_key.new) }
-    ensures trim_waits { HasNoEmptyWaiterSets waiting.old → HasNoEmptyWaiterSets waiting.new }
-    ensures trim_keys { HasNoEmptyKeysInEither by_key.old → HasNoEmptyKeysInEither by_key.new }
+    ensures waits_still { OnErr result (WaitIndexesHaveSameMembers waiting.old waiting.new) }
+    ensures asks_still { OnErr result (ArrivalsByKeyAreUnchanged by_key.old by_key.new) }
+    ensures no_empty_waiter_sets { WaitIndexHasNoEmptySet waiting.old → WaitIndexHasNoEmptySet waiting.new }
+    ensures no_empty_keys { NoIndexOfArrivalsHasEmptySet by_key.old → NoIndexOfArrivalsHasEmptySet by_key.new }
 {
     by_key.move_to_origin(exchange, arrival)?;
     waiting.remove_arrival(exchange.stage, arrival);
@@ -479,13 +485,15 @@ fn remove(
     ensures taken { result ≡ get nat_cmp by_arrival.old arrival }
     ensures entries { by_arrival.new.entries ≡ remove_entry (is_at (nat_cmp arrival)) by_arrival.old.entries }
     ensures left { ForSome (get nat_cmp by_arrival.old arrival)
-        (λ x. WaiterHasLeft x.stage arrival waiting.old waiting.new) }
+        (λ x. WaiterIsRemoved x.stage arrival waiting.old waiting.new) }
     ensures asks_no_more { ForSome (get nat_cmp by_arrival.old arrival)
-        (λ x. ArrivalHasLeft x arrival by_key.old by_key.new) }
-    ensures waits_still { ForNone (get nat_cmp by_arrival.old arrival) (IsSameWaitIndex waiting.old waiting.new) }
-    ensures asks_still { ForNone (get nat_cmp by_arrival.old arrival) (AreSameArrivals by_key.old by_key.new) }
-    ensures trim_waits { HasNoEmptyWaiterSets waiting.old → HasNoEmptyWaiterSets waiting.new }
-    ensures trim_keys { HasNoEmptyKeysInEither by_key.old → HasNoEmptyKeysInEither by_key.new }
+        (λ x. ArrivalIsRemovedFromItsKeyIndex x arrival by_key.old by_key.new) }
+    ensures waits_still { ForNone (get nat_cmp by_arrival.old arrival)
+        (WaitIndexesHaveSameMembers waiting.old waiting.new) }
+    ensures asks_still { ForNone (get nat_cmp by_arrival.old arrival)
+        (ArrivalsByKeyAreUnchanged by_key.old by_key.new) }
+    ensures no_empty_waiter_sets { WaitIndexHasNoEmptySet waiting.old → WaitIndexHasNoEmptySet waiting.new }
+    ensures no_empty_keys { NoIndexOfArrivalsHasEmptySet by_key.old → NoIndexOfArrivalsHasEmptySet by_key.new }
 {
     let taken = by_arrival.remove(&arrival)?;
     waiting.remove_arrival(taken.stage, arrival);
@@ -501,14 +509,15 @@ fn first_to_lead(
     awaited: Awaited,
     asked: &Asked,
 ) -> Option<u64>
-    requires { GetArrivalsPass asked.now.target.key (contains nat_cmp arrivals.now) by_arrival.now.entries }
+    requires { ArrivalsOfGetsAtOriginPassTest asked.now.target.key
+        (contains nat_cmp arrivals.now) by_arrival.now.entries }
     ensures { result ≡ leader policy awaited asked.now (values by_arrival.now) }
 {
     // It is said of the length that the numbers ascend.
     let _open = by_arrival.len();
     for arrival in arrivals {
         if let Some(x) = by_arrival.get(arrival) {
-            if leads_waiters(x, policy, awaited, asked) {
+            if is_leader_for_request(x, policy, awaited, asked) {
                 return Some(x.id);
             }
         }
@@ -518,7 +527,7 @@ fn first_to_lead(
 
 /// Releases those of these arrivals that wait for the exchange of an id.
 fn release_each(by_arrival: &mut BTreeMap<u64, Exchange>, waiting: &BTreeSet<u64>, leader: u64)
-    requires { WaitingArrivalsPass leader (contains nat_cmp waiting.now) by_arrival.old.entries }
+    requires { WaitingArrivalsPassTest leader (contains nat_cmp waiting.now) by_arrival.old.entries }
     ensures { by_arrival.new.entries ≡ map_exchanges (released_exchange leader) by_arrival.old.entries }
 {
     for arrival in waiting {
@@ -529,13 +538,13 @@ fn release_each(by_arrival: &mut BTreeMap<u64, Exchange>, waiting: &BTreeSet<u64
 }
 
 /// The first of these arrivals, among which all are that wait for the exchange of an id, that may lead on.
-fn first_to_lead_on(
+fn first_waiter_to_lead(
     by_arrival: &BTreeMap<u64, Exchange>,
     waiting: &BTreeSet<u64>,
     config: &Config,
     id: u64,
 ) -> Option<NextLeader>
-    requires { WaitingArrivalsPass id (contains nat_cmp waiting.now) by_arrival.now.entries }
+    requires { WaitingArrivalsPassTest id (contains nat_cmp waiting.now) by_arrival.now.entries }
     ensures next { result ≡ first_of_list config.now id (exchanges_without id (values by_arrival.now)) }
     ensures another { IfSome result (λ next. (next.id == id) ≡ false) }
 {
@@ -543,7 +552,7 @@ fn first_to_lead_on(
     let _open = by_arrival.len();
     for arrival in waiting {
         if let Some(x) = by_arrival.get(arrival) {
-            if leads_on(config, id, x) {
+            if may_become_next_leader(config, id, x) {
                 return Some(NextLeader::of(x));
             }
         }
@@ -565,7 +574,7 @@ fn followers(
     let mut set = BTreeSet::new(alloc);
     for arrival in waiting {
         if let Some(x) = by_arrival.get(arrival) {
-            if follows_leader(config, next, x) {
+            if follows_next_leader(config, next, x) {
                 set.insert(*arrival)?;
             }
         }
@@ -581,10 +590,10 @@ fn lead_each_on(
     next: NextLeader,
     leader: u64,
 )
-    requires waits { WaitingArrivalsPass leader (contains nat_cmp waiting.now) by_arrival.old.entries }
+    requires waits { WaitingArrivalsPassTest leader (contains nat_cmp waiting.now) by_arrival.old.entries }
     requires another { (next.id == leader) ≡ false }
     ensures { by_arrival.new.entries
-        ≡ map_exchanges (led_on_exchange config.now (Some next) leader) by_arrival.old.entries }
+        ≡ map_exchanges (after_abandon config.now (Some next) leader) by_arrival.old.entries }
 {
     for arrival in waiting {
         if let Some(x) = by_arrival.get_mut(arrival) {
@@ -595,8 +604,8 @@ fn lead_each_on(
 
 /// Marks those of a key that an index tells.
 fn overtake_indexed(by_arrival: &mut BTreeMap<u64, Exchange>, index: &KeyIndex, key: &Key)
-    ensures { by_arrival.new.entries ≡ map_passing (is_in_key_index index.now key.now)
-        (overtaken_exchange (target_alone key.now))
+    ensures { by_arrival.new.entries ≡ map_exchanges_that_pass (is_in_key_index index.now key.now)
+        (overtaken_exchange (scope_of_target_alone key.now))
         by_arrival.old.entries }
 {
     if let Some(arrivals) = index.find(key) {
@@ -606,8 +615,8 @@ fn overtake_indexed(by_arrival: &mut BTreeMap<u64, Exchange>, index: &KeyIndex, 
 
 /// Marks those of these arrivals that are of a key.
 fn overtake_each(by_arrival: &mut BTreeMap<u64, Exchange>, arrivals: &BTreeSet<u64>, key: &Key)
-    ensures { by_arrival.new.entries ≡ map_passing (contains nat_cmp arrivals.now)
-        (overtaken_exchange (target_alone key.now))
+    ensures { by_arrival.new.entries ≡ map_exchanges_that_pass (contains nat_cmp arrivals.now)
+        (overtaken_exchange (scope_of_target_alone key.now))
         by_arrival.old.entries }
 {
     for arrival in arrivals {
@@ -620,7 +629,7 @@ fn overtake_each(by_arrival: &mut BTreeMap<u64, Exchange>, arrivals: &BTreeSet<u
 /// Marks those within the scope of a purge that was asked for a key.
 fn overtake_each_within(by_arrival: &mut BTreeMap<u64, Exchange>, reach: PurgeScope, asked: &Key)
     ensures { by_arrival.new.entries
-        ≡ map_exchanges (overtaken_exchange (scope_of_keys reach asked.now)) by_arrival.old.entries }
+        ≡ map_exchanges (overtaken_exchange (scope_without_tag reach asked.now)) by_arrival.old.entries }
 {
     // All are retained: the contract of `retain` says what is written to each.
     by_arrival.retain(|_, x| {

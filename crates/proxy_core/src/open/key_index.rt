@@ -5,8 +5,9 @@ ghost use Rattle.std.specs.Prelude.{◌≡◌, ℕ, false, IfOk, OnOk, OnErr, op
 ghost use Rattle.std.specs.Bool.{OnFalse, OnTrue};
 ghost use Rattle.std.specs.BTreeMap.{get};
 ghost use Rattle.hx_target.specs.KeyOrder.{key_cmp};
-ghost use Rattle.proxy_core.specs.ByKey.{is_in_key_index, IsEmptyKeyIndex, ArrivalIsPut, ArrivalIsIndexedIf};
-ghost use Rattle.proxy_core.specs.ByKey.{ArrivalIsTakenOut, AreSameKeyIndex, HasNoEmptyKeys, HasNoOtherEmptyKeys};
+ghost use Rattle.proxy_core.specs.ByKey.{is_in_key_index, IsEmptyKeyIndex, ArrivalIsAddedAtKey, ArrivalIsIndexedIf};
+ghost use Rattle.proxy_core.specs.ByKey.{ArrivalIsRemovedAtKey, KeyIndexesHaveSameMembers, KeyIndexHasNoEmptySet};
+ghost use Rattle.proxy_core.specs.ByKey.{OtherKeysHaveNoEmptySet};
 
 use hx_target::Key;
 use std::alloc::{AllocError, Global};
@@ -32,7 +33,7 @@ impl KeyIndex {
     /// No arrivals.
     pub(crate) fn new(alloc: Global) -> Self
         ensures none { IsEmptyKeyIndex result }
-        ensures trim { HasNoEmptyKeys result }
+        ensures trim { KeyIndexHasNoEmptySet result }
     {
         KeyIndex {
             alloc,
@@ -49,9 +50,9 @@ impl KeyIndex {
 
     /// Enters an arrival at a key. Out of memory changes nothing.
     pub(crate) fn insert(&mut self, key: &Key, arrival: u64) -> Result<(), AllocError>
-        ensures ok { OnOk result (ArrivalIsPut key.now arrival self.old self.new) }
-        ensures err { OnErr result (AreSameKeyIndex self.old self.new) }
-        ensures trim { HasNoEmptyKeys self.old → HasNoEmptyKeys self.new }
+        ensures ok { OnOk result (ArrivalIsAddedAtKey key.now arrival self.old self.new) }
+        ensures err { OnErr result (KeyIndexesHaveSameMembers self.old self.new) }
+        ensures trim { KeyIndexHasNoEmptySet self.old → KeyIndexHasNoEmptySet self.new }
     {
         if self.insert_beside(key, arrival)? {
             return Ok(());
@@ -65,8 +66,8 @@ impl KeyIndex {
     /// Enters an arrival where others ask for that key, and says whether some do.
     fn insert_beside(&mut self, key: &Key, arrival: u64) -> Result<bool, AllocError>
         ensures ok { IfOk result (λ has. ArrivalIsIndexedIf has key.now arrival self.old self.new) }
-        ensures err { OnErr result (AreSameKeyIndex self.old self.new) }
-        ensures trim { HasNoEmptyKeys self.old → HasNoEmptyKeys self.new }
+        ensures err { OnErr result (KeyIndexesHaveSameMembers self.old self.new) }
+        ensures trim { KeyIndexHasNoEmptySet self.old → KeyIndexHasNoEmptySet self.new }
     {
         match self.arrivals.get_mut(key) {
             Some(arrivals) => {
@@ -79,8 +80,8 @@ impl KeyIndex {
 
     /// Takes an arrival out at a key. Nothing is allocated.
     pub(crate) fn remove(&mut self, key: &Key, arrival: u64)
-        ensures taken { ArrivalIsTakenOut key.now arrival self.old self.new }
-        ensures trim { HasNoEmptyKeys self.old → HasNoEmptyKeys self.new }
+        ensures taken { ArrivalIsRemovedAtKey key.now arrival self.old self.new }
+        ensures trim { KeyIndexHasNoEmptySet self.old → KeyIndexHasNoEmptySet self.new }
     {
         if self.remove_from_index(key, arrival) {
             self.arrivals.remove(key);
@@ -89,10 +90,10 @@ impl KeyIndex {
 
     /// Takes an arrival out, and says whether it was the last that asked for that key.
     fn remove_from_index(&mut self, key: &Key, arrival: u64) -> bool
-        ensures taken { ArrivalIsTakenOut key.now arrival self.old self.new }
+        ensures taken { ArrivalIsRemovedAtKey key.now arrival self.old self.new }
         ensures last { OnTrue result ((m : ℕ) → is_in_key_index self.new key.now m ≡ false) }
-        ensures trim_beside { HasNoEmptyKeys self.old → HasNoOtherEmptyKeys key.now self.new }
-        ensures trim { HasNoEmptyKeys self.old → OnFalse result (HasNoEmptyKeys self.new) }
+        ensures trim_beside { KeyIndexHasNoEmptySet self.old → OtherKeysHaveNoEmptySet key.now self.new }
+        ensures trim { KeyIndexHasNoEmptySet self.old → OnFalse result (KeyIndexHasNoEmptySet self.new) }
     {
         match self.arrivals.get_mut(key) {
             Some(arrivals) => {

@@ -2,9 +2,11 @@
 ghost use Rattle.std.specs.Prelude.{◌≡◌, option_copied, IfOk};
 ghost use Rattle.hx_directives.specs.Occurrences.{occurrences_of};
 ghost use Rattle.proxy_core.specs.Leading.{is_forwarded, is_waiting, is_released, waits_for, is_get, is_uri_miss};
-ghost use Rattle.proxy_core.specs.Leading.{has_authorization, has_no_store, asks_for, sends_clients_condition};
-ghost use Rattle.proxy_core.specs.Leading.{may_serve, answer_may_serve, leads_waiters};
-ghost use Rattle.proxy_core.specs.Awaiting.{has_expired, asks_the_origin, awaited_of_chosen, awaited_by_rule};
+ghost use Rattle.proxy_core.specs.Leading.{has_authorization, has_no_store, exchange_asks_for_awaited};
+ghost use Rattle.proxy_core.specs.Leading.{sends_clients_condition};
+ghost use Rattle.proxy_core.specs.Leading.{answer_may_be_shared_with, answer_may_serve, is_leader_for_request};
+ghost use Rattle.proxy_core.specs.Awaiting.{is_staleness_rule, no_cache_request_is_heeded, awaited_of_chosen};
+ghost use Rattle.proxy_core.specs.Awaiting.{awaited_by_rule};
 
 use crate::open::awaited::Awaited;
 use crate::open::exchange::Exchange;
@@ -13,7 +15,7 @@ use http::Method;
 use hx_directives::{Directive, Directives};
 use hx_hop::Asked;
 use hx_policy::Policy;
-use hx_reuse::{ReuseRule, forwards_condition, forwards_range, lifetime_under};
+use hx_reuse::{ReuseRule, forwards_client_condition, forwards_range, lifetime_under_policy};
 use hx_store::Entry;
 use std::alloc::{AllocError, Global};
 
@@ -70,8 +72,8 @@ fn is_uri_miss(rule: ReuseRule) -> bool
 }
 
 /// Whether the chosen response is stale by this rule, and nothing but its age keeps it back.
-fn has_expired(rule: ReuseRule) -> bool
-    ensures { result ≡ has_expired rule }
+fn is_staleness_rule(rule: ReuseRule) -> bool
+    ensures { result ≡ is_staleness_rule rule }
 {
     matches!(
         rule,
@@ -84,8 +86,8 @@ fn has_expired(rule: ReuseRule) -> bool
 }
 
 /// What an exchange went forward for is what a request could be sent.
-fn asks_for(exchange: &Exchange, awaited: Awaited) -> bool
-    ensures { result ≡ asks_for awaited exchange.now }
+fn exchange_asks_for_awaited(exchange: &Exchange, awaited: Awaited) -> bool
+    ensures { result ≡ exchange_asks_for_awaited awaited exchange.now }
 {
     match awaited {
         Awaited::Missing => is_uri_miss(exchange.rule),
@@ -106,12 +108,12 @@ pub(crate) fn has_authorization(asked: &Asked) -> bool
 fn sends_clients_condition(exchange: &Exchange, policy: Policy) -> bool
     ensures { result ≡ sends_clients_condition policy exchange.now }
 {
-    exchange.condition.is_none() && forwards_condition(policy, &exchange.asked)
+    exchange.condition.is_none() && forwards_client_condition(policy, &exchange.asked)
 }
 
 /// Whether nothing that is known of an exchange keeps its answer from this request.
-fn may_serve(exchange: &Exchange, policy: Policy, asked: &Asked) -> bool
-    ensures { result ≡ may_serve policy asked.now exchange.now }
+fn answer_may_be_shared_with(exchange: &Exchange, policy: Policy, asked: &Asked) -> bool
+    ensures { result ≡ answer_may_be_shared_with policy asked.now exchange.now }
 {
     !exchange.no_store
         && !exchange.overtaken
@@ -125,22 +127,22 @@ fn answer_may_serve(exchange: &Exchange, policy: Policy, asked: &Asked) -> bool
     ensures { result ≡ answer_may_serve policy asked.now exchange.now }
 {
     !forwards_range(policy, &exchange.asked)
-        && (!policy.waits_for_stale || may_serve(exchange, policy, asked))
+        && (!policy.waits_for_stale || answer_may_be_shared_with(exchange, policy, asked))
 }
 
 /// Whether a GET that could be sent this, over a line of this policy, waits for an exchange.
-pub(crate) fn leads_waiters(
+pub(crate) fn is_leader_for_request(
     exchange: &Exchange,
     policy: Policy,
     awaited: Awaited,
     asked: &Asked,
 ) -> bool
-    ensures { result ≡ leads_waiters policy awaited asked.now exchange.now }
+    ensures { result ≡ is_leader_for_request policy awaited asked.now exchange.now }
 {
     exchange.asked.target.key.is_same(&asked.target.key)
         && is_get(&exchange.asked)
         && is_forwarded(exchange.stage)
-        && asks_for(exchange, awaited)
+        && exchange_asks_for_awaited(exchange, awaited)
         && answer_may_serve(exchange, policy, asked)
 }
 
@@ -153,9 +155,9 @@ pub(crate) fn has_no_store(asked_directives: &Directives, asked: &Asked) -> bool
 }
 
 /// Whether a request has no-cache, where the operator's line heeds it.
-fn asks_the_origin(policy: Policy, asked_directives: &Directives, asked: &Asked) -> bool
+fn no_cache_request_is_heeded(policy: Policy, asked_directives: &Directives, asked: &Asked) -> bool
     requires { asked_directives.now ≡ occurrences_of asked.now.fields }
-    ensures { result ≡ asks_the_origin policy asked.now }
+    ensures { result ≡ no_cache_request_is_heeded policy asked.now }
 {
     policy.heeds_requests && asked_directives.has(Directive::NoCache)
 }
@@ -172,7 +174,7 @@ fn awaited_of_chosen(
         return Ok(None);
     };
     let directives = Directives::of(alloc, &entry.fields)?;
-    if lifetime_under(policy, entry.status, &entry.fields, &directives).seconds > 0 {
+    if lifetime_under_policy(policy, entry.status, &entry.fields, &directives).seconds > 0 {
         Ok(Some(Awaited::Expired(entry.serial)))
     } else {
         Ok(None)
@@ -180,7 +182,7 @@ fn awaited_of_chosen(
 }
 
 /// What a request could be sent of the answer to another, which this rule keeps from the chosen response.
-pub(crate) fn awaited_of(
+pub(crate) fn awaited_by_request(
     alloc: Global,
     policy: Policy,
     asked: &Asked,
@@ -192,14 +194,14 @@ pub(crate) fn awaited_of(
     ensures { IfOk result (λ awaited. awaited ≡ awaited_by_rule policy (option_copied chosen.entry) asked.now rule) }
 {
     if !is_get(asked)
-        || (policy.waits_for_stale && asks_the_origin(policy, asked_directives, asked))
+        || (policy.waits_for_stale && no_cache_request_is_heeded(policy, asked_directives, asked))
     {
         return Ok(None);
     }
     if is_uri_miss(rule) {
         return Ok(Some(Awaited::Missing));
     }
-    if policy.waits_for_stale && has_expired(rule) {
+    if policy.waits_for_stale && is_staleness_rule(rule) {
         awaited_of_chosen(alloc, policy, chosen)
     } else {
         Ok(None)

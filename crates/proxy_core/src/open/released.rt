@@ -8,8 +8,10 @@ ghost use Rattle.std.specs.Ordering.{nat_cmp};
 ghost use Rattle.std.specs.BTreeSet.{contains};
 ghost use Rattle.proxy_core.specs.Leading.{is_released as is_free};
 ghost use Rattle.proxy_core.specs.Releases.{first_released_arrival, is_between_arrivals, may_be_released};
-ghost use Rattle.proxy_core.specs.Releases.{released_range_with, ReleasedArrivalsPass, KnowsTheFirstReleased};
-ghost use Rattle.proxy_core.specs.Releases.{HasNoReleased, CoversOldRange, CoversRange, CoversArrivalSet};
+ghost use Rattle.proxy_core.specs.Releases.{released_range_with, ReleasedArrivalsPassTest};
+ghost use Rattle.proxy_core.specs.Releases.{ReleasedStatesFirstReleasedArrival};
+ghost use Rattle.proxy_core.specs.Releases.{FirstReleasedIsNone, ReleasedRangeIsNotNarrowed, ReleasedNumbersCoverRange};
+ghost use Rattle.proxy_core.specs.Releases.{ReleasedRangeIsWidenedToSet};
 
 use crate::open::exchange::Exchange;
 use crate::open::leading::is_released;
@@ -32,7 +34,7 @@ impl Drop for Released {
 impl Released {
     /// None is released.
     pub(crate) fn new() -> Self
-        ensures { HasNoReleased result }
+        ensures { FirstReleasedIsNone result }
     {
         Released {
             first: None,
@@ -49,7 +51,7 @@ impl Released {
 
     /// The exchange of this number may be released.
     pub(crate) fn enter(&mut self, stage: Stage, arrival: u64)
-        ensures widened { CoversOldRange self.old self.new }
+        ensures widened { ReleasedRangeIsNotNarrowed self.old self.new }
         ensures entered { is_free stage ≡ true → may_be_released self.new arrival ≡ true }
         ensures reach { self.new ≡ (if is_free stage then released_range_with arrival arrival self.old else self.old) }
     {
@@ -60,9 +62,9 @@ impl Released {
 
     /// The exchanges of these numbers may be released.
     pub(crate) fn enter_all(&mut self, arrivals: &BTreeSet<u64>)
-        ensures widened { CoversOldRange self.old self.new }
+        ensures widened { ReleasedRangeIsNotNarrowed self.old self.new }
         ensures entered { (n : ℕ) → contains nat_cmp arrivals.now n ≡ true → may_be_released self.new n ≡ true }
-        ensures reach { CoversArrivalSet arrivals.now self.old self.new }
+        ensures reach { ReleasedRangeIsWidenedToSet arrivals.now self.old self.new }
     {
         if let Some(first) = arrivals.first() {
             if let Some(last) = arrivals.last() {
@@ -73,8 +75,8 @@ impl Released {
 
     /// Those from the one number to the other may be released.
     fn widen(&mut self, first: u64, last: u64)
-        ensures widened { CoversOldRange self.old self.new }
-        ensures by { CoversRange first last self.new }
+        ensures widened { ReleasedRangeIsNotNarrowed self.old self.new }
+        ensures by { ReleasedNumbersCoverRange first last self.new }
         ensures reach { self.new ≡ released_range_with first last self.old }
     {
         match self.first {
@@ -91,8 +93,8 @@ impl Released {
 
     /// Looks for the first of them.
     pub(crate) fn settle(&mut self, by_arrival: &BTreeMap<u64, Exchange>)
-        requires { ReleasedArrivalsPass (may_be_released self.old) by_arrival.now.entries }
-        ensures settled { KnowsTheFirstReleased self.new by_arrival.now.entries }
+        requires { ReleasedArrivalsPassTest (may_be_released self.old) by_arrival.now.entries }
+        ensures settled { ReleasedStatesFirstReleasedArrival self.new by_arrival.now.entries }
         ensures last { self.new.last ≡ self.old.last }
     {
         if let Some(first) = self.first {
@@ -103,9 +105,9 @@ impl Released {
 
 /// The number of the first that is released, where none stands before or behind these numbers.
 fn first_between(by_arrival: &BTreeMap<u64, Exchange>, first: u64, last: u64) -> Option<u64>
-    requires { ReleasedArrivalsPass (is_between_arrivals (Some first) last) by_arrival.now.entries }
+    requires { ReleasedArrivalsPassTest (is_between_arrivals (Some first) last) by_arrival.now.entries }
     ensures first { result ≡ first_released_arrival by_arrival.now.entries }
-    ensures from { ReleasedArrivalsPass (is_between_arrivals result last) by_arrival.now.entries }
+    ensures from { ReleasedArrivalsPassTest (is_between_arrivals result last) by_arrival.now.entries }
 {
     if last < first {
         return None;

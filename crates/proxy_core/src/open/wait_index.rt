@@ -8,9 +8,9 @@ ghost use Rattle.std.specs.BTreeSet.{contains};
 ghost use Rattle.std.specs.Bool.{OnFalse, OnTrue};
 ghost use Rattle.proxy_core.specs.declared.open.stage.Stage.TheVariants as staged;
 ghost use Rattle.proxy_core.specs.Waiters.{is_in_wait_index, set_contains, WaiterIsEntered, WaiterIsEnteredIf};
-ghost use Rattle.proxy_core.specs.Waiters.{WaiterHasLeft, WaitersAreTakenOut, IsSameWaitIndex};
-ghost use Rattle.proxy_core.specs.Waiters.{HasNoEmptyWaiterSets, HasNoOtherEmptyWaiterSets, IsEmptyWaitIndex};
-ghost use Rattle.proxy_core.specs.Waiters.{SetHoldsAllWaiters, SetHasMembers, WaitersAreEntered};
+ghost use Rattle.proxy_core.specs.Waiters.{WaiterIsRemoved, WaitersAreRemoved, WaitIndexesHaveSameMembers};
+ghost use Rattle.proxy_core.specs.Waiters.{WaitIndexHasNoEmptySet, OtherIdsHaveNoEmptyWaiterSet, IsEmptyWaitIndex};
+ghost use Rattle.proxy_core.specs.Waiters.{SetHoldsAllWaiters, SetIsNotEmpty, WaitersAreEntered};
 
 use crate::open::stage::Stage;
 use std::alloc::{AllocError, Global};
@@ -36,7 +36,7 @@ impl WaitIndex {
     /// Nothing waits.
     pub(crate) fn new(alloc: Global) -> Self
         ensures none { IsEmptyWaitIndex result }
-        ensures trim { HasNoEmptyWaiterSets result }
+        ensures trim { WaitIndexHasNoEmptySet result }
     {
         WaitIndex {
             alloc,
@@ -47,8 +47,8 @@ impl WaitIndex {
     /// Enters an arrival, if its exchange waits. Out of memory changes nothing.
     pub(crate) fn enter(&mut self, stage: Stage, arrival: u64) -> Result<(), AllocError>
         ensures ok { OnOk result (WaiterIsEntered stage arrival self.old self.new) }
-        ensures err { OnErr result (IsSameWaitIndex self.old self.new) }
-        ensures trim { HasNoEmptyWaiterSets self.old → HasNoEmptyWaiterSets self.new }
+        ensures err { OnErr result (WaitIndexesHaveSameMembers self.old self.new) }
+        ensures trim { WaitIndexHasNoEmptySet self.old → WaitIndexHasNoEmptySet self.new }
     {
         match stage {
             Stage::Waiting(leader) => self.insert(leader, arrival),
@@ -58,8 +58,8 @@ impl WaitIndex {
 
     /// Takes an arrival out, if its exchange waits. Nothing is allocated.
     pub(crate) fn remove_arrival(&mut self, stage: Stage, arrival: u64)
-        ensures left { WaiterHasLeft stage arrival self.old self.new }
-        ensures trim { HasNoEmptyWaiterSets self.old → HasNoEmptyWaiterSets self.new }
+        ensures left { WaiterIsRemoved stage arrival self.old self.new }
+        ensures trim { WaitIndexHasNoEmptySet self.old → WaitIndexHasNoEmptySet self.new }
     {
         match stage {
             Stage::Waiting(leader) => self.remove(leader, arrival),
@@ -70,8 +70,8 @@ impl WaitIndex {
     /// Takes all out that wait for the exchange of an id. Nothing is allocated.
     pub(crate) fn take(&mut self, id: u64) -> Option<BTreeSet<u64>>
         ensures all { SetHoldsAllWaiters result id self.old }
-        ensures emptied { WaitersAreTakenOut id self.old self.new }
-        ensures trim { HasNoEmptyWaiterSets self.old → HasNoEmptyWaiterSets self.new }
+        ensures emptied { WaitersAreRemoved id self.old self.new }
+        ensures trim { WaitIndexHasNoEmptySet self.old → WaitIndexHasNoEmptySet self.new }
     {
         self.arrivals.remove(&id)
     }
@@ -87,8 +87,8 @@ impl WaitIndex {
     /// nothing.
     pub(crate) fn enter_all(&mut self, id: u64, arrivals: BTreeSet<u64>) -> Result<(), AllocError>
         ensures ok { OnOk result (WaitersAreEntered id arrivals self.old self.new) }
-        ensures err { OnErr result (IsSameWaitIndex self.old self.new) }
-        ensures trim { HasNoEmptyWaiterSets self.old → HasNoEmptyWaiterSets self.new }
+        ensures err { OnErr result (WaitIndexesHaveSameMembers self.old self.new) }
+        ensures trim { WaitIndexHasNoEmptySet self.old → WaitIndexHasNoEmptySet self.new }
     {
         if arrivals.is_empty() {
             return Ok(());
@@ -100,8 +100,8 @@ impl WaitIndex {
 
     /// These arrivals, and those that wait for the exchange of an id.
     fn with_those_of(&self, id: u64, arrivals: BTreeSet<u64>) -> Result<BTreeSet<u64>, AllocError>
-        requires { SetHasMembers arrivals }
-        ensures members { IfOk result (λ all. SetHasMembers all) }
+        requires { SetIsNotEmpty arrivals }
+        ensures members { IfOk result (λ all. SetIsNotEmpty all) }
         ensures all { IfOk result (λ all. (m : ℕ) → contains nat_cmp all m ≡ (contains nat_cmp arrivals m
             || is_in_wait_index self.now id m)) }
     {
@@ -114,8 +114,8 @@ impl WaitIndex {
 
     fn insert(&mut self, id: u64, arrival: u64) -> Result<(), AllocError>
         ensures ok { OnOk result (WaiterIsEntered (staged.Waiting id) arrival self.old self.new) }
-        ensures err { OnErr result (IsSameWaitIndex self.old self.new) }
-        ensures trim { HasNoEmptyWaiterSets self.old → HasNoEmptyWaiterSets self.new }
+        ensures err { OnErr result (WaitIndexesHaveSameMembers self.old self.new) }
+        ensures trim { WaitIndexHasNoEmptySet self.old → WaitIndexHasNoEmptySet self.new }
     {
         if self.insert_beside(id, arrival)? {
             return Ok(());
@@ -129,8 +129,8 @@ impl WaitIndex {
     /// Enters an arrival where others wait for that exchange, and says whether some do.
     fn insert_beside(&mut self, id: u64, arrival: u64) -> Result<bool, AllocError>
         ensures ok { IfOk result (λ has. WaiterIsEnteredIf has id arrival self.old self.new) }
-        ensures err { OnErr result (IsSameWaitIndex self.old self.new) }
-        ensures trim { HasNoEmptyWaiterSets self.old → HasNoEmptyWaiterSets self.new }
+        ensures err { OnErr result (WaitIndexesHaveSameMembers self.old self.new) }
+        ensures trim { WaitIndexHasNoEmptySet self.old → WaitIndexHasNoEmptySet self.new }
     {
         match self.arrivals.get_mut(&id) {
             Some(arrivals) => {
@@ -142,8 +142,8 @@ impl WaitIndex {
     }
 
     fn remove(&mut self, id: u64, arrival: u64)
-        ensures left { WaiterHasLeft (staged.Waiting id) arrival self.old self.new }
-        ensures trim { HasNoEmptyWaiterSets self.old → HasNoEmptyWaiterSets self.new }
+        ensures left { WaiterIsRemoved (staged.Waiting id) arrival self.old self.new }
+        ensures trim { WaitIndexHasNoEmptySet self.old → WaitIndexHasNoEmptySet self.new }
     {
         if self.remove_from_index(id, arrival) {
             self.arrivals.remove(&id);
@@ -152,10 +152,10 @@ impl WaitIndex {
 
     /// Takes an arrival out, and says whether it was the last that waited for that exchange.
     fn remove_from_index(&mut self, id: u64, arrival: u64) -> bool
-        ensures left { WaiterHasLeft (staged.Waiting id) arrival self.old self.new }
+        ensures left { WaiterIsRemoved (staged.Waiting id) arrival self.old self.new }
         ensures last { OnTrue result ((m : ℕ) → is_in_wait_index self.new id m ≡ false) }
-        ensures trim_beside { HasNoEmptyWaiterSets self.old → HasNoOtherEmptyWaiterSets id self.new }
-        ensures trim { HasNoEmptyWaiterSets self.old → OnFalse result (HasNoEmptyWaiterSets self.new) }
+        ensures trim_beside { WaitIndexHasNoEmptySet self.old → OtherIdsHaveNoEmptyWaiterSet id self.new }
+        ensures trim { WaitIndexHasNoEmptySet self.old → OnFalse result (WaitIndexHasNoEmptySet self.new) }
     {
         match self.arrivals.get_mut(&id) {
             Some(arrivals) => {
@@ -169,8 +169,8 @@ impl WaitIndex {
 
 /// Puts each of the others into a set. Where memory runs out some may be in it.
 fn insert_each(set: &mut BTreeSet<u64>, others: &BTreeSet<u64>) -> Result<(), AllocError>
-    requires { SetHasMembers set.old }
-    ensures members { SetHasMembers set.new }
+    requires { SetIsNotEmpty set.old }
+    ensures members { SetIsNotEmpty set.new }
     ensures all { OnOk result ((m : ℕ) → contains nat_cmp set.new m ≡ (contains nat_cmp set.old m
         || contains nat_cmp others.now m)) }
 {

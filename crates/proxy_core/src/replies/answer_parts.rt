@@ -5,7 +5,7 @@
 ghost use Rattle.std.specs.Prelude.{◌≡◌, ◌≤◌, ◌<◌, length, IfOk, Some};
 ghost use Rattle.hx_framing.specs.Text.{response_text};
 ghost use Rattle.hx_hop.specs.Answering.{answered_of};
-ghost use Rattle.hx_validate.specs.Ranges.{PartIsIn};
+ghost use Rattle.hx_validate.specs.Ranges.{PartLiesWithinTotal};
 ghost use Rattle.hx_validate.specs.declared.ranges.RangeAnswer.TheVariants.{Part, Unsatisfiable};
 ghost use Rattle.proxy_core.specs.Abouts.{about_answer_in_range};
 ghost use Rattle.proxy_core.specs.Replies.{answer_in_range_text, range_of_answer, content_unless_head, is_head};
@@ -16,15 +16,17 @@ use crate::replies::reply_text::{
     PassedAnswerInfo, about_in_place_of_answer, content_unless_head, fields_in_place_of_answer,
     is_head, whole_answer_text,
 };
-use crate::replies::stored_reply::{PARTIAL_CONTENT, RANGE_NOT_SATISFIABLE, Written};
+use crate::replies::stored_reply::{
+    ReplyTextAndAbout, STATUS_PARTIAL_CONTENT, STATUS_RANGE_NOT_SATISFIABLE,
+};
 use hx_age::Times;
 use hx_fields::{Bytes, Fields};
 use hx_framing::write_response;
 use hx_hop::{Answered, Asked};
 use hx_policy::Policy;
-use hx_reuse::fills_range;
+use hx_reuse::fetches_whole_for_range;
 use hx_validate::{
-    RangeAnswer, answer_unsatisfied_fields, head_leaves_room, part_fields, range_answer_of,
+    RangeAnswer, answer_unsatisfied_fields, fields_of_206_part, head_leaves_room, range_answer_of,
 };
 use std::alloc::{AllocError, Global};
 
@@ -33,10 +35,10 @@ fn range_of_answer(answer: &OriginAnswer<'_>, head: &Answered, policy: Policy) -
     requires { head.now ≡ answered_of answer.now.response.now answer.now.response_time }
     ensures answer { result ≡ range_of_answer policy answer.now.exchange.now answer.now.response.now
         answer.now.response_time }
-    ensures part { PartIsIn result (length answer.now.response.now.content) }
+    ensures part { PartLiesWithinTotal result (length answer.now.response.now.content) }
 {
     let exchange = answer.exchange;
-    if !fills_range(policy, &exchange.asked) {
+    if !fetches_whole_for_range(policy, &exchange.asked) {
         return RangeAnswer::Whole;
     }
     let date = Times::of(&head.fields, exchange.request_time, answer.response_time).date;
@@ -70,7 +72,7 @@ fn part_text(
     shown: PassedAnswerInfo,
     first: usize,
     last: usize,
-) -> Result<Written, AllocError>
+) -> Result<ReplyTextAndAbout, AllocError>
     requires head { head.now ≡ answered_of answer.now.response.now answer.now.response_time }
     requires order { first ≤ last }
     requires within { last < length answer.now.response.now.content }
@@ -84,15 +86,21 @@ fn part_text(
 {
     let response = answer.response;
     let content = response.content.as_slice();
-    let own = part_fields(alloc, &head.fields, first, last, content.len())?;
+    let own = fields_of_206_part(alloc, &head.fields, first, last, content.len())?;
     if !head_leaves_room(&own) {
         return whole_answer_text(alloc, name, answer, head, shown);
     }
     let lines = fields_in_place_of_answer(alloc, name, answer, head, shown, own)?;
     let part = &content[first..last + 1];
-    let bytes = text_in_place(alloc, &answer.exchange.asked, PARTIAL_CONTENT, &lines, part)?;
-    let about = about_in_place_of_answer(answer, head, shown, PARTIAL_CONTENT);
-    Ok(Written { bytes, about })
+    let bytes = text_in_place(
+        alloc,
+        &answer.exchange.asked,
+        STATUS_PARTIAL_CONTENT,
+        &lines,
+        part,
+    )?;
+    let about = about_in_place_of_answer(answer, head, shown, STATUS_PARTIAL_CONTENT);
+    Ok(ReplyTextAndAbout { bytes, about })
 }
 
 /// That none of the bytes which are asked for is there, where its head has room for the line that tells it.
@@ -102,7 +110,7 @@ fn unsatisfied_text(
     answer: &OriginAnswer<'_>,
     head: &Answered,
     shown: PassedAnswerInfo,
-) -> Result<Written, AllocError>
+) -> Result<ReplyTextAndAbout, AllocError>
     requires head { head.now ≡ answered_of answer.now.response.now answer.now.response_time }
     requires ttl { shown.ttl ≡ ttl_of_passed_answer shown.policy answer.now.exchange.now head.now.status
         head.now.fields answer.now.response_time shown.stored }
@@ -120,9 +128,9 @@ fn unsatisfied_text(
     }
     let lines = fields_in_place_of_answer(alloc, name, answer, head, shown, own)?;
     let asked = &answer.exchange.asked;
-    let bytes = text_in_place(alloc, asked, RANGE_NOT_SATISFIABLE, &lines, &[])?;
-    let about = about_in_place_of_answer(answer, head, shown, RANGE_NOT_SATISFIABLE);
-    Ok(Written { bytes, about })
+    let bytes = text_in_place(alloc, asked, STATUS_RANGE_NOT_SATISFIABLE, &lines, &[])?;
+    let about = about_in_place_of_answer(answer, head, shown, STATUS_RANGE_NOT_SATISFIABLE);
+    Ok(ReplyTextAndAbout { bytes, about })
 }
 
 /// An answer of the origin, as much of it as its client asked for: its head is handed in as rules see it.
@@ -132,7 +140,7 @@ pub(crate) fn answer_in_range_text(
     answer: &OriginAnswer<'_>,
     head: &Answered,
     shown: PassedAnswerInfo,
-) -> Result<Written, AllocError>
+) -> Result<ReplyTextAndAbout, AllocError>
     requires head { head.now ≡ answered_of answer.now.response.now answer.now.response_time }
     requires ttl { shown.ttl ≡ ttl_of_passed_answer shown.policy answer.now.exchange.now head.now.status
         head.now.fields answer.now.response_time shown.stored }

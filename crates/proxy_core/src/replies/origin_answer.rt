@@ -9,7 +9,7 @@ use crate::open::exchange::Exchange;
 use hx_framing::Response;
 use hx_hop::{Answered, Asked, answered};
 use hx_policy::Policy;
-use hx_reuse::forwards_condition;
+use hx_reuse::forwards_client_condition;
 use hx_target::Key;
 use std::alloc::{AllocError, Global};
 
@@ -49,7 +49,7 @@ impl OriginAnswer<'_> {
     pub(crate) fn is_304_without_condition(&self, policy: Policy) -> bool
         ensures { result ≡ is_304_without_condition policy self.now.exchange.now.asked self.now.response.now }
     {
-        self.response.status == 304 && !forwards_condition(policy, &self.exchange.asked)
+        self.response.status == 304 && !forwards_client_condition(policy, &self.exchange.asked)
     }
 
     /// Whether it invalidates what is held for the request's key.

@@ -4,7 +4,7 @@ ghost use Rattle.proxy_core.specs.Pending.{serial_stored_by_change, serial_used_
 
 use crate::outcome::{Outcome, Reply};
 use hx_fields::Bytes;
-use hx_status::About;
+use hx_status::StatusAndReason;
 use hx_store::{Entry, Serials};
 
 /// What becomes of the store.
@@ -53,7 +53,7 @@ pub(crate) struct PendingReply {
     pub(crate) bytes: Bytes,
     /// Whether the connection closes behind it.
     pub(crate) close: bool,
-    pub(crate) about: About,
+    pub(crate) about: StatusAndReason,
     pub(crate) change: Change,
     /// The serials that go, ascending.
     pub(crate) removed: Serials,
@@ -70,7 +70,7 @@ pub(crate) enum AfterAnswer {
 
 impl PendingReply {
     /// The outcome that it is.
-    pub(crate) fn into_outcome(self) -> Outcome
+    pub(crate) fn into_reply_outcome(self) -> Outcome
         ensures { result ≡ outcome_of_pending_reply self }
     {
         Outcome::Reply(Reply {

@@ -5,29 +5,30 @@ ghost use Rattle.hx_framing.specs.Text.{response_text};
 ghost use Rattle.hx_hop.specs.Answering.{answered_of};
 ghost use Rattle.hx_hop.specs.Moments.{date_text_of};
 ghost use Rattle.proxy_core.specs.Abouts.{about_answer, about_in_place_of_answer, about_passed_answer};
-ghost use Rattle.proxy_core.specs.Abouts.{about_whole_answer};
+ghost use Rattle.proxy_core.specs.Abouts.{about_answer_passed_whole};
 ghost use Rattle.proxy_core.specs.Replies.{passed_answer_text, fields_of_passed_answer, length_of_passed_answer};
-ghost use Rattle.proxy_core.specs.Replies.{whole_answer_text, client_has_answer, fields_in_place_of_answer};
+ghost use Rattle.proxy_core.specs.Replies.{whole_answer_text, client_wants_304_for_answer, fields_in_place_of_answer};
 ghost use Rattle.proxy_core.specs.Replies.{not_modified_answer_text};
-ghost use Rattle.proxy_core.specs.Replies.{cache_status_of_passed_answer, detail_past_store, without_tags};
+ghost use Rattle.proxy_core.specs.Replies.{cache_status_of_passed_answer, detail_of_bypassed_store};
+ghost use Rattle.proxy_core.specs.Replies.{fields_without_hidden_tags};
 ghost use Rattle.proxy_core.specs.Replies.{ttl_of_passed_answer, refusal_reply_text, fields_of_purge, purge_reply_text};
 ghost use Rattle.proxy_core.specs.Replies.{fields_of_refusal, content_unless_head, is_head, length_unless_forbidden};
 
 use crate::replies::answer_parts::answer_in_range_text;
 use crate::replies::origin_answer::OriginAnswer;
-use crate::replies::stored_reply::Written;
+use crate::replies::stored_reply::ReplyTextAndAbout;
 use http::Method;
 use hx_age::{Times, current_age, ttl};
-use hx_allow::Route;
+use hx_allow::RequestRoute;
 use hx_directives::Directives;
 use hx_fields::{Bytes, Fields};
 use hx_framing::{Response, write_response};
 use hx_hop::{Answered, Asked, date_text};
 use hx_policy::Policy;
-use hx_reuse::{keeps_conditions, lifetime_under};
-use hx_status::{About, Cause, Detail, How, Status, Told, member, refusal};
+use hx_reuse::{lifetime_under_policy, withholds_conditions};
+use hx_status::{Cause, Detail, How, Status, StatusAndReason, Told, member, refusal};
 use hx_storable::StoreRule;
-use hx_validate::{answer_not_modified, client_has_answer};
+use hx_validate::{answer_not_modified, client_wants_304_for_answer};
 use itoa::Buffer;
 use std::alloc::{AllocError, Global};
 
@@ -84,7 +85,7 @@ pub(crate) fn ttl_of_passed_answer(
             let now = answer.response_time;
             let times = Times::of(&head.fields, answer.exchange.request_time, now);
             let age = current_age(&times, now);
-            let lifetime = lifetime_under(policy, head.status, &head.fields, directives);
+            let lifetime = lifetime_under_policy(policy, head.status, &head.fields, directives);
             Some(ttl(lifetime, age))
         }
         None => None,
@@ -92,8 +93,8 @@ pub(crate) fn ttl_of_passed_answer(
 }
 
 /// The word of a request that goes past the store for its cookies.
-fn detail_past_store(route: Route) -> Option<Detail>
-    ensures { result ≡ detail_past_store route }
+fn detail_of_bypassed_store(route: RequestRoute) -> Option<Detail>
+    ensures { result ≡ detail_of_bypassed_store route }
 {
     if route.past_store {
         Some(Detail::SessionCookie)
@@ -120,16 +121,16 @@ fn cache_status_of_answer(
         ttl: shown.ttl,
         stored: shown.stored,
         collapsed: false,
-        detail: detail_past_store(answer.exchange.line),
+        detail: detail_of_bypassed_store(answer.exchange.line),
         not_stored: shown.rule,
     }
 }
 
 /// What is told of a response that is sent under a status, where the origin answered.
-fn about_answer(answer: &OriginAnswer<'_>, status: u16, shown: Status) -> About
+fn about_answer(answer: &OriginAnswer<'_>, status: u16, shown: Status) -> StatusAndReason
     ensures { result ≡ about_answer answer.now.exchange.now status shown }
 {
-    About {
+    StatusAndReason {
         status,
         told: Told::Handled(shown),
         origin_line: Some(answer.exchange.line.number),
@@ -137,11 +138,15 @@ fn about_answer(answer: &OriginAnswer<'_>, status: u16, shown: Status) -> About
 }
 
 /// What is told of the answer itself.
-fn about_whole_answer(answer: &OriginAnswer<'_>, head: &Answered, shown: PassedAnswerInfo) -> About
+fn about_answer_passed_whole(
+    answer: &OriginAnswer<'_>,
+    head: &Answered,
+    shown: PassedAnswerInfo,
+) -> StatusAndReason
     requires head { head.now ≡ answered_of answer.now.response.now answer.now.response_time }
     requires ttl { shown.ttl ≡ ttl_of_passed_answer shown.policy answer.now.exchange.now head.now.status
         head.now.fields answer.now.response_time shown.stored }
-    ensures { result ≡ about_whole_answer shown.policy answer.now.exchange.now answer.now.response.now
+    ensures { result ≡ about_answer_passed_whole shown.policy answer.now.exchange.now answer.now.response.now
         answer.now.response_time shown.stored shown.rule }
 {
     let status = cache_status_of_answer(answer, head, shown, None);
@@ -154,7 +159,7 @@ pub(crate) fn about_in_place_of_answer(
     head: &Answered,
     shown: PassedAnswerInfo,
     status: u16,
-) -> About
+) -> StatusAndReason
     requires head { head.now ≡ answered_of answer.now.response.now answer.now.response_time }
     requires ttl { shown.ttl ≡ ttl_of_passed_answer shown.policy answer.now.exchange.now head.now.status
         head.now.fields answer.now.response_time shown.stored }
@@ -167,7 +172,7 @@ pub(crate) fn about_in_place_of_answer(
 
 /// Takes the tags out, over a line that hides them.
 fn hide_tags(policy: Policy, fields: &mut Fields)
-    ensures { fields.new ≡ without_tags policy.hides_tags fields.old }
+    ensures { fields.new ≡ fields_without_hidden_tags policy.hides_tags fields.old }
 {
     if policy.hides_tags {
         fields.remove_named(b"Cache-Tag");
@@ -237,13 +242,13 @@ pub(crate) fn whole_answer_text(
     answer: &OriginAnswer<'_>,
     head: &Answered,
     shown: PassedAnswerInfo,
-) -> Result<Written, AllocError>
+) -> Result<ReplyTextAndAbout, AllocError>
     requires head { head.now ≡ answered_of answer.now.response.now answer.now.response_time }
     requires ttl { shown.ttl ≡ ttl_of_passed_answer shown.policy answer.now.exchange.now head.now.status
         head.now.fields answer.now.response_time shown.stored }
     ensures text { IfOk result (λ sent. sent.bytes ≡ whole_answer_text shown.policy name.now answer.now.exchange.now
         answer.now.response.now answer.now.response_time shown.stored shown.rule) }
-    ensures about { IfOk result (λ sent. sent.about ≡ about_whole_answer shown.policy answer.now.exchange.now
+    ensures about { IfOk result (λ sent. sent.about ≡ about_answer_passed_whole shown.policy answer.now.exchange.now
         answer.now.response.now answer.now.response_time shown.stored shown.rule) }
 {
     let asked = &answer.exchange.asked;
@@ -253,8 +258,8 @@ pub(crate) fn whole_answer_text(
     let length = length_of_passed_answer(to_head, response);
     let content = content_unless_head(to_head, response.content.as_slice());
     let bytes = write_response(alloc, response.status, &lines, length, asked.close, content)?;
-    let about = about_whole_answer(answer, head, shown);
-    Ok(Written { bytes, about })
+    let about = about_answer_passed_whole(answer, head, shown);
+    Ok(ReplyTextAndAbout { bytes, about })
 }
 
 /// The 304 that is sent in its place.
@@ -264,7 +269,7 @@ fn not_modified_answer_text(
     answer: &OriginAnswer<'_>,
     head: &Answered,
     shown: PassedAnswerInfo,
-) -> Result<Written, AllocError>
+) -> Result<ReplyTextAndAbout, AllocError>
     requires head { head.now ≡ answered_of answer.now.response.now answer.now.response_time }
     requires ttl { shown.ttl ≡ ttl_of_passed_answer shown.policy answer.now.exchange.now head.now.status
         head.now.fields answer.now.response_time shown.stored }
@@ -277,17 +282,18 @@ fn not_modified_answer_text(
     let lines = fields_in_place_of_answer(alloc, name, answer, head, shown, own)?;
     let bytes = write_response(alloc, 304, &lines, None, answer.exchange.asked.close, &[])?;
     let about = about_in_place_of_answer(answer, head, shown, 304);
-    Ok(Written { bytes, about })
+    Ok(ReplyTextAndAbout { bytes, about })
 }
 
 /// Whether the client has the answer already: the condition that it set stayed with the proxy, and is false of it.
 fn client_has_the_answer(answer: &OriginAnswer<'_>, head: &Answered, policy: Policy) -> bool
     requires { head.now ≡ answered_of answer.now.response.now answer.now.response_time }
-    ensures { result ≡ client_has_answer policy answer.now.exchange.now answer.now.response.now
+    ensures { result ≡ client_wants_304_for_answer policy answer.now.exchange.now answer.now.response.now
         answer.now.response_time }
 {
     let asked = &answer.exchange.asked;
-    keeps_conditions(policy, asked) && client_has_answer(asked, head.status, &head.fields)
+    withholds_conditions(policy, asked)
+        && client_wants_304_for_answer(asked, head.status, &head.fields)
 }
 
 /// An answer of the origin, as it is passed on, whole, in part or as a 304: its head is handed in as rules see it.
@@ -297,7 +303,7 @@ pub(crate) fn passed_answer_text(
     answer: &OriginAnswer<'_>,
     head: &Answered,
     shown: PassedAnswerInfo,
-) -> Result<Written, AllocError>
+) -> Result<ReplyTextAndAbout, AllocError>
     requires head { head.now ≡ answered_of answer.now.response.now answer.now.response_time }
     requires ttl { shown.ttl ≡ ttl_of_passed_answer shown.policy answer.now.exchange.now head.now.status
         head.now.fields answer.now.response_time shown.stored }

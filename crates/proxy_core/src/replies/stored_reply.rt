@@ -1,14 +1,15 @@
 //! The bytes of a stored response that is sent.
 ghost use Rattle.std.specs.Prelude.{◌≡◌, ◌≤◌, ◌<◌, ◌+◌, [], IfOk, Some, length, slice_range};
-ghost use Rattle.hx_validate.specs.Ranges.{fields_of_part, in_form_of, response_in_range};
+ghost use Rattle.hx_validate.specs.Ranges.{fields_of_206, response_in_form_of, response_as_range_or_whole};
 ghost use Rattle.hx_validate.specs.declared.ranges.RangeAnswer.TheVariants.{Part, Unsatisfiable};
 ghost use Rattle.hx_age.specs.Age.{age_of};
 ghost use Rattle.hx_framing.specs.Text.{response_text};
-ghost use Rattle.proxy_core.specs.Abouts.{about_sent, about_stored};
+ghost use Rattle.proxy_core.specs.Abouts.{about_stored_response_sent, about_stored};
 ghost use Rattle.proxy_core.specs.Outcomes.{forwarded_status_info, collapsed_status_info};
-ghost use Rattle.proxy_core.specs.Replies.{cache_status_of_sent, stored_text, whole_stored_text, not_modified_text};
+ghost use Rattle.proxy_core.specs.Replies.{cache_status_of_sent, stored_reply_text, whole_stored_text};
+ghost use Rattle.proxy_core.specs.Replies.{not_modified_text};
 ghost use Rattle.proxy_core.specs.Replies.{content_unless_head, fields_of_sent_response, fields_with_age_and_status};
-ghost use Rattle.proxy_core.specs.Replies.{fwd_status_of, is_head, text_in_form};
+ghost use Rattle.proxy_core.specs.Replies.{fwd_status_of, is_head, text_of_stored_in_form};
 ghost use Rattle.proxy_core.specs.Validating.{without_cookies};
 
 use crate::open::exchange::Exchange;
@@ -18,21 +19,21 @@ use hx_fields::{Bytes, Fields};
 use hx_framing::{AddedLine, ResponseLines, write_response_with_added_lines};
 use hx_hop::Asked;
 use hx_policy::Policy;
-use hx_reuse::lifetime_of_held;
-use hx_status::{About, Detail, How, Status, Told, member};
+use hx_reuse::lifetime_of_stored_response;
+use hx_status::{Detail, How, Status, StatusAndReason, Told, member};
 use hx_store::Entry;
 use hx_validate::{
-    RangeAnswer, client_wants_304, head_leaves_room, not_modified, part_fields, range_answer,
-    unsatisfied_fields,
+    RangeAnswer, client_wants_304, fields_of_206_part, head_leaves_room, not_modified,
+    range_answer, unsatisfied_fields,
 };
 use itoa::Buffer;
 use std::alloc::{AllocError, Global};
 
 /// The status of a part of a response (RFC 9110, section 15.3.7).
-pub(crate) const PARTIAL_CONTENT: u16 = 206;
+pub(crate) const STATUS_PARTIAL_CONTENT: u16 = 206;
 
 /// The status where no byte of a range is there (RFC 9110, section 15.5.17).
-pub(crate) const RANGE_NOT_SATISFIABLE: u16 = 416;
+pub(crate) const STATUS_RANGE_NOT_SATISFIABLE: u16 = 416;
 
 /// What Cache-Status tells of a stored response that is sent, beside the response itself (RFC 9211, section 2).
 #[derive(Clone, Copy)]
@@ -86,9 +87,9 @@ impl CacheStatusInfo {
 
 /// The bytes of a reply, and what it is.
 #[derive(Drop)]
-pub(crate) struct Written {
+pub(crate) struct ReplyTextAndAbout {
     pub(crate) bytes: Bytes,
-    pub(crate) about: About,
+    pub(crate) about: StatusAndReason,
 }
 
 /// A stored response that is sent to a request.
@@ -104,23 +105,24 @@ pub(crate) struct StoredReply<'a> {
 }
 
 /// The lines of a stored response, with the one that tells which part is sent.
-fn fields_of_part(
+fn fields_of_206(
     alloc: Global,
     entry: &Entry,
     first: usize,
     last: usize,
 ) -> Result<Fields, AllocError>
-    ensures { IfOk result (λ lines. lines ≡ fields_of_part entry.now.fields first last (length entry.now.content)) }
+    ensures { IfOk result (λ lines. lines ≡ fields_of_206 entry.now.fields first last (length entry.now.content)) }
 {
     let total = entry.content.len();
-    part_fields(alloc, &entry.fields, first, last, total)
+    fields_of_206_part(alloc, &entry.fields, first, last, total)
 }
 
 impl StoredReply<'_> {
     /// Its bytes: the whole response, the part of it that is asked for, or a 304 to a client that has it already.
-    pub(crate) fn text(&self, alloc: Global) -> Result<Written, AllocError>
+    pub(crate) fn text(&self, alloc: Global) -> Result<ReplyTextAndAbout, AllocError>
         ensures text { IfOk result (λ sent. sent.bytes
-            ≡ stored_text self.now.name.now self.now.entry.now self.now.sent_at self.now.info self.now.asked.now) }
+            ≡ stored_reply_text self.now.name.now self.now.entry.now self.now.sent_at self.now.info
+            self.now.asked.now) }
         ensures about { IfOk result (λ sent. sent.about
             ≡ about_stored self.now.entry.now self.now.sent_at self.now.info self.now.asked.now) }
     {
@@ -134,12 +136,13 @@ impl StoredReply<'_> {
     }
 
     /// What the request asks for of it, for a range or not.
-    fn text_in_range(&self, alloc: Global) -> Result<Written, AllocError>
-        ensures text { IfOk result (λ sent. sent.bytes ≡ text_in_form self.now.name.now
-            (response_in_range self.now.asked.now self.now.entry.now) self.now.entry.now self.now.sent_at self.now.info
+    fn text_in_range(&self, alloc: Global) -> Result<ReplyTextAndAbout, AllocError>
+        ensures text { IfOk result (λ sent. sent.bytes ≡ text_of_stored_in_form self.now.name.now
+            (response_as_range_or_whole self.now.asked.now self.now.entry.now) self.now.entry.now self.now.sent_at
+            self.now.info
             self.now.asked.now) }
         ensures about { IfOk result (λ sent. sent.about
-            ≡ about_sent (response_in_range self.now.asked.now self.now.entry.now).status
+            ≡ about_stored_response_sent (response_as_range_or_whole self.now.asked.now self.now.entry.now).status
             self.now.entry.now self.now.sent_at self.now.info) }
     {
         match range_answer(self.asked, self.entry) {
@@ -150,17 +153,22 @@ impl StoredReply<'_> {
     }
 
     /// Its bytes from the first to the last, where its head has room for the line that tells them.
-    fn part_text(&self, alloc: Global, first: usize, last: usize) -> Result<Written, AllocError>
+    fn part_text(
+        &self,
+        alloc: Global,
+        first: usize,
+        last: usize,
+    ) -> Result<ReplyTextAndAbout, AllocError>
         requires order { first ≤ last }
         requires within { last < length self.now.entry.now.content }
-        ensures text { IfOk result (λ sent. sent.bytes ≡ text_in_form self.now.name.now
-            (in_form_of (Part first last) self.now.entry.now) self.now.entry.now self.now.sent_at self.now.info
+        ensures text { IfOk result (λ sent. sent.bytes ≡ text_of_stored_in_form self.now.name.now
+            (response_in_form_of (Part first last) self.now.entry.now) self.now.entry.now self.now.sent_at self.now.info
             self.now.asked.now) }
         ensures about { IfOk result (λ sent. sent.about
-            ≡ about_sent (in_form_of (Part first last) self.now.entry.now).status
+            ≡ about_stored_response_sent (response_in_form_of (Part first last) self.now.entry.now).status
             self.now.entry.now self.now.sent_at self.now.info) }
     {
-        let fields = fields_of_part(alloc, self.entry, first, last)?;
+        let fields = fields_of_206(alloc, self.entry, first, last)?;
         if head_leaves_room(&fields) {
             self.text_of_part(alloc, fields, first, last)
         } else {
@@ -175,7 +183,7 @@ impl StoredReply<'_> {
         fields: Fields,
         first: usize,
         last: usize,
-    ) -> Result<Written, AllocError>
+    ) -> Result<ReplyTextAndAbout, AllocError>
         requires order { first ≤ last }
         requires within { last < length self.now.entry.now.content }
         ensures text { IfOk result (λ sent. sent.bytes ≡ response_text 206
@@ -186,20 +194,20 @@ impl StoredReply<'_> {
             (content_unless_head (is_head self.now.asked.now)
             (slice_range self.now.entry.now.content first (last + 1)))) }
         ensures about { IfOk result (λ sent. sent.about
-            ≡ about_sent 206 self.now.entry.now self.now.sent_at self.now.info) }
+            ≡ about_stored_response_sent 206 self.now.entry.now self.now.sent_at self.now.info) }
     {
         let entry = self.entry;
         let content = &entry.content.as_slice()[first..last + 1];
-        self.written_in_form(alloc, PARTIAL_CONTENT, fields, content)
+        self.written_in_form(alloc, STATUS_PARTIAL_CONTENT, fields, content)
     }
 
     /// That none of the bytes which are asked for is there, where its head has room for the line that tells it.
-    fn unsatisfied_text(&self, alloc: Global) -> Result<Written, AllocError>
-        ensures text { IfOk result (λ sent. sent.bytes ≡ text_in_form self.now.name.now
-            (in_form_of Unsatisfiable self.now.entry.now) self.now.entry.now self.now.sent_at self.now.info
+    fn unsatisfied_text(&self, alloc: Global) -> Result<ReplyTextAndAbout, AllocError>
+        ensures text { IfOk result (λ sent. sent.bytes ≡ text_of_stored_in_form self.now.name.now
+            (response_in_form_of Unsatisfiable self.now.entry.now) self.now.entry.now self.now.sent_at self.now.info
             self.now.asked.now) }
         ensures about { IfOk result (λ sent. sent.about
-            ≡ about_sent (in_form_of Unsatisfiable self.now.entry.now).status
+            ≡ about_stored_response_sent (response_in_form_of Unsatisfiable self.now.entry.now).status
             self.now.entry.now self.now.sent_at self.now.info) }
     {
         let fields = unsatisfied_fields(alloc, self.entry)?;
@@ -211,16 +219,16 @@ impl StoredReply<'_> {
     }
 
     /// A 416 of these lines, which has no content.
-    fn text_of_416(&self, alloc: Global, fields: Fields) -> Result<Written, AllocError>
+    fn text_of_416(&self, alloc: Global, fields: Fields) -> Result<ReplyTextAndAbout, AllocError>
         ensures text { IfOk result (λ sent. sent.bytes ≡ response_text 416
             (fields_of_sent_response self.now.name.now 416
             (without_cookies self.now.info.policy.removes_cookies fields)
             self.now.entry.now self.now.sent_at self.now.info) (Some 0) self.now.asked.now.close
             (content_unless_head (is_head self.now.asked.now) [])) }
         ensures about { IfOk result (λ sent. sent.about
-            ≡ about_sent 416 self.now.entry.now self.now.sent_at self.now.info) }
+            ≡ about_stored_response_sent 416 self.now.entry.now self.now.sent_at self.now.info) }
     {
-        self.written_in_form(alloc, RANGE_NOT_SATISFIABLE, fields, &[])
+        self.written_in_form(alloc, STATUS_RANGE_NOT_SATISFIABLE, fields, &[])
     }
 
     /// A response of these lines under a status, with this content, of which HEAD is sent the length alone.
@@ -230,14 +238,14 @@ impl StoredReply<'_> {
         status: u16,
         fields: Fields,
         content: &[u8],
-    ) -> Result<Written, AllocError>
+    ) -> Result<ReplyTextAndAbout, AllocError>
         ensures text { IfOk result (λ sent. sent.bytes ≡ response_text status
             (fields_of_sent_response self.now.name.now status
             (without_cookies self.now.info.policy.removes_cookies fields)
             self.now.entry.now self.now.sent_at self.now.info) (Some (length content.now)) self.now.asked.now.close
             (content_unless_head (is_head self.now.asked.now) content.now)) }
         ensures about { IfOk result (λ sent. sent.about
-            ≡ about_sent status self.now.entry.now self.now.sent_at self.now.info) }
+            ≡ about_stored_response_sent status self.now.entry.now self.now.sent_at self.now.info) }
     {
         let length = Some(content.len() as u64);
         let content = content_unless_head(is_head(self.asked), content);
@@ -256,11 +264,11 @@ impl StoredReply<'_> {
     }
 
     #[tactic(auto, using(crate::proofs::Cookies::none_removed))]
-    fn whole_text(&self, alloc: Global) -> Result<Written, AllocError>
+    fn whole_text(&self, alloc: Global) -> Result<ReplyTextAndAbout, AllocError>
         ensures text { IfOk result (λ sent. sent.bytes ≡ whole_stored_text self.now.name.now self.now.entry.now
             self.now.sent_at self.now.info self.now.asked.now) }
         ensures about { IfOk result (λ sent. sent.about
-            ≡ about_sent self.now.entry.now.status
+            ≡ about_stored_response_sent self.now.entry.now.status
             self.now.entry.now self.now.sent_at self.now.info) }
     {
         let entry = self.entry;
@@ -274,11 +282,11 @@ impl StoredReply<'_> {
         self.written(alloc, entry.status, &entry.fields, length, content)
     }
 
-    fn not_modified_text(&self, alloc: Global) -> Result<Written, AllocError>
+    fn not_modified_text(&self, alloc: Global) -> Result<ReplyTextAndAbout, AllocError>
         ensures text { IfOk result (λ sent. sent.bytes ≡ not_modified_text self.now.name.now self.now.entry.now
             self.now.sent_at self.now.info self.now.asked.now) }
         ensures about { IfOk result (λ sent. sent.about
-            ≡ about_sent 304 self.now.entry.now self.now.sent_at self.now.info) }
+            ≡ about_stored_response_sent 304 self.now.entry.now self.now.sent_at self.now.info) }
     {
         let fields = not_modified(alloc, self.entry)?;
         self.written_with(alloc, 304, &fields, None, &[])
@@ -291,7 +299,7 @@ impl StoredReply<'_> {
     {
         let entry = self.entry;
         let policy = self.info.policy;
-        let lifetime = lifetime_of_held(policy, entry);
+        let lifetime = lifetime_of_stored_response(policy, entry);
         Status {
             how: self.info.how,
             fwd_status: fwd_status_of(self.info.came, status),
@@ -313,12 +321,12 @@ impl StoredReply<'_> {
         fields: &Fields,
         length: Option<u64>,
         content: &[u8],
-    ) -> Result<Written, AllocError>
+    ) -> Result<ReplyTextAndAbout, AllocError>
         ensures text { IfOk result (λ sent. sent.bytes ≡ response_text status
             (fields_of_sent_response self.now.name.now status fields.now
             self.now.entry.now self.now.sent_at self.now.info) length self.now.asked.now.close content.now) }
         ensures about { IfOk result (λ sent. sent.about
-            ≡ about_sent status self.now.entry.now self.now.sent_at self.now.info) }
+            ≡ about_stored_response_sent status self.now.entry.now self.now.sent_at self.now.info) }
     {
         if self.info.policy.hides_tags && fields.has(b"Cache-Tag") {
             let mut others = fields.copy(alloc)?;
@@ -337,12 +345,12 @@ impl StoredReply<'_> {
         fields: &Fields,
         length: Option<u64>,
         content: &[u8],
-    ) -> Result<Written, AllocError>
+    ) -> Result<ReplyTextAndAbout, AllocError>
         ensures text { IfOk result (λ sent. sent.bytes ≡ response_text status
             (fields_with_age_and_status self.now.name.now status fields.now
             self.now.entry.now self.now.sent_at self.now.info) length self.now.asked.now.close content.now) }
         ensures about { IfOk result (λ sent. sent.about
-            ≡ about_sent status self.now.entry.now self.now.sent_at self.now.info) }
+            ≡ about_stored_response_sent status self.now.entry.now self.now.sent_at self.now.info) }
     {
         let entry = self.entry;
         let age = current_age(&entry.times, self.sent_at);
@@ -366,12 +374,12 @@ impl StoredReply<'_> {
             close: self.asked.close,
         };
         let bytes = write_response_with_added_lines(alloc, status, &lines, content)?;
-        let about = About {
+        let about = StatusAndReason {
             status,
             told: Told::Handled(shown),
             origin_line: self.info.origin_line,
         };
-        Ok(Written { bytes, about })
+        Ok(ReplyTextAndAbout { bytes, about })
     }
 }
 

@@ -4,19 +4,19 @@ ghost use Rattle.hx_directives.specs.Occurrences.{occurrences_of};
 ghost use Rattle.hx_hop.specs.Answering.{answered_of};
 ghost use Rattle.hx_allow.specs.Matching.{policy_of};
 ghost use Rattle.hx_reuse.specs.Rules.{decision_of};
-ghost use Rattle.hx_vary.specs.Vary.{kept_values_with};
+ghost use Rattle.hx_vary.specs.Vary.{nominated_values_with};
 ghost use Rattle.proxy_core.specs.Abouts.{about_passed_answer};
 ghost use Rattle.proxy_core.specs.Replies.{passed_answer_text};
 ghost use Rattle.proxy_core.specs.Storing.{storing_rule_to_explain};
 ghost use Rattle.proxy_core.specs.Outcomes.{is_error_status, outcome_of_passing_on, outcome_of_passing_on_or_stale};
-ghost use Rattle.proxy_core.specs.Outcomes.{fallback_for, outcome_of_answer};
+ghost use Rattle.proxy_core.specs.Outcomes.{fallback_for_failed_answer, outcome_of_answer};
 ghost use Rattle.proxy_core.specs.AnsweredRequests.{request_answered};
 ghost use Rattle.proxy_core.specs.Outcomes.{find_exchange, serial_of_stored_answer};
 ghost use Rattle.proxy_core.specs.declared.event.Event.TheVariants.{Answer};
 ghost use Rattle.proxy_core.specs.State.{StepIsAccepted, StepIsRefusedWith};
 ghost use Rattle.proxy_core.specs.Pending.{outcome_of_pending_reply, StoresUnderNextSerial, ChangeIsMadeByAnswer};
 ghost use Rattle.proxy_core.specs.State.{bounds_of};
-ghost use Rattle.proxy_core.specs.Pending.{outcome_after, AnswerLeavesHeldAsStepDoes, AnswerChangeFits};
+ghost use Rattle.proxy_core.specs.Pending.{outcome_after_answer, AnswerLeavesHeldAsStepDoes, AnswerChangeIsApplicable};
 
 use crate::core_fault::CoreFault;
 use crate::core_state::Core;
@@ -25,9 +25,11 @@ use crate::outcome::Step;
 use crate::replies::origin_answer::OriginAnswer;
 use crate::replies::pending::{AfterAnswer, Change, PendingReply};
 use crate::replies::reply_text::{PassedAnswerInfo, passed_answer_text, ttl_of_passed_answer};
-use crate::replies::stored_reply::{CacheStatusInfo, Written};
-use crate::steps::fallback::{Fallback, fallback_for};
-use crate::steps::storing::{Admission, NewEntry, removed_unstored, replaced_by};
+use crate::replies::stored_reply::{CacheStatusInfo, ReplyTextAndAbout};
+use crate::steps::fallback::{Fallback, fallback_for_failed_answer};
+use crate::steps::storing::{
+    Admission, NewEntry, serials_removed_if_not_stored, serials_replaced_by_storing,
+};
 use hx_directives::Directives;
 use hx_framing::Response;
 use hx_hop::Answered;
@@ -52,7 +54,7 @@ impl<S: Shelf> Core<S> {
         head: &Answered,
         rule: Option<StoreRule>,
         stored: Option<&Directives>,
-    ) -> Result<Written, AllocError>
+    ) -> Result<ReplyTextAndAbout, AllocError>
         requires head { head.now ≡ answered_of answer.now.response.now answer.now.response_time }
         requires directives { IfSome stored (λ directives. directives.now ≡ occurrences_of head.now.fields) }
         ensures text { IfOk result (λ sent. sent.bytes ≡ passed_answer_text
@@ -93,7 +95,7 @@ impl<S: Shelf> Core<S> {
             close: answer.exchange.asked.close,
             about: sent.about,
             change: Change::Keep,
-            removed: removed_unstored(alloc, &self.shelf, answer)?,
+            removed: serials_removed_if_not_stored(alloc, &self.shelf, answer)?,
         })
     }
 
@@ -107,7 +109,7 @@ impl<S: Shelf> Core<S> {
         new_entry: NewEntry,
     ) -> Result<PendingReply, AllocError>
         requires head { head ≡ answered_of answer.now.response.now answer.now.response_time }
-        requires nominated { new_entry.nominated ≡ kept_values_with answer.now.exchange.now.vary head.fields
+        requires nominated { new_entry.nominated ≡ nominated_values_with answer.now.exchange.now.vary head.fields
             answer.now.exchange.now.asked.fields }
         requires directives { new_entry.directives ≡ occurrences_of head.fields }
         ensures outcome { IfOk result (λ pending. outcome_of_pending_reply pending
@@ -120,7 +122,7 @@ impl<S: Shelf> Core<S> {
     {
         let asked = &answer.exchange.asked;
         let sent = self.passed_text(alloc, answer, &head, rule, Some(&new_entry.directives))?;
-        let removed = replaced_by(alloc, &self.shelf, asked)?;
+        let removed = serials_replaced_by_storing(alloc, &self.shelf, asked)?;
         let entry = new_entry.into_entry(alloc, answer, head)?;
         Ok(PendingReply {
             bytes: sent.bytes,
@@ -167,7 +169,7 @@ impl<S: Shelf> Core<S> {
             ≡ outcome_of_passing_on_or_stale self.now.table self.now.entries answer.now.response_time
             answer.now.exchange.now
             answer.now.response.now self.now.next (is_error_status answer.now.response.now.status)
-            (fallback_for (policy_of self.now.table.lines answer.now.exchange.now.line) self.now.entries
+            (fallback_for_failed_answer (policy_of self.now.table.lines answer.now.exchange.now.line) self.now.entries
             answer.now.exchange.now.asked answer.now.response_time (decision_of (policy_of self.now.table.lines
             answer.now.exchange.now.line) self.now.entries answer.now.exchange.now.asked answer.now.response_time))) }
         ensures next { IfOk result (λ pending. StoresUnderNextSerial self.now.next pending.change) }
@@ -183,7 +185,7 @@ impl<S: Shelf> Core<S> {
         let asked = &exchange.asked;
         let now = answer.response_time;
         let policy = self.config.policy(exchange.line);
-        match fallback_for(alloc, &self.shelf, asked, now, policy)? {
+        match fallback_for_failed_answer(alloc, &self.shelf, asked, now, policy)? {
             Fallback::Sends(serial, detail) => {
                 let info = CacheStatusInfo::forwarded(policy, exchange, Some(status), Some(detail));
                 self.send(alloc, serial, now, info, asked)
@@ -199,7 +201,7 @@ impl<S: Shelf> Core<S> {
         answer: &OriginAnswer<'_>,
     ) -> Result<AfterAnswer, AllocError>
         requires { answer.now.response_time < 253_402_300_800 }
-        ensures outcome { IfOk result (λ after. outcome_after answer.now.exchange.now after
+        ensures outcome { IfOk result (λ after. outcome_after_answer answer.now.exchange.now after
             ≡ outcome_of_answer self.now.table self.now.entries answer.now.response_time answer.now.exchange.now
             answer.now.response.now self.now.next (decision_of (policy_of self.now.table.lines
             answer.now.exchange.now.line) self.now.entries answer.now.exchange.now.asked answer.now.response_time)) }
@@ -207,10 +209,10 @@ impl<S: Shelf> Core<S> {
             (λ after. AnswerLeavesHeldAsStepDoes (bounds_of self.now.table self.now.limit) self.now.entries
             answer.now.exchange.now
             (Answer answer.now.response_time answer.now.exchange.now.id answer.now.response.now) after) }
-        ensures fits { IfOk result (λ after. AnswerChangeFits self.now.next self.now.entries after) }
+        ensures fits { IfOk result (λ after. AnswerChangeIsApplicable self.now.next self.now.entries after) }
     {
         if answer.is_304_to_own_conditions() {
-            return self.follow_304(alloc, answer);
+            return self.decide_after_304(alloc, answer);
         }
         if answer.is_304_without_condition(self.config.policy(answer.exchange.line)) {
             let kind = FailKind::BadAnswer;

@@ -4,20 +4,20 @@ ghost use Rattle.hx_directives.specs.Occurrences.{occurrences_of};
 ghost use Rattle.hx_allow.specs.Matching.{policy_of};
 ghost use Rattle.proxy_core.specs.Allowing.{verdict_of_asked, exchanges_to_wait_for};
 ghost use Rattle.hx_allow.specs.declared.verdicts.Verdict.TheVariants.{Allowed};
-ghost use Rattle.hx_store.specs.Shelf.{with_promoted};
+ghost use Rattle.hx_store.specs.Shelf.{entries_with_promoted};
 ghost use Rattle.hx_store.specs.Weights.{cut_to_bounds};
 ghost use Rattle.hx_reuse.specs.Rules.{decision_of};
 ghost use Rattle.hx_reuse.specs.declared.decision.Decision.TheVariants as decision;
-ghost use Rattle.proxy_core.specs.Leading.{leader_if_awaited};
-ghost use Rattle.proxy_core.specs.Awaiting.{awaited_of};
-ghost use Rattle.proxy_core.specs.Revalidating.{may_be_sent_at_serial, sent_while_awaited, sent_beside};
+ghost use Rattle.proxy_core.specs.Leading.{leader_id_if_awaited};
+ghost use Rattle.proxy_core.specs.Awaiting.{awaited_by_request};
+ghost use Rattle.proxy_core.specs.Revalidating.{may_be_sent_at_serial, sent_while_awaited, sent_while_revalidating};
 ghost use Rattle.proxy_core.specs.Outcomes.{hit_status_info, revalidating_status_info, find_exchange};
 ghost use Rattle.proxy_core.specs.Outcomes.{outcome_of_refusal, outcome_of_sending_stored};
 ghost use Rattle.proxy_core.specs.Outcomes.{outcome_of_allowed_request, outcome_of_waiting_or_forwarding, forward_text};
 ghost use Rattle.proxy_core.specs.Outcomes.{is_only_if_cached};
 ghost use Rattle.proxy_core.specs.declared.event.Event.TheVariants.{Arrive};
 ghost use Rattle.proxy_core.specs.declared.open.stage.Stage.TheVariants.{Forwarded};
-ghost use Rattle.proxy_core.specs.State.{StepIsAccepted, StepIsRefusedWith, state_after, exchange_with_leader};
+ghost use Rattle.proxy_core.specs.State.{StepIsAccepted, StepIsRefusedWith, state_after_event, exchange_with_leader};
 ghost use Rattle.proxy_core.specs.State.{bounds_of};
 
 use crate::core_fault::CoreFault;
@@ -25,14 +25,14 @@ use crate::core_state::Core;
 use crate::moments::moment_fault;
 use crate::open::awaited::Awaited;
 use crate::open::exchange::Exchange;
-use crate::open::leading::{awaited_of, has_no_store};
+use crate::open::leading::{awaited_by_request, has_no_store};
 use crate::open::stage::Stage;
 use crate::outcome::{Outcome, Reply};
 use crate::replies::stored_reply::CacheStatusInfo;
 use crate::steps::condition::condition_about_serial;
 use crate::steps::finishing::cut;
 use crate::steps::sending::{forward_text, refuse};
-use hx_allow::{Route, Verdict};
+use hx_allow::{RequestRoute, Verdict};
 use hx_directives::{Directive, Directives};
 use hx_hop::Asked;
 use hx_policy::Policy;
@@ -91,7 +91,7 @@ fn deny_request(alloc: Global, now: u64, cause: Cause, asked: &Asked) -> Result<
     ensures outcome { IfOk result (λ outcome. outcome ≡ outcome_of_refusal now cause asked.now) }
     ensures fault { IfErr result (λ fault. fault ≡ CoreFault.OutOfMemory) }
 {
-    Ok(refuse(alloc, now, cause, asked)?.into_outcome())
+    Ok(refuse(alloc, now, cause, asked)?.into_reply_outcome())
 }
 
 impl<S: Shelf> Core<S> {
@@ -135,7 +135,7 @@ impl<S: Shelf> Core<S> {
         now: u64,
         id: u64,
         asked: &Asked,
-        line: Route,
+        line: RequestRoute,
     ) -> Result<Outcome, AllocError>
         requires early { now < 253_402_300_800 }
         requires free { find_exchange id self.old.exchanges ≡ None }
@@ -143,7 +143,8 @@ impl<S: Shelf> Core<S> {
         ensures outcome { IfOk result
             (λ outcome. outcome ≡ outcome_of_allowed_request self.old.table self.old.entries self.old.exchanges
             line now asked.now (decision_of (policy_of self.old.table.lines line) self.old.entries asked.now now)) }
-        ensures after { IfOk result (λ outcome. self.new ≡ state_after self.old (Arrive now id asked.now) outcome) }
+        ensures after { IfOk result (λ outcome. self.new
+            ≡ state_after_event self.old (Arrive now id asked.now) outcome) }
         ensures unchanged { OnErr result (self.new ≡ self.old) }
     {
         let directives = Directives::of(alloc, &asked.fields)?;
@@ -155,7 +156,7 @@ impl<S: Shelf> Core<S> {
             Decision::Forward(rule, named) => {
                 if is_only_if_cached(&directives, asked) {
                     let pending = refuse(alloc, now, Cause::OnlyIfCached(rule), asked)?;
-                    return Ok(pending.into_outcome());
+                    return Ok(pending.into_reply_outcome());
                 }
                 let judged = Judged {
                     policy,
@@ -163,7 +164,14 @@ impl<S: Shelf> Core<S> {
                     named,
                 };
                 let awaited = self.awaited(alloc, now, asked, &directives, judged)?;
-                let beside = self.sent_beside(now, asked, &directives, policy, awaited, line);
+                let beside = self.sent_while_revalidating(
+                    now,
+                    asked,
+                    &directives,
+                    policy,
+                    awaited,
+                    line,
+                );
                 if let Some(serial) = beside {
                     let info = revalidating_status_info(policy);
                     return self.serve_stored(alloc, now, serial, info, asked);
@@ -199,14 +207,15 @@ impl<S: Shelf> Core<S> {
         ensures outcome { IfOk result (λ outcome. outcome
             ≡ outcome_of_sending_stored self.old.table self.old.entries serial now info asked.now) }
         ensures after { OnOk result (self.new ≡ record self.old {
-          entries = cut_to_bounds (bounds_of self.old.table self.old.limit) (with_promoted serial self.old.entries);
+          entries = cut_to_bounds (bounds_of self.old.table self.old.limit)
+              (entries_with_promoted serial self.old.entries);
         }) }
         ensures unchanged { OnErr result (self.new ≡ self.old) }
     {
         let pending = self.send(alloc, serial, now, info, asked)?;
         self.shelf.promote(serial);
         cut(&mut self.shelf, self.config.max_store());
-        Ok(pending.into_outcome())
+        Ok(pending.into_reply_outcome())
     }
 
     /// Whether the held response of a serial may be sent while one asks the origin about it.
@@ -254,18 +263,18 @@ impl<S: Shelf> Core<S> {
 
     /// The stale response that is sent in place of waiting for the exchange that leads over this line (RFC 5861,
     /// section 3).
-    fn sent_beside(
+    fn sent_while_revalidating(
         &self,
         now: u64,
         asked: &Asked,
         directives: &Directives,
         policy: Policy,
         awaited: Option<Awaited>,
-        line: Route,
+        line: RequestRoute,
     ) -> Option<u64>
         requires { directives.now ≡ occurrences_of asked.now.fields }
-        ensures { result ≡ sent_beside policy self.now.entries asked.now now awaited
-            (leader_if_awaited policy asked.now
+        ensures { result ≡ sent_while_revalidating policy self.now.entries asked.now now awaited
+            (leader_id_if_awaited policy asked.now
             (exchanges_to_wait_for self.now.table line asked.now self.now.exchanges) awaited) }
     {
         match self.leader_for(policy, awaited, asked, line) {
@@ -286,18 +295,19 @@ impl<S: Shelf> Core<S> {
         requires directives { directives.now ≡ occurrences_of asked.now.fields }
         requires decided { decision_of judged.policy self.now.entries asked.now now
             ≡ decision.Forward judged.rule judged.named }
-        ensures { IfOk result (λ awaited. awaited ≡ awaited_of judged.policy self.now.entries asked.now judged.rule) }
+        ensures { IfOk result (λ awaited. awaited
+            ≡ awaited_by_request judged.policy self.now.entries asked.now judged.rule) }
     {
         let chosen = match judged.named {
             Some(serial) => self.shelf.peek(serial),
             None => None,
         };
-        awaited_of(alloc, judged.policy, asked, directives, judged.rule, chosen)
+        awaited_by_request(alloc, judged.policy, asked, directives, judged.rule, chosen)
     }
 
     /// The first of the open exchanges that has asked for what a request could be sent.
     fn leader_among(&self, policy: Policy, awaited: Option<Awaited>, asked: &Asked) -> Option<u64>
-        ensures { result ≡ leader_if_awaited policy asked.now self.now.exchanges awaited }
+        ensures { result ≡ leader_id_if_awaited policy asked.now self.now.exchanges awaited }
     {
         self.exchanges.leader(policy, awaited?, asked)
     }
@@ -308,9 +318,9 @@ impl<S: Shelf> Core<S> {
         policy: Policy,
         awaited: Option<Awaited>,
         asked: &Asked,
-        line: Route,
+        line: RequestRoute,
     ) -> Option<u64>
-        ensures { result ≡ leader_if_awaited policy asked.now
+        ensures { result ≡ leader_id_if_awaited policy asked.now
             (exchanges_to_wait_for self.now.table line asked.now self.now.exchanges) awaited }
     {
         if self.config.came_back(line, &asked.fields) {
@@ -332,12 +342,12 @@ impl<S: Shelf> Core<S> {
         requires stage { exchange.stage ≡ Forwarded }
         ensures outcome { IfOk result
             (λ outcome. outcome ≡ outcome_of_waiting_or_forwarding self.old.table exchange.line exchange.asked
-            exchange.condition (leader_if_awaited policy exchange.asked
+            exchange.condition (leader_id_if_awaited policy exchange.asked
             (exchanges_to_wait_for self.old.table exchange.line exchange.asked self.old.exchanges) awaited)) }
         ensures after { OnOk result (self.new ≡ record self.old {
           exchanges = self.old.exchanges
               ++ exchange_with_leader
-              (leader_if_awaited policy exchange.asked
+              (leader_id_if_awaited policy exchange.asked
               (exchanges_to_wait_for self.old.table exchange.line exchange.asked self.old.exchanges) awaited)
               exchange ∷ [];
         }) }

@@ -3,7 +3,9 @@ ghost use Rattle.std.specs.Prelude.{◌≡◌, ◌<◌, Some, None, IfOk};
 ghost use Rattle.hx_directives.specs.Occurrences.{occurrences_of};
 ghost use Rattle.hx_allow.specs.Matching.{policy_of};
 ghost use Rattle.hx_reuse.specs.Rules.{decision_of};
-ghost use Rattle.proxy_core.specs.Outcomes.{error_rule_at, fallback_with_error_rule, fallback_for, outcome_of_failure};
+ghost use Rattle.proxy_core.specs.Outcomes.{error_rule_for_serial, fallback_with_error_rule};
+ghost use Rattle.proxy_core.specs.Outcomes.{fallback_for_failed_answer};
+ghost use Rattle.proxy_core.specs.Outcomes.{outcome_of_failure};
 ghost use Rattle.proxy_core.specs.Outcomes.{serials_removed_by_status, outcome_after_origin, outcome_of_refusal};
 ghost use Rattle.proxy_core.specs.Pending.{outcome_of_pending_reply, ChangeStoresNothing};
 
@@ -17,7 +19,7 @@ use hx_directives::Directives;
 use hx_hop::Asked;
 use hx_policy::Policy;
 use hx_reuse::{Decision, ErrorRule, ReuseRule, decide, may_serve_on_error};
-use hx_status::{About, Cause, Detail, FailKind};
+use hx_status::{Cause, Detail, FailKind, StatusAndReason};
 use hx_store::{Serials, Shelf};
 use std::alloc::{AllocError, Global};
 
@@ -31,7 +33,7 @@ pub enum Fallback {
 }
 
 /// The error rule against the held response of a serial.
-fn error_rule_at<S: Shelf>(
+fn error_rule_for_serial<S: Shelf>(
     shelf: &S,
     serial: u64,
     asked: &Asked,
@@ -40,7 +42,7 @@ fn error_rule_at<S: Shelf>(
     policy: Policy,
 ) -> Option<ErrorRule>
     requires { asked_directives.now ≡ occurrences_of asked.now.fields }
-    ensures { result ≡ error_rule_at policy (S.entries shelf.now) serial asked.now now }
+    ensures { result ≡ error_rule_for_serial policy (S.entries shelf.now) serial asked.now now }
 {
     match shelf.peek(serial) {
         Some(entry) => may_serve_on_error(asked_directives, entry, now, policy).err(),
@@ -58,14 +60,14 @@ fn fallback_with_error_rule(rule: ReuseRule, serial: u64, error: Option<ErrorRul
 }
 
 /// What is held instead of an answer that failed.
-pub(crate) fn fallback_for<S: Shelf>(
+pub(crate) fn fallback_for_failed_answer<S: Shelf>(
     alloc: Global,
     shelf: &S,
     asked: &Asked,
     now: u64,
     policy: Policy,
 ) -> Result<Fallback, AllocError>
-    ensures { IfOk result (λ fallback. fallback ≡ fallback_for policy (S.entries shelf.now) asked.now now
+    ensures { IfOk result (λ fallback. fallback ≡ fallback_for_failed_answer policy (S.entries shelf.now) asked.now now
         (decision_of policy (S.entries shelf.now) asked.now now)) }
 {
     let directives = Directives::of(alloc, &asked.fields)?;
@@ -73,7 +75,7 @@ pub(crate) fn fallback_for<S: Shelf>(
         Decision::Hit(serial) => Ok(Fallback::Sends(serial, Detail::ReuseAfterError)),
         Decision::Forward(rule, None) => Ok(Fallback::Refuses(rule, None)),
         Decision::Forward(rule, Some(serial)) => {
-            let error = error_rule_at(shelf, serial, asked, &directives, now, policy);
+            let error = error_rule_for_serial(shelf, serial, asked, &directives, now, policy);
             Ok(fallback_with_error_rule(rule, serial, error))
         }
     }
@@ -116,7 +118,7 @@ fn refuse_after_origin(
         change,
         removed: _,
     } = refuse(alloc, now, cause, &exchange.asked)?;
-    let about = About {
+    let about = StatusAndReason {
         origin_line: Some(exchange.line.number),
         ..about
     };
@@ -142,13 +144,14 @@ impl<S: Shelf> Core<S> {
         requires { now < 253_402_300_800 }
         ensures outcome { IfOk result (λ pending. outcome_of_pending_reply pending
             ≡ outcome_of_failure self.now.table self.now.entries now exchange.now kind came
-            (fallback_for (policy_of self.now.table.lines exchange.now.line) self.now.entries exchange.now.asked now
+            (fallback_for_failed_answer
+            (policy_of self.now.table.lines exchange.now.line) self.now.entries exchange.now.asked now
             (decision_of (policy_of self.now.table.lines exchange.now.line) self.now.entries exchange.now.asked now))) }
         ensures plain { IfOk result (λ pending. ChangeStoresNothing pending.change) }
     {
         let asked = &exchange.asked;
         let policy = self.config.policy(exchange.line);
-        match fallback_for(alloc, &self.shelf, asked, now, policy)? {
+        match fallback_for_failed_answer(alloc, &self.shelf, asked, now, policy)? {
             Fallback::Sends(serial, detail) => {
                 let info = CacheStatusInfo::forwarded(policy, exchange, came, Some(detail));
                 self.send(alloc, serial, now, info, asked)

@@ -1,7 +1,7 @@
 //! What a pending reply does to the core.
 ghost use Rattle.std.specs.Prelude.{◌≡◌, ◌<◌, ◌-◌, ◌^◌, ◌∷◌, [], map, false, IfOk, IfSome, OnOk, OnErr, option_copied};
 ghost use Rattle.hx_store.specs.Shelf.{holds_serial, without_serials};
-ghost use Rattle.hx_store.specs.Weights.{cut_to_bounds, prefix_of_weight_if_any, weight_of};
+ghost use Rattle.hx_store.specs.Weights.{cut_to_bounds, prefix_of_weight_if_any, weight_of_entry};
 ghost use Rattle.proxy_core.specs.AnsweredRequests.{request_of_exchange};
 ghost use Rattle.proxy_core.specs.Outcomes.{find_exchange};
 ghost use Rattle.proxy_core.specs.State.{entries_without_serials, next_serial_after, exchange_forwarded_again};
@@ -14,21 +14,21 @@ use crate::open::exchange::Exchange;
 use crate::open::serial_numbers::serial_after;
 use crate::outcome::{Outcome, Reply, Step};
 use crate::replies::pending::{Change, PendingReply};
-use hx_allow::Route;
+use hx_allow::RequestRoute;
 use hx_fields::Bytes;
 use hx_hop::Asked;
-use hx_store::{Entry, Shelf, shed_to};
+use hx_store::{Entry, Shelf, evict_to_weight};
 use hx_target::Key;
 use std::alloc::AllocError;
 
 /// Lets the least recently used go until the others weigh no more than `most` bytes together. Nothing is allocated.
 fn shed<S: Shelf>(shelf: &mut S, most: Option<u64>)
     requires { IfSome most (λ most. most < 2 ^ 64 - 1) }
-    ensures entries { S.entries shelf.new ≡ prefix_of_weight_if_any weight_of most (S.entries shelf.old) }
+    ensures entries { S.entries shelf.new ≡ prefix_of_weight_if_any weight_of_entry most (S.entries shelf.old) }
     ensures limit { S.limit shelf.new ≡ S.limit shelf.old }
 {
     if let Some(most) = most {
-        shed_to(shelf, most);
+        evict_to_weight(shelf, most);
     }
 }
 
@@ -137,7 +137,7 @@ fn request_of_exchange(ended: Option<Exchange>) -> Option<Asked>
     ensures { result ≡ request_of_exchange ended }
 {
     match ended {
-        Some(exchange) => Some(exchange.into_asked()),
+        Some(exchange) => Some(exchange.into_request_view()),
         None => None,
     }
 }
@@ -148,7 +148,7 @@ impl<S: Shelf> Core<S> {
         &mut self,
         id: u64,
         now: u64,
-        line: Route,
+        line: RequestRoute,
         bytes: Bytes,
     ) -> Result<Outcome, AllocError>
         ensures outcome { IfOk result (λ outcome. outcome ≡ Outcome.Forward line bytes) }

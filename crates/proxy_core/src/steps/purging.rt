@@ -1,19 +1,23 @@
 //! A request that purges.
 ghost use Rattle.std.specs.Prelude.{◌≡◌, ◌<◌, map, IfOk, OnOk, OnErr, Some};
-ghost use Rattle.hx_allow.specs.Tags.{names_tag_if_any};
-ghost use Rattle.proxy_core.specs.Scopes.{scope_of_keys, scope_of_purge, serials_purged, serials_within};
-ghost use Rattle.proxy_core.specs.Outcomes.{outcome_of_purge, outcome_of_taking};
-ghost use Rattle.proxy_core.specs.State.{entries_after_purge, entries_after_taking, overtaken_exchange};
+ghost use Rattle.hx_allow.specs.Tags.{is_purged_by_tag};
+ghost use Rattle.proxy_core.specs.Scopes.{scope_without_tag, scope_of_purge, serials_purged_by_request};
+ghost use Rattle.proxy_core.specs.Scopes.{serials_within_scope};
+ghost use Rattle.proxy_core.specs.Outcomes.{outcome_of_purge, outcome_of_purge_reply};
+ghost use Rattle.proxy_core.specs.State.{entries_after_purge, entries_after_purging_serials, overtaken_exchange};
 
 use crate::core_state::Core;
 use crate::open::exchanges::Exchanges;
 use crate::outcome::{Outcome, Reply};
 use crate::replies::reply_text::purged;
 use crate::steps::finishing::remove_each;
-use hx_allow::{PurgeMode, PurgeScope, mode_to_purge, names_tag, scope_to_purge, tag_to_purge};
+use hx_allow::{
+    PurgeMode, PurgeScope, purge_mode_or_remove, purge_scope_or_target, purge_tag_or_none,
+    response_names_tag,
+};
 use hx_fields::{Bytes, Fields};
 use hx_hop::Asked;
-use hx_status::About;
+use hx_status::StatusAndReason;
 use hx_store::{Entry, EntryTest, Serials, Shelf};
 use hx_target::Key;
 use std::alloc::{AllocError, Global};
@@ -29,36 +33,36 @@ struct WithinScope {
 }
 
 /// Whether a response names a tag, where one is asked for.
-fn names_tag_if_any(tag: &Option<Bytes>, fields: &Fields) -> bool
-    ensures { result ≡ names_tag_if_any tag.now fields.now }
+fn is_purged_by_tag(tag: &Option<Bytes>, fields: &Fields) -> bool
+    ensures { result ≡ is_purged_by_tag tag.now fields.now }
 {
     match tag {
         None => true,
-        Some(tag) => names_tag(tag.as_slice(), fields),
+        Some(tag) => response_names_tag(tag.as_slice(), fields),
     }
 }
 
 impl EntryTest for WithinScope {
-    ghost use Rattle.proxy_core.specs.Scopes.{scope_takes};
+    ghost use Rattle.proxy_core.specs.Scopes.{scope_includes_response};
 
-    ghost takes = { λ scope e. scope_takes
+    ghost takes = { λ scope e. scope_includes_response
         (record { reach = scope.reach; asked = scope.asked; tag = scope.tag }) e.key e.fields };
 
     // Most are told apart by the key, and to compare that costs less.
-    fn is_passed_by(&self, entry: &Entry) -> bool {
+    fn entry_passes_test(&self, entry: &Entry) -> bool {
         let within = self.reach.has(&self.asked, &entry.key);
-        within && names_tag_if_any(&self.tag, &entry.fields)
+        within && is_purged_by_tag(&self.tag, &entry.fields)
     }
 }
 
 /// The serials of what a purge takes, ascending. Of one target without a tag those are found by its key, and else each
 /// held response is looked at once. Fails only where memory runs out.
 fn find_purged<S: Shelf>(shelf: &S, alloc: Global, asked: &Asked) -> Result<Serials, AllocError>
-    ensures { IfOk result (λ found. found ≡ serials_purged asked.now (S.entries shelf.now)) }
+    ensures { IfOk result (λ found. found ≡ serials_purged_by_request asked.now (S.entries shelf.now)) }
 {
-    let reach = scope_to_purge(&asked.fields);
+    let reach = purge_scope_or_target(&asked.fields);
     let key = &asked.target.key;
-    match tag_to_purge(&asked.fields) {
+    match purge_tag_or_none(&asked.fields) {
         None => find_by_key(shelf, alloc, reach, key),
         Some(tag) => find_tagged(shelf, alloc, reach, key, tag),
     }
@@ -70,7 +74,8 @@ fn find_by_key<S: Shelf>(
     reach: PurgeScope,
     asked: &Key,
 ) -> Result<Serials, AllocError>
-    ensures { IfOk result (λ found. found ≡ serials_within (scope_of_keys reach asked.now) (S.entries shelf.now)) }
+    ensures { IfOk result (λ found. found
+        ≡ serials_within_scope (scope_without_tag reach asked.now) (S.entries shelf.now)) }
 {
     match reach {
         PurgeScope::Target => shelf.find(alloc, asked),
@@ -87,7 +92,7 @@ fn find_tagged<S: Shelf>(
     asked: &Key,
     tag: &[u8],
 ) -> Result<Serials, AllocError>
-    ensures { IfOk result (λ found. found ≡ serials_within
+    ensures { IfOk result (λ found. found ≡ serials_within_scope
         (record { reach = reach; asked = asked.now; tag = Some tag.now }) (S.entries shelf.now)) }
 {
     let tag = Bytes::copy_of(alloc, tag)?;
@@ -101,7 +106,7 @@ fn find_within<S: Shelf>(
     asked: &Key,
     tag: Option<Bytes>,
 ) -> Result<Serials, AllocError>
-    ensures { IfOk result (λ found. found ≡ serials_within
+    ensures { IfOk result (λ found. found ≡ serials_within_scope
         (record { reach = reach; asked = asked.now; tag = tag }) (S.entries shelf.now)) }
 {
     let scope = WithinScope {
@@ -116,13 +121,13 @@ fn find_within<S: Shelf>(
 fn overtake_purged(exchanges: &mut Exchanges, asked: &Asked)
     ensures { exchanges.new ≡ map (overtaken_exchange (scope_of_purge asked.now)) exchanges.old }
 {
-    let reach = scope_to_purge(&asked.fields);
+    let reach = purge_scope_or_target(&asked.fields);
     exchanges.overtake_within(reach, &asked.target.key);
 }
 
 /// Removes what a purge takes, or expires it. No memory is taken.
 fn take_each<S: Shelf>(shelf: &mut S, mode: PurgeMode, taken: &[u64], now: u64)
-    ensures entries { S.entries shelf.new ≡ entries_after_taking mode taken.now now (S.entries shelf.old) }
+    ensures entries { S.entries shelf.new ≡ entries_after_purging_serials mode taken.now now (S.entries shelf.old) }
     ensures limit { S.limit shelf.new ≡ S.limit shelf.old }
 {
     match mode {
@@ -133,9 +138,9 @@ fn take_each<S: Shelf>(shelf: &mut S, mode: PurgeMode, taken: &[u64], now: u64)
 
 /// The answer to a request that purges.
 fn purge_reply(alloc: Global, bytes: Bytes, close: bool, mode: PurgeMode, taken: Serials) -> Outcome
-    ensures { result ≡ outcome_of_taking bytes close mode taken }
+    ensures { result ≡ outcome_of_purge_reply bytes close mode taken }
 {
-    let about = About::purge(taken.as_slice().len() as u64);
+    let about = StatusAndReason::purge(taken.as_slice().len() as u64);
     let (removed, expired) = match mode {
         PurgeMode::Remove => (taken, None),
         PurgeMode::Stale => (Serials::new(alloc), Some(taken)),
@@ -171,7 +176,7 @@ impl<S: Shelf> Core<S> {
     {
         let taken = find_purged(&self.shelf, alloc, asked)?;
         let bytes = purged(alloc, now, taken.as_slice().len(), asked.close)?;
-        let mode = mode_to_purge(&asked.fields);
+        let mode = purge_mode_or_remove(&asked.fields);
         take_each(&mut self.shelf, mode, taken.as_slice(), now);
         overtake_purged(&mut self.exchanges, asked);
         Ok(purge_reply(alloc, bytes, asked.close, mode, taken))

@@ -10,25 +10,25 @@ ghost use Rattle.proxy_core.specs.Pending.{outcome_of_pending_reply};
 use crate::core_state::Core;
 use crate::replies::pending::{Change, PendingReply};
 use crate::replies::reply_text::{is_head, refused};
-use crate::replies::stored_reply::{CacheStatusInfo, StoredReply, Written};
+use crate::replies::stored_reply::{CacheStatusInfo, ReplyTextAndAbout, StoredReply};
 use crate::steps::condition::Condition;
-use hx_allow::{Config, Route};
+use hx_allow::{Config, RequestRoute};
 use hx_fields::Bytes;
 use hx_framing::write_request;
 use hx_hop::{Asked, Conditions, forward_request};
-use hx_reuse::{fills_range, keeps_conditions, without_range};
-use hx_status::{About, Cause, Told};
+use hx_reuse::{fetches_whole_for_range, request_without_range, withholds_conditions};
+use hx_status::{Cause, StatusAndReason, Told};
 use hx_store::{Serials, Shelf};
 use std::alloc::{AllocError, Global};
 
 /// What would be sent of a response that isn't held: no decision names one.
-fn nothing_to_send(alloc: Global) -> Written
+fn nothing_to_send(alloc: Global) -> ReplyTextAndAbout
     ensures text { result.bytes ≡ [] }
     ensures about { result.about ≡ record { status = 0; told = Purged 0; origin_line = None } }
 {
-    Written {
+    ReplyTextAndAbout {
         bytes: Bytes::new(alloc),
-        about: About {
+        about: StatusAndReason {
             status: 0,
             told: Told::Purged(0),
             origin_line: None,
@@ -88,7 +88,7 @@ pub(crate) fn refuse(
     Ok(PendingReply {
         bytes: refused(alloc, now, cause, asked.close, is_head(asked))?,
         close: asked.close,
-        about: About::refusal(cause),
+        about: StatusAndReason::refusal(cause),
         change: Change::Keep,
         removed: Serials::new(alloc),
     })
@@ -108,7 +108,7 @@ fn conditions_to_send(condition: Option<&Condition>) -> Option<&Conditions>
 pub(crate) fn forward_text(
     alloc: Global,
     config: &Config,
-    line: Route,
+    line: RequestRoute,
     asked: &Asked,
     condition: Option<&Condition>,
 ) -> Result<Bytes, AllocError>
@@ -116,9 +116,9 @@ pub(crate) fn forward_text(
 {
     let policy = config.policy(line);
     let name = config.name().as_bytes();
-    let keeps = keeps_conditions(policy, asked);
-    if fills_range(policy, asked) {
-        let whole = without_range(alloc, asked)?;
+    let keeps = withholds_conditions(policy, asked);
+    if fetches_whole_for_range(policy, asked) {
+        let whole = request_without_range(alloc, asked)?;
         return request_bytes(alloc, &whole, name, condition, keeps);
     }
     request_bytes(alloc, asked, name, condition, keeps)

@@ -2,11 +2,11 @@
 ghost use Rattle.std.specs.Prelude.{◌≡◌, ◌<◌, ◌-◌, ◌^◌, ℕ, min, Some, None, IfOk, IfSome, option_map};
 ghost use Rattle.hx_directives.specs.Occurrences.{occurrences_of};
 ghost use Rattle.hx_hop.specs.Answering.{answered_of};
-ghost use Rattle.hx_vary.specs.Vary.{kept_values_with, nominated_with};
+ghost use Rattle.hx_vary.specs.Vary.{nominated_values_with, nomination_with};
 ghost use Rattle.hx_storable.specs.Rules.{storage_rule_of};
 ghost use Rattle.proxy_core.specs.Storing.{nominates_a_star, storing_facts_of_answer, storing_rule_to_explain};
-ghost use Rattle.proxy_core.specs.Storing.{stored_response_made, replaced_by, answer_is_too_large};
-ghost use Rattle.proxy_core.specs.Validating.{is_above};
+ghost use Rattle.proxy_core.specs.Storing.{stored_response_made, serials_replaced_by_storing, answer_is_too_large};
+ghost use Rattle.proxy_core.specs.Validating.{weight_exceeds_optional_bound};
 ghost use Rattle.proxy_core.specs.Outcomes.{serial_of_stored_answer, serials_removed_by_answer};
 
 use crate::core_state::Core;
@@ -14,7 +14,7 @@ use crate::replies::origin_answer::OriginAnswer;
 use hx_age::Times;
 use hx_directives::Directives;
 use hx_hop::{Answered, Asked, lists_cache_field};
-use hx_reuse::lifetime_under;
+use hx_reuse::lifetime_under_policy;
 use hx_storable::laws::the_least_storage_rule_is_named;
 use hx_storable::{StoreRule, StoringFacts, first_rule_against};
 use hx_store::{Entry, Serials, Shelf, weight_of_parts};
@@ -60,7 +60,7 @@ impl NewEntry {
         head: Answered,
     ) -> Result<Entry, AllocError>
         requires head { head ≡ answered_of answer.now.response.now answer.now.response_time }
-        requires nominated { self.nominated ≡ kept_values_with answer.now.exchange.now.vary head.fields
+        requires nominated { self.nominated ≡ nominated_values_with answer.now.exchange.now.vary head.fields
             answer.now.exchange.now.asked.fields }
         requires directives { self.directives ≡ occurrences_of head.fields }
         ensures { IfOk result (λ entry. entry
@@ -74,7 +74,7 @@ impl NewEntry {
         } = self;
         let Answered { status, mut fields } = head;
         let exchange = answer.exchange;
-        let key = exchange.asked.target.key.detached(alloc)?;
+        let key = exchange.asked.target.key.copy_in_own_buffers(alloc)?;
         let content = answer.response.content.copy(alloc)?;
         let times = Times::of(&fields, exchange.request_time, answer.response_time);
         if exchange.removes_cookies {
@@ -109,9 +109,9 @@ fn nominates_a_star_there(nomination: &Nomination) -> bool
 
 /// Whether a weight, of which 2^64 - 1 stands for what is more, is above a bound.
 #[tactic(auto, using(crate::proofs::Cutting::above_counted))]
-pub(crate) fn is_above(most: Option<u64>, weight: u64) -> bool
+pub(crate) fn weight_exceeds_optional_bound(most: Option<u64>, weight: u64) -> bool
     requires { IfSome most (λ most. most < 2 ^ 64 - 1) }
-    ensures { (exact : ℕ) → weight ≡ min exact (2 ^ 64 - 1) → result ≡ is_above most exact }
+    ensures { (exact : ℕ) → weight ≡ min exact (2 ^ 64 - 1) → result ≡ weight_exceeds_optional_bound most exact }
 {
     match most {
         Some(most) => weight > most,
@@ -128,7 +128,7 @@ impl<S: Shelf> Core<S> {
         nomination: &Nomination,
     ) -> bool
         requires head { head.now ≡ answered_of answer.now.response.now answer.now.response_time }
-        requires nomination { nomination.now ≡ nominated_with answer.now.exchange.now.vary head.now.fields
+        requires nomination { nomination.now ≡ nomination_with answer.now.exchange.now.vary head.now.fields
             answer.now.exchange.now.asked.fields }
         ensures { result ≡ answer_is_too_large self.now.table answer.now.exchange.now answer.now.response.now
             answer.now.response_time }
@@ -144,7 +144,7 @@ impl<S: Shelf> Core<S> {
         let key = &answer.exchange.asked.target.key;
         let lines = head.fields.as_slice();
         let weight = weight_of_parts(key, nominated.as_slice(), lines, content);
-        is_above(self.config.max_store(), weight)
+        weight_exceeds_optional_bound(self.config.max_store(), weight)
     }
 
     /// What the storing rules ask of an answer beside the heads. What it nominates is handed in.
@@ -157,14 +157,14 @@ impl<S: Shelf> Core<S> {
     ) -> StoringFacts
         requires head { head.now ≡ answered_of answer.now.response.now answer.now.response_time }
         requires directives { directives.now ≡ occurrences_of head.now.fields }
-        requires nomination { nomination.now ≡ nominated_with answer.now.exchange.now.vary head.now.fields
+        requires nomination { nomination.now ≡ nomination_with answer.now.exchange.now.vary head.now.fields
             answer.now.exchange.now.asked.fields }
         ensures { result ≡ storing_facts_of_answer self.now.table answer.now.exchange.now answer.now.response.now
             answer.now.response_time self.now.next }
     {
         let response = answer.response;
         let policy = self.config.policy(answer.exchange.line);
-        let lifetime = lifetime_under(policy, head.status, &head.fields, directives);
+        let lifetime = lifetime_under_policy(policy, head.status, &head.fields, directives);
         StoringFacts {
             policy,
             vary_star: nominates_a_star_there(nomination),
@@ -188,7 +188,7 @@ impl<S: Shelf> Core<S> {
     ) -> Result<Option<StoreRule>, AllocError>
         requires head { head.now ≡ answered_of answer.now.response.now answer.now.response_time }
         requires directives { directives.now ≡ occurrences_of head.now.fields }
-        requires nomination { nomination.now ≡ nominated_with answer.now.exchange.now.vary head.now.fields
+        requires nomination { nomination.now ≡ nomination_with answer.now.exchange.now.vary head.now.fields
             answer.now.exchange.now.asked.fields }
         ensures { IfOk result (λ rule. rule ≡ storage_rule_of answer.now.exchange.now.asked head.now
             (storing_facts_of_answer self.now.table answer.now.exchange.now answer.now.response.now
@@ -233,7 +233,7 @@ impl<S: Shelf> Core<S> {
             ≡ serial_of_stored_answer
             self.now.table answer.now.exchange.now answer.now.response.now answer.now.response_time self.now.next) }
         ensures nominated { IfOk result (λ admission. IfSome admission.new_entry
-            (λ n. n.nominated ≡ kept_values_with answer.now.exchange.now.vary head.now.fields
+            (λ n. n.nominated ≡ nominated_values_with answer.now.exchange.now.vary head.now.fields
             answer.now.exchange.now.asked.fields)) }
         ensures directives { IfOk result (λ admission. IfSome admission.new_entry
             (λ n. n.directives ≡ occurrences_of head.now.fields)) }
@@ -271,18 +271,18 @@ impl<S: Shelf> Core<S> {
 }
 
 /// The serials of the held responses that a stored one takes the place of.
-pub(crate) fn replaced_by<S: Shelf>(
+pub(crate) fn serials_replaced_by_storing<S: Shelf>(
     alloc: Global,
     shelf: &S,
     asked: &Asked,
 ) -> Result<Serials, AllocError>
-    ensures { IfOk result (λ replaced. replaced ≡ replaced_by (S.entries shelf.now) asked.now) }
+    ensures { IfOk result (λ replaced. replaced ≡ serials_replaced_by_storing (S.entries shelf.now) asked.now) }
 {
     shelf.find_matching(alloc, &asked.target.key, &asked.fields)
 }
 
 /// What goes for an answer that isn't stored.
-pub(crate) fn removed_unstored<S: Shelf>(
+pub(crate) fn serials_removed_if_not_stored<S: Shelf>(
     alloc: Global,
     shelf: &S,
     answer: &OriginAnswer<'_>,

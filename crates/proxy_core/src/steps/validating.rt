@@ -1,13 +1,13 @@
 //! What a 304 to the proxy's conditions does (RFC 9111, section 4.3).
 ghost use Rattle.std.specs.Prelude.{◌≡◌, ◌<◌, ◌∷◌, [], None, IfOk, option_copied, cond};
 ghost use Rattle.hx_hop.specs.Answering.{answered_of};
-ghost use Rattle.hx_vary.specs.Vary.{is_star};
+ghost use Rattle.hx_vary.specs.Vary.{vary_is_star};
 ghost use Rattle.hx_allow.specs.Matching.{policy_of};
 ghost use Rattle.hx_reuse.specs.Rules.{decision_of};
 ghost use Rattle.proxy_core.specs.declared.event.Event.TheVariants.{Answer};
 ghost use Rattle.proxy_core.specs.Outcomes.{outcome_of_sending_freshened, outcome_of_304};
-ghost use Rattle.proxy_core.specs.Pending.{outcome_of_pending_reply, outcome_after, AnswerLeavesHeldAsStepDoes};
-ghost use Rattle.proxy_core.specs.Pending.{AnswerChangeFits, AnswerStoresNothing, IsChangeAfterFreshening};
+ghost use Rattle.proxy_core.specs.Pending.{outcome_of_pending_reply, outcome_after_answer, AnswerLeavesHeldAsStepDoes};
+ghost use Rattle.proxy_core.specs.Pending.{AnswerChangeIsApplicable, AnswerStoresNothing, IsChangeAfterFreshening};
 ghost use Rattle.proxy_core.specs.Validating.{stored_response_is_answered, stored_response_asked_about};
 ghost use Rattle.proxy_core.specs.Validating.{stored_response_validated, times_after_304, freshened_by_304};
 ghost use Rattle.proxy_core.specs.Validating.{as_get_request};
@@ -22,18 +22,18 @@ use crate::replies::pending::{AfterAnswer, Change, PendingReply};
 use crate::replies::stored_reply::{CacheStatusInfo, StoredReply};
 use crate::steps::judging::judge;
 use crate::steps::sending::forward_text;
-use crate::steps::storing::is_above;
+use crate::steps::storing::weight_exceeds_optional_bound;
 use http::Method;
 use hx_age::Times;
 use hx_allow::Config;
 use hx_directives::Directives;
 use hx_framing::Response;
 use hx_hop::{Answered, Asked, lists_cache_field};
-use hx_reuse::{Decision, lifetime_under};
+use hx_reuse::{Decision, lifetime_under_policy};
 use hx_status::Detail;
 use hx_storable::{StoringFacts, first_rule_against};
 use hx_store::{Entry, Serials, Shelf};
-use hx_target::laws::equal_keys_are_one;
+use hx_target::laws::same_keys_are_equal_records;
 use hx_validate::{answers, freshened, has_validator, head_leaves_room};
 use hx_vary::{Nominated, Nomination};
 use std::alloc::{AllocError, Global};
@@ -162,7 +162,8 @@ fn head_of_stored(alloc: Global, entry: &Entry) -> Result<Answered, AllocError>
 fn stored_is_too_large(config: &Config, entry: &Entry) -> bool
     ensures { result ≡ stored_is_too_large config.now entry.now }
 {
-    entry.content.len() as u64 > config.max_stored() || is_above(config.max_store(), entry.weight())
+    entry.content.len() as u64 > config.max_stored()
+        || weight_exceeds_optional_bound(config.max_store(), entry.weight())
 }
 
 /// What the storing rules ask of a freshened response.
@@ -176,7 +177,7 @@ fn storing_facts_of_freshened(
     ensures { IfOk result (λ facts. facts ≡ storing_facts_of_freshened config.now exchange.now response.now entry.now) }
 {
     let policy = config.policy(exchange.line);
-    let lifetime = lifetime_under(policy, entry.status, &entry.fields, &entry.directives);
+    let lifetime = lifetime_under_policy(policy, entry.status, &entry.fields, &entry.directives);
     Ok(StoringFacts {
         policy,
         vary_star: nominates_a_star_there(alloc, &exchange.asked, entry)?,
@@ -191,7 +192,7 @@ fn storing_facts_of_freshened(
 
 /// Whether no request but its own may be answered by a response (RFC 9111, section 4.1).
 fn nominates_a_star_there(alloc: Global, asked: &Asked, entry: &Entry) -> Result<bool, AllocError>
-    ensures { IfOk result (λ is. is ≡ is_star entry.now.fields) }
+    ensures { IfOk result (λ is. is ≡ vary_is_star entry.now.fields) }
 {
     match Nominated::of(alloc, &entry.fields, &asked.fields)? {
         Nomination::Star => Ok(true),
@@ -281,13 +282,13 @@ impl<S: Shelf> Core<S> {
     }
 
     /// What follows a 304 to the proxy's conditions.
-    pub(crate) fn follow_304(
+    pub(crate) fn decide_after_304(
         &self,
         alloc: Global,
         answer: &OriginAnswer<'_>,
     ) -> Result<AfterAnswer, AllocError>
         requires { answer.now.response_time < 253_402_300_800 }
-        ensures outcome { IfOk result (λ after. outcome_after answer.now.exchange.now after
+        ensures outcome { IfOk result (λ after. outcome_after_answer answer.now.exchange.now after
             ≡ outcome_of_304 self.now.table self.now.entries answer.now.response_time answer.now.exchange.now
             answer.now.response.now
             (stored_response_validated self.now.entries answer.now.exchange.now answer.now.response.now
@@ -297,10 +298,10 @@ impl<S: Shelf> Core<S> {
             (λ after. AnswerLeavesHeldAsStepDoes (bounds_of self.now.table self.now.limit) self.now.entries
             answer.now.exchange.now
             (Answer answer.now.response_time answer.now.exchange.now.id answer.now.response.now) after) }
-        ensures fits { IfOk result (λ after. AnswerChangeFits self.now.next self.now.entries after) }
+        ensures fits { IfOk result (λ after. AnswerChangeIsApplicable self.now.next self.now.entries after) }
     {
         let head = answer.head(alloc)?;
-        equal_keys_are_one();
+        same_keys_are_equal_records();
         match stored_response_validated(&self.shelf, answer, &head) {
             Some(entry) => {
                 let fresh = freshened_by_304(alloc, answer, &head, entry)?;
@@ -317,7 +318,7 @@ impl<S: Shelf> Core<S> {
         alloc: Global,
         answer: &OriginAnswer<'_>,
     ) -> Result<AfterAnswer, AllocError>
-        ensures outcome { IfOk result (λ after. outcome_after answer.now.exchange.now after
+        ensures outcome { IfOk result (λ after. outcome_after_answer answer.now.exchange.now after
             ≡ outcome_of_304 self.now.table self.now.entries answer.now.response_time answer.now.exchange.now
             answer.now.response.now None (decision_of (policy_of self.now.table.lines answer.now.exchange.now.line)
             self.now.entries answer.now.exchange.now.asked answer.now.response_time)) }

@@ -6,7 +6,7 @@ ghost use Rattle.hx_reuse.specs.declared.decision.Decision.TheVariants as decisi
 ghost use Rattle.proxy_core.specs.AnsweredRequests.{request_answered};
 ghost use Rattle.proxy_core.specs.Outcomes.{find_exchange, outcome_of_wake};
 ghost use Rattle.proxy_core.specs.Pending.{ChangeStoresNothing};
-ghost use Rattle.proxy_core.specs.Waking.{IsPreparedForWake};
+ghost use Rattle.proxy_core.specs.Waking.{AfterWakeMatchesDecision};
 ghost use Rattle.proxy_core.specs.declared.event.Event.TheVariants.{Wake};
 ghost use Rattle.proxy_core.specs.State.{StepIsAccepted, StepIsRefusedWith, exchange_sent_forward};
 
@@ -42,7 +42,7 @@ impl<S: Shelf> Core<S> {
         exchange: &Exchange,
         now: u64,
     ) -> Result<AfterWake, AllocError>
-        ensures { IfOk result (λ after. IsPreparedForWake self.now.table self.now.entries now exchange.now
+        ensures { IfOk result (λ after. AfterWakeMatchesDecision self.now.table self.now.entries now exchange.now
             (decision_of (policy_of self.now.table.lines exchange.now.line) self.now.entries exchange.now.asked now)
             after) }
     {

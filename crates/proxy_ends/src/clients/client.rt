@@ -11,21 +11,23 @@
 ghost use Rattle.std.specs.Net.Text.{socket_text};
 ghost use Rattle.std.specs.Prelude.{◌≡◌, ◌<◌, ◌≤◌, ◌++◌, length, take, drop, false, [], Some, None, Ok, IfOk, OnOk};
 ghost use Rattle.std.specs.Prelude.{OnErr};
-ghost use Rattle.proxy_ends.specs.Timeouts.{client_has_left, has_lasted_longer, milliseconds_since};
-ghost use Rattle.proxy_ends.specs.GivingWay.{client_is_quiet, client_takes_nothing};
-ghost use Rattle.proxy_reads.specs.Received.{FitsTheBuffer};
-ghost use Rattle.proxy_ends.specs.Departures.{departure_of, departed_client};
-ghost use Rattle.proxy_ends.specs.Logging.{LineAboutReplyIsAdded, LineOfLoggedIsAdded, NextRequestBegins, PieceIsKept};
+ghost use Rattle.proxy_ends.specs.Timeouts.{client_is_half_closed_too_long, has_lasted_longer, milliseconds_since};
+ghost use Rattle.proxy_ends.specs.GivingWay.{client_is_quiet_for_a_second, client_takes_nothing_for_a_second};
+ghost use Rattle.proxy_reads.specs.Received.{ReceivedBytesAreAtMostRoom};
+ghost use Rattle.proxy_ends.specs.Departures.{unanswered_departure_of, client_after_departure};
+ghost use Rattle.proxy_ends.specs.Logging.{LineAboutReplyIsAdded, LineOfLoggedIsAdded, LogBeginsNextRequest};
+ghost use Rattle.proxy_ends.specs.Logging.{PieceIsKeptForTheLog};
 ghost use Rattle.proxy_ends.specs.Logging.{logged_address};
-ghost use Rattle.proxy_ends.specs.Streams.{client_has_rest, client_may_have_input, rest_bytes, ClientIsRead};
-ghost use Rattle.proxy_ends.specs.Streams.{number_of_place, client_is_idle, new_client, ClientIsReadOn};
+ghost use Rattle.proxy_ends.specs.Streams.{client_has_bytes_not_handed_in, client_may_have_input, rest_bytes};
+ghost use Rattle.proxy_ends.specs.Streams.{ClientIsRead};
+ghost use Rattle.proxy_ends.specs.Streams.{client_number_of_place, client_is_idle, new_client, ClosedClientIsReadOn};
 
-use crate::clients::departures::Departure;
+use crate::clients::departures::UnansweredDeparture;
 use crate::limits::SECOND;
 use crate::replies::Reply;
 use proxy_figures::UnansweredCause;
-use proxy_log::{Lines, LoggedRequest, RequestLine, SeenOfReply};
-use proxy_pacing::{LEAST_HANDED_IN, Rest, StreamQueue, head_end};
+use proxy_log::{Lines, LoggedRequest, ReplyObservation, RequestLine};
+use proxy_pacing::{LEAST_PIECE_BYTES, Rest, StreamQueue, head_end};
 use proxy_reads::Received;
 use proxy_streams::{Peer, Socket, Stream};
 use std::alloc::{AllocError, Global};
@@ -43,19 +45,19 @@ pub enum Place {
 
 /// What a log needs of a client.
 #[derive(Drop)]
-pub struct Logged {
+pub struct LoggedClient {
     /// The text of its address and port, which each line has.
     pub address: String,
     /// The request line of its request that isn't answered yet, as it came.
     pub line: RequestLine,
 }
 
-impl Logged {
+impl LoggedClient {
     /// Adds the line about a reply: it names what the reply says that it answers, else what the request line says.
     fn log_reply(&self, reply: &Reply<'_>, lines: &mut Lines)
         ensures { LineOfLoggedIsAdded self.now reply.now lines.old lines.new }
     {
-        let seen = SeenOfReply {
+        let seen = ReplyObservation {
             moment: reply.moment,
             client: self.address.as_str().as_bytes(),
             took: reply.took,
@@ -103,7 +105,7 @@ pub struct Client<S: Stream + Drop = Socket> {
     /// When it was closed.
     pub closed: u64,
     /// In memory of its own: where no log is kept, a client is smaller by it.
-    logged: Option<Box<Logged>>,
+    logged: Option<Box<LoggedClient>>,
 }
 
 /// One call drops it, wherever that is.
@@ -159,7 +161,7 @@ impl<S: Stream + Drop> Client<S> {
 
     /// Its number, where the engine knows it.
     pub fn number(&self) -> Option<u64>
-        ensures { result ≡ number_of_place self.now.place }
+        ensures { result ≡ client_number_of_place self.now.place }
     {
         match self.place {
             Place::Open(n) => Some(n),
@@ -168,20 +170,20 @@ impl<S: Stream + Drop> Client<S> {
     }
 
     /// Keeps what a log needs: who it is, and its request line from now on. An `Err` changes nothing.
-    pub fn keep_log(&mut self, address: SocketAddr) -> Result<(), AllocError>
+    pub fn begin_log(&mut self, address: SocketAddr) -> Result<(), AllocError>
         ensures ok { OnOk result (logged_address self.new.logged ≡ Some (socket_text address)) }
         ensures err { OnErr result (self.new ≡ self.old) }
     {
         let line = RequestLine::new(self.alloc);
         let address = address.to_string(self.alloc)?;
-        let logged = Box::new(self.alloc, Logged { address, line })?;
+        let logged = Box::new(self.alloc, LoggedClient { address, line })?;
         self.logged = Some(logged);
         Ok(())
     }
 
     /// Takes what came, for a log: of a request that isn't answered yet its request line is kept.
     pub fn read_piece(&mut self, piece: &[u8])
-        ensures { PieceIsKept piece.now self.old.logged self.new.logged }
+        ensures { PieceIsKeptForTheLog piece.now self.old.logged self.new.logged }
     {
         if let Some(logged) = &mut self.logged {
             logged.line.take(piece);
@@ -189,15 +191,18 @@ impl<S: Stream + Drop> Client<S> {
     }
 
     /// What is told of it where it goes with a request that isn't answered.
-    pub fn depart(&mut self, cause: UnansweredCause) -> Option<Departure>
-        ensures told { result ≡ departure_of cause self.old }
-        ensures rest { self.new ≡ departed_client self.old }
+    pub fn take_unanswered_departure(
+        &mut self,
+        cause: UnansweredCause,
+    ) -> Option<UnansweredDeparture>
+        ensures told { result ≡ unanswered_departure_of cause self.old }
+        ensures rest { self.new ≡ client_after_departure self.old }
     {
         if !self.is_begun {
             return None;
         }
         self.is_begun = false;
-        Some(Departure {
+        Some(UnansweredDeparture {
             cause,
             asked: self.asked,
             logged: self.logged.take(),
@@ -218,7 +223,7 @@ impl<S: Stream + Drop> Client<S> {
     /// neither room nor memory for the line, it is lost, and counted.
     pub fn log_reply(&mut self, reply: &Reply<'_>, lines: &mut Lines)
         ensures line { LineAboutReplyIsAdded self.old.logged reply.now lines.old lines.new }
-        ensures next { NextRequestBegins self.old.logged self.new.logged }
+        ensures next { LogBeginsNextRequest self.old.logged self.new.logged }
     {
         if let Some(logged) = &mut self.logged {
             logged.log_reply(reply, lines);
@@ -245,7 +250,7 @@ impl<S: Stream + Drop> Client<S> {
 
     /// Whether something has come that wasn't handed in yet.
     pub fn has_rest(&self) -> bool
-        ensures { result ≡ client_has_rest self.now.rest }
+        ensures { result ≡ client_has_bytes_not_handed_in self.now.rest }
     {
         match &self.rest {
             Some(rest) => !rest.is_empty(),
@@ -261,7 +266,7 @@ impl<S: Stream + Drop> Client<S> {
     }
 
     /// Whether its request has been incomplete for more than so many milliseconds.
-    pub fn is_late(&self, now: u64, limit: u64) -> bool
+    pub fn is_request_late(&self, now: u64, limit: u64) -> bool
         ensures { result ≡ has_lasted_longer now self.now.asked limit }
     {
         match self.asked {
@@ -271,8 +276,8 @@ impl<S: Stream + Drop> Client<S> {
     }
 
     /// Whether it has sent its end, and for more than so many milliseconds nothing was written since.
-    pub fn has_left(&self, now: u64, limit: u64) -> bool
-        ensures { result ≡ client_has_left now self.now.left self.now.peer.heard limit }
+    pub fn is_half_closed_too_long(&self, now: u64, limit: u64) -> bool
+        ensures { result ≡ client_is_half_closed_too_long now self.now.left self.now.peer.heard limit }
     {
         match self.left {
             Some(left) => now.saturating_sub(left.max(self.peer.heard)) > limit,
@@ -282,14 +287,14 @@ impl<S: Stream + Drop> Client<S> {
 
     /// Whether no byte of it came or went for a second at least.
     pub fn is_quiet(&self, now: u64) -> bool
-        ensures { result ≡ client_is_quiet now self.now }
+        ensures { result ≡ client_is_quiet_for_a_second now self.now }
     {
         now.saturating_sub(self.peer.heard) >= SECOND
     }
 
     /// Whether it has taken nothing for a second at least of what it is to take.
     pub fn takes_nothing(&self, now: u64) -> bool
-        ensures { result ≡ client_takes_nothing now self.now }
+        ensures { result ≡ client_takes_nothing_for_a_second now self.now }
     {
         self.peer.has_unsent() && self.is_quiet(now)
     }
@@ -336,7 +341,7 @@ impl<S: Stream + Drop> Client<S> {
 
     /// How many bytes are handed in at least, where so many have come.
     fn least(&self) -> usize {
-        if self.is_begun { LEAST_HANDED_IN } else { 0 }
+        if self.is_begun { LEAST_PIECE_BYTES } else { 0 }
     }
 
     /// Keeps what stands behind the head of a request for the next reads; answers how many bytes stand in front. Where
@@ -359,12 +364,12 @@ impl<S: Stream + Drop> Client<S> {
 
     /// Reads a piece of what has come, if anything may have, behind what was kept. From one that still has to take what
     /// was written nothing is read.
-    pub fn read_on(&mut self, buf: &mut [u8], now: u64) -> io::Result<Received>
-        ensures within { IfOk result (FitsTheBuffer (length buf.old)) }
+    pub fn read_piece_behind_rest(&mut self, buf: &mut [u8], now: u64) -> io::Result<Received>
+        ensures within { IfOk result (ReceivedBytesAreAtMostRoom (length buf.old)) }
         ensures length { length buf.new ≡ length buf.old }
         ensures takes_first { 0 < length self.old.peer.unsent.bytes → (self.new ≡ self.old)
             × (result ≡ Ok Received.Nothing) }
-        ensures read { ClientIsReadOn S.Passed (length buf.old) result buf.new self.old self.new }
+        ensures read { ClosedClientIsReadOn S.Passed (length buf.old) result buf.new self.old self.new }
     {
         if !self.peer.has_unsent() {
             return self.peer.read(buf, now);
@@ -393,7 +398,7 @@ impl<S: Stream + Drop> Client<S> {
     /// Reads what has come, if anything may have, as far as the head of one request: what was kept comes first. From
     /// one that still has to take what was written nothing is read.
     pub fn read(&mut self, buf: &mut [u8], now: u64) -> io::Result<Received>
-        ensures within { IfOk result (FitsTheBuffer (length buf.old)) }
+        ensures within { IfOk result (ReceivedBytesAreAtMostRoom (length buf.old)) }
         ensures length { length buf.new ≡ length buf.old }
         ensures takes_first { 0 < length self.old.peer.unsent.bytes → (self.new ≡ self.old)
             × (result ≡ Ok Received.Nothing) }
@@ -415,7 +420,7 @@ impl<S: Stream + Drop> Client<S> {
     /// Reads what has come, if anything may have, as far as the head of one request, where nothing is left of what came
     /// before.
     fn read_stream(&mut self, buf: &mut [u8], least: usize, now: u64) -> io::Result<Received>
-        ensures within { IfOk result (FitsTheBuffer (length buf.old)) }
+        ensures within { IfOk result (ReceivedBytesAreAtMostRoom (length buf.old)) }
         ensures length { length buf.new ≡ length buf.old }
         ensures handed_in { rest_bytes self.old.rest ≡ [] → IfOk result
             (λ received. ClientIsRead S.Passed received buf.new self.old self.new) }

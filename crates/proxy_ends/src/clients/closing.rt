@@ -5,14 +5,14 @@
 ghost use Rattle.std.specs.Prelude.{◌≡◌, ◌<◌, length};
 ghost use Rattle.std.specs.Ordering.{nat_cmp};
 ghost use Rattle.std.specs.BTreeMap.{get};
-ghost use Rattle.proxy_ends.specs.Closing.{ClosedStreamsAreBounded, ClientStandsInQueue, AtMostOneOtherStreamGoes};
-ghost use Rattle.proxy_ends.specs.Closing.{StreamIsClosedByNumber, InputIsDropped, LeavesWhereUnsent};
-ghost use Rattle.proxy_ends.specs.Closing.{TakesFirst};
+ghost use Rattle.proxy_ends.specs.Closing.{ClosedStreamsAreBounded, ClientIsInQueue, AtMostOneOtherStreamIsDropped};
+ghost use Rattle.proxy_ends.specs.Closing.{StreamIsClosedByNumber, InputIsDropped, IsInLeavingQueueIfUnsent};
+ghost use Rattle.proxy_ends.specs.Closing.{HasUnsentBytesOrIsAbsent};
 ghost use Rattle.proxy_ends.specs.Streams.{client_at, stream_at_number};
 
 use crate::clients::Clients;
 use crate::clients::client::Client;
-use crate::limits::MOST_LINGERING;
+use crate::limits::MOST_LINGERING_CONNECTIONS;
 use proxy_figures::UnansweredCause;
 use proxy_pacing::StreamQueue;
 use proxy_reads::{PIECE, Received};
@@ -36,7 +36,7 @@ fn drop_input<S: Stream + Drop>(client: &mut Client<S>, now: u64) -> StillToWait
 {
     let mut buf = [0u8; PIECE];
     for _piece in 0..MOST_PIECES_DROPPED {
-        match client.read_on(&mut buf, now) {
+        match client.read_piece_behind_rest(&mut buf, now) {
             Ok(Received::Bytes(_)) => {}
             Ok(Received::Nothing) => return StillToWait::Yes,
             Ok(Received::End) => return StillToWait::No,
@@ -68,7 +68,7 @@ impl<S: Stream + Drop> Clients<S> {
     #[tactic(auto, using(crate::proofs::Closings::none_goes, crate::proofs::Closings::closes_at, crate::proofs::Closings::closes_none))]
     pub fn close(&mut self, n: u64, now: u64)
         ensures others { StreamIsClosedByNumber (get nat_cmp self.old.open n) self.old.streams self.new.streams }
-        ensures leaves { LeavesWhereUnsent (stream_at_number self.old.open self.old.streams n)
+        ensures leaves { IsInLeavingQueueIfUnsent (stream_at_number self.old.open self.old.streams n)
             (stream_at_number self.old.open self.new.streams n) }
     {
         let Some(key) = self.remove_number(n) else {
@@ -93,8 +93,8 @@ impl<S: Stream + Drop> Clients<S> {
     /// Goes on with a connection that was closed, or lets it go.
     #[tactic(auto, using(crate::proofs::Closings::none_goes, crate::proofs::Closings::goes_behind))]
     pub fn end(&mut self, key: usize, now: u64)
-        ensures others { AtMostOneOtherStreamGoes key self.old.streams self.new.streams }
-        ensures takes_first { TakesFirst (client_at self.old.streams key)
+        ensures others { AtMostOneOtherStreamIsDropped key self.old.streams self.new.streams }
+        ensures takes_first { HasUnsentBytesOrIsAbsent (client_at self.old.streams key)
             → client_at self.new.streams key ≡ client_at self.old.streams key }
     {
         let Some(client) = self.streams.get_mut(key) else {
@@ -113,9 +113,9 @@ impl<S: Stream + Drop> Clients<S> {
 
     /// A closed connection whose client has taken everything. Beyond the most of these the first is closed whole.
     fn linger_after_close(&mut self, key: usize)
-        ensures bound { ClientStandsInQueue StreamQueue.Lingering (client_at self.old.streams key)
+        ensures bound { ClientIsInQueue StreamQueue.Lingering (client_at self.old.streams key)
             → ClosedStreamsAreBounded self.old.queues.lingering self.old.streams self.new.streams }
-        ensures others { AtMostOneOtherStreamGoes key self.old.streams self.new.streams }
+        ensures others { AtMostOneOtherStreamIsDropped key self.old.streams self.new.streams }
     {
         self.move_to_queue(key, StreamQueue::Lingering);
         self.drop_first();
@@ -125,7 +125,7 @@ impl<S: Stream + Drop> Clients<S> {
     fn drop_first(&mut self)
         ensures { ClosedStreamsAreBounded self.old.queues.lingering self.old.streams self.new.streams }
     {
-        if self.queues.len(StreamQueue::Lingering) > MOST_LINGERING {
+        if self.queues.len(StreamQueue::Lingering) > MOST_LINGERING_CONNECTIONS {
             if let Some(first) = self.queues.first(StreamQueue::Lingering) {
                 self.drop_stream(first, UnansweredCause::Closed);
             }
@@ -133,7 +133,7 @@ impl<S: Stream + Drop> Clients<S> {
     }
 
     /// Goes on with what no event will tell of.
-    pub fn drop_inputs(&mut self, now: u64) {
+    pub fn drop_input_of_lingering(&mut self, now: u64) {
         if !self.more {
             return;
         }

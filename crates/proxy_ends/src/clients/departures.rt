@@ -3,28 +3,28 @@ ghost use Rattle.std.specs.Prelude.{◌≡◌, ◌⊎◌};
 ghost use Rattle.proxy_log.specs.Line.{log_line_text};
 ghost use Rattle.proxy_log.specs.PendingLines.{LineIsAdded, LineIsLost};
 ghost use Rattle.proxy_log.specs.Replies.{unanswered_words};
-ghost use Rattle.proxy_ends.specs.Departures.{DepartureIsLogged, words_asked};
+ghost use Rattle.proxy_ends.specs.Departures.{UnansweredDepartureIsLogged, words_of_open_or_read_request};
 ghost use Rattle.proxy_ends.specs.Timeouts.{milliseconds_since};
 
-use crate::clients::client::Logged;
+use crate::clients::client::LoggedClient;
 use proxy_figures::UnansweredCause;
-use proxy_log::{Lines, LoggedRequest, RequestLine, SeenOfReply};
+use proxy_log::{Lines, LoggedRequest, ReplyObservation, RequestLine};
 
 /// A client that went with a request that isn't answered.
 #[derive(Drop)]
-pub struct Departure {
+pub struct UnansweredDeparture {
     pub cause: UnansweredCause,
     /// When the first byte of its request came.
     pub asked: Option<u64>,
     /// What a log needs of it, where one is kept.
-    pub logged: Option<Box<Logged>>,
+    pub logged: Option<Box<LoggedClient>>,
 }
 
 /// A client whose stream was dropped, and of which the engine isn't told yet.
 #[derive(Drop)]
 pub struct LostClient {
     pub number: u64,
-    pub departure: Option<Departure>,
+    pub departure: Option<UnansweredDeparture>,
 }
 
 /// Adds the line about a request that has no answer: what it asks for if it is open, else what the request line says.
@@ -33,9 +33,10 @@ fn add_unanswered(
     request: &Option<LoggedRequest<'_>>,
     line: &RequestLine,
     cause: &[u8],
-    seen: &SeenOfReply<'_>,
+    seen: &ReplyObservation<'_>,
 )
-    ensures { LineIsAdded (log_line_text (unanswered_words (words_asked request.now line.now) cause.now seen.now))
+    ensures { LineIsAdded
+        (log_line_text (unanswered_words (words_of_open_or_read_request request.now line.now) cause.now seen.now))
         lines.old lines.new ⊎ LineIsLost lines.old lines.new }
 {
     match request {
@@ -44,7 +45,7 @@ fn add_unanswered(
     }
 }
 
-impl Departure {
+impl UnansweredDeparture {
     /// Milliseconds since the first byte of its request came.
     pub fn milliseconds_taken(&self, now: u64) -> u64
         ensures { result ≡ milliseconds_since now self.now.asked }
@@ -66,12 +67,12 @@ impl Departure {
         origin: &[u8],
         lines: &mut Lines,
     )
-        ensures { DepartureIsLogged self.now request.entry moment took origin.now lines.old lines.new }
+        ensures { UnansweredDepartureIsLogged self.now request.entry moment took origin.now lines.old lines.new }
     {
         let Some(logged) = &self.logged else {
             return;
         };
-        let seen = SeenOfReply {
+        let seen = ReplyObservation {
             moment,
             client: logged.address.as_str().as_bytes(),
             took,

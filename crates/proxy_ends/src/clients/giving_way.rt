@@ -3,8 +3,8 @@
 //! Of those whose request isn't answered yet the one gives its place of which no byte came or went for the longest.
 //! Whose bytes go on coming gives it to nobody.
 ghost use Rattle.std.specs.Prelude.{◌≡◌, ℕ, IfSome};
-ghost use Rattle.proxy_ends.specs.GivingWay.{MayGiveWay};
-ghost use Rattle.proxy_ends.specs.OtherEntries.{OtherSlabKeysStay};
+ghost use Rattle.proxy_ends.specs.GivingWay.{ClientMayBeDroppedForRoom};
+ghost use Rattle.proxy_ends.specs.OtherEntries.{StreamsOfOtherKeysStay};
 ghost use Rattle.proxy_ends.specs.Streams.{client_at};
 
 use crate::clients::Clients;
@@ -13,7 +13,7 @@ use proxy_streams::Stream;
 
 /// The client that is dropped where more is held for requests and answers than may be.
 #[derive(Clone, Copy, PartialEq, Eq)]
-pub struct Largest {
+pub struct LargestHeldClient {
     pub key: usize,
     /// It has taken nothing for a second at least of what it is to take.
     pub takes_nothing: bool,
@@ -24,9 +24,9 @@ pub struct Largest {
 impl<S: Stream + Drop> Clients<S> {
     /// A client whose request isn't answered yet stands among those that may give way. Without memory for that it gives
     /// way to nobody.
-    pub fn mark_begun(&mut self, key: usize, now: u64)
+    pub fn mark_request_begun(&mut self, key: usize, now: u64)
         ensures open { self.new.open ≡ self.old.open }
-        ensures others { OtherSlabKeysStay key self.old.streams self.new.streams }
+        ensures others { StreamsOfOtherKeysStay key self.old.streams self.new.streams }
     {
         let Some(client) = self.streams.get_mut(key) else {
             return;
@@ -47,8 +47,8 @@ impl<S: Stream + Drop> Clients<S> {
 
     /// The number of a client whose mark was just taken out, if it may give way.
     fn number_to_give_way(&mut self, key: usize, now: u64) -> Option<u64>
-        ensures may { IfSome result (λ n. MayGiveWay n now (client_at self.new.streams key)) }
-        ensures others { OtherSlabKeysStay key self.old.streams self.new.streams }
+        ensures may { IfSome result (λ n. ClientMayBeDroppedForRoom n now (client_at self.new.streams key)) }
+        ensures others { StreamsOfOtherKeysStay key self.old.streams self.new.streams }
     {
         let client = self.streams.get_mut(key)?;
         client.begun_mark = None;
@@ -60,8 +60,8 @@ impl<S: Stream + Drop> Clients<S> {
 
     /// The number of the client that may give way of which no byte came or went for the longest: it stands among these
     /// no more. Marks of those that have gone on are moved or dropped on the way.
-    pub fn next_to_give_way(&mut self, now: u64) -> Option<u64>
-        ensures { IfSome result (λ n. (key : ℕ) × MayGiveWay n now (client_at self.new.streams key)) }
+    pub fn next_to_drop_for_room(&mut self, now: u64) -> Option<u64>
+        ensures { IfSome result (λ n. (key : ℕ) × ClientMayBeDroppedForRoom n now (client_at self.new.streams key)) }
     {
         // Each mark is moved once at most.
         for _ in 0..=self.begun.len() {
@@ -75,16 +75,16 @@ impl<S: Stream + Drop> Clients<S> {
             if number.is_some() {
                 return number;
             }
-            self.mark_begun(key, now);
+            self.mark_request_begun(key, now);
         }
         None
     }
 
     /// The client for which the most is held; if there are some that have taken nothing for a second, of these.
-    pub fn largest(&self, now: u64) -> Option<Largest> {
+    pub fn largest(&self, now: u64) -> Option<LargestHeldClient> {
         self.streams
             .iter()
-            .map(|(key, client)| Largest {
+            .map(|(key, client)| LargestHeldClient {
                 key,
                 takes_nothing: client.takes_nothing(now),
                 held: client.peer.unsent().saturating_add(client.handed),

@@ -1,9 +1,10 @@
 //! Whose time is over, and when each is looked at next.
 ghost use Rattle.std.specs.Prelude.{◌≡◌, ◌<◌, ◌-◌, ◌⊎◌, true, false, [], Some, None, length, IfSome, ℕ};
-ghost use Rattle.proxy_ends.specs.Timeouts.{closed_time_is_over, has_lasted_longer, incomplete_since};
-ghost use Rattle.proxy_ends.specs.Timeouts.{client_is_silent, client_has_left_or_gone, IsIdleClientWithNumber};
-ghost use Rattle.proxy_ends.specs.Timeouts.{client_has_waited, end_of_wait};
-ghost use Rattle.proxy_ends.specs.OtherEntries.{OtherSlabKeysStay, ChangesOnlyAtNumber};
+ghost use Rattle.proxy_ends.specs.Timeouts.{close_timeout_is_over, has_lasted_longer, incomplete_since};
+ghost use Rattle.proxy_ends.specs.Timeouts.{client_is_silent, client_is_absent_or_half_closed_too_long};
+ghost use Rattle.proxy_ends.specs.Timeouts.{IsIdleClientWithNumber};
+ghost use Rattle.proxy_ends.specs.Timeouts.{client_has_waited_seconds, end_of_wait_if_limited};
+ghost use Rattle.proxy_ends.specs.OtherEntries.{StreamsOfOtherKeysStay, ChangesOnlyAtNumber};
 ghost use Rattle.proxy_ends.specs.Streams.{stream_at_number, client_at};
 
 use crate::clients::Clients;
@@ -15,8 +16,8 @@ use proxy_figures::{CutReason, Lateness, UnansweredCause};
 use proxy_pacing::StreamQueue;
 
 /// Whether a client that was closed has had its time.
-fn closed_time_is_over(client: &Client, queue: StreamQueue, limits: &Limits, now: u64) -> bool
-    ensures { result ≡ closed_time_is_over queue limits.now now client.now.peer.heard client.now.closed }
+fn close_timeout_is_over(client: &Client, queue: StreamQueue, limits: &Limits, now: u64) -> bool
+    ensures { result ≡ close_timeout_is_over queue limits.now now client.now.peer.heard client.now.closed }
 {
     let quiet = now.saturating_sub(client.peer.heard);
     match queue {
@@ -27,7 +28,7 @@ fn closed_time_is_over(client: &Client, queue: StreamQueue, limits: &Limits, now
 }
 
 /// Whether the request of a client, which is incomplete, has taken too long, or the client is silent.
-fn is_late(client: &mut Client, limits: &Limits, now: u64) -> bool
+fn is_late_or_silent(client: &mut Client, limits: &Limits, now: u64) -> bool
     ensures asked { client.old.peer.unsent.bytes ≡ [] → client.new.asked ≡ incomplete_since now client.old.asked }
     ensures unread { 0 < length client.old.peer.unsent.bytes → client.new.asked ≡ Some now }
     ensures over { has_lasted_longer now client.new.asked limits.now.request_timeout ≡ true → result ≡ true }
@@ -42,11 +43,12 @@ fn is_late(client: &mut Client, limits: &Limits, now: u64) -> bool
     if client.peer.has_unsent() || client.asked.is_none() {
         client.asked = Some(now);
     }
-    client.is_late(now, limits.request_timeout) || client.peer.is_silent(now, limits.client_timeout)
+    client.is_request_late(now, limits.request_timeout)
+        || client.peer.is_silent(now, limits.client_timeout)
 }
 
 /// The first moment at which a time of a client may be over.
-fn next_time(client: &Client, limits: &Limits) -> u64 {
+fn first_overtime_moment(client: &Client, limits: &Limits) -> u64 {
     let heard = client.peer.heard;
     let mut next = match client.place {
         Place::In(StreamQueue::Lingering, _) => heard
@@ -70,16 +72,21 @@ impl Clients {
     /// When a client is looked at next: once a time of it may be over, and no later than a time that begins now may be.
     fn next_look(&self, key: usize, now: u64) -> u64 {
         let soon = now.saturating_add(SECOND);
-        let latest = now.saturating_add(self.limits.client_look());
-        self.stream(key).map_or(soon, |it| next_time(it, &self.limits).max(soon).min(latest))
+        let latest = now.saturating_add(self.limits.client_check_milliseconds());
+        self.stream(key).map_or(
+            soon,
+            |it| first_overtime_moment(it, &self.limits)
+                .max(soon)
+                .min(latest),
+        )
     }
 
     /// A client was looked at, and its time isn't over. Without memory for the next look, it is cut off.
     pub fn look_again(&mut self, key: usize, now: u64)
-        ensures { OtherSlabKeysStay key self.old.streams self.new.streams }
+        ensures { StreamsOfOtherKeysStay key self.old.streams self.new.streams }
     {
         let look = self.next_look(key, now);
-        if !self.look_at(key, look) {
+        if !self.schedule_check(key, look) {
             self.cut_stream(key, CutReason::Memory);
         }
     }
@@ -88,7 +95,7 @@ impl Clients {
     fn look_at_closed(&mut self, key: usize, queue: StreamQueue, now: u64) {
         let limits = self.limits;
         let client = self.stream(key);
-        if !client.is_some_and(|it| closed_time_is_over(it, queue, &limits, now)) {
+        if !client.is_some_and(|it| close_timeout_is_over(it, queue, &limits, now)) {
             self.look_again(key, now);
             return;
         }
@@ -99,7 +106,7 @@ impl Clients {
     }
 
     /// The number of a client that is to be looked at now, if the engine knows it. Others are looked at here.
-    pub fn next_to_look_at(&mut self, now: u64) -> Option<u64> {
+    pub fn next_to_check_timeout(&mut self, now: u64) -> Option<u64> {
         for _ in 0..self.len() {
             let key = self.looks.take_due(now)? as usize;
             let Some(client) = self.stream(key) else {
@@ -115,10 +122,10 @@ impl Clients {
 
     /// The number of a client that is let go since no more connections are taken: it is between two requests, and has
     /// been so for the time that a first request has. Who asks again meanwhile is told that the connection closes.
-    pub fn next_to_let_go(&mut self, now: u64) -> Option<u64>
+    pub fn next_idle_to_close(&mut self, now: u64) -> Option<u64>
         ensures { IfSome result (λ n. (key : ℕ) × IsIdleClientWithNumber n (client_at self.new.streams key)) }
     {
-        let (key, since) = self.longest_idle()?;
+        let (key, since) = self.longest_idle_client()?;
         let client = self.stream(key)?;
         if now.saturating_sub(since) > FIRST_REQUEST_MILLISECONDS {
             return client.number();
@@ -127,7 +134,7 @@ impl Clients {
     }
 
     /// Counts why the engine is told that a client is gone; the cause that its request has, if it isn't answered.
-    pub fn count_forgotten(&mut self, n: u64, now: u64) -> UnansweredCause
+    pub fn count_client_end(&mut self, n: u64, now: u64) -> UnansweredCause
         ensures open { self.new.open ≡ self.old.open }
         ensures streams { self.new.streams ≡ self.old.streams }
     {
@@ -137,7 +144,7 @@ impl Clients {
         };
         let lateness = if client.left.is_some() {
             Lateness::Abandon
-        } else if client.is_late(now, limits.request_timeout) {
+        } else if client.is_request_late(now, limits.request_timeout) {
             Lateness::Request
         } else {
             Lateness::Client
@@ -163,7 +170,7 @@ impl Clients {
 
     /// Whether the request of a client, which is incomplete, has taken too long, or the client is silent. One that
     /// isn't there is.
-    pub fn is_late(&mut self, n: u64, now: u64) -> bool
+    pub fn is_late_or_silent(&mut self, n: u64, now: u64) -> bool
         ensures gone { stream_at_number self.old.open self.old.streams n ≡ None → result ≡ true }
         ensures open { self.new.open ≡ self.old.open }
         ensures others { ChangesOnlyAtNumber self.old.open n self.old.streams self.new.streams }
@@ -173,20 +180,20 @@ impl Clients {
             return true;
         };
         match self.streams.get_mut(key) {
-            Some(client) => is_late(&mut **client, &limits, now),
+            Some(client) => is_late_or_silent(&mut **client, &limits, now),
             None => true,
         }
     }
 
     /// Whether the request of a client, which waits for the answer to another, has done so for so many seconds. It is
     /// looked at once it has. One that isn't there hasn't.
-    pub fn has_waited(&mut self, n: u64, seconds: u32, now: u64) -> bool
-        ensures { result ≡ client_has_waited seconds now (stream_at_number self.old.open self.old.streams n) }
+    pub fn has_waited_seconds(&mut self, n: u64, seconds: u32, now: u64) -> bool
+        ensures { result ≡ client_has_waited_seconds seconds now (stream_at_number self.old.open self.old.streams n) }
     {
         let Some(key) = self.key_of(n) else {
             return false;
         };
-        let Some(over) = self.end_of_wait(key, seconds) else {
+        let Some(over) = self.end_of_wait_if_limited(key, seconds) else {
             return false;
         };
         self.look_no_later(key, over);
@@ -194,8 +201,8 @@ impl Clients {
     }
 
     /// When the request of a client has waited for so many seconds, from its first byte on.
-    fn end_of_wait(&self, key: usize, seconds: u32) -> Option<u64>
-        ensures { result ≡ end_of_wait seconds (client_at self.now.streams key) }
+    fn end_of_wait_if_limited(&self, key: usize, seconds: u32) -> Option<u64>
+        ensures { result ≡ end_of_wait_if_limited seconds (client_at self.now.streams key) }
     {
         let asked = self.stream(key)?.asked?;
         Some(asked.saturating_add(u64::from(seconds) * SECOND))
@@ -204,18 +211,18 @@ impl Clients {
     /// A client is looked at next at this moment at the latest. Without memory for that, it is cut off.
     fn look_no_later(&mut self, key: usize, moment: u64) {
         let is_later = self.stream(key).is_some_and(|it| it.look > moment);
-        if is_later && !self.look_at(key, moment) {
+        if is_later && !self.schedule_check(key, moment) {
             self.cut_stream(key, CutReason::Memory);
         }
     }
 
     /// Whether a client has sent its end, and waits for its answer for too long. One that isn't there has.
-    pub fn has_left(&self, n: u64, now: u64) -> bool
-        ensures { result ≡ client_has_left_or_gone self.now.limits.abandon_timeout now
+    pub fn is_half_closed_too_long(&self, n: u64, now: u64) -> bool
+        ensures { result ≡ client_is_absent_or_half_closed_too_long self.now.limits.abandon_timeout now
             (stream_at_number self.now.open self.now.streams n) }
     {
         match self.get(n) {
-            Some(client) => client.has_left(now, self.limits.abandon_timeout),
+            Some(client) => client.is_half_closed_too_long(now, self.limits.abandon_timeout),
             None => true,
         }
     }

@@ -1,11 +1,11 @@
 //! A link to an origin, and its times.
 ghost use Rattle.std.specs.Prelude.{◌≡◌, false};
-ghost use Rattle.proxy_ends.specs.Timeouts.{link_overtime, link_time_may_be_over_at, silence_of_link};
+ghost use Rattle.proxy_ends.specs.Timeouts.{link_overtime, first_overtime_moment_of_link, silence_limit_of_link};
 ghost use Rattle.proxy_ends.specs.Streams.{bytes_held_of_peer};
 
 use crate::limits::{Limits, SECOND};
 use mio::event::Event;
-use proxy_figures::{Admission, Overtime};
+use proxy_figures::{Admission, LinkOvertime};
 use proxy_streams::{Peer, Socket, Stream};
 use std::io;
 
@@ -79,7 +79,7 @@ impl<S: Stream + Drop> Link<S> {
 
     /// For how long its origin may send no byte.
     pub fn silence(&self, limits: &Limits) -> u64
-        ensures { result ≡ silence_of_link limits.now self.now }
+        ensures { result ≡ silence_limit_of_link limits.now self.now }
     {
         match self.seconds {
             Some(seconds) => u64::from(seconds) * SECOND,
@@ -88,8 +88,8 @@ impl<S: Stream + Drop> Link<S> {
     }
 
     /// The first moment at which a time of it may be over.
-    pub fn next_time(&self, limits: &Limits) -> u64
-        ensures { result ≡ link_time_may_be_over_at limits.now self.now }
+    pub fn first_overtime_moment(&self, limits: &Limits) -> u64
+        ensures { result ≡ first_overtime_moment_of_link limits.now self.now }
     {
         let last = self.began.saturating_add(limits.exchange_timeout);
         let next = match &self.peer {
@@ -101,7 +101,7 @@ impl<S: Stream + Drop> Link<S> {
     }
 
     /// Whether its connection, its silence or all of it has taken too long.
-    pub fn overtime(&self, now: u64, limits: &Limits) -> Option<Overtime>
+    pub fn overtime(&self, now: u64, limits: &Limits) -> Option<LinkOvertime>
         ensures { result ≡ link_overtime self.now limits.now now }
     {
         let Some(peer) = &self.peer else {
@@ -109,17 +109,17 @@ impl<S: Stream + Drop> Link<S> {
         };
         let lasts = now.saturating_sub(self.began);
         if lasts > limits.exchange_timeout {
-            return Some(Overtime::Exchange);
+            return Some(LinkOvertime::Exchange);
         }
         if peer.connecting {
             return if lasts > limits.connect_timeout {
-                Some(Overtime::Connect)
+                Some(LinkOvertime::Connect)
             } else {
                 None
             };
         }
         if peer.is_silent(now, self.silence(limits)) {
-            return Some(Overtime::Silence);
+            return Some(LinkOvertime::Silence);
         }
         None
     }

@@ -6,14 +6,15 @@ ghost use Rattle.std.specs.Option.{option_copied_mut};
 ghost use Rattle.std.specs.Borrow.{LendsIf, sem};
 ghost use Rattle.proxy_engine.specs.ConnectionNumbers.{connection_number};
 ghost use Rattle.proxy_engine.specs.EngineModel.{ConnectionModel, no_connection};
-ghost use Rattle.proxy_engine.specs.Due.{IsFirstAtWhich, IsLostConnection};
+ghost use Rattle.proxy_engine.specs.Due.{IsFirstAtWhich, IsGoneWhileBusy};
 ghost use Rattle.proxy_engine.specs.Reading.{places_with_flag, connection_is_open_in_model};
 ghost use Rattle.proxy_engine.specs.Reading.{connection_may_send_request, client_end_at, IsBetweenRequests};
-ghost use Rattle.proxy_engine.specs.Room.{ConnectionHasSpare, ConnectionRoomIsGivenBack, most_bytes_of_read};
+ghost use Rattle.proxy_engine.specs.Room.{ConnectionReaderHasSpareBytes, ConnectionRoomIsReleased, most_bytes_of_read};
 ghost use Rattle.proxy_engine.specs.Activities.{link_place_of_activity, has_exchange};
-ghost use Rattle.proxy_engine.specs.Pairing.{activity_at, activity_of, activities_of};
-ghost use Rattle.proxy_engine.specs.State.{RelatesLists, ConnectionRepresents, is_gone_at, NoConnectionIsLost};
-ghost use Rattle.proxy_engine.specs.State.{IsFirstFoundConnection, is_retired_at};
+ghost use Rattle.proxy_engine.specs.Pairing.{activity_at, activity_of_connection, activities_of_connections};
+ghost use Rattle.proxy_engine.specs.State.{ListsAreRelated, ConnectionRepresents, is_gone_at};
+ghost use Rattle.proxy_engine.specs.State.{NoDisconnectedClientHasExchange};
+ghost use Rattle.proxy_engine.specs.State.{IsFirstDueConnectionFound, is_retired_at};
 ghost use Rattle.proxy_engine.specs.State.{connection_work_left};
 
 use crate::endpoints::ends::Connection;
@@ -21,7 +22,7 @@ use crate::endpoints::marked_ends::MarkedEnds;
 use crate::endpoints::numbers::{ConnectionPlace, LinkPlace, next_connection};
 use crate::endpoints::ready_list::ReadyList;
 use crate::readable_ends;
-use crate::steps::finds::{first_lost_exchange, lost_count};
+use crate::steps::finds::{first_disconnected_exchange, lost_count};
 use crate::work::End;
 use std::alloc::{AllocError, Global};
 use std::marker::Model;
@@ -35,14 +36,14 @@ pub(crate) struct Connections {
 }
 
 impl Model for Connections {
-    ghost use Rattle.proxy_engine.specs.Marked.{EndList, LostAreMarked};
+    ghost use Rattle.proxy_engine.specs.Marked.{EndList, DisconnectedExchangesAreMarked};
     ghost use Rattle.proxy_engine.specs.declared.endpoints.ends.Connection.{Connection};
 
     ghost Value = { EndList Connection };
 
     ghost view = { λ c. c.ends };
 
-    ghost invariant = { λ c. LostAreMarked c.ends c.lost };
+    ghost invariant = { λ c. DisconnectedExchangesAreMarked c.ends c.lost };
 }
 
 impl Connections {
@@ -86,7 +87,7 @@ impl Connections {
     /// Whether the connection at a place has an open exchange.
     pub(crate) fn has_exchange(&self, i: ConnectionPlace) -> bool
         requires { i < length self.now.items }
-        ensures { result ≡ has_exchange (activity_of (slice_index_or self.now.items i None)) }
+        ensures { result ≡ has_exchange (activity_of_connection (slice_index_or self.now.items i None)) }
     {
         match self.ends.get(i) {
             Some(connection) => connection.activity.has_exchange(),
@@ -106,7 +107,7 @@ impl Connections {
 
     /// Whether the client at a place is between two requests.
     pub(crate) fn client_is_between_requests(&self, i: ConnectionPlace) -> bool
-        ensures { (ss : List ConnectionModel) → RelatesLists ConnectionRepresents self.now.items ss → result ≡ true
+        ensures { (ss : List ConnectionModel) → ListsAreRelated ConnectionRepresents self.now.items ss → result ≡ true
             → IsBetweenRequests (slice_index_or ss i no_connection) }
     {
         match self.ends.get(i) {
@@ -117,7 +118,7 @@ impl Connections {
 
     /// Whether bytes may come from the client at a place.
     pub(crate) fn may_read(&self, i: ConnectionPlace) -> bool
-        ensures { (ss : List ConnectionModel) → RelatesLists ConnectionRepresents self.now.items ss
+        ensures { (ss : List ConnectionModel) → ListsAreRelated ConnectionRepresents self.now.items ss
             → result ≡ connection_may_send_request (slice_index_or ss i no_connection) }
     {
         match self.ends.get(i) {
@@ -128,7 +129,7 @@ impl Connections {
 
     /// The place of the link on which the request of the client at a place went forward, if one did.
     pub(crate) fn link_of(&self, i: ConnectionPlace) -> Option<LinkPlace>
-        ensures { (ss : List ConnectionModel) → RelatesLists ConnectionRepresents self.now.items ss
+        ensures { (ss : List ConnectionModel) → ListsAreRelated ConnectionRepresents self.now.items ss
             → result ≡ link_place_of_activity (slice_index_or ss i no_connection).activity }
     {
         match self.ends.get(i) {
@@ -187,17 +188,17 @@ impl Connections {
 
     /// Whether fewer than this are open: of those that are kept, all but the ones that are gone, which are marked.
     pub(crate) fn are_fewer_open(&self, most: usize) -> bool
-        ensures { (ss : List ConnectionModel) → RelatesLists ConnectionRepresents self.now.items ss → result
+        ensures { (ss : List ConnectionModel) → ListsAreRelated ConnectionRepresents self.now.items ss → result
             ≡ nat_lt (length (places_with_flag connection_is_open_in_model 0 ss)) most }
     {
-        let kept = readable_ends::kept_count(&self.ends.ends, self.ends.count);
+        let kept = readable_ends::open_end_count(&self.ends.ends, self.ends.count);
         let gone = lost_count(&self.ends, &self.lost);
         kept.saturating_sub(gone) < most
     }
 
     /// Adds the clients from which bytes may come.
     pub(crate) fn push_readable(&self, ends: &mut Vec<End>) -> Result<(), AllocError>
-        ensures { OnOk result ((ss : List ConnectionModel) → RelatesLists ConnectionRepresents self.now.items ss
+        ensures { OnOk result ((ss : List ConnectionModel) → ListsAreRelated ConnectionRepresents self.now.items ss
             → ends.new.items ≡ ends.old.items ++ map client_end_at
             (places_with_flag connection_may_send_request 0 ss)) }
     {
@@ -207,10 +208,11 @@ impl Connections {
 
     /// Makes room for one piece of the client's bytes at a place, if the connection isn't over.
     pub(crate) fn reserve_piece(&mut self, i: ConnectionPlace) -> Result<(), AllocError>
-        ensures ok { OnOk result (ConnectionHasSpare (slice_index_or self.new.items i None) most_bytes_of_read) }
-        ensures represents { (ss : List ConnectionModel) → RelatesLists ConnectionRepresents self.old.items ss
-            → RelatesLists ConnectionRepresents self.new.items ss }
-        ensures activities { activities_of self.new.items ≡ activities_of self.old.items }
+        ensures ok { OnOk result
+            (ConnectionReaderHasSpareBytes (slice_index_or self.new.items i None) most_bytes_of_read) }
+        ensures represents { (ss : List ConnectionModel) → ListsAreRelated ConnectionRepresents self.old.items ss
+            → ListsAreRelated ConnectionRepresents self.new.items ss }
+        ensures activities { activities_of_connections self.new.items ≡ activities_of_connections self.old.items }
         ensures err { OnErr result (self.new ≡ self.old) }
     {
         self.ends.reserve_bytes(i)
@@ -218,10 +220,10 @@ impl Connections {
 
     /// Gives back the room for the client's bytes at a place, where none waits.
     pub(crate) fn release_room(&mut self, i: ConnectionPlace, alloc: Global)
-        ensures given { ConnectionRoomIsGivenBack (slice_index_or self.new.items i None) }
-        ensures represents { (ss : List ConnectionModel) → RelatesLists ConnectionRepresents self.old.items ss
-            → RelatesLists ConnectionRepresents self.new.items ss }
-        ensures activities { activities_of self.new.items ≡ activities_of self.old.items }
+        ensures given { ConnectionRoomIsReleased (slice_index_or self.new.items i None) }
+        ensures represents { (ss : List ConnectionModel) → ListsAreRelated ConnectionRepresents self.old.items ss
+            → ListsAreRelated ConnectionRepresents self.new.items ss }
+        ensures activities { activities_of_connections self.new.items ≡ activities_of_connections self.old.items }
         ensures room { self.new.has_room ≡ self.old.has_room }
     {
         self.ends.release_room(i, alloc)
@@ -237,25 +239,29 @@ impl Connections {
     }
 
     /// The first connection that is gone with an open exchange, and its link, if its request went forward.
-    pub(crate) fn find_lost(&mut self) -> Option<(ConnectionPlace, Option<LinkPlace>)>
+    pub(crate) fn find_disconnected_exchange(
+        &mut self,
+    ) -> Option<(ConnectionPlace, Option<LinkPlace>)>
         ensures same { self.new.items ≡ self.old.items }
-        ensures first { (ss : List ConnectionModel) → RelatesLists ConnectionRepresents self.old.items ss
-            → IsFirstAtWhich IsLostConnection no_connection ss result }
-        ensures none { IfNone result (NoConnectionIsLost self.old.items) }
-        ensures open { IfSome result (λ p. has_exchange (activity_at (activities_of self.old.items) p.0) ≡ true) }
-        ensures linked { IfSome result (λ p. link_place_of_activity (activity_at (activities_of self.old.items) p.0)
+        ensures first { (ss : List ConnectionModel) → ListsAreRelated ConnectionRepresents self.old.items ss
+            → IsFirstAtWhich IsGoneWhileBusy no_connection ss result }
+        ensures none { IfNone result (NoDisconnectedClientHasExchange self.old.items) }
+        ensures open { IfSome result (λ p. has_exchange (activity_at (activities_of_connections self.old.items) p.0)
+            ≡ true) }
+        ensures linked { IfSome result
+            (λ p. link_place_of_activity (activity_at (activities_of_connections self.old.items) p.0)
             ≡ p.1) }
         ensures gone { IfSome result (λ p. is_gone_at (slice_index_or self.old.items p.0 None) ≡ Some true) }
     {
-        first_lost_exchange(&self.ends, &mut self.lost)
+        first_disconnected_exchange(&self.ends, &mut self.lost)
     }
 
     /// The first connection on which something is due.
     pub(crate) fn find_due(&mut self, alloc: Global) -> Result<Option<ConnectionPlace>, AllocError>
-        ensures represents { (ss : List ConnectionModel) → RelatesLists ConnectionRepresents self.old.items ss
-            → RelatesLists ConnectionRepresents self.new.items ss }
-        ensures found { IfOk result (λ found. IsFirstFoundConnection self.new.items found) }
-        ensures activities { activities_of self.new.items ≡ activities_of self.old.items }
+        ensures represents { (ss : List ConnectionModel) → ListsAreRelated ConnectionRepresents self.old.items ss
+            → ListsAreRelated ConnectionRepresents self.new.items ss }
+        ensures found { IfOk result (λ found. IsFirstDueConnectionFound self.new.items found) }
+        ensures activities { activities_of_connections self.new.items ≡ activities_of_connections self.old.items }
         ensures load { sum_by connection_work_left self.new.items ≤ sum_by connection_work_left self.old.items }
     {
         self.ends.find(alloc)

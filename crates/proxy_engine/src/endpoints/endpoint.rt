@@ -1,10 +1,10 @@
 //! What a connection and a link have in common: something may be due there, and bytes may come.
 ghost use Rattle.std.specs.Prelude.{◌≡◌, ℕ, ◌≤◌, Bool, true, false, List, [], Option, Some, IfOk, OnOk, OnErr};
-ghost use Rattle.proxy_engine.specs.Marked.{DiffersInRoom};
+ghost use Rattle.proxy_engine.specs.Marked.{DiffersOnlyInSpareRoom};
 
 use crate::endpoints::activities::Activity;
 use crate::endpoints::ends::{Connection, Link};
-use crate::endpoints::numbers::{ConnectionPlace, OfConnections, OfLinks};
+use crate::endpoints::numbers::{ConnectionKind, ConnectionPlace, LinkKind};
 use crate::endpoints::peeked::Peeked;
 use hx_framing::{RequestReader, ResponseReader};
 use std::alloc::{AllocError, Global};
@@ -45,13 +45,13 @@ pub(crate) trait Endpoint: Drop {
 
     /// Makes room for so many bytes. An `Err` changes nothing.
     fn reserve(&mut self, n: usize) -> Result<(), AllocError>
-        ensures grows { DiffersInRoom LooksLike may_show self.old self.new }
+        ensures grows { DiffersOnlyInSpareRoom LooksLike may_show self.old self.new }
         ensures ok { OnOk result (n ≤ spare self.new) }
         ensures err { OnErr result (self.new ≡ self.old) };
 
     /// Gives back the room that was made, where no byte waits.
     fn release_room(&mut self, alloc: Global)
-        ensures alike { DiffersInRoom LooksLike may_show self.old self.new }
+        ensures alike { DiffersOnlyInSpareRoom LooksLike may_show self.old self.new }
         ensures given { unread self.new ≡ [] → spare self.new ≡ 0 };
 
     ghost looks_like_itself: { (x : Self) → LooksLike x x };
@@ -60,18 +60,19 @@ pub(crate) trait Endpoint: Drop {
 }
 
 impl Endpoint for Connection {
-    type Kind = OfConnections;
+    type Kind = ConnectionKind;
 
-    ghost use Rattle.proxy_engine.specs.Marked.{connection_may_be_due, ConnectionAfterLook, ConnectionIsDueAsLookShows};
+    ghost use Rattle.proxy_engine.specs.Marked.{connection_may_be_due, ConnectionAfterLookahead};
+    ghost use Rattle.proxy_engine.specs.Marked.{LookaheadShowsWhatIsDueOnConnection};
     ghost use Rattle.proxy_engine.specs.Exhausted.{connection_unknown};
     ghost use Rattle.std.proofs.Common.{refl, ◌∙◌};
     ghost use Rattle.std.proofs.Math.Nat.{le_refl, le_trans};
 
     ghost may_show = { connection_may_be_due };
 
-    ghost IsShown = { ConnectionIsDueAsLookShows };
+    ghost IsShown = { LookaheadShowsWhatIsDueOnConnection };
 
-    ghost LooksLike = { ConnectionAfterLook };
+    ghost LooksLike = { ConnectionAfterLookahead };
 
     ghost spare = { λ c. c.reader.inner.spare };
 
@@ -116,18 +117,18 @@ impl Endpoint for Connection {
 }
 
 impl Endpoint for Link {
-    type Kind = OfLinks;
+    type Kind = LinkKind;
 
-    ghost use Rattle.proxy_engine.specs.Marked.{link_may_be_due, LinkAfterLook, LinkIsDueAsLookShows};
+    ghost use Rattle.proxy_engine.specs.Marked.{link_may_be_due, LinkAfterLookahead, LookaheadShowsWhatIsDueOnLink};
     ghost use Rattle.proxy_engine.specs.Exhausted.{link_unknown};
     ghost use Rattle.std.proofs.Common.{refl, ◌∙◌};
     ghost use Rattle.std.proofs.Math.Nat.{le_refl, le_trans};
 
     ghost may_show = { link_may_be_due };
 
-    ghost IsShown = { LinkIsDueAsLookShows };
+    ghost IsShown = { LookaheadShowsWhatIsDueOnLink };
 
-    ghost LooksLike = { LinkAfterLook };
+    ghost LooksLike = { LinkAfterLookahead };
 
     ghost spare = { λ k. k.reader.inner.spare };
 

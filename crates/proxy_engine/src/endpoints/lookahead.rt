@@ -1,6 +1,6 @@
 //! What is known of the next answer of a reader.
 ghost use Rattle.std.specs.Prelude.{◌≡◌, IfSome, is_some};
-ghost use Rattle.proxy_engine.specs.Lookahead.{lookahead_of_next, lookahead_is_due};
+ghost use Rattle.proxy_engine.specs.Lookahead.{lookahead_of_reader_answer, lookahead_is_due};
 
 use hx_framing::Next;
 
@@ -15,7 +15,7 @@ pub enum Lookahead<M> {
 impl<M: Drop> Lookahead<M> {
     /// What an answer tells.
     pub(crate) fn from_next(next: Next<M>) -> Lookahead<M>
-        ensures { result ≡ lookahead_of_next next }
+        ensures { result ≡ lookahead_of_reader_answer next }
     {
         match next {
             Next::More => Lookahead::Quiet,

@@ -3,10 +3,10 @@ ghost use Rattle.std.specs.Prelude.{◌≡◌, ℕ, ◌+◌, ◌<◌, ◌≤◌,
 ghost use Rattle.std.specs.Prelude.{IsOk, IfOk, OnOk, OnErr, MatchOption, slice_index_or, slice_set};
 ghost use Rattle.std.specs.Option.{option_copied, option_copied_mut};
 ghost use Rattle.std.specs.Borrow.{LendsIf, sem};
-ghost use Rattle.proxy_engine.specs.Exhausted.{IsKeptWithFlag};
-ghost use Rattle.proxy_engine.specs.Marked.{item_at, kept_count, DiffersInRoom, RelatesAtEachPlace};
-ghost use Rattle.proxy_engine.specs.Marked.{NoneHasFlagBelow, NoneHasFlag};
-ghost use Rattle.proxy_engine.specs.Room.{HasSpareBytes, RoomIsGivenBack, most_bytes_of_read};
+ghost use Rattle.proxy_engine.specs.Exhausted.{IsOpenWithFlag};
+ghost use Rattle.proxy_engine.specs.Marked.{end_if_open_at, open_end_count, DiffersOnlyInSpareRoom, PlacesAreRelated};
+ghost use Rattle.proxy_engine.specs.Marked.{NoOpenEndBelowHasFlag, NoOpenEndHasFlag};
+ghost use Rattle.proxy_engine.specs.Room.{HasSpareBytes, SpareRoomIsReleased, most_bytes_of_read};
 
 use crate::endpoints::boxed::Boxed;
 use crate::endpoints::endpoint::Endpoint;
@@ -34,7 +34,7 @@ impl<E: Endpoint> Model for MarkedEnds<E> {
     ghost use Rattle.std.specs.Ordering.{nat_cmp};
     ghost use Rattle.std.specs.BTreeMap.{get};
     ghost use Rattle.proxy_engine.specs.ReadyList.{entries_below, PlacesAreBelow, FlaggedPlacesAreMarked};
-    ghost use Rattle.proxy_engine.specs.Marked.{EndList, NoneIsBeyond};
+    ghost use Rattle.proxy_engine.specs.Marked.{EndList, NoEndIsOpenBeyond};
 
     ghost Value = { EndList E };
 
@@ -43,7 +43,7 @@ impl<E: Endpoint> Model for MarkedEnds<E> {
     ghost invariant = { λ c. FlaggedPlacesAreMarked E.may_show (get nat_cmp c.ends) (length c.ends.entries) c.marked
         × PlacesAreBelow c.count c.marked.places
         × (c.spare ≡ true → (is_some (get nat_cmp c.ends c.count) ≡ true) × (c.count + 1 < 2 ^ 64))
-        × NoneIsBeyond c.count (get nat_cmp c.ends) };
+        × NoEndIsOpenBeyond c.count (get nat_cmp c.ends) };
 }
 
 impl<E: Endpoint> MarkedEnds<E> {
@@ -77,7 +77,7 @@ impl<E: Endpoint> MarkedEnds<E> {
 
     /// The end at a place, if it isn't over.
     pub(crate) fn get(&self, place: Place<E::Kind>) -> Option<&E>
-        ensures { option_copied result ≡ item_at self.now.items place }
+        ensures { option_copied result ≡ end_if_open_at self.now.items place }
     {
         let key = place.key();
         if key >= self.count {
@@ -155,7 +155,7 @@ impl<E: Endpoint> MarkedEnds<E> {
     pub(crate) fn reserve_marks(&self, marks: &mut ReadyList) -> Result<(), AllocError>
         ensures places { marks.new.places ≡ marks.old.places }
         ensures room { marks.old.room ≤ marks.new.room }
-        ensures ok { OnOk result (kept_count self.now.items + 1 ≤ marks.new.room) }
+        ensures ok { OnOk result (open_end_count self.now.items + 1 ≤ marks.new.room) }
     {
         marks.reserve_beside(&self.ends)
     }
@@ -168,16 +168,16 @@ impl<E: Endpoint> MarkedEnds<E> {
     {
         let next = self.count;
         self.marked.put(next);
-        readable_ends::put_at(&mut self.ends, next, end);
+        readable_ends::put_end_in_box_at(&mut self.ends, next, end);
         self.count = next + 1;
         self.spare = false;
     }
 
     /// Makes room for one piece of bytes at a place, if the end isn't over.
     pub(crate) fn reserve_bytes(&mut self, place: Place<E::Kind>) -> Result<(), AllocError>
-        ensures ok { OnOk result (HasSpareBytes E.spare (item_at self.new.items place) most_bytes_of_read) }
-        ensures grows { RelatesAtEachPlace (DiffersInRoom E.LooksLike E.may_show)
-            (item_at self.old.items) (item_at self.new.items) }
+        ensures ok { OnOk result (HasSpareBytes E.spare (end_if_open_at self.new.items place) most_bytes_of_read) }
+        ensures grows { PlacesAreRelated (DiffersOnlyInSpareRoom E.LooksLike E.may_show)
+            (end_if_open_at self.old.items) (end_if_open_at self.new.items) }
         ensures length { length self.new.items ≡ length self.old.items }
         ensures room { self.new.has_room ≡ self.old.has_room }
         ensures err { OnErr result (self.new ≡ self.old) }
@@ -186,14 +186,14 @@ impl<E: Endpoint> MarkedEnds<E> {
         if key >= self.count {
             return Ok(());
         }
-        readable_ends::reserve_at(&mut self.ends, key)
+        readable_ends::reserve_piece_at(&mut self.ends, key)
     }
 
     /// Gives back the room for bytes at a place, if the end isn't over and no byte waits there.
     pub(crate) fn release_room(&mut self, place: Place<E::Kind>, alloc: Global)
-        ensures given { RoomIsGivenBack E.unread E.spare (item_at self.new.items place) }
-        ensures alike { RelatesAtEachPlace (DiffersInRoom E.LooksLike E.may_show)
-            (item_at self.old.items) (item_at self.new.items) }
+        ensures given { SpareRoomIsReleased E.unread E.spare (end_if_open_at self.new.items place) }
+        ensures alike { PlacesAreRelated (DiffersOnlyInSpareRoom E.LooksLike E.may_show)
+            (end_if_open_at self.old.items) (end_if_open_at self.new.items) }
         ensures length { length self.new.items ≡ length self.old.items }
         ensures room { self.new.has_room ≡ self.old.has_room }
     {
@@ -201,7 +201,7 @@ impl<E: Endpoint> MarkedEnds<E> {
         if key >= self.count {
             return;
         }
-        readable_ends::release_at(&mut self.ends, key, alloc);
+        readable_ends::release_room_of_end_at(&mut self.ends, key, alloc);
     }
 
     /// Lets go of the end at a place, which is over.
@@ -217,14 +217,17 @@ impl<E: Endpoint> MarkedEnds<E> {
 
     /// The first end at which something is due. What is found there is kept.
     pub(crate) fn find(&mut self, alloc: Global) -> Result<Option<Place<E::Kind>>, AllocError>
-        ensures alike { RelatesAtEachPlace E.LooksLike (item_at self.old.items) (item_at self.new.items) }
+        ensures alike { PlacesAreRelated E.LooksLike (end_if_open_at self.old.items) (end_if_open_at self.new.items) }
         ensures length { length self.new.items ≡ length self.old.items }
         ensures room { self.new.has_room ≡ self.old.has_room }
-        ensures found { IfOk result (λ found. MatchOption found (NoneHasFlag E.may_show (item_at self.new.items))
-            (λ place. E.IsShown (item_at self.new.items place)
-            × NoneHasFlagBelow E.may_show (item_at self.new.items) place × (place < length self.new.items))) }
-        ensures failed { OnErr result ((place : ℕ) × IsKeptWithFlag E.is_unknown (item_at self.new.items place)
-            × NoneHasFlagBelow E.may_show (item_at self.new.items) place × (place < length self.new.items)) }
+        ensures found { IfOk result
+            (λ found. MatchOption found (NoOpenEndHasFlag E.may_show (end_if_open_at self.new.items))
+            (λ place. E.IsShown (end_if_open_at self.new.items place)
+            × NoOpenEndBelowHasFlag E.may_show (end_if_open_at self.new.items) place
+            × (place < length self.new.items))) }
+        ensures failed { OnErr result ((place : ℕ) × IsOpenWithFlag E.is_unknown (end_if_open_at self.new.items place)
+            × NoOpenEndBelowHasFlag E.may_show (end_if_open_at self.new.items) place
+            × (place < length self.new.items)) }
     {
         first_due(&mut self.ends, &mut self.marked, alloc)
     }

@@ -7,10 +7,10 @@ ghost use Rattle.proxy_core.specs.State.{State as CoreState};
 ghost use Rattle.proxy_engine.specs.declared.endpoints.lookahead.Lookahead.TheVariants.{Due};
 ghost use Rattle.proxy_engine.specs.Lookahead.{one_if_message_or_continue};
 ghost use Rattle.proxy_engine.specs.EngineModel.{EngineModel, ConnectionModel, with_connection};
-ghost use Rattle.proxy_engine.specs.Acts.{with_closed, with_activity, with_next_passed};
-ghost use Rattle.proxy_engine.specs.Pairing.{activity_of, activities_of};
+ghost use Rattle.proxy_engine.specs.Acts.{connection_with_closed, connection_with_activity, with_due_answer_used};
+ghost use Rattle.proxy_engine.specs.Pairing.{activity_of_connection, activities_of_connections};
 ghost use Rattle.proxy_engine.specs.State.{EngineRepresents, ConnectionRepresents, engine_state, due_request_at};
-ghost use Rattle.proxy_engine.specs.EndChanges.{ConnectionsChangeAt};
+ghost use Rattle.proxy_engine.specs.EndChanges.{ConnectionChangesAtPlace};
 ghost use Rattle.proxy_engine.specs.State.{is_gone_at, connection_is_free_at};
 ghost use Rattle.proxy_engine.specs.State.{connection_work_left, work_left_of_waiting, work_left_of_due_request};
 ghost use Rattle.proxy_engine.specs.declared.endpoints.ends.Link.{Link};
@@ -24,7 +24,7 @@ use crate::endpoints::numbers::{ConnectionPlace, LinkPlace};
 fn mark_free(connection: &mut Connection)
     requires { connection.old.gone ≡ false }
     ensures represents { (c : ConnectionModel) → ConnectionRepresents (Some connection.old) c
-        → ConnectionRepresents (Some connection.new) (with_activity Activity.Free c) }
+        → ConnectionRepresents (Some connection.new) (connection_with_activity Activity.Free c) }
     ensures activity { connection.new.activity ≡ Activity.Free }
     ensures gone { connection.new.gone ≡ false }
     ensures load { connection_work_left (Some connection.new) + work_left_of_waiting connection.old.activity
@@ -37,7 +37,7 @@ fn mark_free(connection: &mut Connection)
 fn queue(connection: &mut Connection)
     requires { connection.old.activity ≡ Activity.Free }
     ensures represents { (c : ConnectionModel) → ConnectionRepresents (Some connection.old) c
-        → ConnectionRepresents (Some connection.new) (with_activity Activity.Waiting c) }
+        → ConnectionRepresents (Some connection.new) (connection_with_activity Activity.Waiting c) }
     ensures activity { connection.new.activity ≡ Activity.Waiting }
     ensures load { connection_work_left (Some connection.new) ≡ connection_work_left (Some connection.old) + 2 }
 {
@@ -48,7 +48,7 @@ fn queue(connection: &mut Connection)
 fn mark_forwarded(connection: &mut Connection, place: LinkPlace)
     requires { connection.old.activity ≡ Activity.Free }
     ensures represents { (c : ConnectionModel) → ConnectionRepresents (Some connection.old) c
-        → ConnectionRepresents (Some connection.new) (with_activity (Activity.Forwarded place) c) }
+        → ConnectionRepresents (Some connection.new) (connection_with_activity (Activity.Forwarded place) c) }
     ensures activity { connection.new.activity ≡ Activity.Forwarded place }
     ensures load { connection_work_left (Some connection.new) ≡ connection_work_left (Some connection.old) }
 {
@@ -59,7 +59,7 @@ fn mark_forwarded(connection: &mut Connection, place: LinkPlace)
 fn pass(connection: &mut Connection)
     ensures represents { (c : ConnectionModel) → (a : Next Request) → connection.old.reader.ahead ≡ Due a
         → ConnectionRepresents (Some connection.old) c → ConnectionRepresents (Some connection.new)
-        (with_next_passed a c) }
+        (with_due_answer_used a c) }
     ensures activity { connection.new.activity ≡ connection.old.activity }
     ensures gone { connection.new.gone ≡ connection.old.gone }
     ensures load { connection_work_left (Some connection.new)
@@ -71,14 +71,15 @@ fn pass(connection: &mut Connection)
 }
 
 /// What was due on the connection at a place is done.
-pub(crate) fn pass_next_at(connections: &mut Connections, i: ConnectionPlace)
+pub(crate) fn use_due_answer_at(connections: &mut Connections, i: ConnectionPlace)
     requires { is_some (due_request_at (slice_index_or connections.old.items i None)) ≡ true }
     ensures represents { (s : EngineModel) → (a : Next Request) → (links : List (Option Link)) → (core : CoreState)
         → (first : ℕ) → due_request_at (slice_index_or connections.old.items i None) ≡ Some a
         → EngineRepresents (engine_state connections.old.items links core first) s
         → EngineRepresents (engine_state connections.new.items links core first)
-        (with_connection s i (with_next_passed a)) }
-    ensures activities { activities_of connections.new.items ≡ activities_of connections.old.items }
+        (with_connection s i (with_due_answer_used a)) }
+    ensures activities { activities_of_connections connections.new.items
+        ≡ activities_of_connections connections.old.items }
     ensures free { connection_is_free_at (slice_index_or connections.new.items i None) ≡ true }
     ensures load { sum_by connection_work_left connections.new.items + 3 * work_left_of_due_request
         (due_request_at (slice_index_or connections.old.items i None))
@@ -93,10 +94,11 @@ pub(crate) fn pass_next_at(connections: &mut Connections, i: ConnectionPlace)
 /// The connection at a place has the link at another one.
 pub(crate) fn link_at(connections: &mut Connections, i: ConnectionPlace, place: LinkPlace)
     requires { connection_is_free_at (slice_index_or connections.old.items i None) ≡ true }
-    ensures represents { ConnectionsChangeAt i connections.old.items connections.new.items (with_activity
+    ensures represents { ConnectionChangesAtPlace i connections.old.items connections.new.items
+        (connection_with_activity
         (Activity.Forwarded place)) }
-    ensures activities { activities_of connections.new.items
-        ≡ slice_set (activities_of connections.old.items) i (Activity.Forwarded place) }
+    ensures activities { activities_of_connections connections.new.items
+        ≡ slice_set (activities_of_connections connections.old.items) i (Activity.Forwarded place) }
     ensures load { sum_by connection_work_left connections.new.items
         ≡ sum_by connection_work_left connections.old.items }
 {
@@ -109,10 +111,11 @@ pub(crate) fn link_at(connections: &mut Connections, i: ConnectionPlace, place: 
 /// The request of the connection at a place waits for the answer to another.
 pub(crate) fn mark_waiting_at(connections: &mut Connections, i: ConnectionPlace)
     requires { connection_is_free_at (slice_index_or connections.old.items i None) ≡ true }
-    ensures represents { ConnectionsChangeAt i connections.old.items connections.new.items (with_activity
+    ensures represents { ConnectionChangesAtPlace i connections.old.items connections.new.items
+        (connection_with_activity
         Activity.Waiting) }
-    ensures activities { activities_of connections.new.items
-        ≡ slice_set (activities_of connections.old.items) i Activity.Waiting }
+    ensures activities { activities_of_connections connections.new.items
+        ≡ slice_set (activities_of_connections connections.old.items) i Activity.Waiting }
     ensures load { sum_by connection_work_left connections.new.items
         ≡ sum_by connection_work_left connections.old.items + 2 }
 {
@@ -125,13 +128,14 @@ pub(crate) fn mark_waiting_at(connections: &mut Connections, i: ConnectionPlace)
 /// The connection at a place, which isn't gone, has no open exchange any more.
 pub(crate) fn mark_free_at(connections: &mut Connections, i: ConnectionPlace)
     requires { is_gone_at (slice_index_or connections.old.items i None) ≡ Some false }
-    ensures represents { ConnectionsChangeAt i connections.old.items connections.new.items (with_activity
+    ensures represents { ConnectionChangesAtPlace i connections.old.items connections.new.items
+        (connection_with_activity
         Activity.Free) }
-    ensures activities { activities_of connections.new.items
-        ≡ slice_set (activities_of connections.old.items) i Activity.Free }
+    ensures activities { activities_of_connections connections.new.items
+        ≡ slice_set (activities_of_connections connections.old.items) i Activity.Free }
     ensures free { connection_is_free_at (slice_index_or connections.new.items i None) ≡ true }
     ensures load { sum_by connection_work_left connections.new.items + work_left_of_waiting
-        (activity_of (slice_index_or connections.old.items i None))
+        (activity_of_connection (slice_index_or connections.old.items i None))
         ≡ sum_by connection_work_left connections.old.items }
 {
     match connections.at_mut(i) {
@@ -143,8 +147,10 @@ pub(crate) fn mark_free_at(connections: &mut Connections, i: ConnectionPlace)
 /// The proxy closes the connection at a place, which is over then, or leaves it as it is.
 pub(crate) fn close_at(connections: &mut Connections, i: ConnectionPlace, close: bool)
     requires free { connection_is_free_at (slice_index_or connections.old.items i None) ≡ true }
-    ensures represents { ConnectionsChangeAt i connections.old.items connections.new.items (with_closed close) }
-    ensures activities { activities_of connections.new.items ≡ activities_of connections.old.items }
+    ensures represents { ConnectionChangesAtPlace i connections.old.items connections.new.items
+        (connection_with_closed close) }
+    ensures activities { activities_of_connections connections.new.items
+        ≡ activities_of_connections connections.old.items }
     ensures load { sum_by connection_work_left connections.new.items
         ≤ sum_by connection_work_left connections.old.items }
     ensures less { close ≡ true

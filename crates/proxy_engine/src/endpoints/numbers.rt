@@ -8,11 +8,11 @@ use std::marker::{Model, PhantomData};
 
 /// Places are of connections.
 #[derive(Clone, Copy)]
-pub(crate) struct OfConnections;
+pub(crate) struct ConnectionKind;
 
 /// Places are of links.
 #[derive(Clone, Copy)]
-pub(crate) struct OfLinks;
+pub(crate) struct LinkKind;
 
 /// A place, from 0, among all ends of a kind that ever were. Contracts see the plain number.
 #[derive(Clone, Copy)]
@@ -31,9 +31,9 @@ impl<K> Model for Place<K> {
     ghost inverse = { λ n. record { index = n; kind = record {} } };
 }
 
-pub(crate) type ConnectionPlace = Place<OfConnections>;
+pub(crate) type ConnectionPlace = Place<ConnectionKind>;
 
-pub(crate) type LinkPlace = Place<OfLinks>;
+pub(crate) type LinkPlace = Place<LinkKind>;
 
 impl<K> Place<K> {
     /// The place at which a map has a key.
@@ -54,7 +54,7 @@ impl<K> Place<K> {
     }
 }
 
-impl Place<OfConnections> {
+impl Place<ConnectionKind> {
     /// The place of the connection with a number. No connection has the number 0.
     pub(crate) fn of_number(number: u64) -> ConnectionPlace
         ensures { result ≡ connection_place number }
@@ -71,7 +71,7 @@ impl Place<OfConnections> {
     }
 }
 
-impl Place<OfLinks> {
+impl Place<LinkKind> {
     /// The place of the link with a number, where the first link has this one. No link has a lesser number.
     pub(crate) fn of_number(number: u64, first: u64) -> LinkPlace
         ensures { result ≡ link_place first number }

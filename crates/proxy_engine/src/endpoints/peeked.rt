@@ -1,10 +1,10 @@
 //! A reader that is asked ahead: its answer is kept until it is used, so that no act reads bytes twice, and a message
 //! that finds no memory on its way isn't lost.
 ghost use Rattle.std.specs.Prelude.{◌≡◌, ◌+◌, ◌≤◌, [], true, OnOk, OnErr, IfSome, is_some};
-ghost use Rattle.hx_framing.specs.Progress.{Progress, stream_after_answer};
+ghost use Rattle.hx_framing.specs.Progress.{Progress, progress_after_answer};
 ghost use Rattle.hx_framing.specs.declared.messages.Next.{Next};
 ghost use Rattle.hx_framing.specs.declared.messages.Next.TheVariants as next;
-ghost use Rattle.proxy_engine.specs.Lookahead.{LookaheadShows, lookahead_after_input, lookahead_is_due};
+ghost use Rattle.proxy_engine.specs.Lookahead.{LookaheadShowsAnswer, lookahead_after_input, lookahead_is_due};
 ghost use Rattle.proxy_engine.specs.Lookahead.{one_if_message_or_continue, one_if_maybe_due};
 ghost use Rattle.hx_framing.specs.declared.messages.Request.{Request};
 ghost use Rattle.hx_framing.specs.RequestStream.{StreamSpells};
@@ -45,7 +45,7 @@ impl<R: Reader> Peeked<R> {
     }
 
     /// More of the stream has come, or its end: where nothing was due yet, something may be now.
-    pub(crate) fn ask_again(&mut self)
+    pub(crate) fn forget_quiet_lookahead(&mut self)
         ensures inner { self.new.inner ≡ self.old.inner }
         ensures ahead { self.new.ahead ≡ lookahead_after_input self.old.ahead }
     {
@@ -60,7 +60,7 @@ impl<R: Reader> Peeked<R> {
     pub fn look_ahead(&mut self, alloc: Global) -> Result<(), AllocError>
         ensures represents { (p : Progress R.Message) → PeekedRepresents R.RepresentsStream R.Answers self.old p
             → PeekedRepresents R.RepresentsStream R.Answers self.new p }
-        ensures looked { OnOk result ((a : Next R.Message) × LookaheadShows self.new.ahead a) }
+        ensures looked { OnOk result ((a : Next R.Message) × LookaheadShowsAnswer self.new.ahead a) }
         ensures unknown { OnErr result (lookahead_is_unknown self.new.ahead ≡ true) }
         ensures load { peeked_work_left R.weight self.new ≤ peeked_work_left R.weight self.old }
         ensures unsettled { one_if_maybe_due self.new.ahead ≤ one_if_maybe_due self.old.ahead }
@@ -84,7 +84,7 @@ impl<R: Reader> Peeked<R> {
         requires { self.old.ahead ≡ Lookahead.Unknown }
         ensures represents { (p : Progress R.Message) → PeekedRepresents R.RepresentsStream R.Answers self.old p
             → PeekedRepresents R.RepresentsStream R.Answers self.new p }
-        ensures looked { OnOk result ((a : Next R.Message) × LookaheadShows self.new.ahead a) }
+        ensures looked { OnOk result ((a : Next R.Message) × LookaheadShowsAnswer self.new.ahead a) }
         ensures unknown { OnErr result (lookahead_is_unknown self.new.ahead ≡ true) }
         ensures load { peeked_work_left R.weight self.new ≤ peeked_work_left R.weight self.old }
         ensures unsettled { one_if_maybe_due self.new.ahead ≤ one_if_maybe_due self.old.ahead }
@@ -117,7 +117,7 @@ impl<R: Reader> Peeked<R> {
     pub fn pass(&mut self)
         ensures represents { (p : Progress R.Message) → (a : Next R.Message) → self.old.ahead ≡ Lookahead.Due a
             → PeekedRepresents R.RepresentsStream R.Answers self.old p
-            → PeekedRepresents R.RepresentsStream R.Answers self.new (stream_after_answer p a) }
+            → PeekedRepresents R.RepresentsStream R.Answers self.new (progress_after_answer p a) }
         ensures load { peeked_work_left R.weight self.new + one_if_message_or_continue self.old.ahead
             ≤ peeked_work_left R.weight self.old }
     {

@@ -1,6 +1,6 @@
 //! What asking a reader ahead needs of it, whatever its messages are. Each reader of hx_framing keeps to it.
 ghost use Rattle.std.specs.Prelude.{◌≡◌, ℕ, ◌+◌, ◌≤◌, true, IfOk, OnErr};
-ghost use Rattle.hx_framing.specs.Progress.{Progress, stream_after_answer, cost_of_answer};
+ghost use Rattle.hx_framing.specs.Progress.{Progress, progress_after_answer, cost_of_answer};
 ghost use Rattle.hx_framing.specs.declared.messages.Next.{Next};
 ghost use Rattle.hx_framing.specs.declared.messages.Next.TheVariants as next;
 
@@ -29,7 +29,7 @@ pub trait Reader: Drop {
         ensures answers { IfOk result (λ answer. (p : Progress Self.Message) → RepresentsStream self.old p
             → Answers p answer) }
         ensures represents { IfOk result (λ answer. (p : Progress Self.Message) → RepresentsStream self.old p
-            → RepresentsStream self.new (stream_after_answer p answer)) }
+            → RepresentsStream self.new (progress_after_answer p answer)) }
         ensures weight { IfOk result (λ answer. weight self.new + cost_of_answer answer ≤ weight self.old) }
         ensures err { OnErr result (self.new ≡ self.old) };
 }

@@ -1,7 +1,7 @@
 //! Places at which something may be due: none is there twice, and the least is at hand.
 ghost use Rattle.std.specs.Prelude.{◌≡◌, ◌≢◌, ◌⊎◌, ℕ, ◌+◌, ◌*◌, ◌-◌, ◌<◌, ◌≤◌, max, [], length, drop, Contains, IfSome};
 ghost use Rattle.std.specs.Prelude.{IfNone, IfOk, IfErr, OnOk, slice_index_or, vec_len, vec_capacity};
-ghost use Rattle.proxy_engine.specs.ReadyList.{PlacesAscend, PlaceBelongsBehind, PlaceIsLeast};
+ghost use Rattle.proxy_engine.specs.ReadyList.{PlacesAscend, IsInsertionIndexOfPlace, PlaceIsLeast};
 
 use std::alloc::{AllocError, Global};
 use std::collections::BTreeMap;
@@ -30,7 +30,7 @@ impl Model for ReadyList {
 fn find(places: &[u64], place: u64) -> Result<usize, usize>
     requires { PlacesAscend places.now }
     ensures there { IfOk result (λ at. (at < length places.now) × (slice_index_or places.now at 0 ≡ place)) }
-    ensures behind { IfErr result (λ count. PlaceBelongsBehind places.now place count) }
+    ensures behind { IfErr result (λ count. IsInsertionIndexOfPlace places.now place count) }
 {
     places.binary_search_by(|x| x.cmp(&place))
 }

@@ -7,37 +7,41 @@ ghost use Rattle.hx_framing.specs.declared.frame_fault.FrameFault.TheVariants as
 ghost use Rattle.hx_framing.specs.declared.messages.Request.{Request};
 ghost use Rattle.hx_status.specs.declared.cause.Cause.TheVariants as cause;
 ghost use Rattle.hx_status.specs.declared.cause.FailKind.TheVariants as kinds;
-ghost use Rattle.hx_allow.specs.Matching.{over_line};
+ghost use Rattle.hx_allow.specs.Matching.{route_over};
 ghost use Rattle.proxy_core.specs.declared.outcome.Outcome.TheVariants as outcomes;
 ghost use Rattle.proxy_engine.specs.Activities.{forwarded_or_waiting, has_exchange, link_place_of_activity};
-ghost use Rattle.proxy_engine.specs.Actions.{IsActionForNext, IsFaultOfFinishing, action_of_fault};
-ghost use Rattle.proxy_engine.specs.Actions.{acts_due_after_outcome, is_whole_answer, outcome_needs_link};
+ghost use Rattle.proxy_engine.specs.Actions.{IsActionForReaderAnswer, IsFaultOfFinishing, action_of_fault};
+ghost use Rattle.proxy_engine.specs.Actions.{acts_due_after_outcome, link_result_is_answer, outcome_needs_link};
 ghost use Rattle.proxy_engine.specs.ConnectionNumbers.{connection_number, connection_place, link_number, link_place};
 ghost use Rattle.proxy_engine.specs.Due.{Breaks, Gives};
-ghost use Rattle.proxy_engine.specs.EndCases.{kept_client, kept_link, model_with_the_third_closed};
-ghost use Rattle.proxy_engine.specs.EndCases.{model_with_three_clients, model_with_two_lines, model_with_two_links};
-ghost use Rattle.proxy_engine.specs.EndCases.{model_with_waiters, model_without_the_third};
-ghost use Rattle.proxy_engine.specs.Acts.{with_dropped};
+ghost use Rattle.proxy_engine.specs.EndCases.{example_connection, example_link, model_with_third_client_closed};
+ghost use Rattle.proxy_engine.specs.EndCases.{model_with_three_clients, model_with_origin_timeout_7};
+ghost use Rattle.proxy_engine.specs.EndCases.{model_with_two_links};
+ghost use Rattle.proxy_engine.specs.EndCases.{model_with_wait_timeout_3, model_after_third_client_left};
+ghost use Rattle.proxy_engine.specs.Acts.{link_model_dropped};
 ghost use Rattle.proxy_engine.specs.EngineModel.{connection_at, link_at, model_after_happening, with_link};
 ghost use Rattle.proxy_engine.specs.EngineModel.{happening_fault};
-ghost use Rattle.proxy_engine.specs.Exhausted.{IsKeptWithFlag, connection_unknown, link_unknown, lookahead_is_unknown};
+ghost use Rattle.proxy_engine.specs.Exhausted.{IsOpenWithFlag, connection_unknown, link_unknown, lookahead_is_unknown};
 ghost use Rattle.proxy_engine.specs.Happenings.{Ends, Fails, Shuts, happening_takes_memory, Accepts, Sends, Hears};
 ghost use Rattle.proxy_engine.specs.Happenings.{Leaves, Retires, Overdues};
-ghost use Rattle.proxy_engine.specs.Held.{connection_is_open, connection_may_send, flagged_places, has_flag};
-ghost use Rattle.proxy_engine.specs.Held.{is_kept, link_failed, link_may_send};
+ghost use Rattle.proxy_engine.specs.Held.{connection_is_not_gone, connection_may_send, flagged_places};
+ghost use Rattle.proxy_engine.specs.Held.{open_end_has_flag};
+ghost use Rattle.proxy_engine.specs.Held.{holds_of_any_end, link_failed, link_may_send};
 ghost use Rattle.proxy_engine.specs.Lookahead.{lookahead_after_input, lookahead_is_due, lookahead_may_be_due};
-ghost use Rattle.proxy_engine.specs.Lookahead.{lookahead_of_next, one_if_maybe_due, one_if_message_or_continue};
-ghost use Rattle.proxy_engine.specs.Marked.{connection_may_be_due, item_at, kept_count, link_may_be_due};
-ghost use Rattle.proxy_engine.specs.Marked.{lost_connection_at, may_be_lost};
+ghost use Rattle.proxy_engine.specs.Lookahead.{lookahead_of_reader_answer, one_if_maybe_due};
+ghost use Rattle.proxy_engine.specs.Lookahead.{one_if_message_or_continue};
+ghost use Rattle.proxy_engine.specs.Marked.{connection_may_be_due, end_if_open_at, open_end_count, link_may_be_due};
+ghost use Rattle.proxy_engine.specs.Marked.{link_of_disconnected_exchange_at, is_gone_with_exchange};
 ghost use Rattle.proxy_engine.specs.ModelCases.{answer_200, empty_model, model_with_connection, request_of_a};
 ghost use Rattle.proxy_engine.specs.ModelCases.{model_with_dropped_link, model_with_link};
-ghost use Rattle.proxy_engine.specs.Pairing.{activities_after, activity_at, activity_of, owner_at, owner_of};
-ghost use Rattle.proxy_engine.specs.Pairing.{owners_after};
+ghost use Rattle.proxy_engine.specs.Pairing.{activities_after_outcome, activity_at, activity_of_connection, owner_at};
+ghost use Rattle.proxy_engine.specs.Pairing.{owner_of_open_link};
+ghost use Rattle.proxy_engine.specs.Pairing.{owners_after_outcome};
 ghost use Rattle.proxy_engine.specs.Reading.{connection_is_open_in_model, connection_may_send_request, end_may_send};
 ghost use Rattle.proxy_engine.specs.Reading.{failed_links, line_of_link, link_has_failed, next_connection_number};
 ghost use Rattle.proxy_engine.specs.Reading.{origin_timeout_of_link, wait_timeout_of_client};
 ghost use Rattle.proxy_engine.specs.declared.work.EngineFault.TheVariants.{NotWaiting};
-ghost use Rattle.proxy_core.specs.Leading.{ready_ids};
+ghost use Rattle.proxy_core.specs.Leading.{wakeable_ids};
 ghost use Rattle.proxy_engine.specs.Reading.{open_connection_count, places_with_flag, readable_ends_of};
 ghost use Rattle.proxy_engine.specs.Room.{most_bytes_of_read};
 ghost use Rattle.proxy_engine.specs.State.{connection_work_left, due_request_at};
@@ -69,32 +73,36 @@ pub fn worked_numbers()
 
 /// Over which line the request of a link went forward, and the seconds that this line gives its origin.
 pub fn worked_lines_of_links()
-    ensures first { line_of_link model_with_two_lines 5 ≡ Some 2 }
-    ensures second { line_of_link model_with_two_lines 6 ≡ Some 1 }
-    ensures before_the_first { line_of_link model_with_two_lines 4 ≡ None }
-    ensures behind_the_last { line_of_link model_with_two_lines 7 ≡ None }
-    ensures dropped { line_of_link (with_link model_with_two_lines 0 with_dropped) 5 ≡ None }
-    ensures of_a_failed_one { line_of_link (model_after_happening model_with_two_lines (Fails 5 kinds.TimedOut)) 5
+    ensures first { line_of_link model_with_origin_timeout_7 5 ≡ Some 2 }
+    ensures second { line_of_link model_with_origin_timeout_7 6 ≡ Some 1 }
+    ensures before_the_first { line_of_link model_with_origin_timeout_7 4 ≡ None }
+    ensures behind_the_last { line_of_link model_with_origin_timeout_7 7 ≡ None }
+    ensures dropped { line_of_link (with_link model_with_origin_timeout_7 0 link_model_dropped) 5 ≡ None }
+    ensures of_a_failed_one { line_of_link
+        (model_after_happening model_with_origin_timeout_7 (Fails 5 kinds.TimedOut)) 5
         ≡ Some 2 }
-    ensures seconds { origin_timeout_of_link model_with_two_lines 5 ≡ Some 7 }
-    ensures no_seconds { origin_timeout_of_link model_with_two_lines 6 ≡ None }
-    ensures of_none { origin_timeout_of_link model_with_two_lines 4 ≡ None }
-    ensures of_a_dropped_one { origin_timeout_of_link (with_link model_with_two_lines 0 with_dropped) 5 ≡ None }
+    ensures seconds { origin_timeout_of_link model_with_origin_timeout_7 5 ≡ Some 7 }
+    ensures no_seconds { origin_timeout_of_link model_with_origin_timeout_7 6 ≡ None }
+    ensures of_none { origin_timeout_of_link model_with_origin_timeout_7 4 ≡ None }
+    ensures of_a_dropped_one { origin_timeout_of_link (with_link model_with_origin_timeout_7 0 link_model_dropped) 5
+        ≡ None }
 {}
 
 /// Whose request waits for the answer to another, and for how long; once its time is over it may be woken.
 pub fn worked_waits_of_clients()
-    ensures waits { wait_timeout_of_client model_with_waiters 2 ≡ Some 3 }
-    ensures at_its_origin { wait_timeout_of_client model_with_waiters 1 ≡ None }
-    ensures without_a_word { wait_timeout_of_client model_with_waiters 3 ≡ None }
-    ensures of_none { wait_timeout_of_client model_with_waiters 4 ≡ None }
-    ensures overdue { happening_fault model_with_waiters (Overdues 2) ≡ None }
-    ensures leads { happening_fault model_with_waiters (Overdues 1) ≡ Some NotWaiting }
-    ensures nobody { happening_fault model_with_waiters (Overdues 4) ≡ Some NotWaiting }
-    ensures ready { ready_ids (model_after_happening model_with_waiters (Overdues 2)).core.exchanges ≡ 2 ∷ [] }
-    ensures once { happening_fault (model_after_happening model_with_waiters (Overdues 2)) (Overdues 2)
+    ensures waits { wait_timeout_of_client model_with_wait_timeout_3 2 ≡ Some 3 }
+    ensures at_its_origin { wait_timeout_of_client model_with_wait_timeout_3 1 ≡ None }
+    ensures without_a_word { wait_timeout_of_client model_with_wait_timeout_3 3 ≡ None }
+    ensures of_none { wait_timeout_of_client model_with_wait_timeout_3 4 ≡ None }
+    ensures overdue { happening_fault model_with_wait_timeout_3 (Overdues 2) ≡ None }
+    ensures leads { happening_fault model_with_wait_timeout_3 (Overdues 1) ≡ Some NotWaiting }
+    ensures nobody { happening_fault model_with_wait_timeout_3 (Overdues 4) ≡ Some NotWaiting }
+    ensures ready { wakeable_ids (model_after_happening model_with_wait_timeout_3 (Overdues 2)).core.exchanges ≡ 2
+        ∷ [] }
+    ensures once { happening_fault (model_after_happening model_with_wait_timeout_3 (Overdues 2)) (Overdues 2)
         ≡ Some NotWaiting }
-    ensures waits_no_more { wait_timeout_of_client (model_after_happening model_with_waiters (Overdues 2)) 2 ≡ None }
+    ensures waits_no_more { wait_timeout_of_client (model_after_happening model_with_wait_timeout_3 (Overdues 2)) 2
+        ≡ None }
 {}
 
 /// From whom bytes may come: from links that aren't dropped, failed or shut, and from clients that are open, have no
@@ -109,8 +117,8 @@ pub fn worked_readable_ends()
     ensures failed { readable_ends_of (model_after_happening model_with_two_links (Fails 5 kinds.Closed))
         ≡ ends.Link 6 ∷ [] }
     ensures shut { readable_ends_of (model_after_happening model_with_two_links (Shuts 6)) ≡ ends.Link 5 ∷ [] }
-    ensures gone { readable_ends_of model_without_the_third ≡ ends.Link 5 ∷ [] }
-    ensures closed { readable_ends_of model_with_the_third_closed ≡ ends.Link 5 ∷ [] }
+    ensures gone { readable_ends_of model_after_third_client_left ≡ ends.Link 5 ∷ [] }
+    ensures closed { readable_ends_of model_with_third_client_closed ≡ ends.Link 5 ∷ [] }
     ensures ended { readable_ends_of (model_after_happening model_with_three_clients (Ends 3)) ≡ ends.Link 5 ∷ [] }
     ensures listener { end_may_send model_with_three_clients ends.Listener ≡ false }
     ensures number_0 { end_may_send model_with_connection (ends.Client 0) ≡ false }
@@ -132,37 +140,38 @@ pub fn worked_readable_ends()
 pub fn worked_open_connections()
     ensures none { open_connection_count empty_model ≡ 0 }
     ensures three { open_connection_count model_with_three_clients ≡ 3 }
-    ensures without_gone { open_connection_count model_without_the_third ≡ 2 }
-    ensures without_closed { open_connection_count model_with_the_third_closed ≡ 2 }
+    ensures without_gone { open_connection_count model_after_third_client_left ≡ 2 }
+    ensures without_closed { open_connection_count model_with_third_client_closed ≡ 2 }
     ensures forwarded { connection_is_open_in_model (connection_at model_with_link 0) ≡ true }
     ensures may_not { connection_may_send_request (connection_at model_with_link 0) ≡ false }
     ensures may { connection_may_send_request (connection_at model_with_connection 0) ≡ true }
-    ensures is_kept_open { connection_is_open (kept_client [] Quiet false Waiting) ≡ true }
-    ensures is_kept_gone { connection_is_open (kept_client [] Quiet true Waiting) ≡ false }
-    ensures sends { connection_may_send (kept_client [] Quiet false Free) ≡ true }
-    ensures gone_sends { connection_may_send (kept_client [] Quiet true Free) ≡ false }
-    ensures busy_sends { connection_may_send (kept_client [] Quiet false (Forwarded 0)) ≡ false }
-    ensures link_sends { link_may_send (kept_link Quiet None false) ≡ true }
-    ensures shut_link_sends { link_may_send (kept_link Quiet None true) ≡ false }
-    ensures failed_link_sends { link_may_send (kept_link Quiet (Some kinds.Closed) false) ≡ false }
-    ensures link_fails { link_failed (kept_link Quiet (Some kinds.Closed) false) ≡ true }
-    ensures link_stands { link_failed (kept_link Quiet None true) ≡ false }
+    ensures is_kept_open { connection_is_not_gone (example_connection [] Quiet false Waiting) ≡ true }
+    ensures is_kept_gone { connection_is_not_gone (example_connection [] Quiet true Waiting) ≡ false }
+    ensures sends { connection_may_send (example_connection [] Quiet false Free) ≡ true }
+    ensures gone_sends { connection_may_send (example_connection [] Quiet true Free) ≡ false }
+    ensures busy_sends { connection_may_send (example_connection [] Quiet false (Forwarded 0)) ≡ false }
+    ensures link_sends { link_may_send (example_link Quiet None false) ≡ true }
+    ensures shut_link_sends { link_may_send (example_link Quiet None true) ≡ false }
+    ensures failed_link_sends { link_may_send (example_link Quiet (Some kinds.Closed) false) ≡ false }
+    ensures link_fails { link_failed (example_link Quiet (Some kinds.Closed) false) ≡ true }
+    ensures link_stands { link_failed (example_link Quiet None true) ≡ false }
     ensures flagged { flagged_places (λ b. b) 6 ((1, true) ∷ (4, false) ∷ (5, true) ∷ (6, true) ∷ []) ≡ 1 ∷ 5 ∷ [] }
-    ensures flag { has_flag (λ b. b) (Some true) ≡ true }
-    ensures no_flag { has_flag (λ b. b) (Some false) ≡ false }
-    ensures nothing_has_it { has_flag (λ b. b) None ≡ false }
+    ensures flag { open_end_has_flag (λ b. b) (Some true) ≡ true }
+    ensures no_flag { open_end_has_flag (λ b. b) (Some false) ≡ false }
+    ensures nothing_has_it { open_end_has_flag (λ b. b) None ≡ false }
     ensures without_room { (engine_state [] [] empty_model.core 5).room ≡ false }
-    ensures all { flagged_places is_kept 6 ((1, true) ∷ (4, false) ∷ []) ≡ 1 ∷ 4 ∷ [] }
+    ensures all { flagged_places holds_of_any_end 6 ((1, true) ∷ (4, false) ∷ []) ≡ 1 ∷ 4 ∷ [] }
 {}
 
 /// What is known of the next answer of a reader: nothing, that nothing is due, or what is due. Input makes unknown that
 /// nothing is due, and leaves what is due.
 pub fn worked_lookaheads()
-    ensures quiet { lookahead_of_next {M = Request} next.More ≡ Quiet }
-    ensures due { lookahead_of_next {M = Request} next.End ≡ Due next.End }
-    ensures continues { lookahead_of_next {M = Request} next.NeedsContinue ≡ Due next.NeedsContinue }
-    ensures message { lookahead_of_next (next.Message request_of_a) ≡ Due (next.Message request_of_a) }
-    ensures refused { lookahead_of_next {M = Request} (next.Refused frame.Head) ≡ Due (next.Refused frame.Head) }
+    ensures quiet { lookahead_of_reader_answer {M = Request} next.More ≡ Quiet }
+    ensures due { lookahead_of_reader_answer {M = Request} next.End ≡ Due next.End }
+    ensures continues { lookahead_of_reader_answer {M = Request} next.NeedsContinue ≡ Due next.NeedsContinue }
+    ensures message { lookahead_of_reader_answer (next.Message request_of_a) ≡ Due (next.Message request_of_a) }
+    ensures refused { lookahead_of_reader_answer {M = Request} (next.Refused frame.Head)
+        ≡ Due (next.Refused frame.Head) }
     ensures unknown_stays { lookahead_after_input {M = Request} Unknown ≡ Unknown }
     ensures quiet_is_asked { lookahead_after_input {M = Request} Quiet ≡ Unknown }
     ensures due_stays { lookahead_after_input {M = Request} (Due next.End) ≡ Due next.End }
@@ -185,67 +194,71 @@ pub fn worked_lookaheads()
 /// Where something may be due: at a client that takes requests, unless a look has found nothing; at a link also where
 /// it has failed. And what a look has found.
 pub fn worked_marks()
-    ensures due { connection_may_be_due (kept_client [] Unknown false Free) ≡ true }
-    ensures quiet { connection_may_be_due (kept_client [] Quiet false Free) ≡ false }
-    ensures gone { connection_may_be_due (kept_client [] Unknown true Free) ≡ false }
-    ensures busy { connection_may_be_due (kept_client [] Unknown false Waiting) ≡ false }
-    ensures answers { link_may_be_due (kept_link Unknown None false) ≡ true }
-    ensures failed { link_may_be_due (kept_link Quiet (Some kinds.Closed) false) ≡ true }
-    ensures silent { link_may_be_due (kept_link Quiet None false) ≡ false }
-    ensures lost { may_be_lost (kept_client [] Quiet true (Forwarded 3)) ≡ true }
-    ensures there { may_be_lost (kept_client [] Quiet false (Forwarded 3)) ≡ false }
-    ensures has_none { may_be_lost (kept_client [] Quiet true Free) ≡ false }
-    ensures its_link { lost_connection_at (Some (kept_client [] Quiet true (Forwarded 3))) ≡ Some (Some 3) }
-    ensures without_link { lost_connection_at (Some (kept_client [] Quiet true Waiting)) ≡ Some None }
-    ensures not_lost { lost_connection_at (Some (kept_client [] Quiet false Waiting)) ≡ None }
-    ensures over { lost_connection_at None ≡ None }
-    ensures request { due_request_at (Some (kept_client [] (Due next.End) false Free)) ≡ Some next.End }
-    ensures no_request { due_request_at (Some (kept_client [] Quiet false Free)) ≡ None }
-    ensures of_busy { due_request_at (Some (kept_client [] (Due next.End) false Waiting)) ≡ None }
-    ensures of_gone { due_request_at (Some (kept_client [] (Due next.End) true Free)) ≡ None }
-    ensures answer { link_result_at (Some (kept_link (Due (next.Message answer_200)) (Some kinds.Closed) false))
+    ensures due { connection_may_be_due (example_connection [] Unknown false Free) ≡ true }
+    ensures quiet { connection_may_be_due (example_connection [] Quiet false Free) ≡ false }
+    ensures gone { connection_may_be_due (example_connection [] Unknown true Free) ≡ false }
+    ensures busy { connection_may_be_due (example_connection [] Unknown false Waiting) ≡ false }
+    ensures answers { link_may_be_due (example_link Unknown None false) ≡ true }
+    ensures failed { link_may_be_due (example_link Quiet (Some kinds.Closed) false) ≡ true }
+    ensures silent { link_may_be_due (example_link Quiet None false) ≡ false }
+    ensures lost { is_gone_with_exchange (example_connection [] Quiet true (Forwarded 3)) ≡ true }
+    ensures there { is_gone_with_exchange (example_connection [] Quiet false (Forwarded 3)) ≡ false }
+    ensures has_none { is_gone_with_exchange (example_connection [] Quiet true Free) ≡ false }
+    ensures its_link { link_of_disconnected_exchange_at (Some (example_connection [] Quiet true (Forwarded 3)))
+        ≡ Some (Some 3) }
+    ensures without_link { link_of_disconnected_exchange_at (Some (example_connection [] Quiet true Waiting))
+        ≡ Some None }
+    ensures not_lost { link_of_disconnected_exchange_at (Some (example_connection [] Quiet false Waiting)) ≡ None }
+    ensures over { link_of_disconnected_exchange_at None ≡ None }
+    ensures request { due_request_at (Some (example_connection [] (Due next.End) false Free)) ≡ Some next.End }
+    ensures no_request { due_request_at (Some (example_connection [] Quiet false Free)) ≡ None }
+    ensures of_busy { due_request_at (Some (example_connection [] (Due next.End) false Waiting)) ≡ None }
+    ensures of_gone { due_request_at (Some (example_connection [] (Due next.End) true Free)) ≡ None }
+    ensures answer { link_result_at (Some (example_link (Due (next.Message answer_200)) (Some kinds.Closed) false))
         ≡ Some (Gives answer_200) }
-    ensures failure { link_result_at (Some (kept_link Quiet (Some kinds.Closed) false)) ≡ Some (Breaks kinds.Closed) }
-    ensures unknown_failure { link_result_at (Some (kept_link Unknown (Some kinds.Closed) false))
+    ensures failure { link_result_at (Some (example_link Quiet (Some kinds.Closed) false))
         ≡ Some (Breaks kinds.Closed) }
-    ensures no_answer { link_result_at (Some (kept_link Unknown None false)) ≡ None }
-    ensures kept { kept_count (Some true ∷ None ∷ Some false ∷ []) ≡ 2 }
-    ensures item { item_at (Some true ∷ None ∷ []) 0 ≡ Some true }
-    ensures no_item { item_at (Some true ∷ None ∷ []) 2 ≡ None }
-    ensures free { connection_is_free_at (Some (kept_client [] Quiet false Free)) ≡ true }
-    ensures not_free { connection_is_free_at (Some (kept_client [] Quiet false Waiting)) ≡ false }
-    ensures gone_is_not_free { connection_is_free_at (Some (kept_client [] Quiet true Free)) ≡ false }
-    ensures is_gone { is_gone_at (Some (kept_client [] Quiet true Free)) ≡ Some true }
-    ensures is_there { is_gone_at (Some (kept_client [] Quiet false Free)) ≡ Some false }
+    ensures unknown_failure { link_result_at (Some (example_link Unknown (Some kinds.Closed) false))
+        ≡ Some (Breaks kinds.Closed) }
+    ensures no_answer { link_result_at (Some (example_link Unknown None false)) ≡ None }
+    ensures kept { open_end_count (Some true ∷ None ∷ Some false ∷ []) ≡ 2 }
+    ensures item { end_if_open_at (Some true ∷ None ∷ []) 0 ≡ Some true }
+    ensures no_item { end_if_open_at (Some true ∷ None ∷ []) 2 ≡ None }
+    ensures free { connection_is_free_at (Some (example_connection [] Quiet false Free)) ≡ true }
+    ensures not_free { connection_is_free_at (Some (example_connection [] Quiet false Waiting)) ≡ false }
+    ensures gone_is_not_free { connection_is_free_at (Some (example_connection [] Quiet true Free)) ≡ false }
+    ensures is_gone { is_gone_at (Some (example_connection [] Quiet true Free)) ≡ Some true }
+    ensures is_there { is_gone_at (Some (example_connection [] Quiet false Free)) ≡ Some false }
     ensures is_over { is_gone_at None ≡ None }
-    ensures is_to_end { is_retired_at (Some (record (kept_client [] Quiet false Free) { retired = true })) ≡ true }
-    ensures goes_on { is_retired_at (Some (kept_client [] Quiet false Free)) ≡ false }
+    ensures is_to_end { is_retired_at (Some (record (example_connection [] Quiet false Free) { retired = true }))
+        ≡ true }
+    ensures goes_on { is_retired_at (Some (example_connection [] Quiet false Free)) ≡ false }
     ensures who_is_over_is_not_to_end { is_retired_at None ≡ false }
-    ensures unknown_client { connection_unknown (kept_client [] Unknown false Free) ≡ true }
-    ensures known_link { link_unknown (kept_link Quiet None false) ≡ false }
+    ensures unknown_client { connection_unknown (example_connection [] Unknown false Free) ≡ true }
+    ensures known_link { link_unknown (example_link Quiet None false) ≡ false }
 {}
 
 /// How much is still to come: of a client 1, 3 for each message or continue that may come of its bytes, of which each
 /// counts twice, or that is due, and 2 where it waits; of a link 1, and 1 for its answer or failure.
 pub fn worked_work_left()
-    ensures idle { connection_work_left (Some (kept_client [] Quiet false Free)) ≡ 1 }
+    ensures idle { connection_work_left (Some (example_connection [] Quiet false Free)) ≡ 1 }
     ensures over { connection_work_left None ≡ 0 }
-    ensures waits { connection_work_left (Some (kept_client [] Quiet false Waiting)) ≡ 3 }
-    ensures due { connection_work_left (Some (kept_client [] (Due (next.Message request_of_a)) false Free)) ≡ 4 }
-    ensures bytes { connection_work_left (Some (kept_client (codes "ab") Unknown false Free)) ≡ 13 }
-    ensures link { link_work_left (Some (kept_link Quiet None false)) ≡ 1 }
-    ensures unknown_link { link_work_left (Some (kept_link Unknown None false)) ≡ 2 }
-    ensures failed_link { link_work_left (Some (kept_link Quiet (Some kinds.Closed) false)) ≡ 2 }
+    ensures waits { connection_work_left (Some (example_connection [] Quiet false Waiting)) ≡ 3 }
+    ensures due { connection_work_left (Some (example_connection [] (Due (next.Message request_of_a)) false Free)) ≡ 4 }
+    ensures bytes { connection_work_left (Some (example_connection (codes "ab") Unknown false Free)) ≡ 13 }
+    ensures link { link_work_left (Some (example_link Quiet None false)) ≡ 1 }
+    ensures unknown_link { link_work_left (Some (example_link Unknown None false)) ≡ 2 }
+    ensures failed_link { link_work_left (Some (example_link Quiet (Some kinds.Closed) false)) ≡ 2 }
     ensures no_link { link_work_left None ≡ 0 }
-    ensures together { engine_work_left (Some (kept_client [] Quiet false Waiting) ∷ None ∷ [])
-        (Some (kept_link Unknown None false) ∷ []) ≡ 5 }
+    ensures together { engine_work_left (Some (example_connection [] Quiet false Waiting) ∷ None ∷ [])
+        (Some (example_link Unknown None false) ∷ []) ≡ 5 }
     ensures of_requests { map work_left_of_due_request (Some next.NeedsContinue ∷ Some (next.Message request_of_a) ∷ [])
         ≡ 1 ∷ 1 ∷ [] }
     ensures of_none { map work_left_of_due_request (None ∷ Some next.More ∷ Some (next.Refused frame.Head)
         ∷ Some next.End
         ∷ []) ≡ 0 ∷ 0 ∷ 0 ∷ 0 ∷ [] }
     ensures of_waiting { map work_left_of_waiting (Free ∷ Forwarded 2 ∷ Waiting ∷ []) ≡ 0 ∷ 0 ∷ 2 ∷ [] }
-    ensures after_outcomes { map acts_due_after_outcome (outcomes.Forward (over_line 1) [] ∷ outcomes.Waits 1
+    ensures after_outcomes { map acts_due_after_outcome (outcomes.Forward (route_over 1) [] ∷ outcomes.Waits 1
         ∷ outcomes.Ended ∷ []) ≡ 1 ∷ 2 ∷ 0 ∷ [] }
 {}
 
@@ -257,14 +270,14 @@ pub fn worked_actions()
         ∷ frame.Chunk ∷ frame.TooLarge ∷ frame.Expect ∷ frame.Status ∷ [])
         ≡ map (λ f. action.Refuse (cause.Frame f) false None) (frame.Head ∷ frame.Version ∷ frame.BothLengths
         ∷ frame.Length ∷ frame.Coding ∷ frame.Chunk ∷ frame.TooLarge ∷ frame.Expect ∷ frame.Status ∷ []) }
-    ensures nothing { (w : Action) → IsActionForNext next.More w → ⊥ }
-    ensures continues { (w : Action) → IsActionForNext next.NeedsContinue w → w ≡ action.Continue }
-    ensures ended { (w : Action) → IsActionForNext next.End w → w ≡ action.Close }
-    ensures asks { IsActionForNext (next.Message request_of_a) action.Close → ⊥ }
-    ensures needs { map outcome_needs_link (outcomes.Forward (over_line 1) [] ∷ outcomes.Waits 1 ∷ outcomes.Ended ∷ [])
+    ensures nothing { (w : Action) → IsActionForReaderAnswer next.More w → ⊥ }
+    ensures continues { (w : Action) → IsActionForReaderAnswer next.NeedsContinue w → w ≡ action.Continue }
+    ensures ended { (w : Action) → IsActionForReaderAnswer next.End w → w ≡ action.Close }
+    ensures asks { IsActionForReaderAnswer (next.Message request_of_a) action.Close → ⊥ }
+    ensures needs { map outcome_needs_link (outcomes.Forward (route_over 1) [] ∷ outcomes.Waits 1 ∷ outcomes.Ended ∷ [])
         ≡ true ∷ false ∷ false ∷ [] }
-    ensures whole { is_whole_answer (Gives answer_200) ≡ true }
-    ensures broken { is_whole_answer (Breaks kinds.Closed) ≡ false }
+    ensures whole { link_result_is_answer (Gives answer_200) ≡ true }
+    ensures broken { link_result_is_answer (Breaks kinds.Closed) ≡ false }
     ensures no_number { IsFaultOfFinishing true (Gives answer_200) OutOfMemory → ⊥ }
     ensures a_number { IsFaultOfFinishing false (Gives answer_200) Spent → ⊥ }
     ensures breaks { IsFaultOfFinishing true (Breaks kinds.Closed) Spent → ⊥ }
@@ -278,25 +291,25 @@ pub fn worked_activities()
     ensures link { map link_place_of_activity (Free ∷ Forwarded 2 ∷ Waiting ∷ []) ≡ None ∷ Some 2 ∷ None ∷ [] }
     ensures at_origin { map forwarded_or_waiting (Free ∷ Forwarded 2 ∷ Waiting ∷ [])
         ≡ None ∷ Some true ∷ Some false ∷ [] }
-    ensures over { activity_of None ≡ Free }
-    ensures kept { activity_of (Some (kept_client [] Quiet false Waiting)) ≡ Waiting }
+    ensures over { activity_of_connection None ≡ Free }
+    ensures kept { activity_of_connection (Some (example_connection [] Quiet false Waiting)) ≡ Waiting }
     ensures at { activity_at (Waiting ∷ []) 0 ≡ Waiting }
     ensures beyond { activity_at (Waiting ∷ []) 1 ≡ Free }
-    ensures owner { owner_of (Some (kept_link Quiet None false)) ≡ Some 0 }
-    ensures dropped { owner_of None ≡ None }
+    ensures owner { owner_of_open_link (Some (example_link Quiet None false)) ≡ Some 0 }
+    ensures dropped { owner_of_open_link None ≡ None }
     ensures owner_there { owner_at (Some 4 ∷ []) 0 ≡ Some 4 }
     ensures owner_beyond { owner_at (Some 4 ∷ []) 1 ≡ None }
-    ensures forward { activities_after 1 7 (outcomes.Forward (over_line 1) []) (Waiting ∷ Free ∷ [])
+    ensures forward { activities_after_outcome 1 7 (outcomes.Forward (route_over 1) []) (Waiting ∷ Free ∷ [])
         ≡ Waiting ∷ Forwarded 7 ∷ [] }
-    ensures waits { activities_after 0 7 (outcomes.Waits 1) (Free ∷ Free ∷ []) ≡ Waiting ∷ Free ∷ [] }
-    ensures ended { activities_after 0 7 outcomes.Ended (Waiting ∷ []) ≡ Waiting ∷ [] }
-    ensures no_more { activities_after 0 7 outcomes.WaitsNoMore (Waiting ∷ []) ≡ Waiting ∷ [] }
-    ensures opens { owners_after 3 (outcomes.Forward (over_line 1) []) (Some 1 ∷ []) ≡ Some 1 ∷ Some 3 ∷ [] }
-    ensures opens_none { owners_after 3 (outcomes.Waits 1) (Some 1 ∷ []) ≡ Some 1 ∷ [] }
+    ensures waits { activities_after_outcome 0 7 (outcomes.Waits 1) (Free ∷ Free ∷ []) ≡ Waiting ∷ Free ∷ [] }
+    ensures ended { activities_after_outcome 0 7 outcomes.Ended (Waiting ∷ []) ≡ Waiting ∷ [] }
+    ensures no_more { activities_after_outcome 0 7 outcomes.WaitsNoMore (Waiting ∷ []) ≡ Waiting ∷ [] }
+    ensures opens { owners_after_outcome 3 (outcomes.Forward (route_over 1) []) (Some 1 ∷ []) ≡ Some 1 ∷ Some 3 ∷ [] }
+    ensures opens_none { owners_after_outcome 3 (outcomes.Waits 1) (Some 1 ∷ []) ≡ Some 1 ∷ [] }
     ensures takes_memory { map happening_takes_memory (Accepts 1 ∷ Sends 1 [] ∷ Hears 1 [] ∷ [])
         ≡ true ∷ true ∷ true ∷ [] }
     ensures takes_none { map happening_takes_memory (Ends 1 ∷ Leaves 1 ∷ Retires 1 ∷ Overdues 1 ∷ Shuts 1
         ∷ Fails 1 kinds.Closed ∷ []) ≡ false ∷ false ∷ false ∷ false ∷ false ∷ false ∷ [] }
-    ensures none_is_kept { IsKeptWithFlag (λ b. b) None → ⊥ }
-    ensures without_flag { IsKeptWithFlag (λ b. b) (Some false) → ⊥ }
+    ensures none_is_kept { IsOpenWithFlag (λ b. b) None → ⊥ }
+    ensures without_flag { IsOpenWithFlag (λ b. b) (Some false) → ⊥ }
 {}

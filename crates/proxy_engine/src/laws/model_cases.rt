@@ -7,24 +7,24 @@ ghost use Rattle.hx_framing.specs.declared.frame_fault.FrameFault.TheVariants as
 ghost use Rattle.hx_status.specs.Abouts.{about_purge};
 ghost use Rattle.hx_status.specs.declared.cause.FailKind.TheVariants as kinds;
 ghost use Rattle.hx_allow.specs.Addresses.{address_of_numbers};
-ghost use Rattle.hx_allow.specs.Matching.{over_line};
+ghost use Rattle.hx_allow.specs.Matching.{route_over};
 ghost use Rattle.hx_status.specs.declared.question.AskedTarget.TheVariants.{AsItCame, Uri};
-ghost use Rattle.proxy_core.specs.Cases.{get_a_with, head_of_a, key_of_path, exchange_waiting_for};
+ghost use Rattle.proxy_core.specs.Cases.{get_a_with, head_request_for_a, key_of_path, exchange_waiting_for};
 ghost use Rattle.proxy_core.specs.declared.event.Event.TheVariants as events;
 ghost use Rattle.proxy_core.specs.declared.outcome.Outcome.TheVariants as outcomes;
 ghost use Rattle.proxy_script.specs.declared.effect_list.Effect.TheVariants as effects;
 ghost use Rattle.proxy_engine.specs.Happenings.{Accepts, Sends, Hears, Ends, Leaves, Retires, Overdues, Shuts, Fails};
 ghost use Rattle.proxy_engine.specs.Questions.{question_of, request_of_event};
 ghost use Rattle.proxy_engine.specs.EngineModel.{connection_at, happening_fault, model_after_happening};
-ghost use Rattle.proxy_engine.specs.EngineModel.{happening_is_kept, link_at};
+ghost use Rattle.proxy_engine.specs.EngineModel.{happening_adds_connection_or_bytes, link_at};
 ghost use Rattle.proxy_engine.specs.Due.{Breaks, Gives, Abandons, Finishes, Serves, Wakes, link_result_of};
-ghost use Rattle.proxy_engine.specs.Due.{takes_no_request, fail_kind_of_fault};
+ghost use Rattle.proxy_engine.specs.Due.{accepts_no_request, fail_kind_of_fault};
 ghost use Rattle.proxy_engine.specs.Due.{due_request_action};
 ghost use Rattle.proxy_engine.specs.Acts.{Forwards, Nothing, Queues, Replies, model_after_outcome};
-ghost use Rattle.proxy_engine.specs.Acts.{drop_effects, origin_address_of_line, outcome_by_table};
+ghost use Rattle.proxy_engine.specs.Acts.{effects_of_link_drop, origin_address_of_line, outcome_with_origin_address};
 ghost use Rattle.proxy_engine.specs.Acts.{effects_of_outcome, model_after_link_freed, next_link_number};
-ghost use Rattle.proxy_engine.specs.Executions.{Took, Worked, drop_effects_of_act, connection_place_of_act};
-ghost use Rattle.proxy_engine.specs.Executions.{effects_of_steps, question_refused};
+ghost use Rattle.proxy_engine.specs.Executions.{Took, Worked, link_drop_effects_of_act, connection_place_of_act};
+ghost use Rattle.proxy_engine.specs.Executions.{effects_of_steps, question_of_refused_act};
 ghost use Rattle.proxy_engine.specs.ModelCases.{answer_200, model_with_dropped_link, empty_model};
 ghost use Rattle.proxy_engine.specs.ModelCases.{model_with_connection, model_with_link, replied_to_a, request_of_a};
 ghost use Rattle.proxy_engine.specs.ModelCases.{model_after_two_sends, table_of_two_origins};
@@ -83,15 +83,17 @@ pub fn worked_happenings()
         (Hears 5 (codes "x"))) 0).progress.stream ≡ [] }
     ensures no_failure_of_a_dropped_link { (link_at (model_after_happening model_with_dropped_link
         (Fails 5 kinds.Refused)) 0).failed ≡ None }
-    ensures keeps_a_connection { happening_is_kept empty_model (Accepts 1) ≡ true }
-    ensures keeps_bytes { happening_is_kept model_with_connection (Sends 1 []) ≡ true }
-    ensures keeps_none_of_who_is_gone { happening_is_kept (model_after_happening model_with_connection (Leaves 1))
+    ensures keeps_a_connection { happening_adds_connection_or_bytes empty_model (Accepts 1) ≡ true }
+    ensures connection_accepts_bytes { happening_adds_connection_or_bytes model_with_connection (Sends 1 []) ≡ true }
+    ensures keeps_none_of_who_is_gone { happening_adds_connection_or_bytes
+        (model_after_happening model_with_connection (Leaves 1))
         (Sends 1 []) ≡ false }
-    ensures keeps_an_answer { happening_is_kept model_with_link (Hears 5 []) ≡ true }
-    ensures keeps_none_of_a_dropped_link { happening_is_kept model_with_dropped_link (Hears 5 []) ≡ false }
-    ensures a_mark_takes_none { happening_is_kept model_with_connection (Leaves 1) ≡ false }
-    ensures nor_does_an_end { happening_is_kept model_with_connection (Retires 1) ≡ false }
-    ensures nor_does_a_wait { happening_is_kept model_with_connection (Overdues 1) ≡ false }
+    ensures keeps_an_answer { happening_adds_connection_or_bytes model_with_link (Hears 5 []) ≡ true }
+    ensures keeps_none_of_a_dropped_link { happening_adds_connection_or_bytes model_with_dropped_link (Hears 5 [])
+        ≡ false }
+    ensures a_mark_takes_none { happening_adds_connection_or_bytes model_with_connection (Leaves 1) ≡ false }
+    ensures nor_does_an_end { happening_adds_connection_or_bytes model_with_connection (Retires 1) ≡ false }
+    ensures nor_does_a_wait { happening_adds_connection_or_bytes model_with_connection (Overdues 1) ≡ false }
 {}
 
 /// What is due: a fault of an answer is its failure, an answer or a fault counts before a failure that came after it,
@@ -109,24 +111,24 @@ pub fn worked_due_acts()
     ensures failure { link_result_of next.More (Some kinds.TimedOut) ≡ Some (Breaks kinds.TimedOut) }
     ensures waits { link_result_of next.More None ≡ None }
     ensures no_answer { link_result_of next.End None ≡ Some (Breaks kinds.Closed) }
-    ensures asks_for_more { due_request_action next.More ≡ None }
+    ensures has_unknown_purge_order { due_request_action next.More ≡ None }
     ensures asks { due_request_action (next.Message request_of_a) ≡ Some (next.Message request_of_a) }
     ensures ends { due_request_action next.End ≡ Some next.End }
-    ensures free { takes_no_request false false Free ≡ false }
-    ensures gone { takes_no_request true false Free ≡ true }
-    ensures closed { takes_no_request false true Free ≡ true }
-    ensures forwarded { takes_no_request false false (Forwarded 0) ≡ true }
-    ensures waiting { takes_no_request false false Waiting ≡ true }
+    ensures free { accepts_no_request false false Free ≡ false }
+    ensures gone { accepts_no_request true false Free ≡ true }
+    ensures closed { accepts_no_request false true Free ≡ true }
+    ensures forwarded { accepts_no_request false false (Forwarded 0) ≡ true }
+    ensures waiting { accepts_no_request false false Waiting ≡ true }
 {}
 
 /// A request goes forward to the origin of the line that its outcome names.
-#[tactic(auto, unfolding(hx_allow::specs::Addresses::address_of, hx_target::specs::Hosts::short_number))]
+#[tactic(auto, unfolding(hx_allow::specs::Addresses::address_of, hx_target::specs::Hosts::number_of_few_digits))]
 pub fn worked_addresses_of_outcomes()
-    ensures first { outcome_by_table table_of_two_origins (outcomes.Forward (over_line 1) (codes "x"))
+    ensures first { outcome_with_origin_address table_of_two_origins (outcomes.Forward (route_over 1) (codes "x"))
         ≡ Forwards (address_of_numbers 127 0 0 1 8081) (codes "x") }
-    ensures second { outcome_by_table table_of_two_origins (outcomes.Forward (over_line 2) (codes "x"))
+    ensures second { outcome_with_origin_address table_of_two_origins (outcomes.Forward (route_over 2) (codes "x"))
         ≡ Forwards (address_of_numbers 10 0 0 2 80) (codes "x") }
-    ensures no_line { origin_address_of_line table_of_two_origins (over_line 3) ≡ address_of_numbers 0 0 0 0 0 }
+    ensures no_line { origin_address_of_line table_of_two_origins (route_over 3) ≡ address_of_numbers 0 0 0 0 0 }
 {}
 
 /// What acts tell: a reply to its connection, with what it is and what it answers, and a close after it where it says
@@ -140,8 +142,8 @@ pub fn worked_effects_of_acts()
         ≡ effects.Forward 7 (address_of_numbers 127 0 0 1 80) (codes "x") ∷ [] }
     ensures waits { effects_of_outcome 2 7 None Queues ≡ [] }
     ensures nothing { effects_of_outcome 2 7 None Nothing ≡ [] }
-    ensures drops { drop_effects 5 (Some 2) ≡ effects.Drop 7 ∷ [] }
-    ensures drops_none { drop_effects 5 None ≡ [] }
+    ensures drops { effects_of_link_drop 5 (Some 2) ≡ effects.Drop 7 ∷ [] }
+    ensures drops_none { effects_of_link_drop 5 None ≡ [] }
     ensures next { next_link_number model_with_link ≡ 6 }
     ensures opened { length (model_after_outcome 0 false
         (Forwards (address_of_numbers 127 0 0 1 80) []) model_with_connection).links ≡ 1 }
@@ -160,18 +162,21 @@ pub fn worked_effects_of_acts()
 /// it.
 /// A step answers the request that arrives, or that of the open exchange of its id.
 pub fn worked_questions()
-    ensures uri { question_of head_of_a ≡ record { method = codes "HEAD"; target = Uri (key_of_path (codes "/a")) } }
-    ensures refused { question_refused (Serves 0 (next.Message request_of_a))
+    ensures uri { question_of head_request_for_a ≡ record { method = codes "HEAD"; target = Uri (key_of_path (codes "/a")) } }
+    ensures refused { question_of_refused_act (Serves 0 (next.Message request_of_a))
         ≡ Some (record { method = codes "GET"; target = AsItCame (codes "/a") }) }
-    ensures unread { question_refused (Serves 0 (next.Refused frame.Head)) ≡ None }
-    ensures arrival { request_of_event [] (events.Arrive 5 2 head_of_a) ≡ Some head_of_a }
-    ensures answer { request_of_event (exchange_waiting_for 1 3 head_of_a ∷ exchange_waiting_for 1 2 (get_a_with [])
+    ensures unread { question_of_refused_act (Serves 0 (next.Refused frame.Head)) ≡ None }
+    ensures arrival { request_of_event [] (events.Arrive 5 2 head_request_for_a) ≡ Some head_request_for_a }
+    ensures answer { request_of_event (exchange_waiting_for 1 3 head_request_for_a
+        ∷ exchange_waiting_for 1 2 (get_a_with [])
         ∷ [])
         (events.Answer 5 2 answer_200) ≡ Some (get_a_with []) }
-    ensures wake { request_of_event (exchange_waiting_for 1 3 head_of_a ∷ exchange_waiting_for 1 2 (get_a_with []) ∷ [])
-        (events.Wake 5 3) ≡ Some head_of_a }
-    ensures closed { request_of_event (exchange_waiting_for 1 3 head_of_a ∷ []) (events.Fail 5 2 kinds.Closed) ≡ None }
-    ensures gone { request_of_event (exchange_waiting_for 1 3 head_of_a ∷ []) (events.Abandon 3) ≡ None }
+    ensures wake { request_of_event (exchange_waiting_for 1 3 head_request_for_a
+        ∷ exchange_waiting_for 1 2 (get_a_with []) ∷ [])
+        (events.Wake 5 3) ≡ Some head_request_for_a }
+    ensures closed { request_of_event (exchange_waiting_for 1 3 head_request_for_a ∷ []) (events.Fail 5 2 kinds.Closed)
+        ≡ None }
+    ensures gone { request_of_event (exchange_waiting_for 1 3 head_request_for_a ∷ []) (events.Abandon 3) ≡ None }
 {}
 
 /// What steps told, in order; where an act is, and the link that it drops.
@@ -181,8 +186,8 @@ pub fn worked_effects_of_steps()
     ensures nothing { effects_of_steps (Took (Accepts 1) ∷ []) ≡ [] }
     ensures place_of_a_link { connection_place_of_act model_with_link (Finishes 0 (Breaks kinds.Closed)) ≡ 0 }
     ensures place_of_a_client { connection_place_of_act model_with_link (Serves 3 next.End) ≡ 3 }
-    ensures drops { drop_effects_of_act model_with_link (Finishes 0 (Breaks kinds.Closed)) ≡ effects.Drop 5 ∷ [] }
-    ensures drops_of_who_left { drop_effects_of_act model_with_link (Abandons 0 (Some 0)) ≡ effects.Drop 5 ∷ [] }
-    ensures drops_none { drop_effects_of_act model_with_link (Abandons 0 None) ≡ [] }
-    ensures a_wake_drops_none { drop_effects_of_act model_with_link (Wakes 0) ≡ [] }
+    ensures drops { link_drop_effects_of_act model_with_link (Finishes 0 (Breaks kinds.Closed)) ≡ effects.Drop 5 ∷ [] }
+    ensures drops_of_who_left { link_drop_effects_of_act model_with_link (Abandons 0 (Some 0)) ≡ effects.Drop 5 ∷ [] }
+    ensures drops_none { link_drop_effects_of_act model_with_link (Abandons 0 None) ≡ [] }
+    ensures a_wake_drops_none { link_drop_effects_of_act model_with_link (Wakes 0) ≡ [] }
 {}

@@ -1,25 +1,26 @@
 //! Laws on what a run tells, and that it refuses what wasn't done. Each function's contract is a law, and its body is
 //! empty.
-ghost use Rattle.proxy_engine.specs.OneRun.{RunHasNoOtherEffects, RunHasNoOtherAct, RunHasNoOtherMoment};
+ghost use Rattle.proxy_engine.specs.OneRun.{RunHasOnlyEffectsOfItsActs, RunDoesOnlyTheFirstDueAct};
+ghost use Rattle.proxy_engine.specs.OneRun.{RunStepsCoreAtMomentOfAct};
 ghost use Rattle.proxy_engine.specs.OneRun.{RunHasNoUntakenHappening, RunHasNoMoreItems};
 ghost use Rattle.proxy_engine.specs.OneRun.{RunHasNoItemWithoutStep};
-ghost use Rattle.proxy_engine.specs.ToldReplies.{EachReplyIsToldAsItIs, EachRunTellsItsReplies};
-ghost use Rattle.proxy_engine.specs.ToldReplies.{NoReplyTellsAnotherQuestion, NoReplyTellsNoQuestion};
+ghost use Rattle.proxy_engine.specs.ToldReplies.{EachReplyIsReportedTruthfully, EachRunReportsItsReplies};
+ghost use Rattle.proxy_engine.specs.ToldReplies.{NoReplyReportsAnotherRequest, NoReplyReportsNoRequest};
 
-use hx_hop::laws::a_request_is_asked_in_one_way;
+use hx_hop::laws::asked_request_is_unique;
 
 /// No run has effects that its step didn't tell, one more, one less or other bytes, nor an act that wasn't the first
 /// due, nor a step of the core at another moment than its act's, nor a happening that the engine doesn't take, nor more
 /// items than acts and ends of waits.
 pub fn a_run_refuses_what_was_not_done()
-    ensures effects { RunHasNoOtherEffects }
-    ensures act { RunHasNoOtherAct }
-    ensures moment { RunHasNoOtherMoment }
+    ensures effects { RunHasOnlyEffectsOfItsActs }
+    ensures act { RunDoesOnlyTheFirstDueAct }
+    ensures moment { RunStepsCoreAtMomentOfAct }
     ensures taken { RunHasNoUntakenHappening }
     ensures items { RunHasNoMoreItems }
     ensures nothing { RunHasNoItemWithoutStep }
 {
-    a_request_is_asked_in_one_way();
+    asked_request_is_unique();
 }
 
 /// What an effect tells of a reply is what that reply is. Its bytes, and what they are said to be, are those of its own
@@ -28,9 +29,9 @@ pub fn a_run_refuses_what_was_not_done()
 /// step answered: the one that arrived, or that of the exchange which was open; of a request that the proxy refuses it
 /// tells what could be read. Of an interim response nothing is told, and of nothing else. So no figure and no line of a
 /// log is one of another reply, or of another request.
-pub fn replies_are_told_as_they_are()
-    ensures step { EachReplyIsToldAsItIs }
-    ensures run { EachRunTellsItsReplies }
-    ensures another { NoReplyTellsAnotherQuestion }
-    ensures none { NoReplyTellsNoQuestion }
+pub fn replies_are_reported_truthfully()
+    ensures step { EachReplyIsReportedTruthfully }
+    ensures run { EachRunReportsItsReplies }
+    ensures another { NoReplyReportsAnotherRequest }
+    ensures none { NoReplyReportsNoRequest }
 {}

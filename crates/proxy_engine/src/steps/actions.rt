@@ -5,10 +5,10 @@ ghost use Rattle.hx_framing.specs.declared.messages.Next.{Next as NextRead};
 ghost use Rattle.hx_framing.specs.declared.messages.Next.TheVariants as next;
 ghost use Rattle.proxy_engine.specs.declared.endpoints.lookahead.Lookahead.TheVariants.{Due};
 ghost use Rattle.proxy_engine.specs.State.{due_request_at};
-ghost use Rattle.proxy_engine.specs.Actions.{IsActionOfMessage, IsActionForNext, action_of_fault};
+ghost use Rattle.proxy_engine.specs.Actions.{IsActionOfMessage, IsActionForReaderAnswer, action_of_fault};
 
 use crate::endpoints::ends::Connection;
-use crate::steps::questions::question_as_it_came;
+use crate::steps::questions::question_with_raw_target;
 use http::Method;
 use hx_framing::{FrameFault, Next, Request};
 use hx_hop::{Asked, ask};
@@ -40,7 +40,7 @@ fn message_action(alloc: Global, request: &Request) -> Result<Action, AllocError
         Err(fault) => Ok(Action::Refuse(
             Cause::Target(fault),
             request.method == Method::HEAD,
-            Some(question_as_it_came(alloc, request)?),
+            Some(question_with_raw_target(alloc, request)?),
         )),
     }
 }
@@ -59,7 +59,7 @@ fn fault_action(fault: FrameFault) -> Action
 pub(crate) fn action_of(connection: &Connection, alloc: Global) -> Result<Action, AllocError>
     requires { is_some (due_request_at (Some connection.now)) ≡ true }
     ensures { IfOk result (λ action. (a : NextRead Spelled) × (due_request_at (Some connection.now) ≡ Some a)
-        × (connection.now.reader.ahead ≡ Due a) × IsActionForNext a action) }
+        × (connection.now.reader.ahead ≡ Due a) × IsActionForReaderAnswer a action) }
 {
     match connection.reader.peek() {
         Some(next) => match next {

@@ -3,7 +3,8 @@
 ghost use Rattle.std.specs.Prelude.{◌≡◌, ◌<◌, ◌≤◌, Err, IfOk, IfErr, OnErr};
 ghost use Rattle.hx_fields.specs.declared.limits.TheConstants.{END_OF_TIME};
 ghost use Rattle.proxy_engine.specs.EngineModel.{EngineModel};
-ghost use Rattle.proxy_engine.specs.State.{EngineRepresents, work_left_of_state, FirstDueActWasDone, NoActWasDoneSince};
+ghost use Rattle.proxy_engine.specs.State.{EngineRepresents, work_left_of_state, FirstDueActWasDone};
+ghost use Rattle.proxy_engine.specs.State.{NoActWasDoneBecauseOf};
 ghost use Rattle.proxy_engine.specs.State.{EachActLeavesLessWork};
 ghost use Rattle.proxy_engine.specs.Exhausted.{ReportsLinkNumbersExhausted};
 ghost use Rattle.proxy_engine.specs.DueActs.{IsFirstDueActFound};
@@ -37,13 +38,13 @@ impl<S: Shelf> Engine<S> {
         ensures represents { (s : EngineModel) → EngineRepresents self.old s → EngineRepresents self.new s }
         ensures load { work_left_of_state self.new ≤ work_left_of_state self.old }
     {
-        if let Some((place, link)) = self.ends.connections.find_lost() {
+        if let Some((place, link)) = self.ends.connections.find_disconnected_exchange() {
             return Ok(DueAct::Abandon(place, link));
         }
         if let Some(place) = self.ends.links.find_finished(alloc)? {
             return Ok(DueAct::Finish(place));
         }
-        if let Some(id) = self.core.first_ready() {
+        if let Some(id) = self.core.first_wakeable() {
             prove!(id > 0);
             return Ok(DueAct::Wake(ConnectionPlace::of_number(id)));
         }
@@ -63,7 +64,7 @@ impl<S: Shelf> Engine<S> {
             → FirstDueActWasDone s now work self.new) }
         ensures less { IfOk result (λ work. EachActLeavesLessWork self.old work self.new) }
         ensures fault { IfErr result (λ fault. (s : EngineModel) → EngineRepresents self.old s
-            → NoActWasDoneSince s fault) }
+            → NoActWasDoneBecauseOf s fault) }
         ensures exhausted { result ≡ Err EngineFault.OutOfMemory → (s : EngineModel) → EngineRepresents self.old s
             → ReportsLinkNumbersExhausted s self.new }
         ensures unchanged { OnErr result ((s : EngineModel) → EngineRepresents self.old s

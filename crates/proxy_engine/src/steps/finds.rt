@@ -4,11 +4,13 @@ ghost use Rattle.std.specs.Prelude.{MatchOption, Contains, Some};
 ghost use Rattle.std.specs.Ordering.{nat_cmp};
 ghost use Rattle.std.specs.BTreeMap.{get};
 ghost use Rattle.proxy_engine.specs.ReadyList.{FlaggedPlacesAreMarked};
-ghost use Rattle.proxy_engine.specs.Exhausted.{IsKeptWithFlag};
-ghost use Rattle.proxy_engine.specs.Held.{has_flag};
+ghost use Rattle.proxy_engine.specs.Exhausted.{IsOpenWithFlag};
+ghost use Rattle.proxy_engine.specs.Held.{open_end_has_flag};
 ghost use Rattle.proxy_engine.specs.Reading.{places_with_flag};
-ghost use Rattle.proxy_engine.specs.Marked.{may_be_lost, RelatesAtEachPlace, NoneHasFlagBelow, NoneHasFlag};
-ghost use Rattle.proxy_engine.specs.Marked.{lost_connection_at, item_at, LostAreMarked};
+ghost use Rattle.proxy_engine.specs.Marked.{is_gone_with_exchange, PlacesAreRelated, NoOpenEndBelowHasFlag};
+ghost use Rattle.proxy_engine.specs.Marked.{NoOpenEndHasFlag};
+ghost use Rattle.proxy_engine.specs.Marked.{link_of_disconnected_exchange_at, end_if_open_at};
+ghost use Rattle.proxy_engine.specs.Marked.{DisconnectedExchangesAreMarked};
 
 use crate::endpoints::boxed::Boxed;
 use crate::endpoints::endpoint::Endpoint;
@@ -21,7 +23,7 @@ use std::collections::BTreeMap;
 
 /// Whether the connection at a place is gone with an open exchange.
 fn is_lost(ends: &MarkedEnds<Connection>, i: ConnectionPlace) -> bool
-    ensures { result ≡ has_flag may_be_lost (item_at ends.now.items i) }
+    ensures { result ≡ open_end_has_flag is_gone_with_exchange (end_if_open_at ends.now.items i) }
 {
     match ends.get(i) {
         Some(connection) => connection.gone && connection.activity.has_exchange(),
@@ -31,7 +33,7 @@ fn is_lost(ends: &MarkedEnds<Connection>, i: ConnectionPlace) -> bool
 
 /// Whether the connection at a place is gone with an open exchange, and its link, if its request went forward.
 fn lost_link(ends: &MarkedEnds<Connection>, i: ConnectionPlace) -> Option<Option<LinkPlace>>
-    ensures { result ≡ lost_connection_at (item_at ends.now.items i) }
+    ensures { result ≡ link_of_disconnected_exchange_at (end_if_open_at ends.now.items i) }
 {
     match ends.get(i) {
         Some(connection) => {
@@ -47,15 +49,15 @@ fn lost_link(ends: &MarkedEnds<Connection>, i: ConnectionPlace) -> Option<Option
 
 /// The first connection that is gone with an open exchange, and its link, if its request went forward. Places are
 /// dropped where none is.
-pub(crate) fn first_lost_exchange(
+pub(crate) fn first_disconnected_exchange(
     ends: &MarkedEnds<Connection>,
     lost: &mut ReadyList,
 ) -> Option<(ConnectionPlace, Option<LinkPlace>)>
-    requires { LostAreMarked ends.now lost.old }
-    ensures marked { LostAreMarked ends.now lost.new }
-    ensures none { IfNone result (NoneHasFlag may_be_lost (item_at ends.now.items)) }
-    ensures some { IfSome result (λ p. (lost_connection_at (item_at ends.now.items p.0) ≡ Some p.1)
-        × NoneHasFlagBelow may_be_lost (item_at ends.now.items) p.0) }
+    requires { DisconnectedExchangesAreMarked ends.now lost.old }
+    ensures marked { DisconnectedExchangesAreMarked ends.now lost.new }
+    ensures none { IfNone result (NoOpenEndHasFlag is_gone_with_exchange (end_if_open_at ends.now.items)) }
+    ensures some { IfSome result (λ p. (link_of_disconnected_exchange_at (end_if_open_at ends.now.items p.0) ≡ Some p.1)
+        × NoOpenEndBelowHasFlag is_gone_with_exchange (end_if_open_at ends.now.items) p.0) }
 {
     while let Some(i) = lost.least() {
         let place = ConnectionPlace::at(i);
@@ -69,8 +71,8 @@ pub(crate) fn first_lost_exchange(
 
 /// How many connections are gone with an open exchange. Each is at a marked place, and no other is looked at.
 pub(crate) fn lost_count(ends: &MarkedEnds<Connection>, lost: &ReadyList) -> usize
-    requires { LostAreMarked ends.now lost.now }
-    ensures { result ≡ length (places_with_flag (has_flag may_be_lost) 0 ends.now.items) }
+    requires { DisconnectedExchangesAreMarked ends.now lost.now }
+    ensures { result ≡ length (places_with_flag (open_end_has_flag is_gone_with_exchange) 0 ends.now.items) }
 {
     let places = lost.places();
     let mut count = 0;
@@ -88,12 +90,12 @@ fn poll_at<E: Endpoint>(
     place: u64,
     alloc: Global,
 ) -> Result<bool, AllocError>
-    ensures alike { RelatesAtEachPlace E.LooksLike (get nat_cmp ends.old) (get nat_cmp ends.new) }
+    ensures alike { PlacesAreRelated E.LooksLike (get nat_cmp ends.old) (get nat_cmp ends.new) }
     ensures others { (q : ℕ) → q ≢ place → get nat_cmp ends.new q ≡ get nat_cmp ends.old q }
     ensures size { length ends.new.entries ≡ length ends.old.entries }
     ensures yes { IfOk result (λ b. b ≡ true → E.IsShown (get nat_cmp ends.new place)) }
     ensures no { IfOk result (λ b. b ≡ false → (x : E) → get nat_cmp ends.new place ≡ Some x → E.may_show x ≡ false) }
-    ensures failed { OnErr result (IsKeptWithFlag E.is_unknown (get nat_cmp ends.new place)) }
+    ensures failed { OnErr result (IsOpenWithFlag E.is_unknown (get nat_cmp ends.new place)) }
 {
     match ends.get_mut(&place) {
         Some(end) => end.get_mut().poll(alloc),
@@ -110,13 +112,13 @@ pub(crate) fn first_due<E: Endpoint>(
     requires { FlaggedPlacesAreMarked E.may_show (get nat_cmp ends.old) (length ends.old.entries) marked.old }
     ensures marked { FlaggedPlacesAreMarked E.may_show (get nat_cmp ends.new) (length ends.new.entries) marked.new }
     ensures fewer { (q : ℕ) → Contains marked.new.places q → Contains marked.old.places q }
-    ensures alike { RelatesAtEachPlace E.LooksLike (get nat_cmp ends.old) (get nat_cmp ends.new) }
+    ensures alike { PlacesAreRelated E.LooksLike (get nat_cmp ends.old) (get nat_cmp ends.new) }
     ensures size { length ends.new.entries ≡ length ends.old.entries }
-    ensures found { IfOk result (λ found. MatchOption found (NoneHasFlag E.may_show (get nat_cmp ends.new))
-        (λ place. E.IsShown (get nat_cmp ends.new place) × NoneHasFlagBelow E.may_show (get nat_cmp ends.new) place
+    ensures found { IfOk result (λ found. MatchOption found (NoOpenEndHasFlag E.may_show (get nat_cmp ends.new))
+        (λ place. E.IsShown (get nat_cmp ends.new place) × NoOpenEndBelowHasFlag E.may_show (get nat_cmp ends.new) place
         × Contains marked.old.places place)) }
-    ensures failed { OnErr result ((place : ℕ) × IsKeptWithFlag E.is_unknown (get nat_cmp ends.new place)
-        × NoneHasFlagBelow E.may_show (get nat_cmp ends.new) place × Contains marked.old.places place) }
+    ensures failed { OnErr result ((place : ℕ) × IsOpenWithFlag E.is_unknown (get nat_cmp ends.new place)
+        × NoOpenEndBelowHasFlag E.may_show (get nat_cmp ends.new) place × Contains marked.old.places place) }
 {
     while let Some(place) = marked.least() {
         if poll_at(ends, place, alloc)? {

@@ -6,21 +6,23 @@ ghost use Rattle.proxy_core.specs.declared.event.Event.TheVariants.{Fail};
 ghost use Rattle.proxy_core.specs.State.{StepIsAccepted};
 ghost use Rattle.proxy_engine.specs.EngineModel.{EngineModel};
 ghost use Rattle.proxy_engine.specs.Due.{Abandons, LinkResult, Finishes, fail_kind_of_fault, IsDueFirst};
-ghost use Rattle.proxy_engine.specs.State.{EngineRepresents, link_result_at, is_gone_at, NoConnectionIsLost};
-ghost use Rattle.proxy_engine.specs.State.{work_left_of_state, EngineDoesAct, NoActWasDoneSince};
+ghost use Rattle.proxy_engine.specs.State.{EngineRepresents, link_result_at, is_gone_at};
+ghost use Rattle.proxy_engine.specs.State.{NoDisconnectedClientHasExchange};
+ghost use Rattle.proxy_engine.specs.State.{work_left_of_state, EngineDoesAct, NoActWasDoneBecauseOf};
 ghost use Rattle.proxy_core.specs.AnsweredRequests.{request_of_exchange, request_answered};
 ghost use Rattle.proxy_core.specs.Outcomes.{find_exchange};
 ghost use Rattle.proxy_engine.specs.Activities.{link_place_of_activity, has_exchange};
-ghost use Rattle.proxy_engine.specs.Pairing.{activity_at, activities_of, forwarded_or_waiting_at};
-ghost use Rattle.proxy_engine.specs.Acts.{asks_head};
-ghost use Rattle.proxy_engine.specs.Actions.{ExchangeIsFinishedBy, is_whole_answer, IsFaultOfFinishing};
+ghost use Rattle.proxy_engine.specs.Pairing.{activity_at, activities_of_connections, forwarded_or_waiting_at};
+ghost use Rattle.proxy_engine.specs.Acts.{request_is_head};
+ghost use Rattle.proxy_engine.specs.Actions.{ExchangeIsFinishedBy, link_result_is_answer, IsFaultOfFinishing};
 
 use crate::endpoints::activities::Activity;
 use crate::endpoints::ends::Link;
 use crate::endpoints::numbers::{ConnectionPlace, LinkPlace};
 use crate::engine::Engine;
 use crate::steps::outcomes::{
-    as_alloc_error, effects_with_room, free_link, free_link_of_gone_client, put, release_waiting,
+    as_alloc_error, effects_with_capacity, end_exchange_of_link, free_link_of_gone_client,
+    free_waiting_of_gone_client, put,
 };
 use crate::work::EngineFault;
 use hx_framing::{FrameFault, Next};
@@ -43,7 +45,7 @@ fn fail_kind_of_fault(fault: FrameFault) -> FailKind
 
 /// Whether the request of an open exchange is a HEAD.
 pub(crate) fn exchange_asks_head<S: Shelf>(core: &Core<S>, id: u64) -> bool
-    ensures { result ≡ asks_head (request_of_exchange (find_exchange id core.now.exchanges)) }
+    ensures { result ≡ request_is_head (request_of_exchange (find_exchange id core.now.exchanges)) }
 {
     match core.exchange(id) {
         Some(exchange) => is_head(&exchange.asked),
@@ -110,7 +112,7 @@ fn end<S: Shelf>(
 /// Whether a whole answer stands on a link. Its exchange may go forward once more, and then needs a link.
 fn is_answered(link: &Link) -> bool
     requires { is_some (link_result_at (Some link.now)) ≡ true }
-    ensures { (f : LinkResult) → link_result_at (Some link.now) ≡ Some f → result ≡ is_whole_answer f }
+    ensures { (f : LinkResult) → link_result_at (Some link.now) ≡ Some f → result ≡ link_result_is_answer f }
 {
     match link.reader.peek() {
         Some(next) => match next {
@@ -132,8 +134,9 @@ impl<S: Shelf> Engine<S> {
         i: ConnectionPlace,
         link: Option<LinkPlace>,
     ) -> Result<Vec<Effect>, AllocError>
-        requires open { has_exchange (activity_at (activities_of self.old.connections) i) ≡ true }
-        requires linked { link_place_of_activity (activity_at (activities_of self.old.connections) i) ≡ link }
+        requires open { has_exchange (activity_at (activities_of_connections self.old.connections) i) ≡ true }
+        requires linked { link_place_of_activity (activity_at (activities_of_connections self.old.connections) i)
+            ≡ link }
         requires gone { is_gone_at (slice_index_or self.old.connections i None) ≡ Some true }
         ensures ok { IfOk result (λ effects. (s : EngineModel) → (now : ℕ) → EngineRepresents self.old s
             → EngineDoesAct s now (Abandons i link) effects.items self.new) }
@@ -152,20 +155,20 @@ impl<S: Shelf> Engine<S> {
         alloc: Global,
         i: ConnectionPlace,
     ) -> Result<Vec<Effect>, AllocError>
-        requires waiting { activity_at (activities_of self.old.connections) i ≡ Activity.Waiting }
+        requires waiting { activity_at (activities_of_connections self.old.connections) i ≡ Activity.Waiting }
         requires gone { is_gone_at (slice_index_or self.old.connections i None) ≡ Some true }
         ensures ok { IfOk result (λ effects. (s : EngineModel) → (now : ℕ) → EngineRepresents self.old s
             → EngineDoesAct s now (Abandons i None) effects.items self.new) }
         ensures less { OnOk result (work_left_of_state self.new < work_left_of_state self.old) }
         ensures err { OnErr result (self.new ≡ self.old) }
     {
-        let effects = effects_with_room(alloc)?;
+        let effects = effects_with_capacity(alloc)?;
         let id = self.ends.connections.number_at(i);
         match self.core.abandon(id) {
             Ok(_) => {}
             Err(fault) => return Err(as_alloc_error(fault)),
         }
-        release_waiting(&mut self.ends.connections, i);
+        free_waiting_of_gone_client(&mut self.ends.connections, i);
         Ok(effects)
     }
 
@@ -176,14 +179,15 @@ impl<S: Shelf> Engine<S> {
         i: ConnectionPlace,
         l: LinkPlace,
     ) -> Result<Vec<Effect>, AllocError>
-        requires linked { link_place_of_activity (activity_at (activities_of self.old.connections) i) ≡ Some l }
+        requires linked { link_place_of_activity (activity_at (activities_of_connections self.old.connections) i)
+            ≡ Some l }
         requires gone { is_gone_at (slice_index_or self.old.connections i None) ≡ Some true }
         ensures ok { IfOk result (λ effects. (s : EngineModel) → (now : ℕ) → EngineRepresents self.old s
             → EngineDoesAct s now (Abandons i (Some l)) effects.items self.new) }
         ensures less { OnOk result (work_left_of_state self.new < work_left_of_state self.old) }
         ensures err { OnErr result (self.new ≡ self.old) }
     {
-        let mut effects = effects_with_room(alloc)?;
+        let mut effects = effects_with_capacity(alloc)?;
         let id = self.ends.connections.number_at(i);
         match self.core.abandon(id) {
             Ok(_) => {}
@@ -198,9 +202,9 @@ impl<S: Shelf> Engine<S> {
     /// dropped. There is a number for it.
     fn complete(&mut self, alloc: Global, now: u64, j: LinkPlace) -> Result<Vec<Effect>, AllocError>
         requires due { is_some (link_result_at (slice_index_or self.old.links j None)) ≡ true }
-        requires here { NoConnectionIsLost self.old.connections }
+        requires here { NoDisconnectedClientHasExchange self.old.connections }
         requires left { (f : LinkResult) → link_result_at (slice_index_or self.old.links j None) ≡ Some f
-            → is_whole_answer f ≡ true
+            → link_result_is_answer f ≡ true
             → self.old.first + length self.old.links < 2 ^ 64 }
         requires early { now < END_OF_TIME }
         ensures ok { IfOk result (λ effects. (s : EngineModel) → (f : LinkResult)
@@ -209,13 +213,13 @@ impl<S: Shelf> Engine<S> {
         ensures less { OnOk result (work_left_of_state self.new < work_left_of_state self.old) }
         ensures err { OnErr result (self.new ≡ self.old) }
     {
-        let mut effects = effects_with_room(alloc)?;
+        let mut effects = effects_with_capacity(alloc)?;
         self.ends.links.reserve_place(alloc)?;
         let i = self.ends.links.at(j).connection;
         let id = self.ends.connections.number_at(i);
         let to_head = exchange_asks_head(&self.core, id);
         let step = end(self.ends.links.at(j), &mut self.core, alloc, now, id)?;
-        free_link(&mut self.ends.connections, &mut self.ends.links, j, i);
+        end_exchange_of_link(&mut self.ends.connections, &mut self.ends.links, j, i);
         put(&mut effects, Effect::Drop(self.ends.number_at(j)));
         let config = self.core.config();
         self.ends.carry_out(
@@ -239,7 +243,7 @@ impl<S: Shelf> Engine<S> {
         j: LinkPlace,
     ) -> Result<Vec<Effect>, EngineFault>
         requires due { is_some (link_result_at (slice_index_or self.old.links j None)) ≡ true }
-        requires here { NoConnectionIsLost self.old.connections }
+        requires here { NoDisconnectedClientHasExchange self.old.connections }
         requires early { now < END_OF_TIME }
         ensures ok { IfOk result (λ effects. (s : EngineModel) → (f : LinkResult)
             → link_result_at (slice_index_or self.old.links j None) ≡ Some f
@@ -250,7 +254,7 @@ impl<S: Shelf> Engine<S> {
             → IsFaultOfFinishing (nat_le (2 ^ 64) (self.old.first + length self.old.links)) f fault) }
         ensures fault { IfErr result (λ fault. (s : EngineModel) → (f : LinkResult)
             → link_result_at (slice_index_or self.old.links j None) ≡ Some f → IsDueFirst s (Some (Finishes j f))
-            → EngineRepresents self.old s → NoActWasDoneSince s fault) }
+            → EngineRepresents self.old s → NoActWasDoneBecauseOf s fault) }
         ensures err { OnErr result (self.new ≡ self.old) }
     {
         if self.ends.is_exhausted() && is_answered(self.ends.links.at(j)) {

@@ -6,19 +6,20 @@ ghost use Rattle.std.specs.Option.{option_map};
 ghost use Rattle.proxy_core.specs.State.{State as CoreState};
 ghost use Rattle.proxy_engine.specs.ConnectionNumbers.{link_number};
 ghost use Rattle.proxy_engine.specs.EngineModel.{EngineModel};
-ghost use Rattle.proxy_engine.specs.Acts.{with_closed, with_activity, origin_address_of_line};
+ghost use Rattle.proxy_engine.specs.Acts.{connection_with_closed, connection_with_activity, origin_address_of_line};
 ghost use Rattle.proxy_engine.specs.Questions.{question_of};
-ghost use Rattle.proxy_engine.specs.Acts.{outcome_by_table, effects_of_outcome, model_after_outcome};
+ghost use Rattle.proxy_engine.specs.Acts.{outcome_with_origin_address, effects_of_outcome, model_after_outcome};
 ghost use Rattle.proxy_engine.specs.Acts.{model_after_link_freed};
-ghost use Rattle.proxy_engine.specs.Acts.{with_opened_link};
+ghost use Rattle.proxy_engine.specs.Acts.{model_with_opened_link};
 ghost use Rattle.proxy_engine.specs.Acts.OutcomeOnConnection.{Replies};
-ghost use Rattle.proxy_engine.specs.Pairing.{activities_of, owners_of, activities_after, owners_after};
+ghost use Rattle.proxy_engine.specs.Pairing.{activities_of_connections, owners_of_links, activities_after_outcome};
+ghost use Rattle.proxy_engine.specs.Pairing.{owners_after_outcome};
 ghost use Rattle.proxy_engine.specs.Actions.{outcome_needs_link, acts_due_after_outcome};
 ghost use Rattle.proxy_engine.specs.State.{EngineRepresents, engine_state, connection_is_free_at};
-ghost use Rattle.proxy_engine.specs.EndChanges.{ConnectionsChangeAt, EndsChange};
+ghost use Rattle.proxy_engine.specs.EndChanges.{ConnectionChangesAtPlace, ConnectionsAndLinksChange};
 ghost use Rattle.proxy_engine.specs.State.{is_gone_at, connection_work_left};
 ghost use Rattle.proxy_engine.specs.State.{link_work_left, engine_work_left};
-ghost use Rattle.proxy_engine.specs.OpenEnds.{state_of_ends, work_left_of_ends};
+ghost use Rattle.proxy_engine.specs.OpenEnds.{engine_state_of_ends, work_left_of_ends};
 
 use crate::endpoints::activities::Activity;
 use crate::endpoints::connections::Connections;
@@ -29,11 +30,11 @@ use crate::endpoints::numbers::{ConnectionPlace, LinkPlace};
 use crate::endpoints::open_ends::Ends;
 use crate::endpoints::peeked::Peeked;
 use crate::steps::questions::question_if_answered;
-use hx_allow::{Config, Route};
+use hx_allow::{Config, RequestRoute};
 use hx_fields::Bytes;
 use hx_framing::ResponseReader;
 use hx_hop::Asked;
-use hx_status::Replied;
+use hx_status::ReplyData;
 use proxy_core::{CoreFault, Outcome};
 use proxy_script::Effect;
 use std::alloc::{AllocError, Global};
@@ -50,7 +51,7 @@ pub(crate) fn put(effects: &mut Vec<Effect>, effect: Effect)
 }
 
 /// Room for the effects of one act.
-pub(crate) fn effects_with_room(alloc: Global) -> Result<Vec<Effect>, AllocError>
+pub(crate) fn effects_with_capacity(alloc: Global) -> Result<Vec<Effect>, AllocError>
     ensures items { IfOk result (λ v. v.items ≡ []) }
     ensures room { IfOk result (λ v. vec_len v + 3 ≤ vec_capacity v) }
 {
@@ -78,15 +79,17 @@ pub(crate) fn send_reply(
     effects: &mut Vec<Effect>,
     i: ConnectionPlace,
     bytes: Bytes,
-    replied: Replied,
+    replied: ReplyData,
     close: bool,
 )
     requires free { connection_is_free_at (slice_index_or connections.old.items i None) ≡ true }
     requires room { vec_len effects.old + 2 ≤ vec_capacity effects.old }
     ensures effects { effects.new.items ≡ effects.old.items ++ effects_of_outcome i 0 replied.question
         (Replies bytes replied.about close) }
-    ensures represents { ConnectionsChangeAt i connections.old.items connections.new.items (with_closed close) }
-    ensures activities { activities_of connections.new.items ≡ activities_of connections.old.items }
+    ensures represents { ConnectionChangesAtPlace i connections.old.items connections.new.items
+        (connection_with_closed close) }
+    ensures activities { activities_of_connections connections.new.items
+        ≡ activities_of_connections connections.old.items }
     ensures load { sum_by connection_work_left connections.new.items
         ≤ sum_by connection_work_left connections.old.items }
     ensures less { close ≡ true
@@ -115,10 +118,10 @@ fn open_link(
         → first + length links.old.items < 2 ^ 64
         → EngineRepresents (engine_state connections.old.items links.old.items core first) s
         → EngineRepresents (engine_state connections.new.items links.new.items core first)
-        (with_opened_link s i to_head) }
-    ensures activities { activities_of connections.new.items
-        ≡ slice_set (activities_of connections.old.items) i (Activity.Forwarded (length links.old.items)) }
-    ensures owners { owners_of links.new.items ≡ owners_of links.old.items ++ Some i ∷ [] }
+        (model_with_opened_link s i to_head) }
+    ensures activities { activities_of_connections connections.new.items
+        ≡ slice_set (activities_of_connections connections.old.items) i (Activity.Forwarded (length links.old.items)) }
+    ensures owners { owners_of_links links.new.items ≡ owners_of_links links.old.items ++ Some i ∷ [] }
     ensures load { engine_work_left connections.new.items links.new.items
         ≤ engine_work_left connections.old.items links.old.items + 1 }
 {
@@ -132,7 +135,7 @@ fn open_link(
 }
 
 /// Where the requests of a line go. Each comes by a line that has an origin.
-fn origin_address(config: &Config, line: Route) -> SocketAddrV4
+fn origin_address(config: &Config, line: RequestRoute) -> SocketAddrV4
     ensures { result ≡ origin_address_of_line config.now line }
 {
     match config.origin_address(line.number) {
@@ -142,7 +145,7 @@ fn origin_address(config: &Config, line: Route) -> SocketAddrV4
 }
 
 /// The exchange of a link is over, and its connection goes on.
-pub(crate) fn free_link(
+pub(crate) fn end_exchange_of_link(
     connections: &mut Connections,
     links: &mut Links,
     j: LinkPlace,
@@ -150,11 +153,12 @@ pub(crate) fn free_link(
 )
     requires link { is_some (slice_index_or links.old.items j None) ≡ true }
     requires connection { is_gone_at (slice_index_or connections.old.items i None) ≡ Some false }
-    ensures represents { EndsChange connections.old.items links.old.items connections.new.items links.new.items (λ s.
+    ensures represents { ConnectionsAndLinksChange connections.old.items links.old.items connections.new.items
+        links.new.items (λ s.
         model_after_link_freed s j i) }
-    ensures activities { activities_of connections.new.items
-        ≡ slice_set (activities_of connections.old.items) i Activity.Free }
-    ensures owners { owners_of links.new.items ≡ slice_set (owners_of links.old.items) j None }
+    ensures activities { activities_of_connections connections.new.items
+        ≡ slice_set (activities_of_connections connections.old.items) i Activity.Free }
+    ensures owners { owners_of_links links.new.items ≡ slice_set (owners_of_links links.old.items) j None }
     ensures load { engine_work_left connections.new.items links.new.items + link_work_left
         (slice_index_or links.old.items j None) ≤ engine_work_left connections.old.items links.old.items }
     ensures free { connection_is_free_at (slice_index_or connections.new.items i None) ≡ true }
@@ -166,12 +170,13 @@ pub(crate) fn free_link(
 }
 
 /// The exchange of a request that waited is over, and so is its connection, which is gone.
-pub(crate) fn release_waiting(connections: &mut Connections, i: ConnectionPlace)
+pub(crate) fn free_waiting_of_gone_client(connections: &mut Connections, i: ConnectionPlace)
     requires { is_gone_at (slice_index_or connections.old.items i None) ≡ Some true }
-    ensures represents { ConnectionsChangeAt i connections.old.items connections.new.items (with_activity
+    ensures represents { ConnectionChangesAtPlace i connections.old.items connections.new.items
+        (connection_with_activity
         Activity.Free) }
-    ensures activities { activities_of connections.new.items
-        ≡ slice_set (activities_of connections.old.items) i Activity.Free }
+    ensures activities { activities_of_connections connections.new.items
+        ≡ slice_set (activities_of_connections connections.old.items) i Activity.Free }
     ensures load { sum_by connection_work_left connections.new.items
         < sum_by connection_work_left connections.old.items }
 {
@@ -187,11 +192,12 @@ pub(crate) fn free_link_of_gone_client(
 )
     requires link { is_some (slice_index_or links.old.items j None) ≡ true }
     requires connection { is_gone_at (slice_index_or connections.old.items i None) ≡ Some true }
-    ensures represents { EndsChange connections.old.items links.old.items connections.new.items links.new.items (λ s.
+    ensures represents { ConnectionsAndLinksChange connections.old.items links.old.items connections.new.items
+        links.new.items (λ s.
         model_after_link_freed s j i) }
-    ensures activities { activities_of connections.new.items
-        ≡ slice_set (activities_of connections.old.items) i Activity.Free }
-    ensures owners { owners_of links.new.items ≡ slice_set (owners_of links.old.items) j None }
+    ensures activities { activities_of_connections connections.new.items
+        ≡ slice_set (activities_of_connections connections.old.items) i Activity.Free }
+    ensures owners { owners_of_links links.new.items ≡ slice_set (owners_of_links links.old.items) j None }
     ensures load { engine_work_left connections.new.items links.new.items < engine_work_left connections.old.items
         links.old.items }
 {
@@ -233,15 +239,17 @@ impl Ends {
         requires left { outcome_needs_link outcome ≡ true → self.old.first_link + length self.old.links.items < 2 ^ 64 }
         ensures effects { effects.new.items ≡ effects.old.items
             ++ effects_of_outcome i (self.old.first_link + length self.old.links.items) (option_map question_of asked)
-            (outcome_by_table config.now outcome) }
+            (outcome_with_origin_address config.now outcome) }
         ensures represents { (s : EngineModel) → (core : CoreState) → core.table.max_body ≡ config.now.max_body
-            → EngineRepresents (state_of_ends self.old core) s
-            → EngineRepresents (state_of_ends self.new core)
-            (model_after_outcome i to_head (outcome_by_table config.now outcome) s) }
+            → EngineRepresents (engine_state_of_ends self.old core) s
+            → EngineRepresents (engine_state_of_ends self.new core)
+            (model_after_outcome i to_head (outcome_with_origin_address config.now outcome) s) }
         ensures first { self.new.first_link ≡ self.old.first_link }
-        ensures activities { activities_of self.new.connections.items
-            ≡ activities_after i (length self.old.links.items) outcome (activities_of self.old.connections.items) }
-        ensures owners { owners_of self.new.links.items ≡ owners_after i outcome (owners_of self.old.links.items) }
+        ensures activities { activities_of_connections self.new.connections.items
+            ≡ activities_after_outcome i (length self.old.links.items) outcome
+            (activities_of_connections self.old.connections.items) }
+        ensures owners { owners_of_links self.new.links.items
+            ≡ owners_after_outcome i outcome (owners_of_links self.old.links.items) }
         ensures load { work_left_of_ends self.new ≤ work_left_of_ends self.old + acts_due_after_outcome outcome }
     {
         match outcome {
@@ -251,7 +259,7 @@ impl Ends {
                     effects,
                     i,
                     reply.bytes,
-                    Replied {
+                    ReplyData {
                         about: reply.about,
                         question: question_if_answered(alloc, asked),
                     },

@@ -1,7 +1,7 @@
 //! What a client asked for, as it is told with its reply.
 ghost use Rattle.std.specs.Prelude.{◌≡◌, IfOk};
 ghost use Rattle.std.specs.Option.{option_map};
-ghost use Rattle.proxy_engine.specs.Questions.{question_of, question_as_it_came};
+ghost use Rattle.proxy_engine.specs.Questions.{question_of, question_with_raw_target};
 
 use http::Method;
 use hx_fields::Bytes;
@@ -42,8 +42,11 @@ pub(crate) fn question_if_answered(alloc: Global, asked: Option<Asked>) -> Optio
 }
 
 /// What a request asks for that is refused because its target is none. Its only error is out of memory.
-pub(crate) fn question_as_it_came(alloc: Global, request: &Request) -> Result<Question, AllocError>
-    ensures { IfOk result (λ question. question ≡ question_as_it_came request.now) }
+pub(crate) fn question_with_raw_target(
+    alloc: Global,
+    request: &Request,
+) -> Result<Question, AllocError>
+    ensures { IfOk result (λ question. question ≡ question_with_raw_target request.now) }
 {
     Ok(Question {
         method: request.method.clone()?,

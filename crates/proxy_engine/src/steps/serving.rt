@@ -5,7 +5,7 @@ ghost use Rattle.hx_fields.specs.declared.limits.TheConstants.{END_OF_TIME};
 ghost use Rattle.hx_framing.specs.declared.messages.Request.{Request};
 ghost use Rattle.hx_framing.specs.declared.messages.Next.{Next};
 ghost use Rattle.hx_framing.specs.declared.messages.Next.TheVariants as next;
-ghost use Rattle.proxy_engine.specs.Admitted.{asked_on_connection, RequestIsHandedOver};
+ghost use Rattle.proxy_engine.specs.Admitted.{asked_on_connection, CoreIsHandedRequest};
 ghost use Rattle.hx_hop.specs.Moments.{date_text_of};
 ghost use Rattle.proxy_core.specs.Replies.{refusal_reply_text};
 ghost use Rattle.proxy_core.specs.State.{State as CoreState};
@@ -14,9 +14,9 @@ ghost use Rattle.proxy_engine.specs.Due.{Serves, IsDueFirst};
 ghost use Rattle.proxy_engine.specs.State.{EngineRepresents, engine_state, due_request_at, connection_is_free_at};
 ghost use Rattle.proxy_engine.specs.State.{is_retired_at};
 ghost use Rattle.proxy_engine.specs.State.{connection_work_left, work_left_of_state, EngineDoesAct};
-ghost use Rattle.proxy_engine.specs.State.{NoActWasDoneSince};
-ghost use Rattle.proxy_engine.specs.Pairing.{activities_of};
-ghost use Rattle.proxy_engine.specs.Actions.{IsActionForNext};
+ghost use Rattle.proxy_engine.specs.State.{NoActWasDoneBecauseOf};
+ghost use Rattle.proxy_engine.specs.Pairing.{activities_of_connections};
+ghost use Rattle.proxy_engine.specs.Actions.{IsActionForReaderAnswer};
 ghost use Rattle.proxy_engine.specs.declared.endpoints.ends.Link.{Link};
 
 use crate::endpoints::connections::Connections;
@@ -24,12 +24,12 @@ use crate::endpoints::marks;
 use crate::endpoints::numbers::ConnectionPlace;
 use crate::engine::Engine;
 use crate::steps::actions::{Action, action_of};
-use crate::steps::outcomes::{as_alloc_error, effects_with_room, put, send_reply};
+use crate::steps::outcomes::{as_alloc_error, effects_with_capacity, put, send_reply};
 use crate::work::EngineFault;
 use hx_fields::Bytes;
 use hx_framing::write_continue;
 use hx_hop::Asked;
-use hx_status::{About, Cause, Question, Replied};
+use hx_status::{Cause, Question, ReplyData, StatusAndReason};
 use hx_store::Shelf;
 use proxy_core::{is_head, refused};
 use proxy_script::Effect;
@@ -49,13 +49,14 @@ fn send_continue(
         (engine_state connections.new.items links core first)) }
     ensures less { OnOk result (due_request_at (slice_index_or connections.old.items i None) ≡ Some next.NeedsContinue
         → sum_by connection_work_left connections.new.items < sum_by connection_work_left connections.old.items) }
-    ensures activities { activities_of connections.new.items ≡ activities_of connections.old.items }
+    ensures activities { activities_of_connections connections.new.items
+        ≡ activities_of_connections connections.old.items }
     ensures err { OnErr result (connections.new ≡ connections.old) }
 {
-    let mut effects = effects_with_room(alloc)?;
+    let mut effects = effects_with_capacity(alloc)?;
     let number = connections.number_at(i);
     let bytes = write_continue(alloc)?;
-    marks::pass_next_at(connections, i);
+    marks::use_due_answer_at(connections, i);
     put(&mut effects, Effect::Client(number, bytes, None));
     Ok(effects)
 }
@@ -81,23 +82,24 @@ fn refuse(
     requires free { connection_is_free_at (slice_index_or connections.old.items i None) ≡ true }
     requires early { now < END_OF_TIME }
     ensures ok { IfOk result (λ effects. (s : EngineModel) → (links : List (Option Link)) → (core : CoreState)
-        → (first : ℕ) → (a : Next Request) → IsActionForNext a (Action.Refuse why head question)
+        → (first : ℕ) → (a : Next Request) → IsActionForReaderAnswer a (Action.Refuse why head question)
         → EngineRepresents (engine_state connections.old.items links core first) s
         → EngineDoesAct s now (Serves i a) effects.items (engine_state connections.new.items links core first)) }
     ensures less { OnOk result
         (sum_by connection_work_left connections.new.items < sum_by connection_work_left connections.old.items) }
-    ensures activities { activities_of connections.new.items ≡ activities_of connections.old.items }
+    ensures activities { activities_of_connections connections.new.items
+        ≡ activities_of_connections connections.old.items }
     ensures err { OnErr result (connections.new ≡ connections.old) }
 {
-    let mut effects = effects_with_room(alloc)?;
+    let mut effects = effects_with_capacity(alloc)?;
     let bytes = proxys_own_answer(alloc, now, why, head)?;
     send_reply(
         connections,
         &mut effects,
         i,
         bytes,
-        Replied {
-            about: About::refusal(why),
+        ReplyData {
+            about: StatusAndReason::refusal(why),
             question,
         },
         true,
@@ -113,15 +115,16 @@ fn shut(
 ) -> Result<Vec<Effect>, AllocError>
     requires { connection_is_free_at (slice_index_or connections.old.items i None) ≡ true }
     ensures ok { IfOk result (λ effects. (s : EngineModel) → (links : List (Option Link)) → (core : CoreState)
-        → (first now : ℕ) → (a : Next Request) → IsActionForNext a Action.Close
+        → (first now : ℕ) → (a : Next Request) → IsActionForReaderAnswer a Action.Close
         → EngineRepresents (engine_state connections.old.items links core first) s
         → EngineDoesAct s now (Serves i a) effects.items (engine_state connections.new.items links core first)) }
     ensures less { OnOk result
         (sum_by connection_work_left connections.new.items < sum_by connection_work_left connections.old.items) }
-    ensures activities { activities_of connections.new.items ≡ activities_of connections.old.items }
+    ensures activities { activities_of_connections connections.new.items
+        ≡ activities_of_connections connections.old.items }
     ensures err { OnErr result (connections.new ≡ connections.old) }
 {
-    let mut effects = effects_with_room(alloc)?;
+    let mut effects = effects_with_capacity(alloc)?;
     let number = connections.number_at(i);
     marks::close_at(connections, i, true);
     put(&mut effects, Effect::Close(number));
@@ -150,7 +153,7 @@ impl<S: Shelf> Engine<S> {
         requires left { self.old.first + length self.old.links < 2 ^ 64 }
         requires early { now < END_OF_TIME }
         ensures ok { IfOk result (λ effects. (s : EngineModel) → (r : Request)
-            → RequestIsHandedOver (is_retired_at (slice_index_or self.old.connections i None)) r asked
+            → CoreIsHandedRequest (is_retired_at (slice_index_or self.old.connections i None)) r asked
             → due_request_at (slice_index_or self.old.connections i None) ≡ Some (next.Message r)
             → EngineRepresents self.old s → EngineDoesAct s now (Serves i (next.Message r)) effects.items self.new) }
         ensures less { OnOk result ((r : Request) → due_request_at (slice_index_or self.old.connections i None)
@@ -158,14 +161,14 @@ impl<S: Shelf> Engine<S> {
             → work_left_of_state self.new < work_left_of_state self.old) }
         ensures err { OnErr result (self.new ≡ self.old) }
     {
-        let mut effects = effects_with_room(alloc)?;
+        let mut effects = effects_with_capacity(alloc)?;
         self.ends.links.reserve_place(alloc)?;
         let id = self.ends.connections.number_at(i);
         let outcome = match self.core.arrive(alloc, now, id, &asked) {
             Ok(outcome) => outcome,
             Err(fault) => return Err(as_alloc_error(fault)),
         };
-        marks::pass_next_at(&mut self.ends.connections, i);
+        marks::use_due_answer_at(&mut self.ends.connections, i);
         let to_head = is_head(&asked);
         let config = self.core.config();
         self.ends.carry_out(
@@ -192,7 +195,7 @@ impl<S: Shelf> Engine<S> {
         requires due { is_some (due_request_at (slice_index_or self.old.connections i None)) ≡ true }
         requires early { now < END_OF_TIME }
         ensures ok { IfOk result (λ effects. (s : EngineModel) → (r : Request)
-            → RequestIsHandedOver (is_retired_at (slice_index_or self.old.connections i None)) r asked
+            → CoreIsHandedRequest (is_retired_at (slice_index_or self.old.connections i None)) r asked
             → due_request_at (slice_index_or self.old.connections i None) ≡ Some (next.Message r)
             → EngineRepresents self.old s → EngineDoesAct s now (Serves i (next.Message r)) effects.items self.new) }
         ensures less { OnOk result ((r : Request) → due_request_at (slice_index_or self.old.connections i None)
@@ -200,9 +203,9 @@ impl<S: Shelf> Engine<S> {
             → work_left_of_state self.new < work_left_of_state self.old) }
         ensures exhausted { result ≡ Err EngineFault.OutOfMemory → self.old.first + length self.old.links < 2 ^ 64 }
         ensures fault { IfErr result (λ fault. (s : EngineModel) → (r : Request)
-            → RequestIsHandedOver (is_retired_at (slice_index_or self.old.connections i None)) r asked
+            → CoreIsHandedRequest (is_retired_at (slice_index_or self.old.connections i None)) r asked
             → IsDueFirst s (Some (Serves i (next.Message r)))
-            → EngineRepresents self.old s → NoActWasDoneSince s fault) }
+            → EngineRepresents self.old s → NoActWasDoneBecauseOf s fault) }
         ensures err { OnErr result (self.new ≡ self.old) }
     {
         if self.ends.is_exhausted() {
@@ -229,7 +232,7 @@ impl<S: Shelf> Engine<S> {
         ensures less { OnOk result (work_left_of_state self.new < work_left_of_state self.old) }
         ensures fault { IfErr result (λ fault. (s : EngineModel) → (a : Next Request)
             → due_request_at (slice_index_or self.old.connections i None) ≡ Some a → IsDueFirst s (Some (Serves i a))
-            → EngineRepresents self.old s → NoActWasDoneSince s fault) }
+            → EngineRepresents self.old s → NoActWasDoneBecauseOf s fault) }
         ensures err { OnErr result (self.new ≡ self.old) }
     {
         let action = match action_of(self.ends.connections.at(i), alloc) {

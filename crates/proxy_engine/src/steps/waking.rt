@@ -5,14 +5,15 @@ ghost use Rattle.proxy_core.specs.Waiting.{ExchangeMayBeWoken};
 ghost use Rattle.proxy_engine.specs.ConnectionNumbers.{connection_number};
 ghost use Rattle.proxy_engine.specs.EngineModel.{EngineModel};
 ghost use Rattle.proxy_engine.specs.Due.{Wakes, IsDueFirst};
-ghost use Rattle.proxy_engine.specs.State.{EngineRepresents, NoConnectionIsLost, work_left_of_state, EngineDoesAct};
-ghost use Rattle.proxy_engine.specs.State.{NoActWasDoneSince};
+ghost use Rattle.proxy_engine.specs.State.{EngineRepresents, NoDisconnectedClientHasExchange, work_left_of_state};
+ghost use Rattle.proxy_engine.specs.State.{EngineDoesAct};
+ghost use Rattle.proxy_engine.specs.State.{NoActWasDoneBecauseOf};
 
 use crate::endpoints::marks;
 use crate::endpoints::numbers::ConnectionPlace;
 use crate::engine::Engine;
 use crate::steps::finishing::exchange_asks_head;
-use crate::steps::outcomes::{as_alloc_error, effects_with_room};
+use crate::steps::outcomes::{as_alloc_error, effects_with_capacity};
 use crate::work::EngineFault;
 use hx_store::Shelf;
 use proxy_script::Effect;
@@ -28,7 +29,7 @@ impl<S: Shelf> Engine<S> {
         i: ConnectionPlace,
     ) -> Result<Vec<Effect>, AllocError>
         requires ready { ExchangeMayBeWoken (connection_number i) self.old.core.exchanges }
-        requires here { NoConnectionIsLost self.old.connections }
+        requires here { NoDisconnectedClientHasExchange self.old.connections }
         requires left { self.old.first + length self.old.links < 2 ^ 64 }
         requires early { now < END_OF_TIME }
         ensures ok { IfOk result (λ effects. (s : EngineModel) → EngineRepresents self.old s
@@ -36,7 +37,7 @@ impl<S: Shelf> Engine<S> {
         ensures less { OnOk result (work_left_of_state self.new < work_left_of_state self.old) }
         ensures err { OnErr result (self.new ≡ self.old) }
     {
-        let mut effects = effects_with_room(alloc)?;
+        let mut effects = effects_with_capacity(alloc)?;
         self.ends.links.reserve_place(alloc)?;
         let id = self.ends.connections.number_at(i);
         let to_head = exchange_asks_head(&self.core, id);
@@ -67,14 +68,14 @@ impl<S: Shelf> Engine<S> {
         i: ConnectionPlace,
     ) -> Result<Vec<Effect>, EngineFault>
         requires ready { ExchangeMayBeWoken (connection_number i) self.old.core.exchanges }
-        requires here { NoConnectionIsLost self.old.connections }
+        requires here { NoDisconnectedClientHasExchange self.old.connections }
         requires early { now < END_OF_TIME }
         ensures ok { IfOk result (λ effects. (s : EngineModel) → EngineRepresents self.old s
             → EngineDoesAct s now (Wakes i) effects.items self.new) }
         ensures less { OnOk result (work_left_of_state self.new < work_left_of_state self.old) }
         ensures exhausted { result ≡ Err EngineFault.OutOfMemory → self.old.first + length self.old.links < 2 ^ 64 }
         ensures fault { IfErr result (λ fault. (s : EngineModel) → IsDueFirst s (Some (Wakes i))
-            → EngineRepresents self.old s → NoActWasDoneSince s fault) }
+            → EngineRepresents self.old s → NoActWasDoneBecauseOf s fault) }
         ensures err { OnErr result (self.new ≡ self.old) }
     {
         if self.ends.is_exhausted() {

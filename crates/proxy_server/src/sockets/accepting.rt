@@ -4,7 +4,7 @@ ghost use Rattle.std.specs.Prelude.{◌≡◌, ◌&&◌, is_some};
 use crate::sockets::live_sockets::LiveSockets;
 use mio::Poll;
 use mio::net::TcpStream;
-use proxy_ends::Holder;
+use proxy_ends::TokenHolder;
 use proxy_figures::{UnansweredCause, is_out_of_descriptors};
 use proxy_listener::accept;
 use proxy_streams::{Peer, Socket};
@@ -14,7 +14,7 @@ use std::net::{Net, SocketAddr};
 
 /// Asks the system for the events of the stream of this key.
 fn register_client(peer: &mut Peer<Socket>, poll: &Poll, key: usize) -> io::Result<()> {
-    peer.register(poll, Holder::Client(key).token()?)
+    peer.register(poll, TokenHolder::Client(key).token()?)
 }
 
 impl<'a, R: Net> LiveSockets<'a, R> {
@@ -55,7 +55,7 @@ impl<'a, R: Net> LiveSockets<'a, R> {
     {
         let is_taken = self.take_stream(n, stream, address);
         if self.in_hand.is_some() {
-            self.accept_counts.count_full();
+            self.accept_counts.count_no_room();
             self.may_give_way = true;
         }
         is_taken
@@ -67,17 +67,17 @@ impl<'a, R: Net> LiveSockets<'a, R> {
         ensures calls { self.new.calls ≡ self.old.calls }
     {
         self.may_have_room = false;
-        if !self.clients.make_room(self.now) {
+        if !self.clients.make_room_for_a_stream(self.now) {
             self.in_hand = Some((stream, address));
             return false;
         }
         match self.add_client(n, stream, address) {
             Ok(()) => {
-                self.accept_counts.count_taken();
+                self.accept_counts.count_accepted();
                 true
             }
             Err(e) => {
-                self.accept_counts.count_refused(&e);
+                self.accept_counts.count_refused_accept(&e);
                 false
             }
         }
@@ -103,9 +103,9 @@ impl<'a, R: Net> LiveSockets<'a, R> {
         }
         // Where descriptors have run out an idle client gives way, else it is tried again after a pause. The system
         // says so too where no connection waits: who has just come stays.
-        let again = is_out_of_descriptors(e) && self.clients.drop_idle(self.now);
+        let again = is_out_of_descriptors(e) && self.clients.drop_longest_idle(self.now);
         if !again {
-            self.accept_counts.count_refused(e);
+            self.accept_counts.count_refused_accept(e);
         }
         again
     }
@@ -119,7 +119,7 @@ impl<'a, R: Net> LiveSockets<'a, R> {
             return Err(io::Error::from(ErrorKind::OutOfMemory));
         };
         if let Some(client) = self.clients.stream_mut(key) {
-            if self.log.is_some() && client.keep_log(address).is_err() {
+            if self.log.is_some() && client.begin_log(address).is_err() {
                 let _ = self.clients.forget(n, UnansweredCause::Closed);
                 return Err(io::Error::from(ErrorKind::OutOfMemory));
             }

@@ -30,7 +30,7 @@ impl<'a, R: Net> LiveSockets<'a, R> {
         ensures calls { self.new.calls ≡ self.old.calls }
     {
         match begin_link(self.net, self.alloc, address, self.now) {
-            Err(e) if is_out_of_descriptors(&e) && self.clients.drop_idle(self.now) => {
+            Err(e) if is_out_of_descriptors(&e) && self.clients.drop_longest_idle(self.now) => {
                 begin_link(self.net, self.alloc, address, self.now)
             }
             begun => begun,
@@ -74,11 +74,11 @@ impl<'a, R: Net> LiveSockets<'a, R> {
             Err(e) => {
                 // Where it is the system that has none left, the origin isn't silent.
                 if is_out_of_descriptors(&e) {
-                    self.accept_counts.count_no_link();
+                    self.accept_counts.count_link_without_descriptor();
                 } else if is_out_of_ports(&e) {
-                    self.accept_counts.count_no_port();
+                    self.accept_counts.count_link_without_port();
                 } else {
-                    self.links.origins.note_silence(origin);
+                    self.links.origins.count_silent_exchange(origin);
                 }
                 None
             }

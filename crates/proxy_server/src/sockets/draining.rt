@@ -29,7 +29,7 @@ impl<'a, R: Net> LiveSockets<'a, R> {
     }
 
     /// While no more connections are taken: the least number of a client whose connection isn't to end yet.
-    pub(crate) fn first_not_retired(&self) -> Option<u64>
+    pub(crate) fn first_unretired_client(&self) -> Option<u64>
         ensures { self.entry.now.is_draining ≡ false → result ≡ None }
     {
         if !self.is_draining {
@@ -43,19 +43,19 @@ impl<'a, R: Net> LiveSockets<'a, R> {
         ensures draining { self.old.is_draining ≡ false → result ≡ None }
         ensures rest { self.new ≡ record self.old { not_retired = self.new.not_retired } }
     {
-        let n = self.first_not_retired()?;
+        let n = self.first_unretired_client()?;
         self.not_retired = n.saturating_add(1);
         Some(n)
     }
 
     /// While no more connections are taken: a client that is let go since it is between two requests.
-    pub fn next_to_let_go(&mut self) -> Option<u64>
+    pub fn next_idle_to_close(&mut self) -> Option<u64>
         ensures draining { self.old.is_draining ≡ false → result ≡ None }
         ensures rest { self.new ≡ record self.old { clients = self.new.clients } }
     {
         if !self.is_draining {
             return None;
         }
-        self.clients.next_to_let_go(self.now)
+        self.clients.next_idle_to_close(self.now)
     }
 }

@@ -1,15 +1,15 @@
 //! TCP sockets of the system, under the numbers of the engine.
 ghost use Rattle.std.specs.Prelude.{◌≡◌, ◌≤◌, ◌+◌, ◌-◌, ◌/◌, ◌^◌, ◌==◌, if◌then◌else◌, min, length, vec_len};
 ghost use Rattle.std.specs.Prelude.{true, false, option_copied, is_some, IfOk, IsOk, OnOk, None};
-ghost use Rattle.proxy_reads.specs.Received.{FitsTheBuffer};
+ghost use Rattle.proxy_reads.specs.Received.{ReceivedBytesAreAtMostRoom};
 ghost use Rattle.std.specs.Ordering.{nat_cmp};
 ghost use Rattle.std.specs.BTreeMap.{get};
 ghost use Rattle.hx_allow.specs.declared.limits.TheConstants.{MOST_LINES};
-ghost use Rattle.proxy_figures.specs.KnownOrigins.{some_is_crowded};
-ghost use Rattle.proxy_figures.specs.LineOrigins.{LinesArePlaced};
+ghost use Rattle.proxy_figures.specs.OriginsModel.{some_origin_is_crowded};
+ghost use Rattle.proxy_figures.specs.LineOrigins.{LinesHavePlacesOfTheirOrigins};
 ghost use Rattle.proxy_ends.specs.Connecting.{link_is_connecting};
-ghost use Rattle.proxy_ends.specs.OtherEntries.{OtherEntriesStay, ChangesOnlyAtNumber};
-ghost use Rattle.proxy_server.specs.Forgetting.{ClientIsForgotten, LinkIsForgotten};
+ghost use Rattle.proxy_ends.specs.OtherEntries.{EntriesOfOtherNumbersStay, ChangesOnlyAtNumber};
+ghost use Rattle.proxy_server.specs.Forgetting.{ClientStreamIsDropped, LinkStreamIsDropped};
 ghost use Rattle.proxy_ends.specs.Closing.{StreamIsClosedByNumber};
 ghost use Rattle.proxy_server.specs.OriginsOfLines.{origins_of_lines};
 ghost use Rattle.proxy_server.specs.Paces.{milliseconds_of_moment};
@@ -20,12 +20,16 @@ use crate::pace::turn_end_of;
 use crate::sockets::call_counts::CallCounts;
 use crate::sockets::table_origins::place_origins;
 use hx_allow::Config;
-use hx_status::{FailKind, Replied};
+use hx_status::{FailKind, ReplyData};
 use mio::net::{TcpListener, TcpStream};
 use mio::{Events, Interest, Poll};
-use proxy_ends::{Clients, Departure, Holder, LONGEST_WAIT, Limits, Links, MOST_EVENTS, SECOND};
+use proxy_ends::{
+    Clients, LONGEST_WAIT_MILLISECONDS, Limits, Links, MOST_EVENTS_PER_POLL, SECOND, TokenHolder,
+    UnansweredDeparture,
+};
 use proxy_figures::{
-    AcceptCounts, CutReason, LineOrigins, ReplyCounts, Troubles, Turns, UnansweredCause,
+    ConnectionAttemptCounts, CutReason, LineOrigins, ReplyCounts, TroubleCounts, Turns,
+    UnansweredCause,
 };
 use proxy_listener::{ListenAt, listen};
 use proxy_log::{Lines, LoggedRequest};
@@ -64,13 +68,13 @@ pub struct LiveSockets<'a, R: Net> {
     /// Links that failed since the last turn, and how.
     pub(crate) lost: Vec<(u64, FailKind)>,
     /// What is told of the client of which the engine is told next.
-    departing: Option<Departure>,
+    departing: Option<UnansweredDeparture>,
     pub(crate) limits: Limits,
     /// Lines about replies, where a log is kept.
     pub(crate) log: Option<Lines>,
     /// Counts of replies, where they are kept.
     pub(crate) replies: Option<ReplyCounts>,
-    pub(crate) accept_counts: AcceptCounts,
+    pub(crate) accept_counts: ConnectionAttemptCounts,
     pub(crate) turns: Turns,
     /// Which origin the lines of the table have, where replies are counted or a log is kept.
     pub(crate) line_origins: LineOrigins,
@@ -117,9 +121,9 @@ impl<'a, R: Net> Drop for LiveSockets<'a, R> {
 
 /// Reads from the link of a number. After a failure its stream is dropped; of one without a stream nothing comes.
 fn read_link(links: &mut Links, l: u64, buf: &mut [u8], now: u64) -> Result<Received, SocketFailed>
-    ensures within { IfOk result (FitsTheBuffer (length buf.old)) }
+    ensures within { IfOk result (ReceivedBytesAreAtMostRoom (length buf.old)) }
     ensures length { length buf.new ≡ length buf.old }
-    ensures others { OtherEntriesStay l links.old.items links.new.items }
+    ensures others { EntriesOfOtherNumbersStay l links.old.items links.new.items }
 {
     if let Ok(received) = links.read(l, buf, now) {
         return Ok(received);
@@ -132,14 +136,14 @@ fn read_link(links: &mut Links, l: u64, buf: &mut [u8], now: u64) -> Result<Rece
 /// there nothing comes.
 fn read_client(
     clients: &mut Clients,
-    departed: &mut Option<Departure>,
+    departed: &mut Option<UnansweredDeparture>,
     n: u64,
     buf: &mut [u8],
     now: u64,
 ) -> Result<Received, SocketFailed>
-    ensures within { IfOk result (FitsTheBuffer (length buf.old)) }
+    ensures within { IfOk result (ReceivedBytesAreAtMostRoom (length buf.old)) }
     ensures length { length buf.new ≡ length buf.old }
-    ensures open { OtherEntriesStay n clients.old.open clients.new.open }
+    ensures open { EntriesOfOtherNumbersStay n clients.old.open clients.new.open }
     ensures others { ChangesOnlyAtNumber clients.old.open n clients.old.streams clients.new.streams }
 {
     if let Ok(received) = clients.read(n, buf, now) {
@@ -189,13 +193,17 @@ impl<'a, R: Net> LiveSockets<'a, R> {
     {
         let poll = Poll::new(net)?;
         let mut listener = listen(net, at)?;
-        poll.registry().register(&mut listener, Holder::Listener.token()?, Interest::READABLE)?;
+        poll.registry().register(
+            &mut listener,
+            TokenHolder::Listener.token()?,
+            Interest::READABLE,
+        )?;
         let address = listener.local_addr()?;
         Ok(LiveSockets {
             net,
             alloc,
             poll,
-            events: Events::with_capacity(alloc, MOST_EVENTS)?,
+            events: Events::with_capacity(alloc, MOST_EVENTS_PER_POLL)?,
             listener: Some(listener),
             address,
             acceptable: true,
@@ -212,7 +220,7 @@ impl<'a, R: Net> LiveSockets<'a, R> {
             limits,
             log: None,
             replies: None,
-            accept_counts: AcceptCounts::new(),
+            accept_counts: ConnectionAttemptCounts::new(),
             turns: Turns::new(),
             line_origins: LineOrigins::new(alloc),
             moment: 0,
@@ -231,7 +239,7 @@ impl<'a, R: Net> LiveSockets<'a, R> {
     /// Takes the origins of the lines of a table: those that replies name, and that are counted. Its only error is out
     /// of memory.
     fn take_origins(&mut self, table: &Config) -> Result<(), AllocError>
-        ensures placed { OnOk result (LinesArePlaced
+        ensures placed { OnOk result (LinesHavePlacesOfTheirOrigins
             (origins_of_lines table.now.lines (min (length table.now.lines) MOST_LINES))
             self.new.line_origins.places.items self.new.links.origins) }
         ensures rest { self.new ≡ record self.old {
@@ -245,7 +253,7 @@ impl<'a, R: Net> LiveSockets<'a, R> {
 
     /// Keeps a line about each reply from now on, which names the origin that the table has for it. Its only error is
     /// out of memory.
-    pub fn keep_log(&mut self, table: &Config) -> Result<(), AllocError>
+    pub fn begin_log(&mut self, table: &Config) -> Result<(), AllocError>
         ensures kept { OnOk result (is_some self.new.log ≡ true) }
         ensures rest { self.new ≡ record self.old {
           links = self.new.links;
@@ -259,7 +267,7 @@ impl<'a, R: Net> LiveSockets<'a, R> {
     }
 
     /// Counts replies from now on, and what the origins of a table do. Its only error is out of memory.
-    pub fn keep_counts(&mut self, table: &Config) -> Result<(), AllocError>
+    pub fn begin_counts(&mut self, table: &Config) -> Result<(), AllocError>
         ensures kept { OnOk result (is_some self.new.replies ≡ true) }
         ensures rest { self.new ≡ record self.old {
           links = self.new.links;
@@ -311,7 +319,11 @@ impl<'a, R: Net> LiveSockets<'a, R> {
     /// turn without memory it waits in any case: there may be some a little later.
     pub fn wait(&mut self, busy: bool, starved: bool) -> io::Result<()> {
         let none = busy || self.clients.more || self.lost_count() > 0 || self.has_more();
-        let limit = if none && !starved { 0 } else { LONGEST_WAIT };
+        let limit = if none && !starved {
+            0
+        } else {
+            LONGEST_WAIT_MILLISECONDS
+        };
         self.poll
             .poll(&mut self.events, Some(Duration::from_millis(limit)))
     }
@@ -335,15 +347,15 @@ impl<'a, R: Net> LiveSockets<'a, R> {
         // Who was not quiet for long enough may be now.
         self.may_give_way = self.may_give_way || ticked && self.in_hand.is_some();
         self.take_events();
-        self.clients.drop_inputs(now);
+        self.clients.drop_input_of_lingering(now);
         ticked
     }
 
     fn take_events(&mut self) {
         for event in self.events.iter() {
-            match Holder::of(event.token()) {
-                Holder::Listener => self.acceptable = true,
-                Holder::Link(l) => {
+            match TokenHolder::of(event.token()) {
+                TokenHolder::Listener => self.acceptable = true,
+                TokenHolder::Link(l) => {
                     if self.links.mark_ready(l, event, self.now).is_err() {
                         self.links.count_failed_connect(l);
                         self.links.drop_stream(l);
@@ -353,7 +365,7 @@ impl<'a, R: Net> LiveSockets<'a, R> {
                         list(&mut self.ready, &mut self.clients, End::Link(l));
                     }
                 }
-                Holder::Client(key) => {
+                TokenHolder::Client(key) => {
                     self.clients.mark_ready(key, event, self.now);
                     if let Some(n) = self.clients.begin_listing(key) {
                         list(&mut self.ready, &mut self.clients, End::Client(n));
@@ -372,7 +384,7 @@ impl<'a, R: Net> LiveSockets<'a, R> {
             End::Link(l) => self.links.begin_listing(l),
             End::Client(n) => match self.clients.key_of(n) {
                 Some(key) => {
-                    self.clients.mark_begun(key, self.now);
+                    self.clients.mark_request_begun(key, self.now);
                     self.clients.begin_listing(key).is_some()
                 }
                 None => false,
@@ -391,7 +403,7 @@ impl<'a, R: Net> LiveSockets<'a, R> {
     }
 
     /// While a connection waits to be taken for which there is no room: a client that may give way to it.
-    pub fn next_to_give_way(&mut self) -> Option<u64>
+    pub fn next_to_drop_for_room(&mut self) -> Option<u64>
         ensures nobody { self.old.in_hand ≡ None → result ≡ None }
         ensures rest { self.new ≡ record self.old {
           clients = self.new.clients;
@@ -401,14 +413,14 @@ impl<'a, R: Net> LiveSockets<'a, R> {
         if self.in_hand.is_none() || self.has_room() {
             return None;
         }
-        let number = self.clients.next_to_give_way(self.now);
+        let number = self.clients.next_to_drop_for_room(self.now);
         self.may_give_way = number.is_some();
         number
     }
 
     /// Drops the stream of a client that gives its place to another.
-    pub fn cut_off(&mut self, n: u64)
-        ensures client { ClientIsForgotten (End.Client n) self.old.clients self.new.clients }
+    pub fn drop_client_giving_way(&mut self, n: u64)
+        ensures client { ClientStreamIsDropped (End.Client n) self.old.clients self.new.clients }
         ensures links { self.new.links ≡ self.old.links }
     {
         self.clients.endings.count_cut(CutReason::Room);
@@ -418,7 +430,7 @@ impl<'a, R: Net> LiveSockets<'a, R> {
 
     /// Whether an end is read next, a connection may be taken, or one is to end, of which no event will tell.
     pub fn has_more(&self) -> bool {
-        if !self.ready.is_empty() || self.first_not_retired().is_some() {
+        if !self.ready.is_empty() || self.first_unretired_client().is_some() {
             return true;
         }
         match &self.in_hand {
@@ -428,7 +440,7 @@ impl<'a, R: Net> LiveSockets<'a, R> {
     }
 
     /// Hands out the ends that are read next, so many of them at most.
-    pub fn take_ready(&mut self, most: usize, ends: &mut Vec<End>) {
+    pub fn take_ready_ends(&mut self, most: usize, ends: &mut Vec<End>) {
         ends.clear();
         for _ in 0..most {
             let Some(end) = self.ready.pop_front() else {
@@ -454,7 +466,7 @@ impl<'a, R: Net> LiveSockets<'a, R> {
     }
 
     /// An end that failed since it was last asked, and how. Its stream is gone.
-    pub fn next_lost(&mut self) -> Option<(End, FailKind)>
+    pub fn take_lost_client(&mut self) -> Option<(End, FailKind)>
         ensures { self.new ≡ record self.old {
           lost = self.new.lost;
           clients = self.new.clients;
@@ -464,14 +476,14 @@ impl<'a, R: Net> LiveSockets<'a, R> {
         if let Some((l, kind)) = self.lost.pop() {
             return Some((End::Link(l), kind));
         }
-        let lost = self.clients.next_lost()?;
+        let lost = self.clients.take_lost_client()?;
         self.departing = lost.departure;
         Some((End::Client(lost.number), FailKind::Closed))
     }
 
     /// The engine is told that an end is lost: no call on it follows. The request of a client that is open had gone
     /// forward on this link, and asks for this.
-    pub fn note_lost(&mut self, end: End, link: Option<u64>, request: Option<LoggedRequest<'_>>)
+    pub fn note_lost_end(&mut self, end: End, link: Option<u64>, request: Option<LoggedRequest<'_>>)
         ensures { self.new ≡ record self.old {
           links = self.new.links;
           departing = self.new.departing;
@@ -503,18 +515,18 @@ impl<'a, R: Net> LiveSockets<'a, R> {
     }
 
     /// An end that is to be looked at: whether a time of it is over.
-    pub fn next_to_look_at(&mut self) -> Option<End>
+    pub fn next_to_check_timeout(&mut self) -> Option<End>
         ensures { self.new ≡ record self.old { clients = self.new.clients; links = self.new.links } }
     {
-        if let Some(l) = self.links.next_to_look_at(self.now) {
+        if let Some(l) = self.links.next_to_check_timeout(self.now) {
             return Some(End::Link(l));
         }
-        let n = self.clients.next_to_look_at(self.now)?;
+        let n = self.clients.next_to_check_timeout(self.now)?;
         Some(End::Client(n))
     }
 
     /// An end was looked at, and none of its times is over.
-    pub fn look_again_at(&mut self, end: End) {
+    pub fn schedule_check_of_end(&mut self, end: End) {
         match end {
             End::Listener => {}
             End::Link(l) => self.links.look_again(l, self.now, &self.limits),
@@ -528,36 +540,36 @@ impl<'a, R: Net> LiveSockets<'a, R> {
 
     /// A client that has sent its end, where nearly as many links to an origin are open as may be: if it waits for an
     /// answer, that is given up for those who still listen.
-    pub fn next_departed(&mut self) -> Option<u64>
-        ensures crowded { some_is_crowded self.old.links.origins ≡ false → result ≡ None }
+    pub fn next_half_closed(&mut self) -> Option<u64>
+        ensures crowded { some_origin_is_crowded self.old.links.origins ≡ false → result ≡ None }
         ensures rest { self.new ≡ record self.old { clients = self.new.clients } }
     {
-        if !self.links.origins.some_is_crowded() {
+        if !self.links.origins.some_origin_is_crowded() {
             return None;
         }
-        self.clients.next_departed()
+        self.clients.next_half_closed()
     }
 
     /// A client that has sent its end doesn't wait for an answer yet.
-    pub fn look_later_at_departed(&mut self, n: u64)
+    pub fn check_half_closed_later(&mut self, n: u64)
         ensures { self.new ≡ record self.old { clients = self.new.clients } }
     {
         if let Some(key) = self.clients.key_of(n) {
-            self.clients.mark_departed(key, self.now);
+            self.clients.mark_half_closed(key, self.now);
         }
     }
 
     /// What couldn't be done that was asked, since the start.
-    pub fn troubles(&self) -> Troubles {
+    pub fn troubles(&self) -> TroubleCounts {
         let origins = &self.links.origins;
-        Troubles {
+        TroubleCounts {
             full: self.accept_counts.full,
             no_descriptor: self.accept_counts.no_descriptor,
             no_link: self.accept_counts.no_link,
             no_port: self.accept_counts.no_port,
             beyond_bound: origins.beyond_bound(),
             silent: if self.limits.origin_probe {
-                origins.fallen_silent()
+                origins.times_fallen_silent()
             } else {
                 0
             },
@@ -566,13 +578,13 @@ impl<'a, R: Net> LiveSockets<'a, R> {
 
     /// Drops the stream of an end whose time is over.
     pub fn forget(&mut self, end: End)
-        ensures client { ClientIsForgotten end self.old.clients self.new.clients }
-        ensures link { LinkIsForgotten end self.old.links self.new.links }
+        ensures client { ClientStreamIsDropped end self.old.clients self.new.clients }
+        ensures link { LinkStreamIsDropped end self.old.links self.new.links }
     {
         match end {
             End::Listener => {}
             End::Client(n) => {
-                let cause = self.clients.count_forgotten(n, self.now);
+                let cause = self.clients.count_client_end(n, self.now);
                 self.departing = self.clients.forget(n, cause);
             }
             End::Link(l) => {
@@ -583,7 +595,7 @@ impl<'a, R: Net> LiveSockets<'a, R> {
     }
 
     /// Writes to a client: a reply that is this, or an interim response, which answers nothing yet.
-    fn write_client(&mut self, n: u64, bytes: &[u8], replied: Option<&Replied>)
+    fn write_client(&mut self, n: u64, bytes: &[u8], replied: Option<&ReplyData>)
         ensures calls { self.new.calls ≡ self.old.calls }
     {
         if !self.clients.write_to(n, bytes, self.now) {
@@ -592,11 +604,11 @@ impl<'a, R: Net> LiveSockets<'a, R> {
         if let Some(replied) = replied {
             self.note_answered(n, bytes, replied);
         }
-        self.drop_one_beyond_limit();
+        self.drop_largest_beyond_limit();
     }
 
     /// The request of a client was answered by these bytes, which are this reply: it may be read again.
-    fn note_answered(&mut self, n: u64, bytes: &[u8], replied: &Replied)
+    fn note_answered(&mut self, n: u64, bytes: &[u8], replied: &ReplyData)
         ensures calls { self.new.calls ≡ self.old.calls }
     {
         let Some(key) = self.clients.key_of(n) else {
@@ -616,7 +628,7 @@ impl<'a, R: Net> LiveSockets<'a, R> {
         ensures calls { self.new.calls ≡ self.old.calls }
     {
         let was_connecting = self.links.is_connecting(l);
-        self.links.send_at_once(l, bytes.len());
+        self.links.send_without_delay(l, bytes.len());
         // What an origin had said before it broke off can still be read; its end is told then. A link is written to
         // once, so where all of it went out its events are those of reading.
         let is_written = self.links.write(l, bytes, self.now);
@@ -643,7 +655,7 @@ impl<'a, R: Net> LiveSockets<'a, R> {
 
     /// Reads from a link. That it has failed is kept until the next turn begins.
     fn read_from_link(&mut self, l: u64, buf: &mut [u8]) -> Result<Received, SocketFailed>
-        ensures within { IfOk result (FitsTheBuffer (length buf.old)) }
+        ensures within { IfOk result (ReceivedBytesAreAtMostRoom (length buf.old)) }
         ensures length { length buf.new ≡ length buf.old }
         ensures calls { self.new.calls ≡ self.old.calls }
     {
@@ -658,7 +670,7 @@ impl<'a, R: Net> LiveSockets<'a, R> {
 impl<'a, R: Net> LiveSockets<'a, R> {
     /// Reads from a client. One that has broken off had no request that went forward.
     fn read_from_client(&mut self, n: u64, buf: &mut [u8]) -> Result<Received, SocketFailed>
-        ensures within { IfOk result (FitsTheBuffer (length buf.old)) }
+        ensures within { IfOk result (ReceivedBytesAreAtMostRoom (length buf.old)) }
         ensures length { length buf.new ≡ length buf.old }
         ensures calls { self.new.calls ≡ self.old.calls }
     {
@@ -672,7 +684,7 @@ impl<'a, R: Net> LiveSockets<'a, R> {
     fn close_client(&mut self, n: u64)
         ensures calls { self.new.calls ≡ self.old.calls }
     {
-        let departed = self.clients.depart(n);
+        let departed = self.clients.take_unanswered_departure(n);
         self.clients.close(n, self.now);
         self.log_departure(departed, None, None);
     }
@@ -707,7 +719,7 @@ impl<'a, R: Net> Sockets for LiveSockets<'a, R> {
         if self.log.is_some() {
             read_piece(&mut self.clients, end, &received, buf);
         }
-        self.drop_one_beyond_limit();
+        self.drop_largest_beyond_limit();
         self.calls.count_failure(&received);
         received
     }
@@ -716,7 +728,7 @@ impl<'a, R: Net> Sockets for LiveSockets<'a, R> {
         &mut self,
         end: End,
         bytes: &[u8],
-        replied: Option<&Replied>,
+        replied: Option<&ReplyData>,
     ) -> Result<(), SocketFailed> {
         let written = match end {
             End::Listener => Ok(()),

@@ -2,9 +2,9 @@
 ghost use Rattle.std.specs.Prelude.{◌≡◌};
 
 use crate::sockets::live_sockets::LiveSockets;
-use hx_status::Replied;
-use proxy_ends::{Departure, Reply};
-use proxy_figures::sort_of;
+use hx_status::ReplyData;
+use proxy_ends::{Reply, UnansweredDeparture};
+use proxy_figures::reply_sort_of;
 use proxy_log::{LoggedRequest, content_length};
 use std::mem::replace;
 use std::net::Net;
@@ -14,7 +14,7 @@ impl<'a, R: Net> LiveSockets<'a, R> {
     /// this link, and asks for this.
     pub(crate) fn log_departure(
         &mut self,
-        departure: Option<Departure>,
+        departure: Option<UnansweredDeparture>,
         link: Option<u64>,
         request: Option<LoggedRequest<'_>>,
     )
@@ -34,19 +34,19 @@ impl<'a, R: Net> LiveSockets<'a, R> {
         let lost = replace(&mut self.clients.lost_lines, 0);
         if let Some(lines) = &mut self.log {
             for _ in 0..lost {
-                lines.lose_line();
+                lines.count_lost_line();
             }
         }
     }
 
     /// Counts a reply that took so many milliseconds, and adds the line about it, to the client of this key.
-    pub(crate) fn note_reply(&mut self, key: usize, bytes: &[u8], replied: &Replied, took: u64)
+    pub(crate) fn note_reply(&mut self, key: usize, bytes: &[u8], replied: &ReplyData, took: u64)
         ensures calls { self.new.calls ≡ self.old.calls }
     {
         let about = &replied.about;
         let origin = self.line_origins.place(about.origin_line);
         if let Some(replies) = &mut self.replies {
-            let sort = sort_of(&about.told);
+            let sort = reply_sort_of(&about.told);
             replies.add(about.status, &sort, took);
             if let Some(place) = origin {
                 self.links.origins.answered(place, about.status, &sort);

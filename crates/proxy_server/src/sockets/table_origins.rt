@@ -1,7 +1,7 @@
 //! The origins of the lines of the operator's table.
 ghost use Rattle.std.specs.Prelude.{min, length, IfOk};
 ghost use Rattle.hx_allow.specs.declared.limits.TheConstants.{MOST_LINES};
-ghost use Rattle.proxy_figures.specs.LineOrigins.{LinesArePlaced};
+ghost use Rattle.proxy_figures.specs.LineOrigins.{LinesHavePlacesOfTheirOrigins};
 ghost use Rattle.proxy_server.specs.OriginsOfLines.{origins_of_lines};
 
 use hx_allow::{Config, MOST_LINES};
@@ -14,7 +14,7 @@ pub(crate) fn place_origins(
     table: &Config,
     origins: &mut Origins,
 ) -> Result<LineOrigins, AllocError>
-    ensures { IfOk result (λ placed. LinesArePlaced
+    ensures { IfOk result (λ placed. LinesHavePlacesOfTheirOrigins
         (origins_of_lines table.now.lines (min (length table.now.lines) MOST_LINES))
         placed.places.items origins.new) }
 {

@@ -1,7 +1,7 @@
 //! A store of few entries, through each call.
 
 use super::entries::{entry, key};
-use hx_store::{IndexedShelf, ListShelf, Shelf, shed_to};
+use hx_store::{IndexedShelf, ListShelf, Shelf, evict_to_weight};
 use std::alloc::{AllocError, Global};
 use std::process::Abort;
 use std::test::Fail;
@@ -131,7 +131,7 @@ fn weighs_and_sheds<S: Shelf>(rt: &impl Abort, alloc: Global, shelf: &mut S) -> 
     assert_eq!(rt; shed(shelf, 3 * ENTRY_WEIGHS)?, None);
     assert_eq!(rt; shed(shelf, 3 * ENTRY_WEIGHS - 1)?, Some(2));
     assert_eq!(rt; shelf.weight(), 2 * ENTRY_WEIGHS);
-    shed_to(shelf, ENTRY_WEIGHS);
+    evict_to_weight(shelf, ENTRY_WEIGHS);
     assert_eq!(rt; shelf.weight(), ENTRY_WEIGHS);
     assert_eq!(rt; shed(shelf, 0)?, Some(1));
     assert_eq!(rt; shed(shelf, 0)?, None);

@@ -86,11 +86,11 @@ origin = \"127.0.0.1:8082\"
 #[test]
 fn lines_that_are_never_reached_are_named(rt: HostRuntime) -> Result<(), Fail> {
     let config = config_of(rt.alloc(), SHADOWED)?;
-    assert!(rt; config.taken_by(1) == None);
-    assert!(rt; config.taken_by(2) == Some(1));
-    assert!(rt; config.taken_by(3) == None);
-    assert!(rt; config.taken_by(4) == Some(3));
-    assert!(rt; config.taken_by(5) == None);
-    assert!(rt; config.taken_by(0) == None);
+    assert!(rt; config.first_line_that_covers(1) == None);
+    assert!(rt; config.first_line_that_covers(2) == Some(1));
+    assert!(rt; config.first_line_that_covers(3) == None);
+    assert!(rt; config.first_line_that_covers(4) == Some(3));
+    assert!(rt; config.first_line_that_covers(5) == None);
+    assert!(rt; config.first_line_that_covers(0) == None);
     Ok(())
 }

@@ -49,7 +49,7 @@ fn last_place(history: &[Done], serial: u64) -> Option<usize> {
 
 /// How many others were stored or used later, and not removed since. Serials begin at 1, and each step stores one at
 /// most.
-fn count_before(history: &[Done], serial: u64, place: usize) -> usize {
+fn count_before_serial(history: &[Done], serial: u64, place: usize) -> usize {
     let mut count = 0usize;
     for (i, _) in history.iter().enumerate() {
         let other = (i as u64).wrapping_add(1);
@@ -66,7 +66,7 @@ fn is_held(history: &[Done], serial: u64) -> bool {
         return false;
     };
     for (i, _) in history.iter().enumerate() {
-        if i >= place && count_before(&history[..i + 1], serial, place) >= ROOM {
+        if i >= place && count_before_serial(&history[..i + 1], serial, place) >= ROOM {
             return false;
         }
     }

@@ -1,8 +1,8 @@
 //! Sockets in memory, of which one call fails: clients that ask once, and an origin that answers once on each link.
 ghost use Rattle.std.specs.Prelude.{◌≡◌, length};
-ghost use Rattle.proxy_reads.specs.Received.{FitsTheBuffer};
+ghost use Rattle.proxy_reads.specs.Received.{ReceivedBytesAreAtMostRoom};
 
-use hx_status::Replied;
+use hx_status::ReplyData;
 use proxy_turn::{End, Received, SocketFailed, Sockets};
 use std::alloc::Global;
 use std::net::SocketAddrV4;
@@ -103,7 +103,7 @@ impl MemorySockets {
 
 /// Fills the front of a buffer, if there is room for all.
 pub(super) fn give(buf: &mut [u8], bytes: &[u8]) -> Received
-    ensures within { FitsTheBuffer (length buf.old) result }
+    ensures within { ReceivedBytesAreAtMostRoom (length buf.old) result }
     ensures length { length buf.new ≡ length buf.old }
 {
     if bytes.len() <= buf.len() {
@@ -164,7 +164,7 @@ impl Sockets for MemorySockets {
         &mut self,
         end: End,
         bytes: &[u8],
-        _replied: Option<&Replied>,
+        _replied: Option<&ReplyData>,
     ) -> Result<(), SocketFailed> {
         if self.calls.fails(Call::Write(end)) {
             self.failures = self.failures.saturating_add(1);

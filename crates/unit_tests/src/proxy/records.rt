@@ -1,11 +1,11 @@
 //! A record of turns over sockets in memory: its replay does what the turns did.
 ghost use Rattle.std.specs.Prelude.{◌≡◌, ◌<◌, length, IfOk};
-ghost use Rattle.proxy_reads.specs.Received.{FitsTheBuffer};
+ghost use Rattle.proxy_reads.specs.Received.{ReceivedBytesAreAtMostRoom};
 
 use super::first_run::{FIRST_TABLE, engine};
 use super::memory_sockets::give;
 use hx_fields::Bytes;
-use hx_status::Replied;
+use hx_status::ReplyData;
 use proxy_record::{RecordFault, Recorder, Recording};
 use proxy_replay::replayed;
 use proxy_script::{Effect, Happening, effects_text};
@@ -152,7 +152,7 @@ impl Sockets for Crowd {
         &mut self,
         end: End,
         bytes: &[u8],
-        _replied: Option<&Replied>,
+        _replied: Option<&ReplyData>,
     ) -> Result<(), SocketFailed> {
         let effect = self.effect_of(end, bytes);
         keep(&mut self.done, &mut self.lost, effect);

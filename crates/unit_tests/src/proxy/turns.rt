@@ -7,7 +7,7 @@ use hx_store::ListShelf;
 use proxy_engine::Engine;
 use proxy_turn::{
     End, LoggedCall, LoggedReadOutcome, LoggedSockets, PIECE, Sockets, TurnBounds, TurnFault, turn,
-    turn_over, turn_with_log,
+    turn_over_ends, turn_with_call_log,
 };
 use std::alloc::Global;
 use std::net::{Ipv4Addr, SocketAddrV4};
@@ -144,7 +144,7 @@ fn calls_are_logged(rt: HostRuntime) -> Result<(), Fail> {
     let mut below = MemorySockets::new(alloc, 0, ASK, ANSWER);
     below.waiting = 1;
     let mut sockets = LoggedSockets::new(below, alloc);
-    assert!(rt; turn_with_log(&mut engine, &mut sockets, alloc, 100).is_ok());
+    assert!(rt; turn_with_call_log(&mut engine, &mut sockets, alloc, 100).is_ok());
     assert!(rt; !sockets.has_lost());
     match sockets.calls() {
         [
@@ -176,7 +176,7 @@ fn expect_turn(
         most_accepts: 2,
     };
     let mut buf = [0u8; PIECE];
-    match turn_over(engine, sockets, alloc, 100, bounds, ends, &mut buf) {
+    match turn_over_ends(engine, sockets, alloc, 100, bounds, ends, &mut buf) {
         Ok(report) => {
             assert!(rt; report.accepted == accepted && report.reads == 2 && report.faults == 0);
         }

@@ -8,4 +8,4 @@ pub returns-clause-read : goal.returns-clause-read
 returns-clause-read c = λ lines method target also hosts others a b is also_is. verdicts_alike lines method a b
 
 pub returns-clause-lines : goal.returns-clause-lines
-returns-clause-lines c = read_paths_are c.normalising_twice_is_once.ensures.once
+returns-clause-lines c = read_paths_are c.normalising_a_path_is_idempotent.ensures.once

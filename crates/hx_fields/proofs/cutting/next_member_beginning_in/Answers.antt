@@ -1,6 +1,6 @@
 use Rattle.std.proofs.Common.{rules, ◌≡◌, ◌<◌, ◌+◌, ◌∷◌, false, true, get_or, length, drop, ap, sym, ◌∙◌}
 use Rattle.std.specs.Prelude.{filter, slice_range, ◌||◌, ◌==◌}
-use Rattle.hx_fields.specs.FirstBytes.{begins_in, members_beginning_in}
+use Rattle.hx_fields.specs.FirstBytes.{begins_with_one_of, members_beginning_in}
 use Rattle.hx_fields.specs.Names.{is_blank, is_nonempty, trimmed}
 use Rattle.hx_fields.proofs.OtherPieces.{beginning_found, empty_passed, neither_of, other_passed}
 use Rattle.hx_fields.proofs.Pieces.{separator_at}
@@ -9,7 +9,7 @@ use Rattle.hx_fields.proofs.cutting.next_member_beginning_in.Goals.{then-has+els
 
 pub loop-start-preserved-then-is_separator : goal.loop-start-preserved-then-is_separator
 loop-start-preserved-then-is_separator c =
-    ap (filter (begins_in c.args.firsts.now)) (separator_at c.args.value.now c.loop-start.start (search rules) (search rules)) ∙ c.loop-start.invariant
+    ap (filter (begins_with_one_of c.args.firsts.now)) (separator_at c.args.value.now c.loop-start.start (search rules) (search rules)) ∙ c.loop-start.invariant
 
 pub returns-then-not-is_empty-clause-members : goal.returns-then-not-is_empty-clause-members
 returns-then-not-is_empty-clause-members c =

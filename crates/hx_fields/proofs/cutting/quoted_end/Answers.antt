@@ -1,5 +1,5 @@
 use Rattle.std.proofs.Common.{rules, ℕ, ◌≡◌, ◌≤◌, ◌<◌, ◌+◌, length, get_or, subst, sym, arith}
-use Rattle.hx_fields.specs.Names.{RunsTo, Quoted}
+use Rattle.hx_fields.specs.Names.{ValueRunsUncutTo, Quoted}
 use Rattle.hx_fields.proofs.Runs.{quote_closes, quoted_byte, quoted_last, quoted_pair}
 use Rattle.hx_fields.proofs.cutting.quoted_end.Goals as goal
 use Rattle.hx_fields.proofs.cutting.quoted_end.Goals.{then-b-eq92+then-i-text, else-b-eq92, else-b-eq92-via-then-b-eq92+else-i-text, else-b-eq92-via-else-b-eq92}
@@ -22,7 +22,7 @@ loop-i-preserved c =
           record {
             behind = omega (arith, step);
             within = omega (arith, step);
-            runs = λ start before begun. subst (λ (n : ℕ). RunsTo text start (i + n) Quoted) (sym step)
+            runs = λ start before begun. subst (λ (n : ℕ). ValueRunsUncutTo text start (i + n) Quoted) (sym step)
                 (quoted_pair text start i (omega arith) at more (search rules) (c.loop-i.invariant.runs start before begun));
           }
           )
@@ -31,7 +31,7 @@ loop-i-preserved c =
           record {
             behind = omega (arith, step);
             within = omega (arith, step);
-            runs = λ start before begun. subst (λ (n : ℕ). RunsTo text start (i + n) Quoted) (sym step)
+            runs = λ start before begun. subst (λ (n : ℕ). ValueRunsUncutTo text start (i + n) Quoted) (sym step)
                 (elim w.else-b-eq92.branch [
                   | else-b-eq92-via-then-b-eq92+else-i-text v ↦ quoted_last text start i (omega arith) at (search rules) (c.loop-i.invariant.runs start before begun)
                   | else-b-eq92-via-else-b-eq92 v ↦ quoted_byte text start i (omega arith) at c.if-b-eq34.false v.if-b-eq92.false (c.loop-i.invariant.runs start before begun)

@@ -1,7 +1,7 @@
 use Rattle.std.proofs.Common.{[], ◌∷◌, arith, refl, inl, inr, Some}
 use Rattle.std.specs.Prelude.{codes}
 use Rattle.std.proofs.lemmas.List.Elements.{All-nil, All-cons}
-use Rattle.hx_framing_laws.specs.Examples.{field_of}
+use Rattle.hx_framing_laws.specs.Examples.{field_of_name_and_value}
 use Rattle.hx_framing_laws.specs.Lines.{IsLineEnd, IsRequestLine}
 use Rattle.hx_framing_laws.proofs.WorkedLines.{spelled, utf8}
 use Rattle.hx_framing_laws.proofs.line_cases.worked_heads.Goals as goal
@@ -31,7 +31,7 @@ returns-clause-request c = record {
       codes "\r\n",
       [],
       refl,
-      spelled (field_of (codes "Host") (codes "www.example.com")) (codes " ") [] refl refl (record { starts = refl; ends = refl }) refl refl,
+      spelled (field_of_name_and_value (codes "Host") (codes "www.example.com")) (codes " ") [] refl refl (record { starts = refl; ends = refl }) refl refl,
       inl refl,
       refl,
     );
@@ -60,7 +60,7 @@ returns-clause-otherwise c = record {
       codes "\r\n",
       [],
       refl,
-      spelled (field_of (codes "Host") (codes "www.example.com")) (codes "\t") (codes " ") refl refl (record { starts = refl; ends = refl }) refl refl,
+      spelled (field_of_name_and_value (codes "Host") (codes "www.example.com")) (codes "\t") (codes " ") refl refl (record { starts = refl; ends = refl }) refl refl,
       inl refl,
       refl,
     );
@@ -85,9 +85,9 @@ returns-clause-response c = record {
       codes "\r\n",
       codes "X-Empty: \r\n",
       refl,
-      spelled (field_of (codes "Content-Length") (codes "5")) (codes " ") [] refl refl (record { starts = refl; ends = refl }) refl refl,
+      spelled (field_of_name_and_value (codes "Content-Length") (codes "5")) (codes " ") [] refl refl (record { starts = refl; ends = refl }) refl refl,
       inl refl,
-      (codes "X-Empty: ", codes "\r\n", [], refl, spelled (field_of (codes "X-Empty") []) (codes " ") [] refl refl (record { starts = refl; ends = refl }) refl refl, inl refl, refl),
+      (codes "X-Empty: ", codes "\r\n", [], refl, spelled (field_of_name_and_value (codes "X-Empty") []) (codes " ") [] refl refl (record { starts = refl; ends = refl }) refl refl, inl refl, refl),
     );
     last_is = inl refl;
   };

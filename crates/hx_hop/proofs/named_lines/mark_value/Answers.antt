@@ -1,6 +1,6 @@
 use Rattle.std.proofs.Common.{rules, ◌≡◌, [], ◌∷◌, false}
 use Rattle.hx_fields.specs.FirstBytes.{members_beginning_in}
-use Rattle.hx_fields.specs.NameBuckets.{falls_in}
+use Rattle.hx_fields.specs.NameBuckets.{falls_in_marked_bucket}
 use Rattle.hx_fields.specs.Names.{members_of_value}
 use Rattle.hx_hop.specs.NamedLines.{names_in_value}
 use Rattle.hx_hop.proofs.NamedLemmas.{one_marks}
@@ -31,7 +31,7 @@ loop-member-preserved c =
     let member = c.in-Some.member.now in
     let behind = c.in-Some.behind.now in
     let is : members_beginning_in signs.firsts.taken c.loop-member.rest.now ≡ member ∷ members_beginning_in signs.firsts.taken behind = search rules in
-    let fallen : falls_in signs.buckets.taken member ≡ false = search rules in
+    let fallen : falls_in_marked_bucket signs.buckets.taken member ≡ false = search rules in
     record {
       marks = fallen_passes signs old start all c.loop-member.invariant.show member behind fallen
           (next_marks signs old start all c.loop-member.invariant.show c.loop-member.rest.now member behind is c.loop-member.invariant.marks);

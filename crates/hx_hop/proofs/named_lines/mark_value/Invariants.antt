@@ -1,13 +1,13 @@
 use Rattle.std.proofs.Common.{length}
 use Rattle.hx_fields.specs.Names.{members_of_value}
-use Rattle.hx_hop.specs.NamedLines.{gives_name, names_in_value, UnmarkedShow}
+use Rattle.hx_hop.specs.NamedLines.{members_have_folded_name, names_in_value, PrefilterPassesUnmarkedNames}
 use Rattle.hx_hop.proofs.NamedLemmas.{MarksOn}
 use Rattle.hx_hop.proofs.named_lines.mark_value.Given as goal
 
 abbrev pub invariant-loop-member : goal.invariant-loop-member
 invariant-loop-member l = record {
-  marks : MarksOn (gives_name (members_of_value l.rest)) l.names (names_in_value l.value) l.fn.names;
-  show : UnmarkedShow l.signs l.names;
+  marks : MarksOn (members_have_folded_name (members_of_value l.rest)) l.names (names_in_value l.value) l.fn.names;
+  show : PrefilterPassesUnmarkedNames l.signs l.names;
 }
 
 abbrev pub decreases-loop-member : goal.decreases-loop-member

@@ -3,8 +3,8 @@ use Rattle.std.specs.Prelude.{bytes_eq, is_none}
 use Rattle.std.specs.BTreeMap.{get, is_at}
 use Rattle.std.proofs.lemmas.List.{take_more}
 use Rattle.hx_fields.specs.Folded.{folded, folded_cmp}
-use Rattle.hx_hop.specs.NamedLines.{AreSignsOf, AreUnmarkedNames, is_looked_for}
-use Rattle.hx_hop.specs.declared.named_lines.Signs.{Signs}
+use Rattle.hx_hop.specs.NamedLines.{IsPrefilterOfNames, AllSoughtNamesAreUnmarked, is_name_sought_in_connection}
+use Rattle.hx_hop.specs.declared.named_lines.NamePrefilter.{NamePrefilter}
 use Rattle.hx_hop.proofs.NamedLemmas.{one_name_more}
 use Rattle.hx_hop.proofs.Passed.{known_name_shows, new_name_shows}
 use Rattle.hx_hop.proofs.named_lines.names_looked_for.Goals as goal
@@ -22,21 +22,21 @@ loop-line-preserved c =
     let u : (q : List ℕ) → get folded_cmp new q ≡ cond (is_at (folded_cmp (folded line.name)) q) (Some false) (get folded_cmp old q) =
     subst (λ k. (q : List ℕ) → get folded_cmp new q ≡ cond (is_at (folded_cmp k) q) (Some false) (get folded_cmp old q)) key
     c.in_ok-insert-2.ensures.updates.0 in
-    let show : AreSignsOf (is_looked_for (done ++ line ∷ [])) c.if-is_none.signs = elim c.if-is_none.branch [
+    let show : IsPrefilterOfNames (is_name_sought_in_connection (done ++ line ∷ [])) c.if-is_none.signs = elim c.if-is_none.branch [
       | then-is_none w ↦ (
           let name : c.name-name.result.now ≡ line.name = search rules in
-          subst (λ (s : Signs). AreSignsOf (is_looked_for (done ++ line ∷ [])) s) (sym w.signs-is)
+          subst (λ (s : NamePrefilter). IsPrefilterOfNames (is_name_sought_in_connection (done ++ line ∷ [])) s) (sym w.signs-is)
           (new_name_shows done line w.add-then-is_none.new.self
-          (subst (λ n. AreSignsOf (λ q. is_looked_for done q || bytes_eq (folded n) q) w.add-then-is_none.new.self) name
-          (w.add-then-is_none.ensures (is_looked_for done) c.loop-line.invariant.signs)))
+          (subst (λ n. IsPrefilterOfNames (λ q. is_name_sought_in_connection done q || bytes_eq (folded n) q) w.add-then-is_none.new.self) name
+          (w.add-then-is_none.ensures (is_name_sought_in_connection done) c.loop-line.invariant.signs)))
           )
       | else-is_none w ↦ (
           let known : is_none (get folded_cmp old (folded line.name)) ≡ false = search rules in
-          subst (λ (s : Signs). AreSignsOf (is_looked_for (done ++ line ∷ [])) s) (sym w.signs-is)
+          subst (λ (s : NamePrefilter). IsPrefilterOfNames (is_name_sought_in_connection (done ++ line ∷ [])) s) (sym w.signs-is)
           (known_name_shows done line old c.loop-line.signs c.loop-line.invariant.names known c.loop-line.invariant.signs)
           )
     ] in
     record {
-      names = subst (λ z. AreUnmarkedNames z new) (sym next) (one_name_more done line old new u c.loop-line.invariant.names);
-      signs = subst (λ z. AreSignsOf (is_looked_for z) c.if-is_none.signs) (sym next) show;
+      names = subst (λ z. AllSoughtNamesAreUnmarked z new) (sym next) (one_name_more done line old new u c.loop-line.invariant.names);
+      signs = subst (λ z. IsPrefilterOfNames (is_name_sought_in_connection z) c.if-is_none.signs) (sym next) show;
     }

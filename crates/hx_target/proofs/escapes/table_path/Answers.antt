@@ -1,5 +1,5 @@
 use Rattle.std.proofs.Common.{◌∙◌, sym, ap, drop, ◌+◌, ◌∷◌, [], slice_index, arith}
-use Rattle.hx_target.specs.Paths.{begins_escape, normal_escape, table_path_of}
+use Rattle.hx_target.specs.Paths.{begins_escape, normal_form_of_escape, table_path_of}
 use Rattle.hx_target.proofs.TablePaths.{table_step_plain, table_step_escape, escape_within, found_step}
 use Rattle.hx_target.proofs.escapes.table_path.Goals as goal
 
@@ -11,7 +11,7 @@ loop-i-preserved-then-begins_escape c =
     record {
       within = escape_within path i is;
       so_far =
-          found_step c.loop-i.found.items (normal_escape (slice_index path (i + 1)) (slice_index path (i + 2))) (table_path_of (drop (i + 3) path)) (table_path_of path)
+          found_step c.loop-i.found.items (normal_form_of_escape (slice_index path (i + 1)) (slice_index path (i + 2))) (table_path_of (drop (i + 3) path)) (table_path_of path)
           c.in_ok-push_escape.ensures (table_step_escape path i is) c.loop-i.invariant.so_far;
     }
 

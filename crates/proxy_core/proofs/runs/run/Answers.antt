@@ -2,7 +2,7 @@ use Rattle.std.proofs.Common.{rules, arith, ◌≡◌, ◌<◌, ◌+◌, ◌++�
 use Rattle.hx_allow.specs.TableLines.{Table}
 use Rattle.proxy_core.specs.declared.event.Event.{Event}
 use Rattle.proxy_core.specs.declared.outcome.Outcome.{Outcome}
-use Rattle.proxy_core.specs.Traces.{trace_of, initial_state, state_after_trace, IsGood}
+use Rattle.proxy_core.specs.Traces.{trace_of_events, initial_state, state_after_trace, IsGood}
 use Rattle.proxy_core.specs.Histories.{IsGoodHistory}
 use Rattle.proxy_core.specs.Headline.{Headline}
 use Rattle.proxy_core.proofs.Tracing.{left-push, good-push, at_index, stops_at, refuses_or, same_good}
@@ -13,15 +13,15 @@ use Rattle.proxy_core.specs.Starts.{StoreAtStart, empty_store}
 
 -- the trace so far is good over the bounded list, also where its outcomes are the same ones after room was found
 module _ (table : Table) (start : StoreAtStart) (first : ℕ) (events : List Event) (outcomes more : List Outcome) (same : more ≡ outcomes)
-    (g : IsGood (initial_state table start first) (trace_of events outcomes)) where
-  plain : IsGood (initial_state table start first) (trace_of events more)
+    (g : IsGood (initial_state table start first) (trace_of_events events outcomes)) where
+  plain : IsGood (initial_state table start first) (trace_of_events events more)
   plain = same_good (initial_state table start first) events outcomes more same g
 
-  good : IsGoodHistory table start first (trace_of events more)
-  good = good_held table start first (trace_of events more) plain
+  good : IsGoodHistory table start first (trace_of_events events more)
+  good = good_held table start first (trace_of_events events more) plain
 
-  has_it : Headline table start first (trace_of events more)
-  has_it = headline table start first (trace_of events more) good
+  has_it : Headline table start first (trace_of_events events more)
+  has_it = headline table start first (trace_of_events events more) good
 
 pub returns-clause-good : goal.returns-clause-good
 returns-clause-good g c = good_held c.args.config _ _ _ c.loop-event.invariant.good
@@ -78,6 +78,6 @@ loop-event-preserved g c =
     let k = c.in-Ok.ensures.ok in
     record {
       long = ap length p ∙ (length-append os (c.in-Ok.outcome ∷ []) ∙ ap (λ m. m + 1) i.long);
-      applies = left-push begun es os c.event-item.result c.in-Ok.outcome c.loop-event.core _ at i.applies k ∙ ap (λ (zs : List Outcome). state_after_trace begun (trace_of es zs)) (sym p);
-      good = subst (λ (zs : List Outcome). IsGood begun (trace_of es zs)) (sym p) (good-push begun es os c.event-item.result c.in-Ok.outcome c.loop-event.core _ at i.applies k i.good);
+      applies = left-push begun es os c.event-item.result c.in-Ok.outcome c.loop-event.core _ at i.applies k ∙ ap (λ (zs : List Outcome). state_after_trace begun (trace_of_events es zs)) (sym p);
+      good = subst (λ (zs : List Outcome). IsGood begun (trace_of_events es zs)) (sym p) (good-push begun es os c.event-item.result c.in-Ok.outcome c.loop-event.core _ at i.applies k i.good);
     }

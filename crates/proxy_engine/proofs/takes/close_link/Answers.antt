@@ -5,4 +5,4 @@ use Rattle.proxy_engine.proofs.takes.close_link.Goals as goal
 pub returns-then-is_none-clause-represents : goal.returns-then-is_none-clause-represents
 returns-then-is_none-clause-represents c =
     let none : is_some c.args.link.now.failed ≡ false = search rules in
-    link_finished c.args.link.now c.ask_again.new.self c.finish.new.self none c.ask_again.ensures.inner c.ask_again.ensures.ahead c.finish.ensures.represents
+    link_finished c.args.link.now c.forget_quiet_lookahead.new.self c.finish.new.self none c.forget_quiet_lookahead.ensures.inner c.forget_quiet_lookahead.ensures.ahead c.finish.ensures.represents

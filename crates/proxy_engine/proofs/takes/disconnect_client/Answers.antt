@@ -1,6 +1,6 @@
 use Rattle.std.proofs.Common.{◌≡◌, ◌-◌, true, List, Option, Some, None, sym, ap, subst, ◌∙◌}
 use Rattle.proxy_engine.specs.Activities.{has_exchange}
-use Rattle.proxy_engine.specs.Pairing.{activity_of, activities_of}
+use Rattle.proxy_engine.specs.Pairing.{activity_of_connection, activities_of_connections}
 use Rattle.proxy_engine.specs.EngineModel.{connection_after_disconnect, with_connection}
 use Rattle.proxy_engine.specs.State.{ConnectionRepresents, EngineRepresents, engine_state}
 use Rattle.proxy_engine.specs.declared.endpoints.ends.Connection.{Connection}
@@ -21,11 +21,11 @@ returns-then-not-has_exchange-clause-ok c = λ s links core first h. record {
 
 pub returns-then-not-has_exchange-clause-activities : goal.returns-then-not-has_exchange-clause-activities
 returns-then-not-has_exchange-clause-activities c =
-    ap activities_of c.release.ensures ∙ map_kept activity_of c.args.connections.now.items c.in-Some.i None None (sym (free_from _ (sym c.has_exchange.ensures ∙ c.if-not-has_exchange.true)))
+    ap activities_of_connections c.release.ensures ∙ map_kept activity_of_connection c.args.connections.now.items c.in-Some.i None None (sym (free_from _ (sym c.has_exchange.ensures ∙ c.if-not-has_exchange.true)))
 
 pub returns-in-Some-at_mut-clause-ok : goal.returns-in-Some-at_mut-clause-ok
 returns-in-Some-at_mut-clause-ok c = λ s links core first h.
-    let there : has_exchange c.in-Some-at_mut.connection.now.activity ≡ true = ap (λ (o : Option Connection). has_exchange (activity_of o)) c.in-Some-at_mut.ensures.value ∙ (sym c.has_exchange.ensures ∙ c.if-not-has_exchange.false) in
+    let there : has_exchange c.in-Some-at_mut.connection.now.activity ≡ true = ap (λ (o : Option Connection). has_exchange (activity_of_connection o)) c.in-Some-at_mut.ensures.value ∙ (sym c.has_exchange.ensures ∙ c.if-not-has_exchange.false) in
     record {
       free = connection_free c.args.connections.now.items links core first s c.args.n true c.in-Some.ensures.0 h;
       represents = connection_taken connection_after_disconnect c.args.connections.now.items links core first s c.args.n c.in-Some.i (Some c.disconnect.new.connection) c.in-Some.ensures.1 c.in-Some.ensures.2
@@ -33,4 +33,4 @@ returns-in-Some-at_mut-clause-ok c = λ s links core first h.
     }
 
 pub returns-in-Some-at_mut-clause-activities : goal.returns-in-Some-at_mut-clause-activities
-returns-in-Some-at_mut-clause-activities c = map_kept activity_of c.args.connections.now.items c.in-Some.i None (Some c.disconnect.new.connection) (c.disconnect.ensures.activity ∙ ap activity_of c.in-Some-at_mut.ensures.value)
+returns-in-Some-at_mut-clause-activities c = map_kept activity_of_connection c.args.connections.now.items c.in-Some.i None (Some c.disconnect.new.connection) (c.disconnect.ensures.activity ∙ ap activity_of_connection c.in-Some-at_mut.ensures.value)

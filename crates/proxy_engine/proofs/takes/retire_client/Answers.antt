@@ -1,5 +1,5 @@
 use Rattle.std.proofs.Common.{true, Option, Some, None, sym, ap, subst, ◌∙◌}
-use Rattle.proxy_engine.specs.Pairing.{activity_of}
+use Rattle.proxy_engine.specs.Pairing.{activity_of_connection}
 use Rattle.proxy_engine.specs.EngineModel.{connection_after_retirement}
 use Rattle.proxy_engine.specs.State.{ConnectionRepresents}
 use Rattle.proxy_engine.specs.declared.endpoints.ends.Connection.{Connection}
@@ -24,4 +24,4 @@ returns-in-Some-at_mut-clause-ok c = λ s links core first h. record {
 }
 
 pub returns-in-Some-at_mut-clause-activities : goal.returns-in-Some-at_mut-clause-activities
-returns-in-Some-at_mut-clause-activities c = map_kept activity_of c.args.connections.now.items c.in-Some.i None (Some c.retire.new.connection) (c.retire.ensures.activity ∙ ap activity_of c.in-Some-at_mut.ensures.value)
+returns-in-Some-at_mut-clause-activities c = map_kept activity_of_connection c.args.connections.now.items c.in-Some.i None (Some c.retire.new.connection) (c.retire.ensures.activity ∙ ap activity_of_connection c.in-Some-at_mut.ensures.value)

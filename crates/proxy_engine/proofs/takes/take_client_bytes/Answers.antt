@@ -1,6 +1,6 @@
 use Rattle.std.proofs.Common.{◌≡◌, true, false, ℕ, length, get_or, Option, Some, None, sym, ap, subst, ◌∙◌}
-use Rattle.proxy_engine.specs.Pairing.{activity_of}
-use Rattle.proxy_engine.specs.Room.{ConnectionHasSpare}
+use Rattle.proxy_engine.specs.Pairing.{activity_of_connection}
+use Rattle.proxy_engine.specs.Room.{ConnectionReaderHasSpareBytes}
 use Rattle.proxy_engine.specs.EngineModel.{connection_after_bytes}
 use Rattle.proxy_engine.specs.State.{ConnectionRepresents}
 use Rattle.proxy_engine.specs.declared.endpoints.ends.Connection.{Connection}
@@ -28,13 +28,13 @@ pub returns-in-Err-clause-fault : goal.returns-in-Err-clause-fault
 returns-in-Err-clause-fault c = λ s links core first h. connection_full c.args.connections.now.items links core first s c.args.n c.in-Some.ensures.0 h
 
 pub returns-in-Ok-clause-activities : goal.returns-in-Ok-clause-activities
-returns-in-Ok-clause-activities c = map_kept activity_of c.args.connections.now.items c.in-Some.i None (Some c.feed_connection.new.connection) (c.feed_connection.ensures.activity ∙ ap activity_of c.in-Some-at_mut.ensures.value)
+returns-in-Ok-clause-activities c = map_kept activity_of_connection c.args.connections.now.items c.in-Some.i None (Some c.feed_connection.new.connection) (c.feed_connection.ensures.activity ∙ ap activity_of_connection c.in-Some-at_mut.ensures.value)
 
 pub returns-in-Err-clause-kept : goal.returns-in-Err-clause-kept
 returns-in-Err-clause-kept c = λ e s links core first h. connection_keeps c.args.connections.now.items links core first s c.args.n c.in-Some.i c.in-Some-at_mut.connection.now c.in-Some.ensures.1 c.in-Some.ensures.2 c.in-Some-at_mut.ensures.value c.in-Err.ensures.kept h
 
 pub returns-in-Err-clause-reserved : goal.returns-in-Err-clause-reserved
 returns-in-Err-clause-reserved c = λ roomy.
-    let here = subst (λ (o : Option Connection). ConnectionHasSpare o (length c.args.bytes.now)) (ap (λ (i : ℕ). get_or c.args.connections.now.items i None) (sym c.in-Some.ensures.1) ∙ sym c.in-Some-at_mut.ensures.value) roomy in
+    let here = subst (λ (o : Option Connection). ConnectionReaderHasSpareBytes o (length c.args.bytes.now)) (ap (λ (i : ℕ). get_or c.args.connections.now.items i None) (sym c.in-Some.ensures.1) ∙ sym c.in-Some-at_mut.ensures.value) roomy in
     let none : false ≡ true = c.in-Err.ensures.reserved here in
     absurd cc

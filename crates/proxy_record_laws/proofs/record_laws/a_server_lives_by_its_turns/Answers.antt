@@ -5,7 +5,7 @@ pub returns : goal.returns
 returns c = record {
   server = server_begins;
   begins = new_server_begins;
-  executed = life_is_executed c.engines_go_on.ensures.by_steps;
-  turn = turn_is_lived c.engines_go_on.ensures.runs;
-  spent = spent_turn_is_lived c.engines_go_on.ensures.runs;
+  executed = life_is_executed c.a_reachable_engine_stays_reachable.ensures.by_steps;
+  turn = turn_is_lived c.a_reachable_engine_stays_reachable.ensures.runs;
+  spent = spent_turn_is_lived c.a_reachable_engine_stays_reachable.ensures.runs;
 }

@@ -6,5 +6,5 @@ returns c =
     let messages = c.each_write_of_a_turn_is_one_message.ensures.over in
     record {
       turn = writes_messages messages;
-      life = life_writes_messages messages c.engines_go_on.ensures.turns c.engines_go_on.ensures.table c.a_server_lives_by_its_turns.ensures.executed;
+      life = life_writes_messages messages c.a_reachable_engine_stays_reachable.ensures.turns c.a_reachable_engine_stays_reachable.ensures.table c.a_server_lives_by_its_turns.ensures.executed;
     }

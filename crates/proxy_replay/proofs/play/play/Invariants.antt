@@ -6,7 +6,7 @@ use Rattle.proxy_replay.proofs.play.play.Given as goal
 -- the items in front of the rest were played
 abbrev pub invariant-items : goal.invariant-items
 invariant-items g l = record {
-  so_far : SoFar (g.O.Opening.opens l.fn.opening) l.bytes l.rest l.now l.line l.engine (g.W.Write.contents l.fn.writer) (g.W.Write.contents l.writer);
+  so_far : SoFar (g.O.StoreOpening.opens l.fn.opening) l.bytes l.rest l.now l.line l.engine (g.W.Write.contents l.fn.writer) (g.W.Write.contents l.writer);
   lines : l.line + length l.rest ≤ length l.bytes + 2;
   moments : l.now < END_OF_TIME;
 }

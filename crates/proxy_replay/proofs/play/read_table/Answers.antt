@@ -1,5 +1,5 @@
 use Rattle.std.proofs.Common.{[], true, refl, sym, subst}
-use Rattle.proxy_replay.specs.Replay.{NoItemStandsInFront}
+use Rattle.proxy_replay.specs.Replay.{NoItemIsReadAtFront}
 use Rattle.proxy_replay.specs.Steps.{TableIsNotRead}
 use Rattle.proxy_replay.proofs.Fronts.{opens_by, refused_by, other_by, wrong_by, cut_by}
 use Rattle.proxy_replay.proofs.play.read_table.Goals as goal
@@ -19,4 +19,4 @@ returns-in-Wrong-clause-fault c = (wrong_by _ c.args.ended c.args.bytes.now (sym
 
 pub returns-in-Cut-clause-fault : goal.returns-in-Cut-clause-fault
 returns-in-Cut-clause-fault c =
-    (subst (λ ended. NoItemStandsInFront true ended c.args.bytes.now) (sym c.if-ended.true) (cut_by true c.args.bytes.now (sym c.in-Cut.ensures) (λ none. refl)), refl)
+    (subst (λ ended. NoItemIsReadAtFront true ended c.args.bytes.now) (sym c.if-ended.true) (cut_by true c.args.bytes.now (sym c.in-Cut.ensures) (λ none. refl)), refl)

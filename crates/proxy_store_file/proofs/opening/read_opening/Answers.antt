@@ -1,5 +1,5 @@
 use Rattle.std.proofs.Common.{◌≡◌, ◌<◌, ◌≤◌, ◌∙◌, length, ap, sym, subst, None, Some, arith}
-use Rattle.proxy_store_file.specs.Streams.{IsRefused, bounds_of, fault_of_stop, line_fault}
+use Rattle.proxy_store_file.specs.Streams.{ReaderIsRefusedFor, bounds_of, fault_of_stop, line_fault}
 use Rattle.proxy_store_file.specs.Stores.{read_store}
 use Rattle.proxy_store_file.proofs.ReadingSteps.{line_is_refused, opening_is_read, too_many_entries, stops_in_line, stops_in_next, stops_in_count}
 use Rattle.proxy_store_file.proofs.opening.read_opening.Goals as goal

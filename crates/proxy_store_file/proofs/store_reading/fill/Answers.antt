@@ -1,12 +1,12 @@
 use Rattle.std.proofs.Common.{◌≡◌, ◌+◌, ◌-◌, ◌<◌, ◌≤◌, length, refl, ap, sym, subst, ◌∙◌, arith}
 use Rattle.proxy_store_file.specs.Stores.{read_store}
-use Rattle.proxy_store_file.specs.Streams.{IsRefused, bounds_of}
+use Rattle.proxy_store_file.specs.Streams.{ReaderIsRefusedFor, bounds_of}
 use Rattle.proxy_store_file.proofs.ReadingSteps.{one_more_is_read, one_more_is_refused, store_is_read, store_is_refused}
 use Rattle.proxy_store_file.proofs.store_reading.fill.Goals as goal
 
 pub returns-in-Err-clause-fault : goal.returns-in-Err-clause-fault
 returns-in-Err-clause-fault g c =
-    subst (λ n. IsRefused (read_store (bounds_of n c.args.most)) (g.R.Read.remaining c.args.reader.now) (g.R.Read.remaining c.read_opening.new.reader) c.in-Err.fault) c.capacity.ensures
+    subst (λ n. ReaderIsRefusedFor (read_store (bounds_of n c.args.most)) (g.R.Read.remaining c.args.reader.now) (g.R.Read.remaining c.read_opening.new.reader) c.in-Err.fault) c.capacity.ensures
     (c.in-Err.ensures.fault c.args.most)
 
 pub returns-in-Err-take_entry-clause-fault : goal.returns-in-Err-take_entry-clause-fault

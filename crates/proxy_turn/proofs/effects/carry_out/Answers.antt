@@ -11,7 +11,7 @@ returns-in_err-more-clause-never g c =
     let done = c.loop-effect.invariant.done s represents there in
     let room = c.loop-effect.invariant.room fits in
     c.in_err-more.ensures.never (omega (arith, room, n)) done.last done.represents
-    (named_later c.what_ends_stays_ended.ensures.takes s _ c.args.effects.now c.loop-effect.effect-index c.effect-item.result c.loop-effect.engine _ _ _ _ c.loop-effect.faults c.effect-item.is n there done))
+    (named_later c.ended_connections_and_links_stay_ended.ensures.takes s _ c.args.effects.now c.loop-effect.effect-index c.effect-item.result c.loop-effect.engine _ _ _ _ c.loop-effect.faults c.effect-item.is n there done))
 
 pub loop-effect-preserved : goal.loop-effect-preserved
 loop-effect-preserved g c =
@@ -22,7 +22,7 @@ loop-effect-preserved g c =
     record {
       done = λ s represents there.
           let done = c.loop-effect.invariant.done s represents there in
-          let here = named_later c.what_ends_stays_ended.ensures.takes s _ c.args.effects.now c.loop-effect.effect-index c.effect-item.result c.loop-effect.engine _ _ _ _ c.loop-effect.faults c.effect-item.is n there done in
+          let here = named_later c.ended_connections_and_links_stay_ended.ensures.takes s _ c.args.effects.now c.loop-effect.effect-index c.effect-item.result c.loop-effect.engine _ _ _ _ c.loop-effect.faults c.effect-item.is n there done in
           subst (EffectsWereCarriedOut s _ _ c.carry_out_effect.new.engine _ _ _ _) (sym sum)
           (carried_more s _ c.args.effects.now c.loop-effect.effect-index c.effect-item.result c.loop-effect.engine c.carry_out_effect.new.engine _ _ _ _ _ _ _ _ c.loop-effect.faults c.in_ok-more.more c.effect-item.is n done
           (c.in_ok-more.ensures.ok done.last done.represents here)

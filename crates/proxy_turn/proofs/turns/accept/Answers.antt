@@ -3,7 +3,7 @@ use Rattle.std.proofs.lemmas.List.{append-nil}
 use Rattle.proxy_turn.specs.Calls as call
 use Rattle.proxy_turn.specs.Calls.{accept_outcome_of}
 use Rattle.proxy_turn.specs.Counts.{CountRisesBy, failed}
-use Rattle.proxy_turn.specs.OverParts.{OneAnswerReports}
+use Rattle.proxy_turn.specs.OverParts.{OneAcceptIsReported}
 use Rattle.proxy_turn.specs.declared.report.TurnFault.TheVariants.{NoMemory}
 use Rattle.proxy_turn.specs.declared.sockets.SocketFailed.{SocketFailed}
 use Rattle.proxy_turn.proofs.Counting.{raises_asked}
@@ -15,7 +15,7 @@ returns-in_err-reserve g c = λ s represents.
     let later = c.reserve-2.ensures.represents s represents in
     let is : c.from_residual.result ≡ Err NoMemory = search rules in
     not_asked c.args.most_open s c.args.ends.now.items c.reserve-2.new.self c.reserve.new.self.items _ _ c.from_residual.result later c.reserve.ensures.items (g.met.K.Sockets.none _)
-    (subst (OneAnswerReports c.args.most_open s []) (sym is) refl)
+    (subst (OneAcceptIsReported c.args.most_open s []) (sym is) refl)
 
 pub returns-in-Ok-false : goal.returns-in-Ok-false
 returns-in-Ok-false g c = λ s represents.

@@ -14,7 +14,7 @@ returns-in-Err-clause-reads g c = λ s represents there.
     let at = read_at Listener es i c.loop-end-test.true in
     read_partly s es i c.loop-end.engine c.read_from_end.new.engine _ _ _ _ _ _ c.loop-end.faults c.in-Err.fault done
     (c.in-Err.ensures.err done.some.last done.some.represents
-    (so_far_later c.what_ends_stays_ended.ensures.takes s es i (get_or es i Listener) c.loop-end.engine _ _ _ c.loop-end.faults at c.loop-end-test.true there done))
+    (so_far_later c.ended_connections_and_links_stay_ended.ensures.takes s es i (get_or es i Listener) c.loop-end.engine _ _ _ c.loop-end.faults at c.loop-end-test.true there done))
     (λ x y p q. g.met.K.Sockets.joined _ _ _ x y p q)
 
 pub loop-end-preserved : goal.loop-end-preserved
@@ -32,7 +32,7 @@ loop-end-preserved g c =
           subst (SoFar s _ c.read_from_end.new.engine _ _ _) (sym sum)
           (so_far_more s es i (get_or es i Listener) c.loop-end.engine c.read_from_end.new.engine _ _ _ _ _ _ c.loop-end.faults c.in-Ok.more at within done
           (c.in-Ok.ensures.ok done.some.last done.some.represents
-          (so_far_later c.what_ends_stays_ended.ensures.takes s es i (get_or es i Listener) c.loop-end.engine _ _ _ c.loop-end.faults at within there done))
+          (so_far_later c.ended_connections_and_links_stay_ended.ensures.takes s es i (get_or es i Listener) c.loop-end.engine _ _ _ c.loop-end.faults at within there done))
           (λ x y p q. g.met.K.Sockets.joined _ _ _ x y p q));
       few = omega (arith, few, one, sum);
       piece = c.in-Ok.ensures.length ∙ c.loop-end.invariant.piece;

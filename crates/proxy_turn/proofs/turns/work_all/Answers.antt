@@ -1,7 +1,7 @@
 use Rattle.std.proofs.Common.{◌≡◌, ◌≤◌, ◌+◌, List, length, map, vec_len, vec_capacity, refl, sym, ap, subst, arith, rules}
 use Rattle.proxy_script.specs.declared.effect_list.Effect.{Effect}
 use Rattle.proxy_turn.specs.Turn.{end_of_effect}
-use Rattle.proxy_turn.specs.Parts.{EndsWereNumbered}
+use Rattle.proxy_turn.specs.Parts.{EndNumbersWereGiven}
 use Rattle.proxy_turn.proofs.Working.{same_gone, same_emitted, same_fault, worked_none, stopped_by, idle_by, failed_by, acted, emitted_there, emitted_short, worked_more}
 use Rattle.proxy_turn.proofs.turns.work_all.Goals as goal
 
@@ -29,22 +29,22 @@ returns-in-Err-carry_out g c = λ s represents h.
     let first = c.loop-works.invariant s represents h in
     let done = same_gone c.args.now s c.loop-works.engine c.loop-works.failed.items c.reserve.new.self.items _ _ _ c.loop-works.works c.loop-works.faults c.reserve.ensures.items first in
     let one = acted done.some.last c.args.now c.in-Ok-Did.field-0 c.in-Ok-Did.effects c.work.new.self c.in-Ok-Did.field-0-is (c.in-Ok-Did.ensures.ok done.some.last done.some.represents) in
-    let there = emitted_there c.args.now s c.loop-works.engine c.reserve.new.self.items _ _ _ c.loop-works.works c.loop-works.faults done c.in-Ok-Did.effects.items c.work.new.self one c.effects_name_open_ends.ensures.takes c.effects_name_open_ends.ensures.acts c.what_ends_stays_ended.ensures.acts h in
+    let there = emitted_there c.args.now s c.loop-works.engine c.reserve.new.self.items _ _ _ c.loop-works.works c.loop-works.faults done c.in-Ok-Did.effects.items c.work.new.self one c.effects_name_open_ends.ensures.takes c.effects_name_open_ends.ensures.acts c.ended_connections_and_links_stay_ended.ensures.acts h in
     let short = emitted_short c.args.now s c.loop-works.engine c.reserve.new.self.items _ _ _ c.loop-works.works c.loop-works.faults done c.in-Ok-Did.effects.items c.work.new.self one c.an_act_has_three_effects_at_most.ensures in
     let room : vec_len c.reserve.new.self + 3 ≤ vec_capacity c.reserve.new.self = search rules in
     let long = ap (λ (es : List Effect). length es) c.deref.ensures.value in
-    absurd (c.in-Err-carry_out.ensures.never (omega (arith, room, short, long)) one.after one.represents (subst (λ (es : List Effect). EndsWereNumbered one.after (map end_of_effect es)) (sym c.deref.ensures.value) there))
+    absurd (c.in-Err-carry_out.ensures.never (omega (arith, room, short, long)) one.after one.represents (subst (λ (es : List Effect). EndNumbersWereGiven one.after (map end_of_effect es)) (sym c.deref.ensures.value) there))
 
 pub loop-works-preserved : goal.loop-works-preserved
 loop-works-preserved g c = λ s represents h.
     let first = c.loop-works.invariant s represents h in
     let done = same_gone c.args.now s c.loop-works.engine c.loop-works.failed.items c.reserve.new.self.items _ _ _ c.loop-works.works c.loop-works.faults c.reserve.ensures.items first in
     let one = acted done.some.last c.args.now c.in-Ok-Did.field-0 c.in-Ok-Did.effects c.work.new.self c.in-Ok-Did.field-0-is (c.in-Ok-Did.ensures.ok done.some.last done.some.represents) in
-    let there = emitted_there c.args.now s c.loop-works.engine c.reserve.new.self.items _ _ _ c.loop-works.works c.loop-works.faults done c.in-Ok-Did.effects.items c.work.new.self one c.effects_name_open_ends.ensures.takes c.effects_name_open_ends.ensures.acts c.what_ends_stays_ended.ensures.acts h in
+    let there = emitted_there c.args.now s c.loop-works.engine c.reserve.new.self.items _ _ _ c.loop-works.works c.loop-works.faults done c.in-Ok-Did.effects.items c.work.new.self one c.effects_name_open_ends.ensures.takes c.effects_name_open_ends.ensures.acts c.ended_connections_and_links_stay_ended.ensures.acts h in
     let short = emitted_short c.args.now s c.loop-works.engine c.reserve.new.self.items _ _ _ c.loop-works.works c.loop-works.faults done c.in-Ok-Did.effects.items c.work.new.self one c.an_act_has_three_effects_at_most.ensures in
     let long = ap (λ (es : List Effect). length es) c.deref.ensures.value in
     let out = same_emitted one.after c.reserve.new.self.items c.in-Ok-Did.effects.items c.deref.result.now c.carry_out.new.engine c.carry_out.new.failed.items _ _ _ c.in-Ok-carry_out.more c.deref.ensures.value
-    (c.in-Ok-carry_out.ensures.ok one.after one.represents (subst (λ (es : List Effect). EndsWereNumbered one.after (map end_of_effect es)) (sym c.deref.ensures.value) there)) in
+    (c.in-Ok-carry_out.ensures.ok one.after one.represents (subst (λ (es : List Effect). EndNumbersWereGiven one.after (map end_of_effect es)) (sym c.deref.ensures.value) there)) in
     let count = c.in-Ok-carry_out.ensures.few in
     let small : c.in-Ok-carry_out.more ≤ 3 = omega (arith, count, long, short) in
     let few = done.few in

@@ -1,7 +1,7 @@
 use Rattle.std.proofs.Common.{◌≡◌, List, true, false, ap, sym, ◌∙◌, subst}
 use Rattle.hx_allow.specs.TableLines.{Line, Table}
 use Rattle.hx_allow.specs.Matching.{VerdictNamesAnOrigin, is_never_allowed}
-use Rattle.hx_allow.specs.Index.{can_match, verdict_where}
+use Rattle.hx_allow.specs.Index.{line_can_match_host, verdict_of_lines_that_pass}
 use Rattle.hx_allow.proofs.HostIndices.{decides, none_of_never, names_an_origin}
 use Rattle.hx_allow.proofs.config.Config.judge_target.Goals as goal
 
@@ -17,11 +17,11 @@ returns-clause-verdict c =
     let allowed : is_never_allowed c.args.method.now ≡ false = sym (ap is_never_allowed method_is) ∙ sym c.is_never_allowed.ensures ∙ c.if-is_never_allowed.false in
     let lines_are : c.deref.result.now ≡ c.args.self.now.lines = c.deref.ensures.value ∙ ap (λ (t : Table). t.lines) c.self.view_is in
     decides c.args.self.now.lines c.deref.result.now c.as_bytes-method.result.now c.as_slice-path.result.now c.as_slice-host.result.now c.args.method.now c.args.target.now
-    c.verdict_for_host.result lines_are c.as_slice-host.ensures c.as_slice-path.ensures method_is allowed c.verdict_for_host.ensures
+    c.verdict_by_host_index.result lines_are c.as_slice-host.ensures c.as_slice-path.ensures method_is allowed c.verdict_by_host_index.ensures
 
 pub returns-clause-allowing : goal.returns-clause-allowing
 returns-clause-allowing c =
     let lines_are : c.deref.result.now ≡ c.args.self.now.lines = c.deref.ensures.value ∙ ap (λ (t : Table). t.lines) c.self.view_is in
     let host = c.as_slice-host.result.now in
-    let is = c.verdict_for_host.ensures ∙ ap (λ (lines : List Line). verdict_where 1 (can_match host) lines c.as_bytes-method.result.now c.as_slice-path.result.now) lines_are in
-    subst (VerdictNamesAnOrigin c.args.self.now.lines) (sym is) (names_an_origin c.args.self.now.lines (can_match host) c.as_bytes-method.result.now c.as_slice-path.result.now)
+    let is = c.verdict_by_host_index.ensures ∙ ap (λ (lines : List Line). verdict_of_lines_that_pass 1 (line_can_match_host host) lines c.as_bytes-method.result.now c.as_slice-path.result.now) lines_are in
+    subst (VerdictNamesAnOrigin c.args.self.now.lines) (sym is) (names_an_origin c.args.self.now.lines (line_can_match_host host) c.as_bytes-method.result.now c.as_slice-path.result.now)

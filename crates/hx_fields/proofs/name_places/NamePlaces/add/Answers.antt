@@ -6,14 +6,14 @@ use Rattle.hx_fields.proofs.name_places.NamePlaces.add.Goals as goal
 
 pub returns-clause-added : goal.returns-clause-added
 returns-clause-added c =
-    let place = c.place_of_name.result in
-    subst (λ p. bit_at (bit_or c.args.self.now.marks (1 * 2 ^ place % 18446744073709551616)) p ≡ 1) c.place_of_name.ensures.place
-    (bit_at_set_same w64 c.args.self.now.marks place c.place_of_name.ensures.within)
+    let place = c.bit_place_of_name.result in
+    subst (λ p. bit_at (bit_or c.args.self.now.marks (1 * 2 ^ place % 18446744073709551616)) p ≡ 1) c.bit_place_of_name.ensures.place
+    (bit_at_set_same w64 c.args.self.now.marks place c.bit_place_of_name.ensures.within)
 
 pub returns-clause-kept : goal.returns-clause-kept
 returns-clause-kept c i h =
-    let place = c.place_of_name.result in
+    let place = c.bit_place_of_name.result in
     elim (cases_Bool (eqb i place)) [
-      | inl t ↦ subst (λ p. bit_at (bit_or c.args.self.now.marks (1 * 2 ^ place % 18446744073709551616)) p ≡ 1) (sym (eqb-true i place t)) (bit_at_set_same w64 c.args.self.now.marks place c.place_of_name.ensures.within)
-      | inr f ↦ bit_at_set_other w64 c.args.self.now.marks place c.place_of_name.ensures.within i (λ e. false≢true (sym f ∙ eq-eqb i place e)) ∙ h
+      | inl t ↦ subst (λ p. bit_at (bit_or c.args.self.now.marks (1 * 2 ^ place % 18446744073709551616)) p ≡ 1) (sym (eqb-true i place t)) (bit_at_set_same w64 c.args.self.now.marks place c.bit_place_of_name.ensures.within)
+      | inr f ↦ bit_at_set_other w64 c.args.self.now.marks place c.bit_place_of_name.ensures.within i (λ e. false≢true (sym f ∙ eq-eqb i place e)) ∙ h
     ]

@@ -5,10 +5,10 @@ use Rattle.hx_framing.proofs.heads.head_end.empty_lines_from.Goals as goal
 
 pub loop-at-preserved : goal.loop-at-preserved
 loop-at-preserved c =
-    let some : 0 < empty_line_at (drop c.loop-at.at c.args.bytes.now) = subst (λ (n : ℕ). 0 < n) (c.empty_line_at.ensures.size ∙ ap empty_line_at c.rest_from.ensures) c.loop-at-test.true in
-    let size : c.empty_line_at-at.result ≡ empty_line_at (drop c.loop-at.at c.args.bytes.now) = c.empty_line_at-at.ensures.size ∙ ap empty_line_at c.rest_from-in-loop-at.ensures in
+    let some : 0 < empty_line_at (drop c.loop-at.at c.args.bytes.now) = subst (λ (n : ℕ). 0 < n) (c.empty_line_at.ensures.size ∙ ap empty_line_at c.bytes_from_index.ensures) c.loop-at-test.true in
+    let size : c.empty_line_at-at.result ≡ empty_line_at (drop c.loop-at.at c.args.bytes.now) = c.empty_line_at-at.ensures.size ∙ ap empty_line_at c.bytes_from_index-in-loop-at.ensures in
     record {
-      within = omega (arith, c.empty_line_at-at.ensures.within, length-drop c.loop-at.at c.args.bytes.now, ap length c.rest_from-in-loop-at.ensures);
+      within = omega (arith, c.empty_line_at-at.ensures.within, length-drop c.loop-at.at c.args.bytes.now, ap length c.bytes_from_index-in-loop-at.ensures);
       rest = subst (λ (n : ℕ). empty_lines_from (c.loop-at.at + n) (drop (c.loop-at.at + n) c.args.bytes.now) ≡ empty_lines_from c.args.from (drop c.args.from c.args.bytes.now)) (sym size)
           (empty_lines_more c.loop-at.at c.args.bytes.now some ∙ c.loop-at.invariant.rest);
     }

@@ -3,7 +3,7 @@ use Rattle.std.specs.Prelude.{codes, nat_eq, nat_lt}
 use Rattle.std.specs.Char.{is_ascii_digit}
 use Rattle.std.specs.List.{starts_with}
 use Rattle.std.proofs.lemmas.Bool.{and_parts, and_from, leb-true, ltb-true, eqb-true, le-leb, false_from_ne_true}
-use Rattle.hx_framing.specs.Version.{is_other_version}
+use Rattle.hx_framing.specs.Version.{is_unsupported_version}
 use Rattle.hx_framing.proofs.laws.head_laws.versions_have_two_digits.Goals as goal
 
 -- a digit is 48 and at most 9
@@ -25,7 +25,7 @@ begins a b c d e is =
     cc
 
 -- eight bytes
-parts : (a b c d e f g h : ℕ) → is_other_version (a ∷ b ∷ c ∷ d ∷ e ∷ f ∷ g ∷ h ∷ []) ≡ true
+parts : (a b c d e f g h : ℕ) → is_unsupported_version (a ∷ b ∷ c ∷ d ∷ e ∷ f ∷ g ∷ h ∷ []) ≡ true
     → (a ∷ b ∷ c ∷ d ∷ e ∷ [] ≡ codes "HTTP/") × (is_ascii_digit f ≡ true) × (g ≡ 46) × (is_ascii_digit h ≡ true)
 parts a b c d e f g h is =
     let text : List ℕ = a ∷ b ∷ c ∷ d ∷ e ∷ f ∷ g ∷ h ∷ [] in
@@ -38,7 +38,7 @@ parts a b c d e f g h is =
     (begins a b c d e begun.1, first.1, eqb-true g 46 dot.1, last.1)
 
 -- it has eight bytes
-eight : (text : List ℕ) → is_other_version text ≡ true → length text ≡ 8
+eight : (text : List ℕ) → is_unsupported_version text ≡ true → length text ≡ 8
 eight text is =
     let major : ℕ = slice_index text 5 in
     let minor : ℕ = slice_index text 7 in
@@ -50,7 +50,7 @@ eight text is =
     let first = and_parts name (is_ascii_digit major) dot.0 in
     eqb-true (length text) 8 (and_parts (length text == 8) (starts_with nat_eq text (codes "HTTP/")) first.0).0
 
-form : (text : List ℕ) → is_other_version text ≡ true → (major : ℕ) × (minor : ℕ) × (major ≤ 9) × (minor ≤ 9)
+form : (text : List ℕ) → is_unsupported_version text ≡ true → (major : ℕ) × (minor : ℕ) × (major ≤ 9) × (minor ≤ 9)
     × (text ≡ codes "HTTP/" ++ (48 + major) ∷ 46 ∷ (48 + minor) ∷ [])
 form [] is = absurd (let e : true ≡ false = sym is in cc)
 form (a ∷ []) is = absurd (let e : true ≡ false = sym is in cc)

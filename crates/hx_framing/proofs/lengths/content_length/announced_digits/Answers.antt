@@ -14,25 +14,25 @@ returns-in_err-value-clause-shown c =
 
 pub returns-then-not-is_digits-clause-shown : goal.returns-then-not-is_digits-clause-shown
 returns-then-not-is_digits-clause-shown c =
-    shown_without_digits c.args.fields.now c.in_ok-value.field-0.now c.before_byte-text.result.now (sym c.in_ok-value.ensures)
-    c.before_byte-text.ensures (sym c.if-not-is_digits.ensures)
+    shown_without_digits c.args.fields.now c.in_ok-value.field-0.now c.text_before_byte-text.result.now (sym c.in_ok-value.ensures)
+    c.text_before_byte-text.ensures (sym c.if-not-is_digits.ensures)
 
 pub returns-then-are_all_lengths_this_number-clause-digits : goal.returns-then-are_all_lengths_this_number-clause-digits
 returns-then-are_all_lengths_this_number-clause-digits c =
-    let text = c.before_byte-text.result.now in
+    let text = c.text_before_byte-text.result.now in
     ap (list_all is_ascii_digit) c.without_leading_zeros-digits.ensures
     ∙ significant_digits text (and_parts (is_nonempty text) (list_all is_ascii_digit text) (sym c.if-not-is_digits.ensures)).1
 
 pub returns-then-are_all_lengths_this_number-clause-shown : goal.returns-then-are_all_lengths_this_number-clause-shown
 returns-then-are_all_lengths_this_number-clause-shown c =
-    shown_by_test c.args.fields.now c.as_slice.result.now c.in_ok-value.field-0.now c.before_byte-text.result.now c.without_leading_zeros-digits.result.now
-    c.are_all_lengths_this_number.result (sym c.in_ok-value.ensures) c.before_byte-text.ensures (sym c.if-not-is_digits.ensures)
+    shown_by_test c.args.fields.now c.as_slice.result.now c.in_ok-value.field-0.now c.text_before_byte-text.result.now c.without_leading_zeros-digits.result.now
+    c.are_all_lengths_this_number.result (sym c.in_ok-value.ensures) c.text_before_byte-text.ensures (sym c.if-not-is_digits.ensures)
     c.without_leading_zeros-digits.ensures c.as_slice.ensures c.are_all_lengths_this_number.ensures
     ∙ ap (λ (t : Bool). cond t (Some (digits_value 10 c.without_leading_zeros-digits.result.now)) None) c.if-are_all_lengths_this_number.true
 
 pub returns-else-are_all_lengths_this_number-clause-shown : goal.returns-else-are_all_lengths_this_number-clause-shown
 returns-else-are_all_lengths_this_number-clause-shown c =
-    shown_by_test c.args.fields.now c.as_slice.result.now c.in_ok-value.field-0.now c.before_byte-text.result.now c.without_leading_zeros-digits.result.now
-    c.are_all_lengths_this_number.result (sym c.in_ok-value.ensures) c.before_byte-text.ensures (sym c.if-not-is_digits.ensures)
+    shown_by_test c.args.fields.now c.as_slice.result.now c.in_ok-value.field-0.now c.text_before_byte-text.result.now c.without_leading_zeros-digits.result.now
+    c.are_all_lengths_this_number.result (sym c.in_ok-value.ensures) c.text_before_byte-text.ensures (sym c.if-not-is_digits.ensures)
     c.without_leading_zeros-digits.ensures c.as_slice.ensures c.are_all_lengths_this_number.ensures
     ∙ ap (λ (t : Bool). cond t (Some (digits_value 10 c.without_leading_zeros-digits.result.now)) None) c.if-are_all_lengths_this_number.false

@@ -1,6 +1,6 @@
 use Rattle.std.proofs.Common.{sym, subst, ◌∙◌}
 use Rattle.hx_framing.specs.declared.readers.response_reading.FinalHead.{FinalHead}
-use Rattle.hx_framing.specs.ResponseHeadProgress.{FinalHeadIsFound, FinalHeadStands}
+use Rattle.hx_framing.specs.ResponseHeadProgress.{FinalHeadIsFound, FinalHeadFollowsInterimResponses}
 use Rattle.hx_framing.proofs.MemoryLemmas.{on_err}
 use Rattle.hx_framing.proofs.ResponseProgressLemmas.{progress_refused, progress_unframed}
 use Rattle.hx_framing.proofs.readers.response_reading.read_response.Goals as goal
@@ -20,6 +20,6 @@ returns-in-Err-clause-progress c =
 
 pub returns-in_err-fault-in-Complete-clause-memory_last : goal.returns-in_err-fault-in-Complete-clause-memory_last
 returns-in_err-fault-in-Complete-clause-memory_last c =
-    let has : FinalHeadStands c.args.rest.now.bytes.now
+    let has : FinalHeadFollowsInterimResponses c.args.rest.now.bytes.now
     = (c.in-Complete.head, c.in-Complete.at, subst (λ (f : FinalHead). FinalHeadIsFound c.args.rest.now.bytes.now f) c.in-Complete.is c.in_ok-at.ensures.final_head) in
     on_err _ has

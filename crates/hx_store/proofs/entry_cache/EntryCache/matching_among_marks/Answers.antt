@@ -5,7 +5,7 @@ use Rattle.std.specs.List.{filter}
 use Rattle.std.specs.Map.{keys_of}
 use Rattle.hx_vary.proofs.MarkLemmas.{misses_nothing}
 use Rattle.hx_store.specs.Index.{entry_matches_values, serials_that_may_match}
-use Rattle.hx_store.specs.Shelf.{find_entry, entry_matches}
+use Rattle.hx_store.specs.Shelf.{find_entry, entry_matches_request}
 use Rattle.hx_store.proofs.MarkLists.{by_values, looks_enough}
 use Rattle.hx_store.proofs.entry_cache.EntryCache.matching_among_marks.Goals as goal
 
@@ -18,7 +18,7 @@ returns c =
     let has = contains nat_eq c.in_ok-asked.asked.tags in
     let marks = c.args.marks.now in
     let by : ℕ → Bool = λ s. entry_matches_values values (find_entry s es) in
-    let is : ℕ → Bool = λ s. entry_matches request (find_entry s es) in
+    let is : ℕ → Bool = λ s. entry_matches_request request (find_entry s es) in
     let marked : c.as_slice.result.now ≡ serials_that_may_match has marks = search rules in
     let all : filter by c.as_slice.result.now ≡ filter is (keys_of marks) =
     ap (filter by) marked ∙ by_values request values c.in_ok-asked.ensures.values es (serials_that_may_match has marks)

@@ -1,7 +1,7 @@
 use Rattle.std.proofs.Common.{arith, ap, ◌≡◌, ◌-◌, length, slice_get, Some, subst, sym, ◌∙◌}
-use Rattle.hx_store.specs.Index.{MarksAreOfTheirEntries, SerialIsTakenOut}
+use Rattle.hx_store.specs.Index.{MarksAreOfTheirEntries, SerialIsRemovedFromIndex}
 use Rattle.hx_store.proofs.IndexedLists.{IsKept, kept-last, last-none, marked-last}
-use Rattle.hx_store.specs.Weights.{counted_total_weight}
+use Rattle.hx_store.specs.Weights.{total_of_capped_weights}
 use Rattle.hx_store.proofs.CountedWeights.{counted_last}
 use Rattle.hx_store.proofs.indexed_entries.IndexedEntries.pop_last.Goals as goal
 
@@ -15,8 +15,8 @@ pub invariant_of-self : goal.invariant_of-self
 invariant_of-self c =
     let es = c.self.inside.entries in
     let last : slice_get es (length es - 1) ≡ Some c.in-Some.entry = sym c.pop_last.ensures.value ∙ c.in-Some.is in
-    let taken : SerialIsTakenOut c.self.inside.index c.in-Some.entry.key c.in-Some.entry.serial c.remove.new.self =
-    subst (λ e. SerialIsTakenOut c.self.inside.index e.key e.serial c.remove.new.self) c.entry.view_is c.remove.ensures.taken in
+    let taken : SerialIsRemovedFromIndex c.self.inside.index c.in-Some.entry.key c.in-Some.entry.serial c.remove.new.self =
+    subst (λ e. SerialIsRemovedFromIndex c.self.inside.index e.key e.serial c.remove.new.self) c.entry.view_is c.remove.ensures.taken in
     rw c.pop_last.ensures.entries (
       kept-last es c.in-Some.entry c.self.inside.index c.remove.new.self last taken c.self.invariant.0,
       c.remove.ensures.trim c.self.invariant.1,
@@ -32,5 +32,5 @@ invariant_of-self-in-None c =
       subst (λ zs. IsKept zs c.self.inside.index) (sym same) c.self.invariant.0,
       c.self.invariant.1,
       subst (λ zs. MarksAreOfTheirEntries c.self.inside.seed zs c.self.inside.index) (sym same) c.self.invariant.2,
-      c.self.invariant.3 ∙ ap counted_total_weight (sym same),
+      c.self.invariant.3 ∙ ap total_of_capped_weights (sym same),
     )

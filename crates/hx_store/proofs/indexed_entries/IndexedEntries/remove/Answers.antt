@@ -1,5 +1,5 @@
 use Rattle.std.proofs.Common.{arith, ◌≡◌, Some, subst, sym, ◌∙◌}
-use Rattle.hx_store.specs.Index.{SerialIsTakenOut}
+use Rattle.hx_store.specs.Index.{SerialIsRemovedFromIndex}
 use Rattle.hx_store.specs.Shelf.{find_entry}
 use Rattle.hx_store.proofs.IndexedLists.{kept-none, kept-without, marked-none, marked-without}
 use Rattle.hx_store.proofs.CountedWeights.{counted_found, counted_none}
@@ -15,8 +15,8 @@ pub invariant_of-self : goal.invariant_of-self
 invariant_of-self c =
     let es = c.self.inside.entries in
     let found : find_entry c.args.serial es ≡ Some c.in-Some.entry = sym c.remove.ensures.value ∙ c.in-Some.is in
-    let taken : SerialIsTakenOut c.self.inside.index c.in-Some.entry.key c.args.serial c.remove-in-Some.new.self =
-    subst (λ e. SerialIsTakenOut c.self.inside.index e.key c.args.serial c.remove-in-Some.new.self) c.entry.view_is c.remove-in-Some.ensures.taken in
+    let taken : SerialIsRemovedFromIndex c.self.inside.index c.in-Some.entry.key c.args.serial c.remove-in-Some.new.self =
+    subst (λ e. SerialIsRemovedFromIndex c.self.inside.index e.key c.args.serial c.remove-in-Some.new.self) c.entry.view_is c.remove-in-Some.ensures.taken in
     rw c.remove.ensures.entries (
       kept-without c.args.serial es c.in-Some.entry c.self.inside.index c.remove-in-Some.new.self found taken c.self.invariant.0,
       c.remove-in-Some.ensures.trim c.self.invariant.1,

@@ -8,7 +8,7 @@ use Rattle.std.specs.BTreeMap.{is_at}
 use Rattle.std.specs.HashMap.{WritesThrough, get_by}
 use Rattle.hx_target.specs.Keys.{same_key}
 use Rattle.hx_store.specs.declared.key_index.KeyIndex.{KeyIndex}
-use Rattle.hx_store.specs.Index.{serials_and_marks_at, HasNoUnusedKey}
+use Rattle.hx_store.specs.Index.{serials_and_marks_at, IndexHasNoEmptyKey}
 use Rattle.hx_store.proofs.Indices.{changed, some_has, trim-beside, trim-same, trim-written, written}
 use Rattle.hx_store.proofs.key_index.KeyIndex.take_out.Goals as goal
 
@@ -39,7 +39,7 @@ returns-in-Some-clause-trim c o =
     let new : KeyIndex = record { serials = c.get_mut.follows.lender c.remove.new.self } in
     let u : WritesThrough same_key (same_key c.args.key.now) c.args.self.now.serials c.remove.new.self new.serials = search rules in
     let m : get_by (same_key c.args.key.now) c.args.self.now.serials ≡ Some c.in-Some.marks.now = search rules in
-    on_false c.is_empty.result (HasNoUnusedKey new) (λ f. trim-written c.args.key.now c.args.self.now new (Some c.remove.new.self) (u.3 (ap is_some m)).0
+    on_false c.is_empty.result (IndexHasNoEmptyKey new) (λ f. trim-written c.args.key.now c.args.self.now new (Some c.remove.new.self) (u.3 (ap is_some m)).0
     (some_has c.remove.new.self (λ k. false≢true (sym f ∙ c.is_empty.ensures ∙ ap (λ ps. length ps == 0) k))) o)
 
 pub returns-in-None-clause-trim_beside : goal.returns-in-None-clause-trim_beside

@@ -2,8 +2,8 @@ use Rattle.std.proofs.Common.{rules, arith, ◌≡◌, ◌-◌, Bool, true, ap, 
 use Rattle.std.specs.List.{filter}
 use Rattle.hx_target.specs.Keys.{same_key}
 use Rattle.hx_vary.specs.Vary.{vary_matches}
-use Rattle.hx_store.specs.Serials.{Distinct, insert_ascending}
-use Rattle.hx_store.specs.Shelf.{ShelfModel, serials, serials_of}
+use Rattle.hx_store.specs.Serials.{SerialsAreDistinct, insert_ascending}
+use Rattle.hx_store.specs.Shelf.{ShelfModel, serials, serials_of_key}
 use Rattle.hx_store.specs.Stored.{Stored}
 use Rattle.hx_store.proofs.MatchLists.{drop_before, walk_step, walked}
 use Rattle.hx_store.proofs.list_shelf.ListShelfShelf.find_matching.Goals as goal
@@ -23,7 +23,7 @@ loop-rest-preserved-then-branch c =
     record {
       within = omega (arith, c.loop-rest.invariant.within);
       so_far = more ∙ ap (insert_ascending e.serial) c.loop-rest.invariant.so_far ∙ walk_step key request e (drop n es) of_key is_match
-          ∙ ap (λ zs. serials_of key (filter (λ (f : Stored). vary_matches f.nominated request) zs))
+          ∙ ap (λ zs. serials_of_key key (filter (λ (f : Stored). vary_matches f.nominated request) zs))
           (sym (drop_before es n e c.loop-rest-test.true c.loop-rest.invariant.within at));
     }
 
@@ -33,6 +33,6 @@ returns-clause-found c =
     let key = c.args.key.now in
     let request = c.args.request.now in
     let here : Stored → Bool = λ f. vary_matches f.nominated request in
-    let distinct : Distinct (serials es) = subst (λ (v : ShelfModel). Distinct (serials v.entries)) c.self.view_is c.self.invariant.1 in
+    let distinct : SerialsAreDistinct (serials es) = subst (λ (v : ShelfModel). SerialsAreDistinct (serials v.entries)) c.self.view_is c.self.invariant.1 in
     let none : c.loop-rest.rest ≡ 0 = omega (arith, c.loop-rest-test.false) in
-    c.loop-rest.invariant.so_far ∙ ap (λ m. serials_of key (filter here (drop m es))) none ∙ walked key request es distinct
+    c.loop-rest.invariant.so_far ∙ ap (λ m. serials_of_key key (filter here (drop m es))) none ∙ walked key request es distinct

@@ -1,5 +1,5 @@
 use Rattle.std.proofs.Common.{rules, ◌≡◌, true}
-use Rattle.hx_vary.specs.Vary.{is_star}
+use Rattle.hx_vary.specs.Vary.{vary_is_star}
 use Rattle.hx_hop.specs.Answering.{answered_of}
 use Rattle.proxy_core.specs.Storing.{is_storable}
 use Rattle.proxy_core.proofs.Storable.{no_star}
@@ -13,5 +13,5 @@ returns-in-Star-clause-serial g c =
     let r = c.args.answer.now.response.now in
     let now = c.args.answer.now.response_time in
     let storable : is_storable s.table x r now s.next ≡ true = search rules in
-    let star : is_star (answered_of r now).fields ≡ true = search rules in
+    let star : vary_is_star (answered_of r now).fields ≡ true = search rules in
     absurd (no_star c.the_least_storage_rule_is_named.ensures.none s.table x r now s.next storable star)

@@ -16,12 +16,12 @@ returns g c =
           let found = ap option_copied w.chosen-is
           ∙ (w.peek-chosen.ensures ∙ (ap (λ (s : State). find_entry w.in-Some.serial s.entries) c.self.view_is
           ∙ sym (ap (λ (n : Option ℕ). option_and_then (λ k. find_entry k s.entries) n) w.in-Some.is))) in
-          subst (λ (o : Option Awaited). IfOk c.awaited_of.result (λ a. a ≡ o))
-          (awaited_where c.args.judged.policy s.entries c.args.asked.now c.args.now c.args.judged.rule c.args.judged.named (option_copied c.match-judged.chosen) c.requires.decided found) c.awaited_of.ensures
+          subst (λ (o : Option Awaited). IfOk c.awaited_by_request.result (λ a. a ≡ o))
+          (awaited_where c.args.judged.policy s.entries c.args.asked.now c.args.now c.args.judged.rule c.args.judged.named (option_copied c.match-judged.chosen) c.requires.decided found) c.awaited_by_request.ensures
           )
       | in-None w ↦ (
           let found = ap option_copied w.chosen-is ∙ sym (ap (λ (n : Option ℕ). option_and_then (λ k. find_entry k s.entries) n) w.in-None.is) in
-          subst (λ (o : Option Awaited). IfOk c.awaited_of.result (λ a. a ≡ o))
-          (awaited_where c.args.judged.policy s.entries c.args.asked.now c.args.now c.args.judged.rule c.args.judged.named (option_copied c.match-judged.chosen) c.requires.decided found) c.awaited_of.ensures
+          subst (λ (o : Option Awaited). IfOk c.awaited_by_request.result (λ a. a ≡ o))
+          (awaited_where c.args.judged.policy s.entries c.args.asked.now c.args.now c.args.judged.rule c.args.judged.named (option_copied c.match-judged.chosen) c.requires.decided found) c.awaited_by_request.ensures
           )
     ]

@@ -14,7 +14,7 @@ use Rattle.proxy_core.specs.declared.event.Event.TheVariants.{Arrive}
 use Rattle.proxy_core.specs.declared.outcome.Outcome.{Outcome}
 use Rattle.proxy_core.specs.Outcomes.{outcome_of_purge, outcome_of_refusal}
 use Rattle.proxy_core.specs.State.{outcome_purges, serials_removed_by_outcome, expired_by_outcome, serials_expired_by_outcome}
-use Rattle.proxy_core.specs.WrongTraces.{edge_table, get_admin, purge_admin, events_that_store_a, reply_that_stores, reply_that_expires, purge_all_to_expire, get_a}
+use Rattle.proxy_core.specs.WrongTraces.{three_line_table, get_admin, purge_admin, events_that_store_a, reply_that_stores, reply_that_expires, purge_all_to_expire, get_a}
 use Rattle.proxy_core.proofs.Refusals.{refuse}
 use Rattle.proxy_core.proofs.laws.headline_cases.the_headline_refuses_wrong_purges.Goals as goal
 

@@ -4,7 +4,7 @@ use Rattle.std.specs.Ordering.{nat_cmp}
 use Rattle.std.specs.Map.{lookup, set_value}
 use Rattle.proxy_core.specs.declared.open.exchange.Exchange.{Exchange}
 use Rattle.proxy_core.specs.Arrivals.{map_exchanges}
-use Rattle.proxy_core.specs.LeadingOn.{led_on_exchange}
+use Rattle.proxy_core.specs.LeadingOn.{after_abandon}
 use Rattle.proxy_core.proofs.LedOn.{led_away}
 use Rattle.proxy_core.proofs.Waiters.{TheRest, none_turned, turned_at, rest-closed, rest-turned}
 use Rattle.proxy_core.proofs.open.exchanges.lead_each_on.Goals as goal
@@ -16,7 +16,7 @@ loop-arrival-init c =
 pub loop-arrival-preserved-in-Some-get_mut : goal.loop-arrival-preserved-in-Some-get_mut
 loop-arrival-preserved-in-Some-get_mut c =
     let q = c.args.leader in
-    let f : Exchange → Exchange = led_on_exchange c.args.config.now (Some c.args.next) q in
+    let f : Exchange → Exchange = after_abandon c.args.config.now (Some c.args.next) q in
     let away = led_away c.args.config.now c.args.next q c.requires.another in
     let n = c.in-Some.arrival.now in
     let es = c.loop-arrival.by_arrival.entries in
@@ -36,7 +36,7 @@ loop-arrival-preserved c =
     let n = c.in-Some.arrival.now in
     let es = c.loop-arrival.by_arrival.entries in
     let is : es ≡ c.get_mut.follows.lender-at-none.entries = search rules in (
-      ap (map_exchanges (led_on_exchange c.args.config.now (Some c.args.next) q)) (sym is) ∙ c.loop-arrival.invariant.0,
+      ap (map_exchanges (after_abandon c.args.config.now (Some c.args.next) q)) (sym is) ∙ c.loop-arrival.invariant.0,
       subst (TheRest q c.next.new.self) is
           (rest-closed q n c.next.new.self es c.in_default.ensures.value
           (subst (λ ns. TheRest q ns es) c.in-Some.ensures.steps c.loop-arrival.invariant.1)),
@@ -46,4 +46,4 @@ pub returns : goal.returns
 returns c =
     let q = c.args.leader in
     let es = c.loop-arrival.by_arrival.entries in
-    sym (none_turned q (led_on_exchange c.args.config.now (Some c.args.next) q) (led_away c.args.config.now c.args.next q c.requires.another) es (subst (λ ns. TheRest q ns es) c.in-None.ensures.steps.0 c.loop-arrival.invariant.1)) ∙ c.loop-arrival.invariant.0
+    sym (none_turned q (after_abandon c.args.config.now (Some c.args.next) q) (led_away c.args.config.now c.args.next q c.requires.another) es (subst (λ ns. TheRest q ns es) c.in-None.ensures.steps.0 c.loop-arrival.invariant.1)) ∙ c.loop-arrival.invariant.0

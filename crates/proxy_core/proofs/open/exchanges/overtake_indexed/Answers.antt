@@ -1,6 +1,6 @@
 use Rattle.std.proofs.Common.{ap, sym, ◌∙◌}
-use Rattle.proxy_core.specs.Arrivals.{map_passing}
-use Rattle.proxy_core.specs.Scopes.{target_alone}
+use Rattle.proxy_core.specs.Arrivals.{map_exchanges_that_pass}
+use Rattle.proxy_core.specs.Scopes.{scope_of_target_alone}
 use Rattle.proxy_core.specs.State.{overtaken_exchange}
 use Rattle.proxy_core.specs.Waiters.{set_contains}
 use Rattle.proxy_core.proofs.Overtaking.{none_at}
@@ -8,8 +8,8 @@ use Rattle.proxy_core.proofs.open.exchanges.overtake_indexed.Goals as goal
 
 pub returns-in-Some : goal.returns-in-Some
 returns-in-Some c =
-    c.overtake_each.ensures ∙ ap (λ o. map_passing (set_contains o) (overtaken_exchange (target_alone c.args.key.now)) c.args.by_arrival.now.entries) c.in-Some.ensures
+    c.overtake_each.ensures ∙ ap (λ o. map_exchanges_that_pass (set_contains o) (overtaken_exchange (scope_of_target_alone c.args.key.now)) c.args.by_arrival.now.entries) c.in-Some.ensures
 
 pub returns-in_default : goal.returns-in_default
 returns-in_default c =
-    sym (none_at c.args.key.now c.args.by_arrival.now.entries) ∙ ap (λ o. map_passing (set_contains o) (overtaken_exchange (target_alone c.args.key.now)) c.args.by_arrival.now.entries) c.in_default.ensures
+    sym (none_at c.args.key.now c.args.by_arrival.now.entries) ∙ ap (λ o. map_exchanges_that_pass (set_contains o) (overtaken_exchange (scope_of_target_alone c.args.key.now)) c.args.by_arrival.now.entries) c.in_default.ensures

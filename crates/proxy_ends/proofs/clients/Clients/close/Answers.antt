@@ -1,7 +1,7 @@
 use Rattle.std.proofs.Common.{◌≡◌, ◌<◌, length, [], sym, ap, subst, ◌∙◌, arith}
 use Rattle.std.specs.Global.{Box}
 use Rattle.slab.specs.Slab.{Slab}
-use Rattle.proxy_ends.specs.Closing.{LeavesWhereUnsent}
+use Rattle.proxy_ends.specs.Closing.{IsInLeavingQueueIfUnsent}
 use Rattle.proxy_streams.specs.Peers.{UnsentBytes}
 use Rattle.proxy_ends.specs.Streams.{stream_at_number}
 use Rattle.proxy_ends.specs.declared.clients.client.Client.{Client}
@@ -25,7 +25,7 @@ returns-clause-leaves g c =
           let held = ap (λ (u : UnsentBytes). length u.bytes) same in
           absurd (omega (arith, none, there, held, some))
     ] in
-    subst (λ (s : Slab (Box (Client g.row.S.Denot))). LeavesWhereUnsent (stream_at_number c.args.self.now.open s c.args.n) (stream_at_number c.args.self.now.open c.end.new.self.streams c.args.n))
+    subst (λ (s : Slab (Box (Client g.row.S.Denot))). IsInLeavingQueueIfUnsent (stream_at_number c.args.self.now.open s c.args.n) (stream_at_number c.args.self.now.open c.end.new.self.streams c.args.n))
     c.remove_number.ensures.streams (
     closes_leaving c.args.self.now.open c.args.n c.in-Some.key c.remove_number.new.self.streams client (record client { value = c.drop_rest.new.self }) c.if-has_unsent.queue
     c.join_queue.new.self.streams c.end.new.self.streams (sym c.remove_number.ensures.key ∙ c.in-Some.is) (sym c.in-Some-get_mut.ensures.value) same leaving

@@ -5,9 +5,9 @@ use Rattle.proxy_script.specs.declared.effect_list.Effect.TheVariants.{Drop}
 use Rattle.proxy_engine.specs.Questions.{question_of}
 use Rattle.proxy_engine.specs.EngineModel.{no_link}
 use Rattle.proxy_engine.specs.Due.{LinkResult, Finishes}
-use Rattle.proxy_engine.specs.Acts.{outcome_by_table, effects_of_outcome, model_after_outcome}
+use Rattle.proxy_engine.specs.Acts.{outcome_with_origin_address, effects_of_outcome, model_after_outcome}
 use Rattle.proxy_engine.specs.State.{LinkRepresents, EngineRepresents, engine_state, EngineDoesAct, link_result_at, link_work_left}
-use Rattle.proxy_engine.specs.Pairing.{owners_of}
+use Rattle.proxy_engine.specs.Pairing.{owners_of_links}
 use Rattle.proxy_engine.specs.declared.endpoints.ends.Link.{Link}
 use Rattle.proxy_engine.proofs.Parts.{both_length, both_at}
 use Rattle.proxy_engine.proofs.Keeping.{inside}
@@ -42,18 +42,18 @@ end-requires-clause-open g c = let cs = c.self.inside.ends.connections.items in
     let there = subst (λ (ls : List (Option Link)). get_or ls c.args.j None ≡ Some x) c.reserve_place.ensures.items c.at.ensures in
     rw c.number_at-id.ensures (is_out cs ks xs x.connection c.args.j (owned_link cs ks xs c.args.j x there c.self.invariant) c.self.invariant)
 
-pub free_link-requires-clause-link : goal.free_link-requires-clause-link
-free_link-requires-clause-link g c = ap (λ (ls : List (Option Link)). is_some (get_or ls c.args.j None)) c.reserve_place.ensures.items ∙ finish_there _ (rw (← c.self.view_is) at c.requires.due)
+pub end_exchange_of_link-requires-clause-link : goal.end_exchange_of_link-requires-clause-link
+end_exchange_of_link-requires-clause-link g c = ap (λ (ls : List (Option Link)). is_some (get_or ls c.args.j None)) c.reserve_place.ensures.items ∙ finish_there _ (rw (← c.self.view_is) at c.requires.due)
 
-pub free_link-requires-clause-connection : goal.free_link-requires-clause-connection
-free_link-requires-clause-connection g c = let cs = c.self.inside.ends.connections.items in
+pub end_exchange_of_link-requires-clause-connection : goal.end_exchange_of_link-requires-clause-connection
+end_exchange_of_link-requires-clause-connection g c = let cs = c.self.inside.ends.connections.items in
     let ks = c.self.inside.ends.links.items in
     let x = c.at.result.now in
     let there = subst (λ (ls : List (Option Link)). get_or ls c.args.j None ≡ Some x) c.reserve_place.ensures.items c.at.ensures in
     still_here cs x.connection c.args.j (rw (← c.self.view_is) at c.requires.here) (owned_link cs ks c.self.inside.core.exchanges c.args.j x there c.self.invariant)
 
 pub carry_out-requires-clause-room_for_link : goal.carry_out-requires-clause-room_for_link
-carry_out-requires-clause-room_for_link g c = c.free_link.ensures.room ∙ c.in_ok-reserve_place.ensures.ok
+carry_out-requires-clause-room_for_link g c = c.end_exchange_of_link.ensures.room ∙ c.in_ok-reserve_place.ensures.ok
 
 pub carry_out-requires-clause-left : goal.carry_out-requires-clause-left
 carry_out-requires-clause-left g c = λ goes.
@@ -69,7 +69,7 @@ carry_out-requires-clause-left g c = λ goes.
     let ended = (rw c.number_at-id.ensures at c.in_ok-step.ensures.ok) in
     let may = goes_given core c.end.new.core c.args.now (x.connection + 1) ended.0 c.in_ok-step.step.outcome (is_open cs ks core.exchanges x.connection j link c.self.invariant) ended.2 goes in
     let few = (rw (← c.self.view_is) at c.requires.left) ended.0 (ap link_result_at here ∙ ended.1) may in
-    omega (arith, few, c.free_link.ensures.links, ap length same)
+    omega (arith, few, c.end_exchange_of_link.ensures.links, ap length same)
 
 pub invariant_of-self-2 : goal.invariant_of-self-2
 invariant_of-self-2 g c = let cs = c.self.inside.ends.connections.items in
@@ -80,8 +80,8 @@ invariant_of-self-2 g c = let cs = c.self.inside.ends.connections.items in
     let there = subst (λ (ls : List (Option Link)). get_or ls c.args.j None ≡ Some x) same c.at.ensures in
     let link = owned_link cs ks core.exchanges c.args.j x there c.self.invariant in
     let is_there = is_open cs ks core.exchanges x.connection c.args.j link c.self.invariant in
-    let owners : owners_of c.free_link.new.links.items ≡ set (owners_of ks) c.args.j None = c.free_link.ensures.owners ∙ ap (λ (ls : List (Option Link)). set (owners_of ls) c.args.j None) same in
-    paired_finished cs c.free_link.new.connections.items c.carry_out.new.self.connections.items ks c.free_link.new.links.items c.carry_out.new.self.links.items core.exchanges c.end.new.core.exchanges x.connection c.args.j c.in_ok-step.step.outcome link c.free_link.ensures.activities owners
+    let owners : owners_of_links c.end_exchange_of_link.new.links.items ≡ set (owners_of_links ks) c.args.j None = c.end_exchange_of_link.ensures.owners ∙ ap (λ (ls : List (Option Link)). set (owners_of_links ls) c.args.j None) same in
+    paired_finished cs c.end_exchange_of_link.new.connections.items c.carry_out.new.self.connections.items ks c.end_exchange_of_link.new.links.items c.carry_out.new.self.links.items core.exchanges c.end.new.core.exchanges x.connection c.args.j c.in_ok-step.step.outcome link c.end_exchange_of_link.ensures.activities owners
     c.carry_out.ensures.activities c.carry_out.ensures.owners is_there (remains core c.end.new.core c.args.now (x.connection + 1) (rw c.number_at-id.ensures at c.in_ok-step.ensures.ok).0 c.in_ok-step.step.outcome is_there (rw c.number_at-id.ensures at c.in_ok-step.ensures.ok).2) c.self.invariant
 
 pub returns-clause-less : goal.returns-clause-less
@@ -96,7 +96,7 @@ returns-clause-less g c = rw (← c.self.view_is) (
     let there = subst (λ (ls : List (Option Link)). get_or ls c.args.j None ≡ Some x) c.reserve_place.ensures.items c.at.ensures in
     let is_there = is_open cs ks core.exchanges x.connection c.args.j (owned_link cs ks core.exchanges c.args.j x there c.self.invariant) c.self.invariant in
     let few = one_more c.in_ok-step.step.outcome (x.connection + 1) core.exchanges c.end.new.core.exchanges (remains core c.end.new.core c.args.now (x.connection + 1) ended.0 c.in_ok-step.step.outcome is_there ended.2) in
-    omega (arith, counts, few, ap (sum_by link_work_left) c.reserve_place.ensures.items, c.free_link.ensures.load, c.carry_out.ensures.load)
+    omega (arith, counts, few, ap (sum_by link_work_left) c.reserve_place.ensures.items, c.end_exchange_of_link.ensures.load, c.carry_out.ensures.load)
     )
 
 pub returns-clause-ok : goal.returns-clause-ok
@@ -126,14 +126,14 @@ returns-clause-ok g c = rw (← c.self.view_is) (
     let emitted : c.put.new.effects.items ≡ Drop (c.self.inside.ends.first_link + j) ∷ [] = emitted_one c.in_ok-effects.effects.items c.put.new.effects.items _ c.put.ensures.items c.in_ok-effects.ensures.items ∙ ap (λ (n : ℕ). Drop n ∷ []) number in
     let table = c.config-config.result.now in
     let table_is : table ≡ core.table = c.config-config.ensures ∙ ends_table core c.end.new.core c.args.now (i + 1) ended.0 c.in_ok-step.step.outcome ended.2 in
-    let free = c.free_link.ensures.represents s core c.self.inside.ends.first_link (subst (λ (ls : List (Option Link)). EngineRepresents (engine_state cs ls core c.self.inside.ends.first_link) s) (sym items) h) in
-    let fresh = c.free_link.ensures.links in
+    let free = c.end_exchange_of_link.ensures.represents s core c.self.inside.ends.first_link (subst (λ (ls : List (Option Link)). EngineRepresents (engine_state cs ls core c.self.inside.ends.first_link) s) (sym items) h) in
+    let fresh = c.end_exchange_of_link.ensures.links in
     subst (λ (n : ℕ). EngineDoesAct s c.args.now (Finishes j f) c.carry_out.new.effects.items (engine_state c.carry_out.new.self.connections.items c.carry_out.new.self.links.items c.end.new.core n)) (sym c.carry_out.ensures.first)
     (subst (λ (x : LinkResult). EngineDoesAct s c.args.now (Finishes j x) c.carry_out.new.effects.items (engine_state c.carry_out.new.self.connections.items c.carry_out.new.self.links.items c.end.new.core c.self.inside.ends.first_link)) (sym same)
-    (finished_done s c.free_link.new.connections.items c.carry_out.new.self.connections.items c.free_link.new.links.items c.carry_out.new.self.links.items core c.end.new.core c.self.inside.ends.first_link c.args.now i j ended.0 c.in_ok-step.step.outcome
+    (finished_done s c.end_exchange_of_link.new.connections.items c.carry_out.new.self.connections.items c.end_exchange_of_link.new.links.items c.carry_out.new.self.links.items core c.end.new.core c.self.inside.ends.first_link c.args.now i j ended.0 c.in_ok-step.step.outcome
     table c.exchange_asks_head-to_head.result (option_map question_of c.in_ok-step.step.asked) c.carry_out.new.effects.items is_there (λ t. let few = (rw (← c.self.view_is) at c.requires.left) ended.0 due t in omega (arith, few, links)) ended.2 table_is
     (rw c.number_at-id.ensures at c.exchange_asks_head-to_head.ensures)
     (ap (option_map question_of) (rw c.number_at-id.ensures at c.in_ok-step.ensures.asked)) (omega (arith, fresh, sizes, links, first_is))
-    (c.carry_out.ensures.effects ∙ ap (λ (b : List Effect). b ++ effects_of_outcome i (c.self.inside.ends.first_link + length c.free_link.new.links.items) (option_map question_of c.in_ok-step.step.asked) (outcome_by_table table c.in_ok-step.step.outcome)) emitted)
-    first_is h.core owner.connection free (λ t k most represents. subst (λ (n : ℕ). EngineRepresents (engine_state c.carry_out.new.self.connections.items c.carry_out.new.self.links.items k n) (model_after_outcome i c.exchange_asks_head-to_head.result (outcome_by_table table c.in_ok-step.step.outcome) t)) c.carry_out.ensures.first (c.carry_out.ensures.represents t k most represents))))
+    (c.carry_out.ensures.effects ∙ ap (λ (b : List Effect). b ++ effects_of_outcome i (c.self.inside.ends.first_link + length c.end_exchange_of_link.new.links.items) (option_map question_of c.in_ok-step.step.asked) (outcome_with_origin_address table c.in_ok-step.step.outcome)) emitted)
+    first_is h.core owner.connection free (λ t k most represents. subst (λ (n : ℕ). EngineRepresents (engine_state c.carry_out.new.self.connections.items c.carry_out.new.self.links.items k n) (model_after_outcome i c.exchange_asks_head-to_head.result (outcome_with_origin_address table c.in_ok-step.step.outcome) t)) c.carry_out.ensures.first (c.carry_out.ensures.represents t k most represents))))
     )

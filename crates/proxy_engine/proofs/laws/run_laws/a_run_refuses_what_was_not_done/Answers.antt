@@ -4,10 +4,10 @@ use Rattle.proxy_engine.proofs.laws.run_laws.a_run_refuses_what_was_not_done.Goa
 
 pub returns : goal.returns
 returns c = record {
-  effects = no_other_effects (has_one_trace c.a_request_is_asked_in_one_way.ensures) (acts_in_one_way c.a_request_is_asked_in_one_way.ensures);
-  act = no_other_act (has_one_trace c.a_request_is_asked_in_one_way.ensures);
+  effects = no_other_effects (has_one_trace c.asked_request_is_unique.ensures) (acts_in_one_way c.asked_request_is_unique.ensures);
+  act = no_other_act (has_one_trace c.asked_request_is_unique.ensures);
   moment = no_other_moment;
-  taken = nothing_untaken (has_one_trace c.a_request_is_asked_in_one_way.ensures);
+  taken = nothing_untaken (has_one_trace c.asked_request_is_unique.ensures);
   items = no_more_items;
   nothing = nothing_undone;
 }

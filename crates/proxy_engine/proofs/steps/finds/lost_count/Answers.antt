@@ -1,6 +1,6 @@
 use Rattle.std.proofs.Common.{◌≡◌, ◌+◌, ℕ, List, length, Option, Contains, refl, sym, ap, ◌∙◌, subst, arith, get_or}
-use Rattle.proxy_engine.specs.Held.{has_flag}
-use Rattle.proxy_engine.specs.Marked.{may_be_lost, item_at}
+use Rattle.proxy_engine.specs.Held.{open_end_has_flag}
+use Rattle.proxy_engine.specs.Marked.{is_gone_with_exchange, end_if_open_at}
 use Rattle.proxy_engine.specs.Reading.{places_with_flag}
 use Rattle.proxy_engine.specs.ReadyList.{PlacesAscend}
 use Rattle.proxy_engine.specs.declared.endpoints.ends.Connection.{Connection}
@@ -17,8 +17,8 @@ loop-place-preserved c =
     let at = get_or places seen 0 in
     let rises = subst PlacesAscend (sym c.places-places.ensures) c.requires.marked.rises in
     let next =
-    found_next may_be_lost (item_at items) places rises (λ j x e f. subst (λ (ps : List ℕ). Contains ps j) (sym c.places-places.ensures) (c.requires.marked.marked j x e f)) seen (seen + 1) refl c.loop-place-test.true in
-    let flag = ap (λ (i : ℕ). has_flag may_be_lost (item_at items i)) (sym c.at.ensures) ∙ sym c.is_lost.ensures in
+    found_next is_gone_with_exchange (end_if_open_at items) places rises (λ j x e f. subst (λ (ps : List ℕ). Contains ps j) (sym c.places-places.ensures) (c.requires.marked.marked j x e f)) seen (seen + 1) refl c.loop-place-test.true in
+    let flag = ap (λ (i : ℕ). open_end_has_flag is_gone_with_exchange (end_if_open_at items i)) (sym c.at.ensures) ∙ sym c.is_lost.ensures in
     elim c.if-is_lost.branch [
       | then-is_lost w ↦ (omega (arith, w.count-is, c.loop-place.invariant.0), w.count-is ∙ counted_more _ _ _ at c.loop-place.count c.loop-place.invariant.1 next (flag ∙ w.if-is_lost.true))
       | else-is_lost w ↦ (omega (arith, w.count-is, c.loop-place.invariant.0), w.count-is ∙ counted_same _ _ _ at c.loop-place.count c.loop-place.invariant.1 next (flag ∙ w.if-is_lost.false))
@@ -30,7 +30,7 @@ returns c =
     let places = c.places-places.result.now in
     let all_seen : c.loop-place.place-index ≡ length places = omega (arith, c.loop-place-test.false, c.loop-place.auto.place-index-end) in
     let rises = subst PlacesAscend (sym c.places-places.ensures) c.requires.marked.rises in
-    let all = found_all may_be_lost (item_at items) places rises (λ j x e f. subst (λ (ps : List ℕ). Contains ps j) (sym c.places-places.ensures) (c.requires.marked.marked j x e f)) (length items)
+    let all = found_all is_gone_with_exchange (end_if_open_at items) places rises (λ j x e f. subst (λ (ps : List ℕ). Contains ps j) (sym c.places-places.ensures) (c.requires.marked.marked j x e f)) (length items)
     (λ i there. inside items i (c.requires.marked.filled i (subst (λ (ps : List ℕ). Contains ps i) c.places-places.ensures there))) in
     c.loop-place.invariant.1
-    ∙ ap length (ap (λ (k : ℕ). found_below may_be_lost (item_at items) (bound places k)) all_seen ∙ (sym all ∙ ap (λ (xs : List (Option Connection)). places_with_flag (has_flag may_be_lost) 0 xs) (listed_back items)))
+    ∙ ap length (ap (λ (k : ℕ). found_below is_gone_with_exchange (end_if_open_at items) (bound places k)) all_seen ∙ (sym all ∙ ap (λ (xs : List (Option Connection)). places_with_flag (open_end_has_flag is_gone_with_exchange) 0 xs) (listed_back items)))

@@ -1,9 +1,9 @@
 use Rattle.std.proofs.Common.{List, Option, None, true, refl, sym, ap, subst, ◌∙◌, arith, sum_by}
 use Rattle.std.proofs.lemmas.List.{map-set}
 use Rattle.proxy_engine.specs.EngineModel.{with_link}
-use Rattle.proxy_engine.specs.Acts.{with_activity, with_dropped, model_after_link_freed}
+use Rattle.proxy_engine.specs.Acts.{connection_with_activity, link_model_dropped, model_after_link_freed}
 use Rattle.proxy_engine.specs.State.{EngineRepresents, engine_state, connection_work_left, link_work_left}
-use Rattle.proxy_engine.specs.Pairing.{activity_of, activities_of, owner_of, owners_of}
+use Rattle.proxy_engine.specs.Pairing.{activity_of_connection, activities_of_connections, owner_of_open_link, owners_of_links}
 use Rattle.proxy_engine.specs.declared.endpoints.ends.Connection.{Connection}
 use Rattle.proxy_engine.specs.declared.endpoints.ends.Link.{Link}
 use Rattle.proxy_engine.specs.declared.endpoints.activities.Activity.TheVariants.{Free}
@@ -21,17 +21,17 @@ returns-clause-represents c = λ s core first h.
     let ks = c.args.links.now.items in
     let i = c.args.i in
     let j = c.args.j in
-    let dropped : EngineRepresents (engine_state cs c.release.new.self.items core first) (with_link s j with_dropped) =
-    subst (λ (ls : List (Option Link)). EngineRepresents (engine_state cs ls core first) (with_link s j with_dropped)) (sym c.release.ensures.items)
-    (changed_link with_dropped cs ks core first s j None (inside ks j c.requires.link) (λ k q. refl) h) in
+    let dropped : EngineRepresents (engine_state cs c.release.new.self.items core first) (with_link s j link_model_dropped) =
+    subst (λ (ls : List (Option Link)). EngineRepresents (engine_state cs ls core first) (with_link s j link_model_dropped)) (sym c.release.ensures.items)
+    (changed_link link_model_dropped cs ks core first s j None (inside ks j c.requires.link) (λ k q. refl) h) in
     subst (λ (ds : List (Option Connection)). EngineRepresents (engine_state ds c.release.new.self.items core first) (model_after_link_freed s j i)) (sym c.release-2.ensures)
-    (changed_connection (with_activity Free) cs c.release.new.self.items core first (with_link s j with_dropped) i None (inside cs i (gone_there _ true c.requires.connection)) (λ k q. lost_over _ k c.requires.connection q) dropped)
+    (changed_connection (connection_with_activity Free) cs c.release.new.self.items core first (with_link s j link_model_dropped) i None (inside cs i (gone_there _ true c.requires.connection)) (λ k q. lost_over _ k c.requires.connection q) dropped)
 
 pub returns-clause-activities : goal.returns-clause-activities
-returns-clause-activities c = ap activities_of c.release-2.ensures ∙ map-set activity_of c.args.connections.now.items c.args.i None
+returns-clause-activities c = ap activities_of_connections c.release-2.ensures ∙ map-set activity_of_connection c.args.connections.now.items c.args.i None
 
 pub returns-clause-owners : goal.returns-clause-owners
-returns-clause-owners c = ap owners_of c.release.ensures.items ∙ map-set owner_of c.args.links.now.items c.args.j None
+returns-clause-owners c = ap owners_of_links c.release.ensures.items ∙ map-set owner_of_open_link c.args.links.now.items c.args.j None
 
 pub returns-clause-load : goal.returns-clause-load
 returns-clause-load c =

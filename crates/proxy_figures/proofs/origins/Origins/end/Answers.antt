@@ -1,5 +1,5 @@
 use Rattle.std.proofs.Common.{rules}
-use Rattle.proxy_figures.specs.Origins.{origin_without_link}
+use Rattle.proxy_figures.specs.Origins.{origin_with_link_ended}
 use Rattle.proxy_figures.proofs.OriginLemmas.{counted-set, changed_at, ended-address}
 use Rattle.proxy_figures.proofs.origins.Origins.end.Goals as goal
 
@@ -8,4 +8,4 @@ invariant_of-self c = counted-set _ _ _ _ (search rules) c.in-Some.ensures.value
     (rw (← c.is_crowded-was_crowded.ensures, ← c.is_crowded.ensures) c.crowded_after-self-inside.ensures)
 
 pub returns-in-Some-clause-at : goal.returns-in-Some-clause-at
-returns-in-Some-clause-at c admitted = rw (← c.self.view_is) (changed_at _ _ _ _ (search rules) c.in-Some.ensures.value (origin_without_link _ _) c.end.ensures)
+returns-in-Some-clause-at c admitted = rw (← c.self.view_is) (changed_at _ _ _ _ (search rules) c.in-Some.ensures.value (origin_with_link_ended _ _) c.end.ensures)

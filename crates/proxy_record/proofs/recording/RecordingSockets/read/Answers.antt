@@ -1,9 +1,9 @@
 use Rattle.std.proofs.Common.{◌≡◌, [], ◌∷◌, true, false, refl, sym, ap, ◌∙◌, subst, rules, is_some}
 use Rattle.std.specs.Prelude.{option_map}
 use Rattle.std.proofs.lemmas.Bool.{true≢false}
-use Rattle.proxy_script.specs.Happenings.{plain_happening}
+use Rattle.proxy_script.specs.Happenings.{model_of_happening}
 use Rattle.proxy_turn.specs.Calls.{Read, Nothing, read_outcome_of}
-use Rattle.proxy_record.specs.Recorded.{TurnIsNoted}
+use Rattle.proxy_record.specs.Recorded.{TurnIsRecorded}
 use Rattle.proxy_record.proofs.Passing.{passes_it, passes_nothing, passes_unread, noted_some, noted_none_given, noted_nothing}
 use Rattle.proxy_record.proofs.recording.RecordingSockets.read.Goals as goal
 use Rattle.proxy_record.proofs.recording.RecordingSockets.read.Goals.{in-Some+else-not-note, in-None}
@@ -32,22 +32,22 @@ returns-then-is_err-clause-did g c =
       | in-Some+else-not-note w ↦ λ failed. let is = w.self-is in let later = w.note.ensures.kept failed in search rules
       | in-None w ↦ λ failed. let is = w.self-is in search rules
     ] in
-    let noted : is_some c.match-happening_of_read.self.fault ≡ false → TurnIsNoted c.args.self.now.moment c.args.self.now.recorder c.args.self.now.taken (Read c.args.end given ∷ []) c.match-happening_of_read.self.moment c.match-happening_of_read.self.recorder c.match-happening_of_read.self.taken = elim c.match-happening_of_read.branch [
+    let noted : is_some c.match-happening_of_read.self.fault ≡ false → TurnIsRecorded c.args.self.now.moment c.args.self.now.recorder c.args.self.now.taken (Read c.args.end given ∷ []) c.match-happening_of_read.self.moment c.match-happening_of_read.self.recorder c.match-happening_of_read.self.taken = elim c.match-happening_of_read.branch [
       | in-Some+else-not-note w ↦ λ ok.
           let is = w.self-is in
           let fault_is : c.match-happening_of_read.self.fault ≡ w.note.new.fault = search rules in
           let now_is : c.match-happening_of_read.self.moment ≡ c.args.self.now.moment = search rules in
           let record_is : c.match-happening_of_read.self.recorder ≡ w.note.new.recorder = search rules in
           let taken_is : c.match-happening_of_read.self.taken ≡ true = search rules in
-          let says = sym c.happening_of_read.ensures ∙ ap (option_map plain_happening) w.in-Some.is in
-          noted_some c.args.self.now.moment c.args.self.now.recorder w.note.new.recorder c.args.self.now.taken (is_some c.args.self.now.fault) c.args.end given (plain_happening w.in-Some.happening) _ _ _
+          let says = sym c.happening_of_read.ensures ∙ ap (option_map model_of_happening) w.in-Some.is in
+          noted_some c.args.self.now.moment c.args.self.now.recorder w.note.new.recorder c.args.self.now.taken (is_some c.args.self.now.fault) c.args.end given (model_of_happening w.in-Some.happening) _ _ _
           says may now_is record_is taken_is (w.note.ensures.noted (sym (ap is_some fault_is) ∙ ok))
       | in-None w ↦ λ ok.
           let is = w.self-is in
           let now_is : c.match-happening_of_read.self.moment ≡ c.args.self.now.moment = search rules in
           let record_is : c.match-happening_of_read.self.recorder ≡ c.args.self.now.recorder = search rules in
           let taken_is : c.match-happening_of_read.self.taken ≡ c.args.self.now.taken = search rules in
-          let says = sym c.happening_of_read.ensures ∙ ap (option_map plain_happening) w.in-None.is in
+          let says = sym c.happening_of_read.ensures ∙ ap (option_map model_of_happening) w.in-None.is in
           noted_none_given c.args.self.now.moment c.args.self.now.recorder c.args.self.now.taken c.args.end given _ _ _ says now_is record_is taken_is
     ] in (
       kept,
@@ -74,22 +74,22 @@ returns-else-is_err-clause-did g c =
       | in-Some+else-not-note w ↦ λ failed. let is = w.self-is in let later = w.note.ensures.kept failed in search rules
       | in-None w ↦ λ failed. let is = w.self-is in search rules
     ] in
-    let noted : is_some c.match-happening_of_read.self.fault ≡ false → TurnIsNoted c.args.self.now.moment c.args.self.now.recorder c.args.self.now.taken (Read c.args.end given ∷ []) c.match-happening_of_read.self.moment c.match-happening_of_read.self.recorder c.match-happening_of_read.self.taken = elim c.match-happening_of_read.branch [
+    let noted : is_some c.match-happening_of_read.self.fault ≡ false → TurnIsRecorded c.args.self.now.moment c.args.self.now.recorder c.args.self.now.taken (Read c.args.end given ∷ []) c.match-happening_of_read.self.moment c.match-happening_of_read.self.recorder c.match-happening_of_read.self.taken = elim c.match-happening_of_read.branch [
       | in-Some+else-not-note w ↦ λ ok.
           let is = w.self-is in
           let fault_is : c.match-happening_of_read.self.fault ≡ w.note.new.fault = search rules in
           let now_is : c.match-happening_of_read.self.moment ≡ c.args.self.now.moment = search rules in
           let record_is : c.match-happening_of_read.self.recorder ≡ w.note.new.recorder = search rules in
           let taken_is : c.match-happening_of_read.self.taken ≡ true = search rules in
-          let says = sym c.happening_of_read.ensures ∙ ap (option_map plain_happening) w.in-Some.is in
-          noted_some c.args.self.now.moment c.args.self.now.recorder w.note.new.recorder c.args.self.now.taken (is_some c.args.self.now.fault) c.args.end given (plain_happening w.in-Some.happening) _ _ _
+          let says = sym c.happening_of_read.ensures ∙ ap (option_map model_of_happening) w.in-Some.is in
+          noted_some c.args.self.now.moment c.args.self.now.recorder w.note.new.recorder c.args.self.now.taken (is_some c.args.self.now.fault) c.args.end given (model_of_happening w.in-Some.happening) _ _ _
           says may now_is record_is taken_is (w.note.ensures.noted (sym (ap is_some fault_is) ∙ ok))
       | in-None w ↦ λ ok.
           let is = w.self-is in
           let now_is : c.match-happening_of_read.self.moment ≡ c.args.self.now.moment = search rules in
           let record_is : c.match-happening_of_read.self.recorder ≡ c.args.self.now.recorder = search rules in
           let taken_is : c.match-happening_of_read.self.taken ≡ c.args.self.now.taken = search rules in
-          let says = sym c.happening_of_read.ensures ∙ ap (option_map plain_happening) w.in-None.is in
+          let says = sym c.happening_of_read.ensures ∙ ap (option_map model_of_happening) w.in-None.is in
           noted_none_given c.args.self.now.moment c.args.self.now.recorder c.args.self.now.taken c.args.end given _ _ _ says now_is record_is taken_is
     ] in (
       kept,

@@ -1,27 +1,27 @@
 use Rattle.std.proofs.Common.{ℕ, refl, sym, ap, subst, ◌∙◌}
 use Rattle.std.specs.Prelude.{◌<◌}
 use Rattle.hx_fields.specs.declared.limits.TheConstants.{END_OF_TIME}
-use Rattle.proxy_engine.specs.Happenings.{plain_happening}
+use Rattle.proxy_engine.specs.Happenings.{model_of_happening}
 use Rattle.proxy_turn.specs.Counts.{calls}
 use Rattle.proxy_server.proofs.Losing.{taken_here, refused_here, lost_from_view, end_on, none_on, loss_of_end, did_well}
 use Rattle.proxy_server.proofs.server.Server.disconnect.Goals as goal
 
 pub invariant_of-self : goal.invariant_of-self
 invariant_of-self g c =
-    let losses = c.a_turn_is_served_after_losses.ensures in
+    let losses = c.a_turn_is_served_after_end_losses.ensures in
     let loss = loss_of_end c.args.end c.args.kind c.happening_of_lost_end.result c.in-Some.happening c.in-Some.is c.happening_of_lost_end.ensures in
     let took = did_well c.take.result (sym c.is_ok.ensures.value ∙ c.if-is_ok.true) c.take.ensures.ok in
-    let lost = losses.one c.self.inside.engine c.take.new.self (plain_happening c.in-Some.happening) loss took in (
-      c.engines_go_on.ensures.executed c.self.inside.engine c.take.new.self (losses.on c.self.inside.engine c.take.new.self lost) c.self.invariant.0,
-      subst (λ (moment : ℕ). moment < END_OF_TIME) (sym (ap (λ r. r.moment) c.note_between.ensures.rest)) c.self.invariant.1,
+    let lost = losses.one c.self.inside.engine c.take.new.self (model_of_happening c.in-Some.happening) loss took in (
+      c.a_reachable_engine_stays_reachable.ensures.executed c.self.inside.engine c.take.new.self (losses.on c.self.inside.engine c.take.new.self lost) c.self.invariant.0,
+      subst (λ (moment : ℕ). moment < END_OF_TIME) (sym (ap (λ r. r.moment) c.record_between_turns.ensures.rest)) c.self.invariant.1,
     )
 
 pub returns-then-is_ok-clause-loses : goal.returns-then-is_ok-clause-loses
 returns-then-is_ok-clause-loses g c =
-    let rest = c.note_between.ensures.rest in
+    let rest = c.record_between_turns.ensures.rest in
     lost_from_view c.args.end c.args.kind _ c.args.self.now _ c.self.view_is
     (taken_here c.args.end c.args.kind c.happening_of_lost_end.result c.in-Some.happening _ _ c.take.result (sym c.is_ok.ensures.value ∙ c.if-is_ok.true) c.in-Some.is c.happening_of_lost_end.ensures
-    c.take.ensures.ok c.note_between.ensures.kept c.note_between.ensures.noted
+    c.take.ensures.ok c.record_between_turns.ensures.kept c.record_between_turns.ensures.noted
     (ap (λ r. r.taken) rest) (ap (λ r. r.moment) rest) refl (ap (λ r. calls r.accepts r.reads r.failures) rest))
 
 pub returns-then-is_ok-clause-on : goal.returns-then-is_ok-clause-on

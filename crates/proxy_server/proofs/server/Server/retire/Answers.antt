@@ -8,18 +8,18 @@ use Rattle.proxy_server.proofs.server.Server.retire.Goals as goal
 
 pub invariant_of-self : goal.invariant_of-self
 invariant_of-self g c =
-    let losses = c.a_turn_is_served_after_losses.ensures in
+    let losses = c.a_turn_is_served_after_end_losses.ensures in
     let took = did_well c.take.result (sym c.is_ok.ensures.value ∙ c.if-is_ok.true) c.take.ensures.ok in
     let lost = losses.one c.self.inside.engine c.take.new.self (Retires c.args.n) tt took in (
-      c.engines_go_on.ensures.executed c.self.inside.engine c.take.new.self (losses.on c.self.inside.engine c.take.new.self lost) c.self.invariant.0,
-      subst (λ (moment : ℕ). moment < END_OF_TIME) (sym (ap (λ r. r.moment) c.note_between.ensures.rest)) c.self.invariant.1,
+      c.a_reachable_engine_stays_reachable.ensures.executed c.self.inside.engine c.take.new.self (losses.on c.self.inside.engine c.take.new.self lost) c.self.invariant.0,
+      subst (λ (moment : ℕ). moment < END_OF_TIME) (sym (ap (λ r. r.moment) c.record_between_turns.ensures.rest)) c.self.invariant.1,
     )
 
 pub returns-then-is_ok-clause-retires : goal.returns-then-is_ok-clause-retires
 returns-then-is_ok-clause-retires g c =
-    let rest = c.note_between.ensures.rest in
+    let rest = c.record_between_turns.ensures.rest in
     one_taken (Retires c.args.n) _ c.args.self.now _ c.take.result c.self.view_is (sym c.is_ok.ensures.value ∙ c.if-is_ok.true) c.take.ensures.ok
-    c.note_between.ensures.kept c.note_between.ensures.noted (ap (λ r. r.taken) rest) (ap (λ r. r.moment) rest) refl (ap (λ r. calls r.accepts r.reads r.failures) rest)
+    c.record_between_turns.ensures.kept c.record_between_turns.ensures.noted (ap (λ r. r.taken) rest) (ap (λ r. r.moment) rest) refl (ap (λ r. calls r.accepts r.reads r.failures) rest)
 
 pub returns-then-is_ok-clause-on : goal.returns-then-is_ok-clause-on
 returns-then-is_ok-clause-on g c = one_taken_on (Retires c.args.n) c.args.self.now _ tt c.requires (returns-then-is_ok-clause-retires g c)

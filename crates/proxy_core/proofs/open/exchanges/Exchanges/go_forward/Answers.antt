@@ -6,13 +6,13 @@ use Rattle.std.specs.Map.{values_of}
 use Rattle.proxy_core.specs.declared.open.exchange.Exchange.{Exchange}
 use Rattle.proxy_core.specs.State.{exchange_forwarded_again}
 use Rattle.proxy_core.specs.Leading.{is_forwarded}
-use Rattle.proxy_core.specs.ByKey.{TellsAllByKey}
-use Rattle.proxy_core.specs.ExchangeIndexes.{IndexesAreRight}
+use Rattle.proxy_core.specs.ByKey.{ArrivalsByKeyAreExact}
+use Rattle.proxy_core.specs.ExchangeIndexes.{ExchangeIndexesAreExact}
 use Rattle.proxy_core.proofs.AskedArrivals.{asked-again, asked-moved, written_again}
-use Rattle.proxy_core.specs.Releases.{may_be_released, ReleasedArrivalsPass}
+use Rattle.proxy_core.specs.Releases.{may_be_released, ReleasedArrivalsPassTest}
 use Rattle.proxy_core.proofs.Releases.{pass-changed, released-gone}
 use Rattle.proxy_core.proofs.Waiters.{AllIndexed, waiters-again, waiters-written}
-use Rattle.proxy_core.specs.Arrivals.{map_exchanges, IsIdIndexOf, arrival_of}
+use Rattle.proxy_core.specs.Arrivals.{map_exchanges, IsIdIndexOf, arrival_number_of_id}
 use Rattle.proxy_core.proofs.ExchangeLists.{gone_out-id}
 use Rattle.proxy_core.proofs.Arrivals.{indexed_on_all, values_on_all, gone_out-others, gone_written, same_all, has_number}
 use Rattle.proxy_core.proofs.open.exchanges.Exchanges.go_forward.Goals as goal
@@ -24,7 +24,7 @@ settle-requires c =
     (c.get_mut.follows.holds c.go_forward.new.self).0
     ∙ gone_written c.args.id c.args.now c.in-Some.arrival.now c.in-Some-get_mut.x.now c.go_forward.new.self c.self.inside.by_arrival.entries (λ id. get nat_cmp c.self.inside.arrivals id) c.self.invariant.indexes.ids
     c.in-Some.ensures.value c.in-Some-get_mut.ensures.value c.go_forward.ensures in
-    subst (ReleasedArrivalsPass (may_be_released s.released)) (sym is)
+    subst (ReleasedArrivalsPassTest (may_be_released s.released)) (sym is)
     (pass-changed (may_be_released s.released) (exchange_forwarded_again c.args.id c.args.now) (released-gone c.args.id c.args.now) s.by_arrival.entries c.self.invariant.releases.within)
 
 pub invariant_of-self-2 : goal.invariant_of-self-2
@@ -43,11 +43,11 @@ invariant_of-self-2 c =
             (ap (λ (x : Exchange). is_forwarded x.stage) c.go_forward.ensures) c.in_ok-leave_for_origin.ensures.left c.self.invariant.indexes.waiters);
       };
       releases = c.settle.ensures.settled;
-      asking = subst (TellsAllByKey c.leave_for_origin.new.by_key) (sym (c.get_mut.follows.holds c.go_forward.new.self).0)
+      asking = subst (ArrivalsByKeyAreExact c.leave_for_origin.new.by_key) (sym (c.get_mut.follows.holds c.go_forward.new.self).0)
           (asked-moved c.in-Some.arrival.now c.in-Some-get_mut.x.now c.go_forward.new.self s.by_arrival.entries s.by_key c.leave_for_origin.new.by_key (sym c.in-Some-get_mut.ensures.value)
           (ap (λ (x : Exchange). x.asked) c.go_forward.ensures) (ap (λ (x : Exchange). is_forwarded x.stage) c.go_forward.ensures) c.in_ok-leave_for_origin.ensures.asks c.self.invariant.asking);
-      trim_waits = c.leave_for_origin.ensures.trim_waits c.self.invariant.trim_waits;
-      trim_keys = c.leave_for_origin.ensures.trim_keys c.self.invariant.trim_keys;
+      no_empty_waiter_sets = c.leave_for_origin.ensures.no_empty_waiter_sets c.self.invariant.no_empty_waiter_sets;
+      no_empty_keys = c.leave_for_origin.ensures.no_empty_keys c.self.invariant.no_empty_keys;
     }
 
 pub returns-clause-ok : goal.returns-clause-ok
@@ -64,7 +64,7 @@ pub returns-in_default-get_mut : goal.returns-in_default-get_mut
 returns-in_default-get_mut c =
     let es = c.self.inside.by_arrival.entries in
     let id = c.args.id in
-    let here : arrival_of id es ≡ Some c.in-Some.arrival.now = sym (c.self.invariant.indexes.ids.indexed id) ∙ sym c.in-Some.ensures.value in
+    let here : arrival_number_of_id id es ≡ Some c.in-Some.arrival.now = sym (c.self.invariant.indexes.ids.indexed id) ∙ sym c.in-Some.ensures.value in
     absurd (false≢true (ap is_some c.in_default-get_mut.ensures.value ∙ has_number id c.in-Some.arrival.now es here))
 
 pub returns-in_default-clause-ok : goal.returns-in_default-clause-ok
@@ -72,7 +72,7 @@ returns-in_default-clause-ok c =
     let es = c.self.inside.by_arrival.entries in
     let id = c.args.id in
     let f : Exchange → Exchange = exchange_forwarded_again id c.args.now in
-    let none : arrival_of id es ≡ None = sym (c.self.invariant.indexes.ids.indexed id) ∙ sym c.in_default.ensures.value in
+    let none : arrival_number_of_id id es ≡ None = sym (c.self.invariant.indexes.ids.indexed id) ∙ sym c.in_default.ensures.value in
     sym c.self.view_is
     ∙ (ap values_of (sym (same_all id f (gone_out-others id c.args.now) es none))
     ∙ (values_on_all f es ∙ ap (map f) c.self.view_is))
@@ -81,7 +81,7 @@ pub invariant_of-self : goal.invariant_of-self
 invariant_of-self c =
     let es = c.self.inside.by_arrival.entries in
     let id = c.args.id in
-    let here : arrival_of id es ≡ Some c.in-Some.arrival.now = sym (c.self.invariant.indexes.ids.indexed id) ∙ sym c.in-Some.ensures.value in
+    let here : arrival_number_of_id id es ≡ Some c.in-Some.arrival.now = sym (c.self.invariant.indexes.ids.indexed id) ∙ sym c.in-Some.ensures.value in
     absurd (false≢true (ap is_some c.in_default-get_mut.ensures.value ∙ has_number id c.in-Some.arrival.now es here))
 
 pub invariant_of-self-in_err-leave_for_origin : goal.invariant_of-self-in_err-leave_for_origin
@@ -91,7 +91,7 @@ invariant_of-self-in_err-leave_for_origin c =
     let x = c.in-Some-get_mut.x.now in
     let is : (c.get_mut.follows.lender x).entries ≡ c.self.inside.by_arrival.entries =
     (c.get_mut.follows.holds x).0 ∙ written_again c.in-Some.arrival.now x c.self.inside.by_arrival.entries (sym c.in-Some-get_mut.ensures.value) in
-    subst (λ (zs : List (ℕ × Exchange)). IndexesAreRight zs (λ id. get nat_cmp s.arrivals id) c.leave_for_origin.new.waiting s.released c.leave_for_origin.new.by_key) (sym is)
+    subst (λ (zs : List (ℕ × Exchange)). ExchangeIndexesAreExact zs (λ id. get nat_cmp s.arrivals id) c.leave_for_origin.new.waiting s.released c.leave_for_origin.new.by_key) (sym is)
     (record {
       indexes = record {
         ids = i.indexes.ids;
@@ -99,8 +99,8 @@ invariant_of-self-in_err-leave_for_origin c =
       };
       releases = i.releases;
       asking = asked-again s.by_arrival.entries s.by_key c.leave_for_origin.new.by_key c.in_err-leave_for_origin.ensures.asks_still i.asking;
-      trim_waits = c.leave_for_origin.ensures.trim_waits i.trim_waits;
-      trim_keys = c.leave_for_origin.ensures.trim_keys i.trim_keys;
+      no_empty_waiter_sets = c.leave_for_origin.ensures.no_empty_waiter_sets i.no_empty_waiter_sets;
+      no_empty_keys = c.leave_for_origin.ensures.no_empty_keys i.no_empty_keys;
     })
 
 pub returns-in_err-leave_for_origin-clause-err : goal.returns-in_err-leave_for_origin-clause-err

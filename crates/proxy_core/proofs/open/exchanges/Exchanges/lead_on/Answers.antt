@@ -5,11 +5,11 @@ use Rattle.std.specs.BTreeSet.{contains}
 use Rattle.std.specs.Map.{values_of}
 use Rattle.proxy_core.specs.declared.open.exchange.Exchange.{Exchange}
 use Rattle.proxy_core.specs.Leading.{waits_for}
-use Rattle.proxy_core.specs.LeadingOn.{led_on_exchange}
+use Rattle.proxy_core.specs.LeadingOn.{after_abandon}
 use Rattle.proxy_core.specs.Arrivals.{map_exchanges, IndexesMatchExchanges}
-use Rattle.proxy_core.specs.ByKey.{TellsAllByKey}
+use Rattle.proxy_core.specs.ByKey.{ArrivalsByKeyAreExact}
 use Rattle.proxy_core.specs.Waiters.{is_in_wait_index, set_contains}
-use Rattle.proxy_core.specs.Releases.{may_be_released, ReleasedArrivalsPass}
+use Rattle.proxy_core.specs.Releases.{may_be_released, ReleasedArrivalsPassTest}
 use Rattle.proxy_core.proofs.AskedArrivals.{asked-on_all}
 use Rattle.proxy_core.proofs.Releases.{pass-turned}
 use Rattle.proxy_core.proofs.ExchangeLists.{led_on-id}
@@ -37,8 +37,8 @@ settle-requires c =
     let es = s.by_arrival.entries in
     let waits = passes (λ x. waits_for q x.stage) (contains nat_cmp c.in-Some-take.waiting) es c.self.invariant.indexes.ids.apart
     (λ m. c.in-Some-take.ensures.all m ∙ (still_those q c.args.next.id c.in_ok-followers-in-Some.followers s.waiting c.enter_all.new.self c.requires c.in_ok-enter_all.ensures.ok m ∙ c.self.invariant.indexes.waiters q m)) in
-    subst (ReleasedArrivalsPass (may_be_released c.enter_all-in-Some-take.new.self)) (sym c.lead_each_on.ensures)
-    (pass-turned q (led_on_exchange c.args.config.now (Some c.args.next) q) (led_away c.args.config.now c.args.next q c.requires) (contains nat_cmp c.in-Some-take.waiting) s.released c.enter_all-in-Some-take.new.self es
+    subst (ReleasedArrivalsPassTest (may_be_released c.enter_all-in-Some-take.new.self)) (sym c.lead_each_on.ensures)
+    (pass-turned q (after_abandon c.args.config.now (Some c.args.next) q) (led_away c.args.config.now c.args.next q c.requires) (contains nat_cmp c.in-Some-take.waiting) s.released c.enter_all-in-Some-take.new.self es
     c.enter_all-in-Some-take.ensures.widened c.enter_all-in-Some-take.ensures.entered waits c.self.invariant.releases.within)
 
 -- there was no memory
@@ -52,8 +52,8 @@ invariant_of-self c =
       };
       releases = c.self.invariant.releases;
       asking = c.self.invariant.asking;
-      trim_waits = c.enter_all.ensures.trim c.self.invariant.trim_waits;
-      trim_keys = c.self.invariant.trim_keys;
+      no_empty_waiter_sets = c.enter_all.ensures.trim c.self.invariant.no_empty_waiter_sets;
+      no_empty_keys = c.self.invariant.no_empty_keys;
     }
 
 pub invariant_of-self-in-Some-take : goal.invariant_of-self-in-Some-take
@@ -63,7 +63,7 @@ invariant_of-self-in-Some-take c =
     let table = c.args.config.now in
     let next = c.args.next in
     let es = s.by_arrival.entries in
-    let f : Exchange → Exchange = led_on_exchange table (Some next) q in
+    let f : Exchange → Exchange = after_abandon table (Some next) q in
     record {
       indexes = subst (λ (zs : List (ℕ × Exchange)). IndexesMatchExchanges zs (λ id. get nat_cmp s.arrivals id) (is_in_wait_index c.take.new.self)) (sym c.lead_each_on.ensures)
           (record {
@@ -72,22 +72,22 @@ invariant_of-self-in-Some-take c =
                 c.in_ok-followers-in-Some.ensures (λ n. ap (λ o. set_contains o n) c.in-Some.ensures) c.in_ok-enter_all.ensures.ok c.take.ensures.emptied c.self.invariant.indexes.waiters;
           });
       releases = c.settle.ensures.settled;
-      asking = subst (TellsAllByKey s.by_key) (sym c.lead_each_on.ensures) (asked-on_all f (led_on-place table (Some next) q) es s.by_key c.self.invariant.asking);
-      trim_waits = c.take.ensures.trim (c.enter_all.ensures.trim c.self.invariant.trim_waits);
-      trim_keys = c.self.invariant.trim_keys;
+      asking = subst (ArrivalsByKeyAreExact s.by_key) (sym c.lead_each_on.ensures) (asked-on_all f (led_on-place table (Some next) q) es s.by_key c.self.invariant.asking);
+      no_empty_waiter_sets = c.take.ensures.trim (c.enter_all.ensures.trim c.self.invariant.no_empty_waiter_sets);
+      no_empty_keys = c.self.invariant.no_empty_keys;
     }
 
 pub returns-in-Some-take-clause-ok : goal.returns-in-Some-take-clause-ok
 returns-in-Some-take-clause-ok c =
-    let f : Exchange → Exchange = led_on_exchange c.args.config.now (Some c.args.next) c.args.id in
+    let f : Exchange → Exchange = after_abandon c.args.config.now (Some c.args.next) c.args.id in
     ap values_of c.lead_each_on.ensures ∙ (values_on_all f c.self.inside.by_arrival.entries ∙ ap (map f) c.self.view_is)
 
 -- none waits for it
-nobody_behind : (c : goal.In_default) → map_exchanges (led_on_exchange c.args.config.now (Some c.args.next) c.args.id) c.self.inside.by_arrival.entries ≡ c.self.inside.by_arrival.entries
+nobody_behind : (c : goal.In_default) → map_exchanges (after_abandon c.args.config.now (Some c.args.next) c.args.id) c.self.inside.by_arrival.entries ≡ c.self.inside.by_arrival.entries
 nobody_behind c =
     let s = c.self.inside in
     let q = c.args.id in
-    none_turned q (led_on_exchange c.args.config.now (Some c.args.next) q) (led_away c.args.config.now c.args.next q c.requires) s.by_arrival.entries
+    none_turned q (after_abandon c.args.config.now (Some c.args.next) q) (led_away c.args.config.now c.args.next q c.requires) s.by_arrival.entries
     (passes (λ x. waits_for q x.stage) (λ n. false) s.by_arrival.entries c.self.invariant.indexes.ids.apart
     (λ m. c.in_default.ensures.all m ∙ (still_those q c.args.next.id c.in_ok-followers-in-Some.followers s.waiting c.enter_all.new.self c.requires c.in_ok-enter_all.ensures.ok m ∙ c.self.invariant.indexes.waiters q m)))
 
@@ -98,7 +98,7 @@ invariant_of-self-in_default c =
     let table = c.args.config.now in
     let next = c.args.next in
     let es = s.by_arrival.entries in
-    let f : Exchange → Exchange = led_on_exchange table (Some next) q in
+    let f : Exchange → Exchange = after_abandon table (Some next) q in
     record {
       indexes = subst (λ (zs : List (ℕ × Exchange)). IndexesMatchExchanges zs (λ id. get nat_cmp s.arrivals id) (is_in_wait_index c.take.new.self)) (nobody_behind c)
           (record {
@@ -108,13 +108,13 @@ invariant_of-self-in_default c =
           });
       releases = c.self.invariant.releases;
       asking = c.self.invariant.asking;
-      trim_waits = c.take.ensures.trim (c.enter_all.ensures.trim c.self.invariant.trim_waits);
-      trim_keys = c.self.invariant.trim_keys;
+      no_empty_waiter_sets = c.take.ensures.trim (c.enter_all.ensures.trim c.self.invariant.no_empty_waiter_sets);
+      no_empty_keys = c.self.invariant.no_empty_keys;
     }
 
 pub returns-in_default-clause-ok : goal.returns-in_default-clause-ok
 returns-in_default-clause-ok c =
-    let f : Exchange → Exchange = led_on_exchange c.args.config.now (Some c.args.next) c.args.id in
+    let f : Exchange → Exchange = after_abandon c.args.config.now (Some c.args.next) c.args.id in
     ap values_of (sym (nobody_behind c)) ∙ (values_on_all f c.self.inside.by_arrival.entries ∙ ap (map f) c.self.view_is)
 
 pub returns-in-None-clause-ok : goal.returns-in-None-clause-ok
@@ -122,7 +122,7 @@ returns-in-None-clause-ok c =
     let s = c.self.inside in
     let q = c.args.id in
     let es = s.by_arrival.entries in
-    let f : Exchange → Exchange = led_on_exchange c.args.config.now (Some c.args.next) q in
+    let f : Exchange → Exchange = after_abandon c.args.config.now (Some c.args.next) q in
     let nobody : map_exchanges f es ≡ es = none_turned q f (led_away c.args.config.now c.args.next q c.requires) es
     (passes (λ x. waits_for q x.stage) (λ n. false) es c.self.invariant.indexes.ids.apart (λ m. ap (λ o. set_contains o m) c.in-None.ensures ∙ c.self.invariant.indexes.waiters q m)) in
     sym c.self.view_is ∙ (ap values_of (sym nobody) ∙ (values_on_all f es ∙ ap (map f) c.self.view_is))

@@ -5,10 +5,10 @@ use Rattle.std.specs.BTreeMap.{get}
 use Rattle.std.specs.Map.{values_of}
 use Rattle.proxy_core.specs.declared.open.exchange.Exchange.{Exchange}
 use Rattle.proxy_core.specs.State.{overdue_exchange}
-use Rattle.proxy_core.specs.ByKey.{TellsAllByKey}
-use Rattle.proxy_core.specs.Releases.{may_be_released, ReleasedArrivalsPass}
-use Rattle.proxy_core.specs.ExchangeIndexes.{IndexesAreRight}
-use Rattle.proxy_core.specs.Arrivals.{map_exchanges, IsIdIndexOf, arrival_of}
+use Rattle.proxy_core.specs.ByKey.{ArrivalsByKeyAreExact}
+use Rattle.proxy_core.specs.Releases.{may_be_released, ReleasedArrivalsPassTest}
+use Rattle.proxy_core.specs.ExchangeIndexes.{ExchangeIndexesAreExact}
+use Rattle.proxy_core.specs.Arrivals.{map_exchanges, IsIdIndexOf, arrival_number_of_id}
 use Rattle.proxy_core.proofs.AskedArrivals.{asked-on_all, written_again}
 use Rattle.proxy_core.proofs.Waiters.{AllIndexed}
 use Rattle.proxy_core.proofs.ExchangeLists.{overdue-id}
@@ -19,8 +19,8 @@ use Rattle.proxy_core.proofs.open.exchanges.Exchanges.overdue.Goals as goal
 pub settle-requires : goal.settle-requires
 settle-requires c =
     let s = c.self.inside in
-    let y = c.wait_no_more.new.self in
-    subst (ReleasedArrivalsPass (may_be_released c.enter.new.self)) (sym (c.get_mut.follows.holds y).0)
+    let y = c.stop_waiting.new.self in
+    subst (ReleasedArrivalsPassTest (may_be_released c.enter.new.self)) (sym (c.get_mut.follows.holds y).0)
     (pass-lapsed c.in-Some.arrival.now y s.released c.enter.new.self s.by_arrival.entries c.enter.ensures.widened (c.enter.ensures.entered refl) c.self.invariant.releases.within)
 
 pub invariant_of-self-then-is_waiting : goal.invariant_of-self-then-is_waiting
@@ -30,23 +30,23 @@ invariant_of-self-then-is_waiting c =
     let id = c.args.id in
     let n = c.in-Some.arrival.now in
     let x = c.in-Some-get_mut.x.now in
-    let y = c.wait_no_more.new.self in
+    let y = c.stop_waiting.new.self in
     let f : Exchange → Exchange = overdue_exchange id in
     let is : (c.get_mut.follows.lender y).entries ≡ map_exchanges f es =
     (c.get_mut.follows.holds y).0
     ∙ overdue_written id n x y es (λ id. get nat_cmp s.arrivals id) c.self.invariant.indexes.ids c.in-Some.ensures.value c.in-Some-get_mut.ensures.value
-    (sym c.is_waiting.ensures ∙ c.if-is_waiting.true) c.wait_no_more.ensures in
+    (sym c.is_waiting.ensures ∙ c.if-is_waiting.true) c.stop_waiting.ensures in
     record {
       indexes = record {
         ids = subst (λ (zs : List (ℕ × Exchange)). IsIdIndexOf zs (λ id. get nat_cmp s.arrivals id)) (sym is)
             (indexed_on_all f (overdue-id id) es _ c.self.invariant.indexes.ids);
         waiters = subst (AllIndexed c.remove_arrival.new.self) (sym (c.get_mut.follows.holds y).0)
-            (waiters-past n x y es s.waiting c.remove_arrival.new.self (sym c.in-Some-get_mut.ensures.value) c.wait_no_more.ensures c.remove_arrival.ensures.left c.self.invariant.indexes.waiters);
+            (waiters-past n x y es s.waiting c.remove_arrival.new.self (sym c.in-Some-get_mut.ensures.value) c.stop_waiting.ensures c.remove_arrival.ensures.left c.self.invariant.indexes.waiters);
       };
       releases = c.settle.ensures.settled;
-      asking = subst (TellsAllByKey s.by_key) (sym is) (asked-on_all f (overdue-place id) es s.by_key c.self.invariant.asking);
-      trim_waits = c.remove_arrival.ensures.trim c.self.invariant.trim_waits;
-      trim_keys = c.self.invariant.trim_keys;
+      asking = subst (ArrivalsByKeyAreExact s.by_key) (sym is) (asked-on_all f (overdue-place id) es s.by_key c.self.invariant.asking);
+      no_empty_waiter_sets = c.remove_arrival.ensures.trim c.self.invariant.no_empty_waiter_sets;
+      no_empty_keys = c.self.invariant.no_empty_keys;
     }
 
 pub returns-then-is_waiting : goal.returns-then-is_waiting
@@ -54,11 +54,11 @@ returns-then-is_waiting c =
     let s = c.self.inside in
     let es = s.by_arrival.entries in
     let f : Exchange → Exchange = overdue_exchange c.args.id in
-    let y = c.wait_no_more.new.self in
+    let y = c.stop_waiting.new.self in
     let is : (c.get_mut.follows.lender y).entries ≡ map_exchanges f es =
     (c.get_mut.follows.holds y).0
     ∙ overdue_written c.args.id c.in-Some.arrival.now c.in-Some-get_mut.x.now y es (λ id. get nat_cmp s.arrivals id) c.self.invariant.indexes.ids c.in-Some.ensures.value c.in-Some-get_mut.ensures.value
-    (sym c.is_waiting.ensures ∙ c.if-is_waiting.true) c.wait_no_more.ensures in
+    (sym c.is_waiting.ensures ∙ c.if-is_waiting.true) c.stop_waiting.ensures in
     ap values_of is ∙ (values_on_all f es ∙ ap (map f) c.self.view_is)
 
 -- one that doesn't wait stays as it is
@@ -68,7 +68,7 @@ invariant_of-self-else-is_waiting c =
     let x = c.in-Some-get_mut.x.now in
     let is : (c.get_mut.follows.lender x).entries ≡ s.by_arrival.entries =
     (c.get_mut.follows.holds x).0 ∙ written_again c.in-Some.arrival.now x s.by_arrival.entries (sym c.in-Some-get_mut.ensures.value) in
-    subst (λ (zs : List (ℕ × Exchange)). IndexesAreRight zs (λ id. get nat_cmp s.arrivals id) s.waiting s.released s.by_key) (sym is) c.self.invariant
+    subst (λ (zs : List (ℕ × Exchange)). ExchangeIndexesAreExact zs (λ id. get nat_cmp s.arrivals id) s.waiting s.released s.by_key) (sym is) c.self.invariant
 
 pub returns-else-is_waiting : goal.returns-else-is_waiting
 returns-else-is_waiting c =
@@ -89,7 +89,7 @@ pub returns-in_default-get_mut : goal.returns-in_default-get_mut
 returns-in_default-get_mut c =
     let es = c.self.inside.by_arrival.entries in
     let id = c.args.id in
-    let here : arrival_of id es ≡ Some c.in-Some.arrival.now = sym (c.self.invariant.indexes.ids.indexed id) ∙ sym c.in-Some.ensures.value in
+    let here : arrival_number_of_id id es ≡ Some c.in-Some.arrival.now = sym (c.self.invariant.indexes.ids.indexed id) ∙ sym c.in-Some.ensures.value in
     absurd (false≢true (ap is_some c.in_default-get_mut.ensures.value ∙ has_number id c.in-Some.arrival.now es here))
 
 pub returns-in_default : goal.returns-in_default
@@ -97,7 +97,7 @@ returns-in_default c =
     let es = c.self.inside.by_arrival.entries in
     let id = c.args.id in
     let f : Exchange → Exchange = overdue_exchange id in
-    let none : arrival_of id es ≡ None = sym (c.self.invariant.indexes.ids.indexed id) ∙ sym c.in_default.ensures.value in
+    let none : arrival_number_of_id id es ≡ None = sym (c.self.invariant.indexes.ids.indexed id) ∙ sym c.in_default.ensures.value in
     sym c.self.view_is
     ∙ (ap values_of (sym (same_all id f (overdue-others id) es none))
     ∙ (values_on_all f es ∙ ap (map f) c.self.view_is))
@@ -106,5 +106,5 @@ pub invariant_of-self : goal.invariant_of-self
 invariant_of-self c =
     let es = c.self.inside.by_arrival.entries in
     let id = c.args.id in
-    let here : arrival_of id es ≡ Some c.in-Some.arrival.now = sym (c.self.invariant.indexes.ids.indexed id) ∙ sym c.in-Some.ensures.value in
+    let here : arrival_number_of_id id es ≡ Some c.in-Some.arrival.now = sym (c.self.invariant.indexes.ids.indexed id) ∙ sym c.in-Some.ensures.value in
     absurd (false≢true (ap is_some c.in_default-get_mut.ensures.value ∙ has_number id c.in-Some.arrival.now es here))

@@ -7,10 +7,10 @@ use Rattle.proxy_core.specs.Leading.{waits_for}
 use Rattle.proxy_core.specs.State.{released_exchange}
 use Rattle.proxy_core.specs.Arrivals.{map_exchanges, IndexesMatchExchanges}
 use Rattle.std.specs.BTreeSet.{contains}
-use Rattle.proxy_core.specs.ByKey.{TellsAllByKey}
+use Rattle.proxy_core.specs.ByKey.{ArrivalsByKeyAreExact}
 use Rattle.proxy_core.proofs.AskedArrivals.{asked-on_all, release-place}
 use Rattle.proxy_core.specs.Waiters.{is_in_wait_index}
-use Rattle.proxy_core.specs.Releases.{may_be_released, ReleasedArrivalsPass}
+use Rattle.proxy_core.specs.Releases.{may_be_released, ReleasedArrivalsPassTest}
 use Rattle.proxy_core.proofs.Releases.{pass-freed}
 use Rattle.proxy_core.proofs.ExchangeLists.{release-id}
 use Rattle.proxy_core.proofs.Arrivals.{indexed_on_all, values_on_all}
@@ -29,7 +29,7 @@ release_each-requires c =
 pub settle-requires : goal.settle-requires
 settle-requires c =
     let s = c.self.inside in
-    subst (ReleasedArrivalsPass (may_be_released c.enter_all.new.self)) (sym c.release_each.ensures)
+    subst (ReleasedArrivalsPassTest (may_be_released c.enter_all.new.self)) (sym c.release_each.ensures)
     (pass-freed c.args.leader (contains nat_cmp c.in-Some.waiting) s.released c.enter_all.new.self s.by_arrival.entries c.enter_all.ensures.widened c.enter_all.ensures.entered
     (passes (λ x. waits_for c.args.leader x.stage) _ s.by_arrival.entries c.self.invariant.indexes.ids.apart (λ m. c.in-Some.ensures.all m ∙ c.self.invariant.indexes.waiters c.args.leader m))
     c.self.invariant.releases.within)
@@ -45,9 +45,9 @@ invariant_of-self c =
             waiters = waiters-released q s.by_arrival.entries s.waiting c.take.new.self c.take.ensures.emptied c.self.invariant.indexes.waiters;
           });
       releases = c.settle.ensures.settled;
-      asking = subst (TellsAllByKey s.by_key) (sym c.release_each.ensures) (asked-on_all (released_exchange q) (release-place q) s.by_arrival.entries s.by_key c.self.invariant.asking);
-      trim_waits = c.take.ensures.trim c.self.invariant.trim_waits;
-      trim_keys = c.self.invariant.trim_keys;
+      asking = subst (ArrivalsByKeyAreExact s.by_key) (sym c.release_each.ensures) (asked-on_all (released_exchange q) (release-place q) s.by_arrival.entries s.by_key c.self.invariant.asking);
+      no_empty_waiter_sets = c.take.ensures.trim c.self.invariant.no_empty_waiter_sets;
+      no_empty_keys = c.self.invariant.no_empty_keys;
     }
 
 -- none waits for it
@@ -69,8 +69,8 @@ invariant_of-self-in_default c =
           });
       releases = c.self.invariant.releases;
       asking = c.self.invariant.asking;
-      trim_waits = c.take.ensures.trim c.self.invariant.trim_waits;
-      trim_keys = c.self.invariant.trim_keys;
+      no_empty_waiter_sets = c.take.ensures.trim c.self.invariant.no_empty_waiter_sets;
+      no_empty_keys = c.self.invariant.no_empty_keys;
     }
 
 pub returns-in-Some : goal.returns-in-Some

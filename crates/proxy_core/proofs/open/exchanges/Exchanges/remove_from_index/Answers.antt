@@ -4,11 +4,11 @@ use Rattle.std.specs.Ordering.{nat_cmp}
 use Rattle.std.specs.BTreeMap.{get, is_at}
 use Rattle.std.specs.Map.{lookup, values_of}
 use Rattle.proxy_core.specs.declared.open.exchange.Exchange.{Exchange}
-use Rattle.proxy_core.specs.Arrivals.{IndexesMatchExchanges, IsIdIndexOf, arrival_of}
-use Rattle.proxy_core.specs.ByKey.{TellsAllByKey}
+use Rattle.proxy_core.specs.Arrivals.{IndexesMatchExchanges, IsIdIndexOf, arrival_number_of_id}
+use Rattle.proxy_core.specs.ByKey.{ArrivalsByKeyAreExact}
 use Rattle.proxy_core.proofs.AskedArrivals.{asked-closed}
 use Rattle.proxy_core.specs.Waiters.{is_in_wait_index}
-use Rattle.proxy_core.specs.Releases.{may_be_released, ReleasedArrivalsPass}
+use Rattle.proxy_core.specs.Releases.{may_be_released, ReleasedArrivalsPassTest}
 use Rattle.proxy_core.proofs.Releases.{pass-closed}
 use Rattle.proxy_core.proofs.Waiters.{waiters-closed}
 use Rattle.proxy_core.specs.Outcomes.{find_exchange}
@@ -18,7 +18,7 @@ use Rattle.proxy_core.proofs.open.exchanges.Exchanges.remove_from_index.Goals as
 pub settle-requires : goal.settle-requires
 settle-requires c =
     let s = c.self.inside in
-    subst (ReleasedArrivalsPass (may_be_released s.released)) (sym c.remove-taken.ensures.entries)
+    subst (ReleasedArrivalsPassTest (may_be_released s.released)) (sym c.remove-taken.ensures.entries)
     (pass-closed c.in_ok-arrival.arrival (may_be_released s.released) s.by_arrival.entries c.self.invariant.indexes.ids.apart c.self.invariant.releases.within)
 
 -- the exchange that goes
@@ -43,24 +43,24 @@ invariant_of-self-2 c =
             waiters = waiters-closed n x.0 es s.waiting c.remove-taken.new.waiting i.ids.apart x.1 (c.remove-taken.ensures.left x.0 x.1) i.waiters;
           });
       releases = c.settle.ensures.settled;
-      asking = subst (TellsAllByKey c.remove-taken.new.by_key) (sym c.remove-taken.ensures.entries)
+      asking = subst (ArrivalsByKeyAreExact c.remove-taken.new.by_key) (sym c.remove-taken.ensures.entries)
           (asked-closed n x.0 es s.by_key c.remove-taken.new.by_key i.ids.apart x.1 (c.remove-taken.ensures.asks_no_more x.0 x.1) c.self.invariant.asking);
-      trim_waits = c.remove-taken.ensures.trim_waits c.self.invariant.trim_waits;
-      trim_keys = c.remove-taken.ensures.trim_keys c.self.invariant.trim_keys;
+      no_empty_waiter_sets = c.remove-taken.ensures.no_empty_waiter_sets c.self.invariant.no_empty_waiter_sets;
+      no_empty_keys = c.remove-taken.ensures.no_empty_keys c.self.invariant.no_empty_keys;
     }
 
 pub returns-clause-after : goal.returns-clause-after
 returns-clause-after c =
     let es = c.self.inside.by_arrival.entries in
     let id = c.args.id in
-    let here : arrival_of id es ≡ Some c.in_ok-arrival.arrival = sym (c.self.invariant.indexes.ids.indexed id) ∙ sym c.in_ok-arrival.ensures.value in
+    let here : arrival_number_of_id id es ≡ Some c.in_ok-arrival.arrival = sym (c.self.invariant.indexes.ids.indexed id) ∙ sym c.in_ok-arrival.ensures.value in
     ap values_of c.remove-taken.ensures.entries ∙ (closed_one id c.in_ok-arrival.arrival es c.self.invariant.indexes.ids.apart here ∙ ap (but id) c.self.view_is)
 
 pub returns-clause-taken : goal.returns-clause-taken
 returns-clause-taken c =
     let es = c.self.inside.by_arrival.entries in
     let id = c.args.id in
-    let here : arrival_of id es ≡ Some c.in_ok-arrival.arrival = sym (c.self.invariant.indexes.ids.indexed id) ∙ sym c.in_ok-arrival.ensures.value in
+    let here : arrival_number_of_id id es ≡ Some c.in_ok-arrival.arrival = sym (c.self.invariant.indexes.ids.indexed id) ∙ sym c.in_ok-arrival.ensures.value in
     c.remove-taken.ensures.taken
     ∙ (found id c.in_ok-arrival.arrival es c.self.invariant.indexes.ids.apart here ∙ ap (find_exchange id) c.self.view_is)
 
@@ -68,12 +68,12 @@ pub returns-in_err-arrival-clause-after : goal.returns-in_err-arrival-clause-aft
 returns-in_err-arrival-clause-after c =
     let es = c.self.inside.by_arrival.entries in
     let id = c.args.id in
-    let none : arrival_of id es ≡ None = sym (c.self.invariant.indexes.ids.indexed id) ∙ sym c.in_err-arrival.ensures.value in
+    let none : arrival_number_of_id id es ≡ None = sym (c.self.invariant.indexes.ids.indexed id) ∙ sym c.in_err-arrival.ensures.value in
     sym (closed_none id es none) ∙ ap (but id) c.self.view_is
 
 pub returns-in_err-arrival-clause-taken : goal.returns-in_err-arrival-clause-taken
 returns-in_err-arrival-clause-taken c =
     let es = c.self.inside.by_arrival.entries in
     let id = c.args.id in
-    let none : arrival_of id es ≡ None = sym (c.self.invariant.indexes.ids.indexed id) ∙ sym c.in_err-arrival.ensures.value in
+    let none : arrival_number_of_id id es ≡ None = sym (c.self.invariant.indexes.ids.indexed id) ∙ sym c.in_err-arrival.ensures.value in
     c.from_residual.ensures ∙ (sym (not_found id es none) ∙ ap (find_exchange id) c.self.view_is)

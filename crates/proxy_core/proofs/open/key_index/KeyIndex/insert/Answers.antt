@@ -7,7 +7,7 @@ use Rattle.hx_target.specs.declared.keys.Key.{Key}
 use Rattle.hx_target.specs.Keys.{same_key}
 use Rattle.hx_target.specs.KeyOrder.{key_cmp}
 use Rattle.proxy_core.specs.declared.open.key_index.KeyIndex.{KeyIndex}
-use Rattle.proxy_core.specs.ByKey.{is_in_key_index, AreSameKeyIndex}
+use Rattle.proxy_core.specs.ByKey.{is_in_key_index, KeyIndexesHaveSameMembers}
 use Rattle.proxy_core.proofs.Waiters.{not_nothing, some_has}
 use Rattle.proxy_core.proofs.KeyIndices.{entered, put, written, trim-same, trim-written}
 use Rattle.proxy_core.proofs.open.key_index.KeyIndex.insert.Goals as goal
@@ -20,7 +20,7 @@ returns-clause-ok c =
     let mid = c.insert_beside.new.self in
     let set = c.insert.new.self in
     let new : KeyIndex = record { alloc = mid.alloc; arrivals = c.insert-2.new.self } in
-    let b : AreSameKeyIndex old mid × ((m : ℕ) → is_in_key_index old key m ≡ false) = search rules in
+    let b : KeyIndexesHaveSameMembers old mid × ((m : ℕ) → is_in_key_index old key m ≡ false) = search rules in
     let k : c.in_ok-copy.field-0 ≡ key = search rules in
     let u : (q : Key) → get key_cmp c.insert-2.new.self q ≡ cond (is_at (key_cmp key) q) (Some set) (get key_cmp mid.arrivals q) =
     subst (λ z. (q : Key) → get key_cmp c.insert-2.new.self q ≡ cond (is_at (key_cmp z) q) (Some set) (get key_cmp mid.arrivals q)) k c.in_ok-insert-2.ensures.updates.0 in

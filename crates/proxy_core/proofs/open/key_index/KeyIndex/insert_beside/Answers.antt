@@ -6,7 +6,7 @@ use Rattle.std.specs.BTreeSet.{contains}
 use Rattle.hx_target.specs.KeyOrder.{key_cmp}
 use Rattle.proxy_core.specs.declared.open.key_index.KeyIndex.{KeyIndex}
 use Rattle.proxy_core.specs.Waiters.{set_contains}
-use Rattle.proxy_core.specs.ByKey.{AreSameKeyIndex}
+use Rattle.proxy_core.specs.ByKey.{KeyIndexesHaveSameMembers}
 use Rattle.proxy_core.proofs.Waiters.{not_nothing, some_has}
 use Rattle.proxy_core.proofs.KeyIndices.{entered, put, same, written, trim-same, trim-written}
 use Rattle.proxy_core.proofs.open.key_index.KeyIndex.insert_beside.Goals as goal
@@ -19,7 +19,7 @@ returns-in_err-insert-in-Some-clause-err c =
     let new : KeyIndex = record { alloc = old.alloc; arrivals = c.get_mut.follows.lender set } in
     let u : WritesThrough key_cmp (key_cmp key) old.arrivals set new.arrivals = search rules in
     let m : get_by (key_cmp key) old.arrivals ≡ Some c.in-Some.arrivals.now = search rules in
-    let k : AreSameKeyIndex old new = same key old new (λ n. contains nat_cmp set n) (written key old new (Some set) (u.3 (ap is_some m)).0)
+    let k : KeyIndexesHaveSameMembers old new = same key old new (λ n. contains nat_cmp set n) (written key old new (Some set) (u.3 (ap is_some m)).0)
     (λ n. ap (list_any (is_at (nat_cmp n))) c.in_err-insert-in-Some.ensures.err ∙ sym (ap (λ o. set_contains o n) m)) in
     search rules
 

@@ -7,7 +7,7 @@ use Rattle.std.specs.BTreeSet.{contains}
 use Rattle.hx_target.specs.KeyOrder.{key_cmp}
 use Rattle.proxy_core.specs.declared.open.key_index.KeyIndex.{KeyIndex}
 use Rattle.proxy_core.specs.Waiters.{set_contains}
-use Rattle.proxy_core.specs.ByKey.{HasNoEmptyKeys}
+use Rattle.proxy_core.specs.ByKey.{KeyIndexHasNoEmptySet}
 use Rattle.proxy_core.proofs.Waiters.{some_has}
 use Rattle.proxy_core.proofs.KeyIndices.{left, entries_without_serials, written, trim-beside, trim-same, trim-written}
 use Rattle.proxy_core.proofs.open.key_index.KeyIndex.remove_from_index.Goals as goal
@@ -45,7 +45,7 @@ returns-in-Some-clause-trim c o =
     let new : KeyIndex = record { alloc = old.alloc; arrivals = c.get_mut.follows.lender set } in
     let u : WritesThrough key_cmp (key_cmp key) old.arrivals set new.arrivals = search rules in
     let m : get_by (key_cmp key) old.arrivals ≡ Some c.in-Some.arrivals.now = search rules in
-    on_false c.is_empty.result (HasNoEmptyKeys new) (λ f. trim-written key old new (Some set) (u.3 (ap is_some m)).0
+    on_false c.is_empty.result (KeyIndexHasNoEmptySet new) (λ f. trim-written key old new (Some set) (u.3 (ap is_some m)).0
     (some_has set (λ k. false≢true (sym f ∙ c.is_empty.ensures.1 (ap length k)))) o)
 
 pub returns-in-None-clause-trim_beside : goal.returns-in-None-clause-trim_beside

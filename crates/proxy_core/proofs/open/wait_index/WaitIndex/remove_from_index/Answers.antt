@@ -4,7 +4,7 @@ use Rattle.std.specs.Bool.{OnFalse}
 use Rattle.std.specs.Ordering.{nat_cmp}
 use Rattle.std.specs.BTreeMap.{WritesThrough, get_by}
 use Rattle.proxy_core.specs.declared.open.wait_index.WaitIndex.{WaitIndex}
-use Rattle.proxy_core.specs.Waiters.{HasNoEmptyWaiterSets}
+use Rattle.proxy_core.specs.Waiters.{WaitIndexHasNoEmptySet}
 use Rattle.proxy_core.proofs.Waiters.{some_has, trim-beside, trim-same, trim-written}
 use Rattle.proxy_core.proofs.open.wait_index.WaitIndex.remove_from_index.Goals as goal
 
@@ -30,7 +30,7 @@ returns-in-Some-clause-trim c o =
     let new : WaitIndex = record { alloc = old.alloc; arrivals = c.get_mut.follows.lender set } in
     let u : WritesThrough nat_cmp (nat_cmp id) old.arrivals set new.arrivals = search rules in
     let m : get_by (nat_cmp id) old.arrivals ≡ Some c.in-Some.arrivals.now = search rules in
-    on_false c.is_empty.result (HasNoEmptyWaiterSets new) (λ f. trim-written id old new (Some set) (u.3 (ap is_some m)).0
+    on_false c.is_empty.result (WaitIndexHasNoEmptySet new) (λ f. trim-written id old new (Some set) (u.3 (ap is_some m)).0
     (some_has set (λ k. false≢true (sym f ∙ c.is_empty.ensures.1 (ap length k)))) o)
 
 pub returns-in-None-clause-trim_beside : goal.returns-in-None-clause-trim_beside

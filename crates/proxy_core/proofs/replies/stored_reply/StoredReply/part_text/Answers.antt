@@ -1,5 +1,5 @@
 use Rattle.std.proofs.Common.{◌≡◌, ℕ, List, subst, sym, ◌∙◌, IfOk}
-use Rattle.proxy_core.specs.Abouts.{about_sent}
+use Rattle.proxy_core.specs.Abouts.{about_stored_response_sent}
 use Rattle.proxy_core.proofs.RangeReplies.{status_of_part_is, text_of_part_is}
 use Rattle.proxy_core.proofs.replies.stored_reply.StoredReply.part_text.Goals as goal
 
@@ -12,5 +12,5 @@ returns-then-head_leaves_room-clause-text c =
 pub returns-then-head_leaves_room-clause-about : goal.returns-then-head_leaves_room-clause-about
 returns-then-head_leaves_room-clause-about c =
     let reply = c.args.self.now in
-    subst (λ (n : ℕ). IfOk c.text_of_part.result (λ sent. sent.about ≡ about_sent n reply.entry.now reply.sent_at reply.info))
+    subst (λ (n : ℕ). IfOk c.text_of_part.result (λ sent. sent.about ≡ about_stored_response_sent n reply.entry.now reply.sent_at reply.info))
     (status_of_part_is reply.entry.now c.args.first c.args.last _ c.in_ok-fields.ensures (sym c.head_leaves_room.ensures ∙ c.if-head_leaves_room.true)) c.text_of_part.ensures.about

@@ -1,5 +1,5 @@
 use Rattle.std.proofs.Common.{◌++◌, List, ℕ, map, sym, ap, ◌∙◌, subst}
-use Rattle.proxy_engine.specs.State.{RelatesLists, ConnectionRepresents}
+use Rattle.proxy_engine.specs.State.{ListsAreRelated, ConnectionRepresents}
 use Rattle.proxy_engine.specs.Reading.{client_end_at}
 use Rattle.proxy_engine.specs.ReadyList.{entries_below}
 use Rattle.proxy_engine.specs.Marked.{EndList}
@@ -11,5 +11,5 @@ use Rattle.proxy_engine.proofs.endpoints.connections.Connections.push_readable.G
 pub returns : goal.returns
 returns c =
     does_ok c.push_clients.result _ _
-    (λ is ss both. is ∙ ap (λ (ps : List ℕ). c.args.ends.now.items ++ map client_end_at ps) (read_places (entries_below c.open.inside.ends c.open.inside.count) ss (subst (λ (v : EndList Connection). RelatesLists ConnectionRepresents v.items ss) (sym (c.open.view_is ∙ c.self.view_is)) both)))
+    (λ is ss both. is ∙ ap (λ (ps : List ℕ). c.args.ends.now.items ++ map client_end_at ps) (read_places (entries_below c.open.inside.ends c.open.inside.count) ss (subst (λ (v : EndList Connection). ListsAreRelated ConnectionRepresents v.items ss) (sym (c.open.view_is ∙ c.self.view_is)) both)))
     c.push_clients.ensures

@@ -1,5 +1,5 @@
 use Rattle.std.proofs.Common.{Contains, ◌+◌, ◌≤◌, ◌^◌, ◌++◌, List, ℕ, map, sym, ap, ◌∙◌, subst}
-use Rattle.proxy_engine.specs.State.{RelatesLists, LinkRepresents}
+use Rattle.proxy_engine.specs.State.{ListsAreRelated, LinkRepresents}
 use Rattle.proxy_engine.specs.Reading.{link_end_at}
 use Rattle.proxy_engine.specs.ReadyList.{entries_below, PlacesAreBelow}
 use Rattle.proxy_engine.specs.Marked.{EndList}
@@ -24,7 +24,7 @@ returns c =
     let n = c.self.inside.count in
     does_ok c.push_failed.result _ _
     (λ is ss both fits.
-    let there = subst (λ (v : EndList Link). RelatesLists LinkRepresents v.items ss) (sym c.self.view_is) both in
+    let there = subst (λ (v : EndList Link). ListsAreRelated LinkRepresents v.items ss) (sym c.self.view_is) both in
     is (subst (λ (k : ℕ). c.args.first + k ≤ 2 ^ 64) (sym (both_length LinkRepresents (entries_below m n) ss there) ∙ listed_length m n) fits)
     ∙ ap (λ (ps : List ℕ). c.args.ends.now.items ++ map (link_end_at c.args.first) ps) (failed_places (entries_below m n) ss there))
     c.push_failed.ensures

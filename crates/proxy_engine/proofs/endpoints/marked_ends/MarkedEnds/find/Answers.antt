@@ -1,7 +1,7 @@
 use Rattle.std.specs.Ordering.{nat_cmp}
 use Rattle.std.specs.BTreeMap.{get}
 use Rattle.std.proofs.Common.{ap, ◌∙◌, subst, sym, length}
-use Rattle.proxy_engine.specs.Marked.{EndList, item_at, RelatesAtEachPlace}
+use Rattle.proxy_engine.specs.Marked.{EndList, end_if_open_at, PlacesAreRelated}
 use Rattle.proxy_engine.specs.ReadyList.{entries_below}
 use Rattle.proxy_engine.proofs.Finding.{listed_found, listed_stopped, alike_listed}
 use Rattle.proxy_engine.proofs.Keeping.{listed_length}
@@ -19,7 +19,7 @@ invariant_of-self g c = (
 
 pub returns-clause-alike : goal.returns-clause-alike
 returns-clause-alike g c =
-    subst (λ (v : EndList g.row.E.Denot). RelatesAtEachPlace g.E.Endpoint.LooksLike (item_at v.items) (item_at (entries_below c.first_due.new.ends c.self.inside.count))) c.self.view_is
+    subst (λ (v : EndList g.row.E.Denot). PlacesAreRelated g.E.Endpoint.LooksLike (end_if_open_at v.items) (end_if_open_at (entries_below c.first_due.new.ends c.self.inside.count))) c.self.view_is
     (alike_listed g.E.Endpoint.LooksLike c.self.inside.ends c.first_due.new.ends c.self.inside.count c.first_due.ensures.alike)
 
 pub returns-clause-length : goal.returns-clause-length

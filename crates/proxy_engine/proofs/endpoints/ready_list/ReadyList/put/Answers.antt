@@ -2,7 +2,7 @@ use Rattle.std.proofs.Common.{◌≡◌, inl, inr, ◌+◌, ◌<◌, ◌≤◌, 
 use Rattle.std.specs.Prelude.{vec_len, vec_capacity}
 use Rattle.std.proofs.lemmas.List.{length-drop}
 use Rattle.std.proofs.lemmas.List.Edits.{length-insert}
-use Rattle.proxy_engine.specs.ReadyList.{ReadyPlaces, PlacesAscend, PlaceBelongsBehind}
+use Rattle.proxy_engine.specs.ReadyList.{ReadyPlaces, PlacesAscend, IsInsertionIndexOfPlace}
 use Rattle.proxy_engine.proofs.Rising.{IsNew, not_there, rises_insert, drop-insert, insert_there, insert_others, insert_only, with_room}
 use Rattle.proxy_engine.proofs.endpoints.ready_list.ReadyList.put.Goals as goal
 
@@ -12,8 +12,8 @@ old c = drop c.self.inside.first c.self.inside.items.items
 was : (c : goal.After-insert) → old c ≡ c.args.self.now.places
 was c = ap (λ (k : ReadyPlaces). k.places) c.self.view_is
 
-behind : (c : goal.After-insert) → PlaceBelongsBehind (old c) c.args.place c.in-Err.count
-behind c = subst (λ (xs : List ℕ). PlaceBelongsBehind xs c.args.place c.in-Err.count) (c.places.ensures ∙ sym (was c)) c.in-Err.ensures.behind
+behind : (c : goal.After-insert) → IsInsertionIndexOfPlace (old c) c.args.place c.in-Err.count
+behind c = subst (λ (xs : List ℕ). IsInsertionIndexOfPlace xs c.args.place c.in-Err.count) (c.places.ensures ∙ sym (was c)) c.in-Err.ensures.behind
 
 new : (c : goal.After-insert) → IsNew (old c) c.in-Err.count c.args.place
 new c = record { rises = c.self.invariant.1; behind = behind c }

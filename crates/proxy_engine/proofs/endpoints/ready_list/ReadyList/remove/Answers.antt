@@ -2,7 +2,7 @@ use Rattle.std.proofs.Common.{◌≡◌, ◌+◌, ◌<◌, ℕ, List, length, dr
 use Rattle.std.specs.List.{remove}
 use Rattle.std.proofs.lemmas.List.{length-drop}
 use Rattle.std.proofs.lemmas.List.Edits.{length-remove}
-use Rattle.proxy_engine.specs.ReadyList.{ReadyPlaces, PlacesAscend, PlaceBelongsBehind, PlaceIsLeast}
+use Rattle.proxy_engine.specs.ReadyList.{ReadyPlaces, PlacesAscend, IsInsertionIndexOfPlace, PlaceIsLeast}
 use Rattle.proxy_engine.proofs.Rising.{not_there, rises_remove, remove_others, remove_only, drop-remove, first_is_least}
 use Rattle.proxy_engine.proofs.endpoints.ready_list.ReadyList.remove.Goals as goal
 
@@ -68,5 +68,5 @@ pub returns-in-Err-clause-only : goal.returns-in-Err-clause-only
 returns-in-Err-clause-only c = λ q h.
     let places = c.args.self.now.places in
     let was = ap (λ (k : ReadyPlaces). k.places) c.self.view_is in
-    let behind = subst (λ (xs : List ℕ). PlaceBelongsBehind xs c.args.place c.in-Err.field-0) c.places.ensures c.in-Err.ensures.behind in
+    let behind = subst (λ (xs : List ℕ). IsInsertionIndexOfPlace xs c.args.place c.in-Err.field-0) c.places.ensures c.in-Err.ensures.behind in
     ((λ e. not_there places c.in-Err.field-0 c.args.place record { rises = subst PlacesAscend was c.self.invariant.1; behind = behind } (subst (λ (p : ℕ). Contains places p) e h)), h)

@@ -1,5 +1,0 @@
-use Rattle.hx_allow.proofs.TagsNamed.{named_told}
-use Rattle.hx_allow.proofs.tag_cases.a_response_names_its_tags.Goals as goal
-
-pub returns-clause-named : goal.returns-clause-named
-returns-clause-named c = named_told

@@ -1,5 +1,0 @@
-use Rattle.hx_framing.proofs.ChunkFaultComplete.{neither_waits}
-use Rattle.hx_framing.proofs.laws.chunk_fault_laws.chunks_that_are_neither_wait.Goals as goal
-
-pub returns : goal.returns
-returns c = neither_waits

@@ -1,5 +1,0 @@
-use Rattle.hx_framing.proofs.RequestStreams.{one_fault_lem}
-use Rattle.hx_framing.proofs.laws.request_laws.a_stream_has_one_fault.Goals as goal
-
-pub returns : goal.returns
-returns c = one_fault_lem

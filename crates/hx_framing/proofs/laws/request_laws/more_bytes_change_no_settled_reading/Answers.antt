@@ -1,0 +1,5 @@
+use Rattle.hx_framing.proofs.RequestLemmas.{reads_append}
+use Rattle.hx_framing.proofs.laws.request_laws.more_bytes_change_no_settled_reading.Goals as goal
+
+pub returns : goal.returns
+returns c = reads_append

@@ -1,5 +1,0 @@
-use Rattle.hx_framing.proofs.RequestOnce.{read_once_lem}
-use Rattle.hx_framing.proofs.laws.request_laws.one_reading_stands_in_front.Goals as goal
-
-pub returns : goal.returns
-returns c = read_once_lem

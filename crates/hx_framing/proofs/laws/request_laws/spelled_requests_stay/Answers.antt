@@ -1,5 +1,0 @@
-use Rattle.hx_framing.proofs.RequestStreams.{spells_append}
-use Rattle.hx_framing.proofs.laws.request_laws.spelled_requests_stay.Goals as goal
-
-pub returns : goal.returns
-returns c = λ max_body stream more ms rest h. spells_append max_body stream ms rest more h

@@ -1,0 +1,4 @@
+use Rattle.hx_framing.proofs.laws.response_laws.readers_give_only_spelled_messages.Goals as goal
+
+pub returns : goal.returns
+returns c = λ reader p represents. represents.spells

@@ -1,5 +1,0 @@
-use Rattle.hx_hop.proofs.Dating.{shows_the_moment, has_one, dates_once}
-use Rattle.hx_hop.proofs.laws.one_date_is_present.Goals as goal
-
-pub returns : goal.returns
-returns c = record { moment = shows_the_moment; one = has_one; once = dates_once }

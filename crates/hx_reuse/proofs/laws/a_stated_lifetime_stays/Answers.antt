@@ -1,5 +1,0 @@
-use Rattle.hx_reuse.proofs.LineLemmas.{stated_stays, others_stay, errors_stay}
-use Rattle.hx_reuse.proofs.laws.a_stated_lifetime_stays.Goals as goal
-
-pub returns : goal.returns
-returns c = record { stated = stated_stays; other_status = others_stay; errors = errors_stay }

@@ -1,5 +1,0 @@
-use Rattle.hx_reuse.proofs.KeptConditions.{stays, only_these}
-use Rattle.hx_reuse.proofs.laws.the_conditions_of_a_cacheable_get_stay.Goals as goal
-
-pub returns : goal.returns
-returns c = record { every = stays; only = only_these }

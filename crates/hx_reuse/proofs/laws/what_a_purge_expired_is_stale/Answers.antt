@@ -1,5 +1,0 @@
-use Rattle.hx_reuse.proofs.PromiseLemmas.{lasts_as_long, purged_is_not_forbidden, purged_is_stale}
-use Rattle.hx_reuse.proofs.laws.what_a_purge_expired_is_stale.Goals as goal
-
-pub returns : goal.returns
-returns c = record { stale = purged_is_stale; forbidden = purged_is_not_forbidden; others = lasts_as_long }

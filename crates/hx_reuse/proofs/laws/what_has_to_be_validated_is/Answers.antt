@@ -1,6 +1,0 @@
-use Rattle.hx_reuse.proofs.PromiseLemmas.{is_fresh, keeps_its_own, has_no_no_cache, never_on_error}
-use Rattle.hx_reuse.proofs.WhileRevalidatingLemmas.{never_where_forbidden}
-use Rattle.hx_reuse.proofs.laws.what_has_to_be_validated_is.Goals as goal
-
-pub returns : goal.returns
-returns c = record { stale = is_fresh; stated = keeps_its_own; no_cache = has_no_no_cache; error = never_on_error; while_revalidating = never_where_forbidden }

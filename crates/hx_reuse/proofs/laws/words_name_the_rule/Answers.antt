@@ -1,5 +1,0 @@
-use Rattle.hx_reuse.proofs.WordLemmas.{words_differ, error_words_differ}
-use Rattle.hx_reuse.proofs.laws.words_name_the_rule.Goals as goal
-
-pub returns : goal.returns
-returns c = record { reuse = words_differ; error = error_words_differ }

@@ -1,5 +1,0 @@
-use Rattle.hx_status.proofs.TextLemmas.{texts_differ}
-use Rattle.hx_status.proofs.laws.texts_name_the_rule.Goals as goal
-
-pub returns : goal.returns
-returns c = texts_differ

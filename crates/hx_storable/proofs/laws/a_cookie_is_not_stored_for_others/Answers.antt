@@ -1,5 +1,0 @@
-use Rattle.hx_storable.proofs.LineLemmas.{cookie_forbids}
-use Rattle.hx_storable.proofs.laws.a_cookie_is_not_stored_for_others.Goals as goal
-
-pub returns-clause-every : goal.returns-clause-every
-returns-clause-every c = cookie_forbids

@@ -1,5 +1,0 @@
-use Rattle.hx_storable.proofs.LineLemmas.{stored_without_words, stored_with_words}
-use Rattle.hx_storable.proofs.laws.words_only_forbid_storing.Goals as goal
-
-pub returns : goal.returns
-returns c = record { only = stored_without_words; no_more = stored_with_words }

@@ -1,5 +1,0 @@
-use Rattle.hx_store.proofs.EntryLists.{serials_in_order, held_is_found, found_has_serial}
-use Rattle.hx_store.proofs.laws.what_is_held_is_found.Goals as goal
-
-pub returns : goal.returns
-returns c = record { serials = serials_in_order; held = held_is_found; found = found_has_serial }

@@ -1,5 +1,0 @@
-use Rattle.hx_validate.proofs.Tags.{compares_both_ways, strong_is_weak}
-use Rattle.hx_validate.proofs.laws.equality_goes_both_ways.Goals as goal
-
-pub returns : goal.returns
-returns c = record { narrower = strong_is_weak; turned = compares_both_ways }

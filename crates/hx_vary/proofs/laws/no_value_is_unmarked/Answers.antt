@@ -1,9 +1,0 @@
-use Rattle.std.specs.List.{fold}
-use Rattle.std.specs.Hash.{u64}
-use Rattle.std.specs.Hash.DefaultHasher.{initial, write, finish}
-use Rattle.hx_vary.proofs.MarkLemmas.{never_0}
-use Rattle.hx_vary.proofs.laws.no_value_is_unmarked.Goals as goal
-
-pub returns : goal.returns
-unfolding Rattle.hx_vary.specs.Marks.value_tag
-returns c = λ seed value. never_0 (finish (write (fold write initial (u64 seed)) value))

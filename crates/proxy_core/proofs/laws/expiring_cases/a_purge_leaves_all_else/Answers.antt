@@ -1,5 +1,0 @@
-use Rattle.proxy_core.proofs.PurgesExpire.{leaves_expired, leaves_removed}
-use Rattle.proxy_core.proofs.laws.expiring_cases.a_purge_leaves_all_else.Goals as goal
-
-pub returns : goal.returns
-returns c = record { expired = leaves_expired; removed = leaves_removed }

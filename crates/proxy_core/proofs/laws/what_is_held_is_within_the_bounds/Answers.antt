@@ -1,5 +1,0 @@
-use Rattle.proxy_core.proofs.HeldWithin.{changes_are_those, held_by_number_alone, held_is_within, stored_is_held, stored_weighs_no_more}
-use Rattle.proxy_core.proofs.laws.what_is_held_is_within_the_bounds.Goals as goal
-
-pub returns : goal.returns
-returns c = record { within = held_is_within; stored = stored_is_held; weighs = stored_weighs_no_more; by_number = held_by_number_alone; changes = changes_are_those }

@@ -1,8 +1,0 @@
-use Rattle.proxy_engine.proofs.Staying.{takes_stay, acts_stay}
-use Rattle.proxy_engine.proofs.laws.what_ends_stays_ended.Goals as goal
-
-pub returns-clause-takes : goal.returns-clause-takes
-returns-clause-takes c = takes_stay
-
-pub returns-clause-acts : goal.returns-clause-acts
-returns-clause-acts c = acts_stay

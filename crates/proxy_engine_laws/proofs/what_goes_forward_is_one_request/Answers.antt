@@ -1,5 +1,0 @@
-use Rattle.proxy_engine_laws.proofs.SentEach.{forwards_one_request_each}
-use Rattle.proxy_engine_laws.proofs.what_goes_forward_is_one_request.Goals as goal
-
-pub returns : goal.returns
-returns c = forwards_one_request_each

@@ -1,9 +1,0 @@
-use Rattle.std.proofs.Common.{subst, Ok, List, ℕ}
-use Rattle.hx_allow.specs.Tables.{BytesReadAs}
-use Rattle.proxy_files.proofs.Reading.{whole_where_few}
-use Rattle.proxy_files.proofs.files.no_table_is_cut.Goals as goal
-
-pub returns : goal.returns
-returns c = λ text file table is reads.
-    let same = whole_where_few text file (c.a_table_is_toml_within_the_limit.ensures.taken text table reads).0 is in
-    (subst (λ (t : List ℕ). BytesReadAs t (Ok table)) same reads, same)

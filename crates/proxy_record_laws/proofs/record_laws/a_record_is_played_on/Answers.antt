@@ -1,8 +1,0 @@
-use Rattle.proxy_record_laws.proofs.PlayingOn.{losses_play_on, turns_play_on}
-use Rattle.proxy_record_laws.proofs.record_laws.a_record_is_played_on.Goals as goal
-
-pub returns : goal.returns
-returns c = record {
-  turn = turns_play_on c.one_act_is_due_first.ensures c.a_turn_does_its_acts_in_order.ensures.rounds c.turns_are_executed.ensures.over_reports;
-  loss = losses_play_on c.one_act_is_due_first.ensures;
-}

@@ -1,5 +1,0 @@
-use Rattle.proxy_store_file.proofs.SoundLaws.{read_stores_stand}
-use Rattle.proxy_store_file.proofs.laws.read_stores_may_stand.Goals as goal
-
-pub returns : goal.returns
-returns c = read_stores_stand
