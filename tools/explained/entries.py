@@ -48,7 +48,7 @@ class Words:
     def parts(self, rows, defined):
         """Of a rule's row and its row of plain words."""
         (table, row), more = rows, row_of_words(rows, self.documents)
-        where = row.get("Stands where")
+        where = row.get("Applies if")
         yield PLAIN.lower(), more.get(PLAIN)
         yield "stands where", where
         yield from changes_of(more[CHANGE]) if more.get(CHANGE) else ()
@@ -57,18 +57,18 @@ class Words:
 
     def reuse(self, name):
         """A reuse rule, by its name."""
-        rows = self.documents.row(lambda it: it["Rule"] == name, "Rule", "Stands where", "fwd", "detail")
+        rows = self.documents.row(lambda it: it["Rule"] == name, "Rule", "Applies if", "fwd", "detail")
         reason, detail = (self.sources.texts(it, "ReuseRule")[name] for it in ("reuse_rule_reason", "reuse_rule_detail"))
         number = self.sources.numbers("reuse_rule_number", "ReuseRule")[name]
         title = f"fwd={reason}{f';detail={detail}' if detail else ''}: rule {number} of reuse, {name}"
         return Entry(
             f"reuse-{number}",
             title,
-            self.parts(rows, self.sources.definition("ReuseRule", name, ["rule_condition", "reuse_rule_applies"])),
+            self.parts(rows, self.sources.definition("ReuseRule", name, ["reuse_rule_condition", "reuse_rule_applies"])),
         )
 
     def storing(self, name):
-        rows = self.documents.row(lambda it: it["Rule"] == name, "Rule", "Stands where", "RFC", without=["fwd", "Word"])
+        rows = self.documents.row(lambda it: it["Rule"] == name, "Rule", "Applies if", "RFC", without=["fwd", "Word"])
         number = self.sources.numbers("storing_rule_number", "StoreRule")[name]
         return Entry(
             f"storing-{number}",
@@ -77,7 +77,7 @@ class Words:
         )
 
     def error(self, name):
-        rows = self.documents.row(lambda it: it["Rule"] == name, "Rule", "Stands where", "Word", "RFC")
+        rows = self.documents.row(lambda it: it["Rule"] == name, "Rule", "Applies if", "Word", "RFC")
         number, word = (
             self.sources.numbers("error_rule_number", "ErrorRule")[name],
             self.sources.texts("error_rule_word", "ErrorRule")[name],
@@ -89,8 +89,8 @@ class Words:
 
     def message(self, name):
         """A fault of a message."""
-        rows = self.documents.row(lambda it: it["Fault"] == name, "Fault", "Stands where", "Answer to a client")
-        word = self.sources.texts("frame_word", "FrameFault")[name]
+        rows = self.documents.row(lambda it: it["Fault"] == name, "Fault", "Applies if", "Answer to a client")
+        word = self.sources.texts("frame_fault_word", "FrameFault")[name]
         return Entry(
             f"message-{word}",
             f"refused: {word}: fault {rows[1].get('No')} of messages, {name}",
@@ -98,8 +98,8 @@ class Words:
         )
 
     def target(self, name):
-        rows = self.documents.row(lambda it: it["Fault"] == name, "Fault", "Stands where", "RFC", "Answer")
-        word = self.sources.texts("target_word", "TargetFault")[name]
+        rows = self.documents.row(lambda it: it["Fault"] == name, "Fault", "Applies if", "RFC", "Answer")
+        word = self.sources.texts("target_fault_word", "TargetFault")[name]
         defined = self.sources.definition("TargetFault", name, ["target_fault_applies"])
         return Entry(
             f"target-{word}",

@@ -15,7 +15,7 @@ RULES = [
     ("ErrorRule", "error_rule_number", Words.error),
 ]
 # Lists of words. (Out of memory is told of no target: it is the program's own.)
-FAULTS = [("FrameFault", "frame_word", Words.message), ("TargetFault", "target_word", Words.target)]
+FAULTS = [("FrameFault", "frame_fault_word", Words.message), ("TargetFault", "target_fault_word", Words.target)]
 OTHERS = [("FailKind", "fail_kind_word", Words.kind), ("Cause", "refusal_text", Words.cause), ("Detail", "detail_word", Words.detail)]
 OTHERS.append(("UnansweredCause", "unanswered_name", Words.left))
 
@@ -118,14 +118,14 @@ def of_rules(words, root):
 def row_agrees(words, type, name, number):
     """Whether the row of a rule has the number and the words that the definitions have."""
     if type == "ReuseRule":
-        _, row = words.documents.row(lambda it: it["Rule"] == name, "Rule", "Stands where", "fwd", "detail")
+        _, row = words.documents.row(lambda it: it["Rule"] == name, "Rule", "Applies if", "fwd", "detail")
         told = [words.sources.texts(it, type)[name] or "" for it in ("reuse_rule_reason", "reuse_rule_detail")]
         return [row.get(it) for it in ("No", "fwd", "detail")] == [str(number), *told]
     if type == "ErrorRule":
-        _, row = words.documents.row(lambda it: it["Rule"] == name, "Rule", "Stands where", "Word", "RFC")
+        _, row = words.documents.row(lambda it: it["Rule"] == name, "Rule", "Applies if", "Word", "RFC")
         return [row.get(it) for it in ("No", "Word")] == [str(number), words.sources.texts("error_rule_word", type)[name]]
     word = words.sources.texts("storing_rule_word", type)[name]
-    _, row = words.documents.row(lambda it: it["Rule"] == name, "Rule", "Stands where", "`not-stored-`", "RFC")
+    _, row = words.documents.row(lambda it: it["Rule"] == name, "Rule", "Applies if", "`not-stored-`", "RFC")
     return [row.get(it) for it in ("No", "`not-stored-`")] == [str(number), word]
 
 
@@ -245,7 +245,7 @@ def is_found(found, root):
         if not faults_of(found, root)[1]:
             unseen.append(f"that the row of {next(iter(row.values()))} is missing in {table.place()}")
         table.rows.append(row)
-    for table in found.documents.with_heads("No", "Rule", "Stands where"):
+    for table in found.documents.with_heads("No", "Rule", "Applies if"):
         number, table.rows[0]["No"] = table.rows[0]["No"], "99"
         if not faults_of(found, root)[1]:
             unseen.append(f"that a rule has another number in {table.place()}")

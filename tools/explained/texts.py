@@ -136,9 +136,9 @@ class Texts:
 
     def of_fault(self, word):
         """A fault of a message or of a target, by its word."""
-        entries = [self.words.message(it) for it in self.named("frame_word", "FrameFault", word)]
+        entries = [self.words.message(it) for it in self.named("frame_fault_word", "FrameFault", word)]
         return entries + [
-            self.words.target(it) for it in self.named("target_word", "TargetFault", word) if it != "OutOfMemory"
+            self.words.target(it) for it in self.named("target_fault_word", "TargetFault", word) if it != "OutOfMemory"
         ]
 
     def of_line(self, text):
@@ -186,10 +186,10 @@ class Texts:
         entries += self.of_fault(word) + [
             self.words.error(it) for it in self.sources.table("error_rule_number", "ErrorRule") if it == word
         ]
-        entries += [self.words.message(it) for it in self.sources.table("frame_word", "FrameFault") if it == word]
+        entries += [self.words.message(it) for it in self.sources.table("frame_fault_word", "FrameFault") if it == word]
         entries += [
             self.words.target(it)
-            for it in self.sources.table("target_word", "TargetFault")
+            for it in self.sources.table("target_fault_word", "TargetFault")
             if it == word != "OutOfMemory"
         ]
         entries += [self.words.cause(it) for it, one in NAMES_OF_CAUSES.items() if word == one and it != "Target"]
@@ -221,8 +221,8 @@ class Texts:
         for function, type in (
             ("error_rule_word", "ErrorRule"),
             ("fail_kind_word", "FailKind"),
-            ("frame_word", "FrameFault"),
-            ("target_word", "TargetFault"),
+            ("frame_fault_word", "FrameFault"),
+            ("target_fault_word", "TargetFault"),
         ):
             known |= set(self.sources.texts(function, type).values())
         return difflib.get_close_matches(value_of(text), sorted(known | self.sources.parameters()), 3, 0.6)

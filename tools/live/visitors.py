@@ -76,7 +76,7 @@ def cookies_are_shared_where_a_line_says_so(stage):
 
 
 @scenario
-def who_is_signed_in_goes_past_the_store(stage):
+def a_named_cookie_bypasses_the_store(stage):
     """`session-cookies`, RFC 6265, 4.2.1: who has one of these cookies is sent nothing stored, and nothing is stored for others, over any
     line of Cookie. All others have the store's page, whatever cookies they send. A POST invalidates all the same."""
     words = {"lifetime": 60, "cookies": "shared", "session-cookies": ["sid", "login"]}
