@@ -30,4 +30,4 @@ member_is_told name status =
     (one_more name (handling_text status.how) (fwd_status_text status.fwd_status) (name ++ hit_or_forward_text status.how) (ap (λ (w : List ℕ). name ++ w) (parameter_is_told status.how))))))
 
 pub refusal_is_told : RefusalTextIsTheReason
-refusal_is_told cause = refl
+refusal_is_told cause n = refl

@@ -3,7 +3,7 @@
 -- about_refusal, about_purge: what the proxy's own answers are
 -- reason_text: what a reply tells, as a line of a log has it
 -- CacheStatusMemberHasTheReason, RefusalTextIsTheReason: what is told as data is what the reply's own line says
-use Rattle.std.specs.Prelude.{◌≡◌, ℕ, List, ◌++◌, codes, Option, Some, None}
+use Rattle.std.specs.Prelude.{◌≡◌, ℕ, List, ◌++◌, codes, None}
 use Rattle.std.specs.Fmt.{decimal}
 use Rattle.hx_reuse.specs.RuleNames.{reuse_rule_reason}
 use Rattle.hx_status.specs.Member.{member_text, fwd_status_text, ttl_text, text_if_flag, detail_parameter_text}
@@ -16,13 +16,18 @@ use Rattle.hx_status.specs.declared.status.How.{How}
 use Rattle.hx_status.specs.declared.status.How.TheVariants.{Hit, Fwd}
 use Rattle.hx_status.specs.declared.status.Status.{Status}
 
--- the proxy answers by itself, by no origin's word
-abbrev pub about_refusal : Cause → StatusAndReason
-about_refusal cause = record { status = refusal_status cause; told = Refused cause; origin_line = None }
+-- the proxy answers by itself, by no origin's word, with so many bytes of content
+abbrev pub about_refusal : Cause → ℕ → StatusAndReason
+about_refusal cause content_length = record {
+  status = refusal_status cause;
+  told = Refused cause;
+  content_length = content_length;
+  origin_line = None;
+}
 
 -- 204: a purge took so many
 abbrev pub about_purge : ℕ → StatusAndReason
-about_purge count = record { status = 204; told = Purged count; origin_line = None }
+about_purge count = record { status = 204; told = Purged count; content_length = 0; origin_line = None }
 
 abbrev pub handling_text : How → List ℕ
 handling_text Hit = codes "hit"
@@ -47,4 +52,4 @@ CacheStatusMemberHasTheReason = (name : List ℕ) (status : Status)
     → member_text name status ≡ name ++ (codes ";" ++ reason_text (Handled status))
 
 abbrev pub RefusalTextIsTheReason : Type 0
-RefusalTextIsTheReason = (cause : Cause) → refusal_text cause ≡ reason_text (about_refusal cause).told
+RefusalTextIsTheReason = (cause : Cause) (n : ℕ) → refusal_text cause ≡ reason_text (about_refusal cause n).told

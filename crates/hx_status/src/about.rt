@@ -1,5 +1,5 @@
 //! What a reply is, as data.
-ghost use Rattle.std.specs.Prelude.{◌≡◌, ◌++◌, OnOk};
+ghost use Rattle.std.specs.Prelude.{◌≡◌, ◌+◌, ◌<◌, ◌≤◌, ◌++◌, OnErr, OnOk, length, take, vec_capacity};
 ghost use Rattle.hx_status.specs.Abouts.{about_refusal, about_purge, reason_text};
 
 use crate::cache_status::push_handled;
@@ -27,6 +27,8 @@ pub struct StatusAndReason {
     /// The status of the reply itself (RFC 9110, section 15).
     pub status: u16,
     pub told: Told,
+    /// The bytes of its content (RFC 9110, section 6.4). They are counted as it is written.
+    pub content_length: u64,
     /// The line of the operator's table whose origin was asked for it, from 1; none where no origin was asked.
     pub origin_line: Option<u16>,
 }
@@ -40,13 +42,14 @@ pub struct ReplyData {
 }
 
 impl StatusAndReason {
-    /// The proxy answers by itself for this cause, and asked no origin.
-    pub fn refusal(cause: Cause) -> StatusAndReason
-        ensures { result ≡ about_refusal cause }
+    /// The proxy answers by itself for this cause, with so many bytes of content, and asked no origin.
+    pub fn refusal(cause: Cause, content_length: u64) -> StatusAndReason
+        ensures { result ≡ about_refusal cause content_length }
     {
         StatusAndReason {
             status: refusal_status(cause),
             told: Told::Refused(cause),
+            content_length,
             origin_line: None,
         }
     }
@@ -58,6 +61,7 @@ impl StatusAndReason {
         StatusAndReason {
             status: 204,
             told: Told::Purged(count),
+            content_length: 0,
             origin_line: None,
         }
     }
@@ -66,7 +70,10 @@ impl StatusAndReason {
 /// Adds what a reply tells, as a line of a log has it: the parameters of its member of Cache-Status, the text of
 /// Refusal, or the line of Purged. Its only error is out of memory.
 pub fn push_reason(out: &mut Vec<u8>, told: &Told) -> Result<(), AllocError>
-    ensures { OnOk result (out.new.items ≡ out.old.items ++ reason_text told.now) }
+    ensures ok { OnOk result (out.new.items ≡ out.old.items ++ reason_text told.now) }
+    ensures full { OnErr result (vec_capacity out.old < length out.old.items + length (reason_text told.now)) }
+    ensures capacity { vec_capacity out.old ≤ vec_capacity out.new }
+    ensures front { take (length out.old.items) out.new.items ≡ out.old.items }
 {
     match told {
         Told::Handled(status) => push_handled(out, status),

@@ -1,5 +1,6 @@
 //! The member of Cache-Status that this proxy adds (RFC 9211).
-ghost use Rattle.std.specs.Prelude.{◌≡◌, ◌++◌, IfOk, OnOk, Bool, option_copied};
+ghost use Rattle.std.specs.Prelude.{◌≡◌, ◌+◌, ◌<◌, ◌≤◌, ◌++◌, IfOk, OnErr, OnOk, Bool, length, option_copied, take};
+ghost use Rattle.std.specs.Prelude.{vec_capacity};
 ghost use Rattle.std.specs.Fmt.{decimal, signed_decimal};
 ghost use Rattle.hx_reuse.specs.RuleNames.{reuse_rule_reason, reuse_rule_detail};
 ghost use Rattle.hx_status.specs.Member.{member_text, hit_or_forward_text, fwd_status_text, ttl_text, text_if_flag};
@@ -30,7 +31,10 @@ fn push_how(out: &mut Vec<u8>, how: How) -> Result<(), AllocError>
 
 /// A hit, or the reason for going forward, with no semicolon in front.
 fn push_handling(out: &mut Vec<u8>, how: How) -> Result<(), AllocError>
-    ensures { OnOk result (out.new.items ≡ out.old.items ++ handling_text how) }
+    ensures ok { OnOk result (out.new.items ≡ out.old.items ++ handling_text how) }
+    ensures full { OnErr result (vec_capacity out.old < length out.old.items + length (handling_text how)) }
+    ensures capacity { vec_capacity out.old ≤ vec_capacity out.new }
+    ensures front { take (length out.old.items) out.new.items ≡ out.old.items }
 {
     match how {
         How::Hit => out.extend_from_slice(b"hit"),
@@ -42,7 +46,10 @@ fn push_handling(out: &mut Vec<u8>, how: How) -> Result<(), AllocError>
 }
 
 fn push_fwd_status(out: &mut Vec<u8>, status: Option<u16>) -> Result<(), AllocError>
-    ensures { OnOk result (out.new.items ≡ out.old.items ++ fwd_status_text status) }
+    ensures ok { OnOk result (out.new.items ≡ out.old.items ++ fwd_status_text status) }
+    ensures full { OnErr result (vec_capacity out.old < length out.old.items + length (fwd_status_text status)) }
+    ensures capacity { vec_capacity out.old ≤ vec_capacity out.new }
+    ensures front { take (length out.old.items) out.new.items ≡ out.old.items }
 {
     match status {
         None => Ok(()),
@@ -55,7 +62,10 @@ fn push_fwd_status(out: &mut Vec<u8>, status: Option<u16>) -> Result<(), AllocEr
 }
 
 fn push_ttl(out: &mut Vec<u8>, ttl: Option<i64>) -> Result<(), AllocError>
-    ensures { OnOk result (out.new.items ≡ out.old.items ++ ttl_text ttl) }
+    ensures ok { OnOk result (out.new.items ≡ out.old.items ++ ttl_text ttl) }
+    ensures full { OnErr result (vec_capacity out.old < length out.old.items + length (ttl_text ttl)) }
+    ensures capacity { vec_capacity out.old ≤ vec_capacity out.new }
+    ensures front { take (length out.old.items) out.new.items ≡ out.old.items }
 {
     match ttl {
         None => Ok(()),
@@ -68,7 +78,10 @@ fn push_ttl(out: &mut Vec<u8>, ttl: Option<i64>) -> Result<(), AllocError>
 }
 
 fn push_flag(out: &mut Vec<u8>, is_set: bool, text: &str) -> Result<(), AllocError>
-    ensures { OnOk result (out.new.items ≡ out.old.items ++ text_if_flag is_set text.now) }
+    ensures ok { OnOk result (out.new.items ≡ out.old.items ++ text_if_flag is_set text.now) }
+    ensures full { OnErr result (vec_capacity out.old < length out.old.items + length (text_if_flag is_set text.now)) }
+    ensures capacity { vec_capacity out.old ≤ vec_capacity out.new }
+    ensures front { take (length out.old.items) out.new.items ≡ out.old.items }
 {
     if is_set {
         out.extend_from_slice(text.as_bytes())
@@ -141,7 +154,11 @@ fn not_stored_word(rule: StoreRule) -> &'static str
 
 /// Adds `;detail=WORD` where there is one.
 pub(crate) fn push_detail(out: &mut Vec<u8>, word: Option<&'static str>) -> Result<(), AllocError>
-    ensures { OnOk result (out.new.items ≡ out.old.items ++ detail_word_text (option_copied word.entry)) }
+    ensures ok { OnOk result (out.new.items ≡ out.old.items ++ detail_word_text (option_copied word.entry)) }
+    ensures full { OnErr result (vec_capacity out.old < length out.old.items
+        + length (detail_word_text (option_copied word.entry))) }
+    ensures capacity { vec_capacity out.old ≤ vec_capacity out.new }
+    ensures front { take (length out.old.items) out.new.items ≡ out.old.items }
 {
     match word {
         None => Ok(()),
@@ -169,7 +186,11 @@ pub fn member(alloc: Global, name: &str, status: &Status) -> Result<Bytes, Alloc
 
 /// Adds the parameters of a member, with no semicolon in front.
 pub(crate) fn push_handled(out: &mut Vec<u8>, status: &Status) -> Result<(), AllocError>
-    ensures { OnOk result (out.new.items ≡ out.old.items ++ cache_status_parameters_text status.now) }
+    ensures ok { OnOk result (out.new.items ≡ out.old.items ++ cache_status_parameters_text status.now) }
+    ensures full { OnErr result (vec_capacity out.old < length out.old.items
+        + length (cache_status_parameters_text status.now)) }
+    ensures capacity { vec_capacity out.old ≤ vec_capacity out.new }
+    ensures front { take (length out.old.items) out.new.items ≡ out.old.items }
 {
     push_handling(out, status.how)?;
     push_fwd_status(out, status.fwd_status)?;

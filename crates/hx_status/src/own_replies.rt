@@ -1,5 +1,5 @@
 //! The proxy's own answers.
-ghost use Rattle.std.specs.Prelude.{◌≡◌, ◌++◌, IfOk, OnOk};
+ghost use Rattle.std.specs.Prelude.{◌≡◌, ◌+◌, ◌<◌, ◌≤◌, ◌++◌, IfOk, OnErr, OnOk, codes, length, take, vec_capacity};
 ghost use Rattle.std.specs.Fmt.{decimal};
 ghost use Rattle.hx_status.specs.Refusals.{refusal_status, refusal_text, fwd_parameters_of_rule, error_rule_text};
 ghost use Rattle.hx_status.specs.Refusals.{fail_kind_word, origin_failure_text};
@@ -96,7 +96,10 @@ pub(crate) fn refusal_status(cause: Cause) -> u16
 }
 
 fn push_rule(out: &mut Vec<u8>, rule: ReuseRule) -> Result<(), AllocError>
-    ensures { OnOk result (out.new.items ≡ out.old.items ++ fwd_parameters_of_rule rule) }
+    ensures ok { OnOk result (out.new.items ≡ out.old.items ++ fwd_parameters_of_rule rule) }
+    ensures full { OnErr result (vec_capacity out.old < length out.old.items + length (fwd_parameters_of_rule rule)) }
+    ensures capacity { vec_capacity out.old ≤ vec_capacity out.new }
+    ensures front { take (length out.old.items) out.new.items ≡ out.old.items }
 {
     out.extend_from_slice(b";fwd=")?;
     out.extend_from_slice(rule.reason().as_bytes())?;
@@ -104,7 +107,10 @@ fn push_rule(out: &mut Vec<u8>, rule: ReuseRule) -> Result<(), AllocError>
 }
 
 fn push_error(out: &mut Vec<u8>, rule: Option<ErrorRule>) -> Result<(), AllocError>
-    ensures { OnOk result (out.new.items ≡ out.old.items ++ error_rule_text rule) }
+    ensures ok { OnOk result (out.new.items ≡ out.old.items ++ error_rule_text rule) }
+    ensures full { OnErr result (vec_capacity out.old < length out.old.items + length (error_rule_text rule)) }
+    ensures capacity { vec_capacity out.old ≤ vec_capacity out.new }
+    ensures front { take (length out.old.items) out.new.items ≡ out.old.items }
 {
     match rule {
         None => Ok(()),
@@ -117,15 +123,51 @@ fn push_error(out: &mut Vec<u8>, rule: Option<ErrorRule>) -> Result<(), AllocErr
 
 /// Adds the number of a line of the table.
 fn push_line_number(out: &mut Vec<u8>, line: u16) -> Result<(), AllocError>
-    ensures { OnOk result (out.new.items ≡ out.old.items ++ decimal line) }
+    ensures ok { OnOk result (out.new.items ≡ out.old.items ++ decimal line) }
+    ensures full { OnErr result (vec_capacity out.old < length out.old.items + length (decimal line)) }
+    ensures capacity { vec_capacity out.old ≤ vec_capacity out.new }
+    ensures front { take (length out.old.items) out.new.items ≡ out.old.items }
 {
     let mut digits = Buffer::new();
     out.extend_from_slice(digits.format(line).as_bytes())
 }
 
+/// Adds how an origin failed.
+fn push_kind(out: &mut Vec<u8>, kind: FailKind) -> Result<(), AllocError>
+    ensures ok { OnOk result (out.new.items ≡ out.old.items ++ (codes "origin " ++ fail_kind_word kind)) }
+    ensures full { OnErr result (vec_capacity out.old < length out.old.items
+        + length (codes "origin " ++ fail_kind_word kind)) }
+    ensures capacity { vec_capacity out.old ≤ vec_capacity out.new }
+    ensures front { take (length out.old.items) out.new.items ≡ out.old.items }
+{
+    out.extend_from_slice(b"origin ")?;
+    out.extend_from_slice(fail_kind_word(kind).as_bytes())
+}
+
+/// Adds that an origin failed, the rule by which its request went forward, and why nothing stale is sent.
+fn push_origin_failure(
+    out: &mut Vec<u8>,
+    kind: FailKind,
+    rule: ReuseRule,
+    error: Option<ErrorRule>,
+) -> Result<(), AllocError>
+    ensures ok { OnOk result (out.new.items ≡ out.old.items ++ origin_failure_text kind rule error) }
+    ensures full { OnErr result (vec_capacity out.old < length out.old.items
+        + length (origin_failure_text kind rule error)) }
+    ensures capacity { vec_capacity out.old ≤ vec_capacity out.new }
+    ensures front { take (length out.old.items) out.new.items ≡ out.old.items }
+{
+    push_kind(out, kind)?;
+    push_rule(out, rule)?;
+    push_error(out, error)
+}
+
 /// Adds the text of Refusal.
 pub(crate) fn push_refusal(out: &mut Vec<u8>, cause: Cause) -> Result<(), AllocError>
-    ensures { OnOk result (out.new.items ≡ out.old.items ++ refusal_text cause) }
+    ensures ok { OnOk result (out.new.items ≡ out.old.items ++ refusal_text cause) }
+    ensures full { OnErr result (vec_capacity out.old < length out.old.items + length (refusal_text cause)) }
+    ensures capacity { vec_capacity out.old ≤ vec_capacity out.new }
+    ensures front { take (length out.old.items) out.new.items ≡ out.old.items }
 {
     match cause {
         Cause::Denied(line) => {
@@ -141,12 +183,7 @@ pub(crate) fn push_refusal(out: &mut Vec<u8>, cause: Cause) -> Result<(), AllocE
             out.extend_from_slice(b"only-if-cached")?;
             push_rule(out, rule)?;
         }
-        Cause::Origin(kind, rule, error) => {
-            out.extend_from_slice(b"origin ")?;
-            out.extend_from_slice(fail_kind_word(kind).as_bytes())?;
-            push_rule(out, rule)?;
-            push_error(out, error)?;
-        }
+        Cause::Origin(kind, rule, error) => push_origin_failure(out, kind, rule, error)?,
         Cause::Frame(fault) => {
             out.extend_from_slice(b"refused: ")?;
             out.extend_from_slice(frame_fault_word(fault).as_bytes())?;

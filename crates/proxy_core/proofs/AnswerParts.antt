@@ -51,15 +51,16 @@ module _ (policy : Policy) (name : List ℕ) (x : Exchange) (r : Response) (h : 
       ∙ sym (ap (λ b. cond b (text_in_place_of_answer policy name x r now stored rule 416 (fields_of_answer_416 r now) []) (whole_answer_text policy name x r now stored rule)) (has_room made made_is))
 
   pub about_part_in_place : (first last : ℕ) (content : List ℕ) → content ≡ r.content → own ≡ fields_of_206 h.fields first last (length content)
-      → about_in_place_of_answer policy x r now stored rule 206 ≡ about_answer_in_range policy x r now stored rule (Part first last)
+      → about_in_place_of_answer policy x r now stored rule 206 (content_unless_head (is_head x.asked) (slice_range content first (last + 1))) ≡ about_answer_in_range policy x r now stored rule (Part first last)
   about_part_in_place first last content whole is =
       let made : (Answered → List Field) = λ g. fields_of_206 g.fields first last (length r.content) in
       let made_is : own ≡ made h = is ∙ ap (λ (c : List ℕ). fields_of_206 h.fields first last (length c)) whole in
-      sym (ap (λ b. cond b (about_in_place_of_answer policy x r now stored rule 206) (about_answer_passed_whole policy x r now stored rule)) (has_room made made_is))
+      ap (λ (c : List ℕ). about_in_place_of_answer policy x r now stored rule 206 (content_unless_head (is_head x.asked) (slice_range c first (last + 1)))) whole
+      ∙ sym (ap (λ b. cond b (about_in_place_of_answer policy x r now stored rule 206 (content_unless_head (is_head x.asked) (slice_range r.content first (last + 1)))) (about_answer_passed_whole policy x r now stored rule)) (has_room made made_is))
 
   pub about_unsatisfied_in_place : (total : ℕ) → total ≡ length r.content → own ≡ fields_of_416_to_answer h.fields total
-      → about_in_place_of_answer policy x r now stored rule 416 ≡ about_answer_in_range policy x r now stored rule Unsatisfiable
+      → about_in_place_of_answer policy x r now stored rule 416 (content_unless_head (is_head x.asked) []) ≡ about_answer_in_range policy x r now stored rule Unsatisfiable
   about_unsatisfied_in_place total whole is =
       let made : (Answered → List Field) = λ g. fields_of_416_to_answer g.fields (length r.content) in
       let made_is : own ≡ made h = is ∙ ap (fields_of_416_to_answer h.fields) whole in
-      sym (ap (λ b. cond b (about_in_place_of_answer policy x r now stored rule 416) (about_answer_passed_whole policy x r now stored rule)) (has_room made made_is))
+      sym (ap (λ b. cond b (about_in_place_of_answer policy x r now stored rule 416 (content_unless_head (is_head x.asked) [])) (about_answer_passed_whole policy x r now stored rule)) (has_room made made_is))

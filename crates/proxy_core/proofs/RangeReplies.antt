@@ -72,8 +72,8 @@ text_of_416_is name e now info asked fields same room =
     ap (λ (f : List Field). response_text 416 (fields_of_sent_response name 416 (without_cookies info.policy.removes_cookies f) e now info) (Some 0) asked.close (content_unless_head (is_head asked) [])) same
     ∙ sym (ap (λ b. text_of_stored_in_form name (cond b (response_416_of e) e) e now info asked) (sym (ap head_leaves_room same) ∙ room))
 
-pub status_of_part_is : (e : Stored) (first last : ℕ) (fields : List Field) → fields ≡ fields_of_206 e.fields first last (length e.content) → head_leaves_room fields ≡ true → 206 ≡ (response_in_form_of (Part first last) e).status
-status_of_part_is e first last fields same room = sym (ap (λ b. (cond b (response_206_of_part e first last) e).status) (sym (ap head_leaves_room same) ∙ room))
+pub form_of_part_is : (e : Stored) (first last : ℕ) (fields : List Field) → fields ≡ fields_of_206 e.fields first last (length e.content) → head_leaves_room fields ≡ true → response_206_of_part e first last ≡ response_in_form_of (Part first last) e
+form_of_part_is e first last fields same room = sym (ap (λ b. cond b (response_206_of_part e first last) e) (sym (ap head_leaves_room same) ∙ room))
 
-pub status_of_416_is : (e : Stored) (fields : List Field) → fields ≡ fields_of_416 e.fields (length e.content) → head_leaves_room fields ≡ true → 416 ≡ (response_in_form_of Unsatisfiable e).status
-status_of_416_is e fields same room = sym (ap (λ b. (cond b (response_416_of e) e).status) (sym (ap head_leaves_room same) ∙ room))
+pub form_of_416_is : (e : Stored) (fields : List Field) → fields ≡ fields_of_416 e.fields (length e.content) → head_leaves_room fields ≡ true → response_416_of e ≡ response_in_form_of Unsatisfiable e
+form_of_416_is e fields same room = sym (ap (λ b. cond b (response_416_of e) e) (sym (ap head_leaves_room same) ∙ room))

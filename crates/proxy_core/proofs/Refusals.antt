@@ -144,6 +144,9 @@ is_refused (Purged count) = false
 abbrev pub tells_refused : Outcome → Bool
 tells_refused o = tells (λ (a : StatusAndReason). is_refused a.told) o
 
+abbrev pub tells_no_content : Outcome → Bool
+tells_no_content o = tells (λ (a : StatusAndReason). a.content_length == 0) o
+
 abbrev pub tells_an_origin : Outcome → Bool
 tells_an_origin o = tells (λ (a : StatusAndReason). is_some a.origin_line) o
 

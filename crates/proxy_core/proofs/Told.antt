@@ -23,30 +23,33 @@ pub stored_says : StoredReplyShowsStatusAndCacheStatus
 stored_says name e now info asked = by_304 (stored_gets_304 asked e)
   where
     by_304 : (b : Bool) → BytesShowReportedStatusAndLine name (cond b (not_modified_text name e now info asked) (text_of_stored_in_form name (stored_response_as_sent info.policy asked e) e now info asked))
-        (cond b (about_stored_response_sent 304 e now info) (about_stored_response_sent (stored_response_as_sent info.policy asked e).status e now info))
+        (cond b (about_stored_response_sent 304 [] e now info) (about_stored_response_sent (stored_response_as_sent info.policy asked e).status (content_unless_head (is_head asked) (stored_response_as_sent info.policy asked e).content) e now info))
     by_304 true = record {
       fields = fields_of_304 e.fields ++ line (codes "Age") (decimal (age_of e.times now)) ∷ [];
-      length = None;
+      announced = None;
       close = asked.close;
       content = [];
       bytes_are = refl;
+      length_is = refl;
     }
     by_304 false = record {
       fields = fields_without_hidden_tags info.policy.hides_tags (without_cookies info.policy.removes_cookies (stored_response_as_sent info.policy asked e).fields) ++ line (codes "Age") (decimal (age_of e.times now)) ∷ [];
-      length = length_unless_forbidden (stored_response_as_sent info.policy asked e).status (Some (length (stored_response_as_sent info.policy asked e).content));
+      announced = length_unless_forbidden (stored_response_as_sent info.policy asked e).status (Some (length (stored_response_as_sent info.policy asked e).content));
       close = asked.close;
       content = content_unless_head (is_head asked) (stored_response_as_sent info.policy asked e).content;
       bytes_are = refl;
+      length_is = refl;
     }
 
 module _ (policy : Policy) (name : List ℕ) (x : Exchange) (r : Response) (now : ℕ) (stored : Bool) (rule : Option StoreRule) where
   whole : BytesShowReportedStatusAndLine name (whole_answer_text policy name x r now stored rule) (about_answer_passed_whole policy x r now stored rule)
   whole = record {
     fields = fields_without_hidden_tags policy.hides_tags (answered_of r now).fields;
-    length = length_of_passed_answer (is_head x.asked) r;
+    announced = length_of_passed_answer (is_head x.asked) r;
     close = x.asked.close;
     content = content_unless_head (is_head x.asked) r.content;
     bytes_are = refl;
+    length_is = refl;
   }
 
   by_range : (answer : RangeAnswer) → BytesShowReportedStatusAndLine name (answer_in_range_text policy name x r now stored rule answer) (about_answer_in_range policy x r now stored rule answer)
@@ -55,37 +58,40 @@ module _ (policy : Policy) (name : List ℕ) (x : Exchange) (r : Response) (now 
     where
       by_room : (b : Bool) → BytesShowReportedStatusAndLine name
           (cond b (text_in_place_of_answer policy name x r now stored rule 206 (fields_of_partial_answer r now first last) (slice_range r.content first (last + 1))) (whole_answer_text policy name x r now stored rule))
-          (cond b (about_in_place_of_answer policy x r now stored rule 206) (about_answer_passed_whole policy x r now stored rule))
+          (cond b (about_in_place_of_answer policy x r now stored rule 206 (content_unless_head (is_head x.asked) (slice_range r.content first (last + 1)))) (about_answer_passed_whole policy x r now stored rule))
       by_room true = record {
         fields = fields_without_hidden_tags policy.hides_tags (fields_of_partial_answer r now first last);
-        length = Some (length (slice_range r.content first (last + 1)));
+        announced = Some (length (slice_range r.content first (last + 1)));
         close = x.asked.close;
         content = content_unless_head (is_head x.asked) (slice_range r.content first (last + 1));
         bytes_are = refl;
+        length_is = refl;
       }
       by_room false = whole
   by_range Unsatisfiable = by_room (head_leaves_room (fields_of_answer_416 r now))
     where
       by_room : (b : Bool) → BytesShowReportedStatusAndLine name
           (cond b (text_in_place_of_answer policy name x r now stored rule 416 (fields_of_answer_416 r now) []) (whole_answer_text policy name x r now stored rule))
-          (cond b (about_in_place_of_answer policy x r now stored rule 416) (about_answer_passed_whole policy x r now stored rule))
+          (cond b (about_in_place_of_answer policy x r now stored rule 416 (content_unless_head (is_head x.asked) [])) (about_answer_passed_whole policy x r now stored rule))
       by_room true = record {
         fields = fields_without_hidden_tags policy.hides_tags (fields_of_answer_416 r now);
-        length = Some 0;
+        announced = Some 0;
         close = x.asked.close;
         content = content_unless_head (is_head x.asked) [];
         bytes_are = refl;
+        length_is = refl;
       }
       by_room false = whole
 
   by_304 : (b : Bool) → BytesShowReportedStatusAndLine name (cond b (not_modified_answer_text policy name x r now stored rule) (answer_in_range_text policy name x r now stored rule (range_of_answer policy x r now)))
-      (cond b (about_in_place_of_answer policy x r now stored rule 304) (about_answer_in_range policy x r now stored rule (range_of_answer policy x r now)))
+      (cond b (about_in_place_of_answer policy x r now stored rule 304 []) (about_answer_in_range policy x r now stored rule (range_of_answer policy x r now)))
   by_304 true = record {
     fields = fields_without_hidden_tags policy.hides_tags (fields_of_304_to_answer (answered_of r now).fields);
-    length = None;
+    announced = None;
     close = x.asked.close;
     content = [];
     bytes_are = refl;
+    length_is = refl;
   }
   by_304 false = by_range (range_of_answer policy x r now)
 
@@ -95,17 +101,19 @@ passed_says policy name x r now stored rule = by_304 policy name x r now stored 
 pub refusal_says : RefusalShowsStatusAndCause
 refusal_says name date cause close head = record {
   fields = line (codes "Date") date ∷ line (codes "Content-Type") (codes "text/plain") ∷ [];
-  length = Some (length (refusal_text cause));
+  announced = Some (length (refusal_text cause));
   close = close;
   content = content_unless_head head (refusal_text cause);
   bytes_are = refl;
+  length_is = refl;
 }
 
 pub purge_says : PurgeReplyShowsStatusAndCount
 purge_says name date count close = record {
   fields = line (codes "Date") date ∷ [];
-  length = None;
+  announced = None;
   close = close;
   content = [];
   bytes_are = refl;
+  length_is = refl;
 }

@@ -1,8 +1,11 @@
--- What each reply is, as data: its status, what it tells of itself, and the line whose origin was asked for it.
+-- What each reply is, as data: its status, what it tells of itself, how long its content is, and the line whose origin
+-- was asked for it.
 --
 -- about_stored: a stored response that is sent     about_passed_answer: an answer of the origin that is passed on
+-- about_refusal_reply: the proxy's own
 -- about_by_outcome: what is told of an outcome     ToldStandsInTheBytes: the bytes of each reply say the same
-use Rattle.std.specs.Prelude.{◌≡◌, ℕ, List, [], ◌∷◌, ◌++◌, codes, decimal, Bool, Option, Some, None, cond}
+use Rattle.std.specs.Prelude.{◌≡◌, ℕ, ◌+◌, List, [], ◌∷◌, ◌++◌, length, slice_range, codes, decimal, Bool, Option}
+use Rattle.std.specs.Prelude.{Some, None, cond}
 use Rattle.hx_fields.specs.Line.{Field}
 use Rattle.hx_framing.specs.Text.{response_text}
 use Rattle.hx_framing.specs.declared.messages.Response.{Response}
@@ -12,6 +15,7 @@ use Rattle.hx_policy.specs.declared.words.Policy.{Policy}
 use Rattle.hx_store.specs.Stored.{Stored}
 use Rattle.hx_status.specs.Abouts.{about_purge, about_refusal, reason_text}
 use Rattle.hx_status.specs.Member.{member_text}
+use Rattle.hx_status.specs.Refusals.{refusal_text}
 use Rattle.hx_status.specs.declared.about.StatusAndReason.{StatusAndReason}
 use Rattle.hx_status.specs.declared.about.Told.{Told}
 use Rattle.hx_status.specs.declared.about.Told.TheVariants.{Handled, Purged, Refused}
@@ -27,42 +31,51 @@ use Rattle.proxy_core.specs.declared.outcome.Outcome.{Outcome}
 use Rattle.proxy_core.specs.declared.outcome.Outcome.TheVariants.{Reply, Forward, Waits, Ended, WaitsNoMore}
 use Rattle.proxy_core.specs.declared.replies.stored_reply.CacheStatusInfo.{CacheStatusInfo}
 use Rattle.proxy_core.specs.Replies.{cache_status_of_sent, cache_status_of_passed_answer}
-use Rattle.proxy_core.specs.Replies.{cache_status_in_place_of_answer}
+use Rattle.proxy_core.specs.Replies.{cache_status_in_place_of_answer, content_unless_head, is_head}
 use Rattle.proxy_core.specs.Replies.{client_wants_304_for_answer, fields_of_answer_416}
 use Rattle.proxy_core.specs.Replies.{fields_of_partial_answer, stored_response_as_sent}
 use Rattle.proxy_core.specs.Replies.{passed_answer_text, purge_reply_text, range_of_answer, refusal_reply_text, line}
 use Rattle.proxy_core.specs.Replies.{stored_reply_text}
 
--- a stored response that is sent under a status
-abbrev pub about_stored_response_sent : ℕ → Stored → ℕ → CacheStatusInfo → StatusAndReason
-about_stored_response_sent status e now info = record {
+-- the proxy's own reply; HEAD gets no content (RFC 9110, section 9.3.2)
+abbrev pub about_refusal_reply : Cause → Bool → StatusAndReason
+about_refusal_reply cause head = about_refusal cause (length (content_unless_head head (refusal_text cause)))
+
+-- a stored response that is sent under a status, with this content
+abbrev pub about_stored_response_sent : ℕ → List ℕ → Stored → ℕ → CacheStatusInfo → StatusAndReason
+about_stored_response_sent status content e now info = record {
   status = status;
   told = Handled (cache_status_of_sent status e now info);
+  content_length = length content;
   origin_line = info.origin_line;
 }
 
 -- as a 304 to who has it already, or in the form that the request asks for
 abbrev pub about_stored : Stored → ℕ → CacheStatusInfo → Asked → StatusAndReason
 about_stored e now info asked =
-    cond (stored_gets_304 asked e) (about_stored_response_sent 304 e now info)
-    (about_stored_response_sent (stored_response_as_sent info.policy asked e).status e now info)
+    cond (stored_gets_304 asked e) (about_stored_response_sent 304 [] e now info)
+    (about_stored_response_sent (stored_response_as_sent info.policy asked e).status
+    (content_unless_head (is_head asked) (stored_response_as_sent info.policy asked e).content) e now info)
 
--- a response that is sent under a status, where the origin of the exchange's line answered
-abbrev pub about_answer : Exchange → ℕ → Status → StatusAndReason
-about_answer x status shown = record {
+-- a response that is sent under a status, with this content, where the origin of the exchange's line answered
+abbrev pub about_answer : Exchange → ℕ → List ℕ → Status → StatusAndReason
+about_answer x status content shown = record {
   status = status;
   told = Handled shown;
+  content_length = length content;
   origin_line = Some x.line.number;
 }
 
 -- the answer, whole
 abbrev pub about_answer_passed_whole : Policy → Exchange → Response → ℕ → Bool → Option StoreRule → StatusAndReason
 about_answer_passed_whole policy x r now stored rule =
-    about_answer x r.status (cache_status_of_passed_answer policy x r.status (answered_of r now).fields now stored rule)
+    about_answer x r.status (content_unless_head (is_head x.asked) r.content)
+    (cache_status_of_passed_answer policy x r.status (answered_of r now).fields now stored rule)
 
--- what is sent in its place, under a status of its own
-abbrev pub about_in_place_of_answer : Policy → Exchange → Response → ℕ → Bool → Option StoreRule → ℕ → StatusAndReason
-about_in_place_of_answer policy x r now stored rule status = about_answer x status
+-- what is sent in its place, under a status of its own, with this content
+abbrev pub about_in_place_of_answer : Policy → Exchange → Response → ℕ → Bool → Option StoreRule → ℕ → List ℕ
+    → StatusAndReason
+about_in_place_of_answer policy x r now stored rule status content = about_answer x status content
     (cache_status_in_place_of_answer policy x r.status (answered_of r now).fields now stored rule)
 
 -- the part of it that its client asked for
@@ -71,15 +84,18 @@ abbrev pub about_answer_in_range : Policy → Exchange → Response → ℕ → 
 about_answer_in_range policy x r now stored rule Whole = about_answer_passed_whole policy x r now stored rule
 about_answer_in_range policy x r now stored rule (Part first last) =
     cond (head_leaves_room (fields_of_partial_answer r now first last))
-    (about_in_place_of_answer policy x r now stored rule 206) (about_answer_passed_whole policy x r now stored rule)
+    (about_in_place_of_answer policy x r now stored rule 206
+    (content_unless_head (is_head x.asked) (slice_range r.content first (last + 1))))
+    (about_answer_passed_whole policy x r now stored rule)
 about_answer_in_range policy x r now stored rule Unsatisfiable =
     cond (head_leaves_room (fields_of_answer_416 r now))
-    (about_in_place_of_answer policy x r now stored rule 416) (about_answer_passed_whole policy x r now stored rule)
+    (about_in_place_of_answer policy x r now stored rule 416 (content_unless_head (is_head x.asked) []))
+    (about_answer_passed_whole policy x r now stored rule)
 
 -- an answer of the origin that is passed on, as a 304 to who has it already, or the part of it
 abbrev pub about_passed_answer : Policy → Exchange → Response → ℕ → Bool → Option StoreRule → StatusAndReason
 about_passed_answer policy x r now stored rule =
-    cond (client_wants_304_for_answer policy x r now) (about_in_place_of_answer policy x r now stored rule 304)
+    cond (client_wants_304_for_answer policy x r now) (about_in_place_of_answer policy x r now stored rule 304 [])
     (about_answer_in_range policy x r now stored rule (range_of_answer policy x r now))
 
 -- what is told of an outcome; what is no reply tells nothing
@@ -92,23 +108,27 @@ about_by_outcome WaitsNoMore = None
 
 -- ---- the statement
 
--- A reply of that status has this as the last of its lines.
-pub record ReplyHasStatusAndLastField (bytes : List ℕ) (status : ℕ) (last : Field) : Type 0 where
+-- A reply has the status and the content's length that are told of it, and this as the last of its lines.
+pub record ReplyHasStatusLengthAndLastField (bytes : List ℕ) (status content_length : ℕ) (last : Field) : Type 0 where
   pub fields : List Field
-  pub length : Option ℕ
+  pub announced : Option ℕ
   pub close : Bool
   pub content : List ℕ
-  pub bytes_are : bytes ≡ response_text status (fields ++ last ∷ []) length close content
+  pub bytes_are : bytes ≡ response_text status (fields ++ last ∷ []) announced close content
+  pub length_is : length content ≡ content_length
 
--- What is told of a reply stands in its bytes: its status, and the line that the proxy adds by itself, Cache-Status
--- (RFC 9211), Refusal or Purged.
+-- What is told of a reply stands in its bytes: its status, the length of its content, and the line that the proxy adds
+-- by itself, Cache-Status (RFC 9211), Refusal or Purged.
 abbrev pub ReplyBytesShowWhatIsReported : List ℕ → StatusAndReason → List ℕ → Told → Type 0
 ReplyBytesShowWhatIsReported name about bytes (Handled status) =
-    ReplyHasStatusAndLastField bytes about.status (line (codes "Cache-Status") (member_text name status))
+    ReplyHasStatusLengthAndLastField bytes about.status about.content_length
+    (line (codes "Cache-Status") (member_text name status))
 ReplyBytesShowWhatIsReported name about bytes (Refused cause) =
-    ReplyHasStatusAndLastField bytes about.status (line (codes "Refusal") (reason_text (Refused cause)))
+    ReplyHasStatusLengthAndLastField bytes about.status about.content_length
+    (line (codes "Refusal") (reason_text (Refused cause)))
 ReplyBytesShowWhatIsReported name about bytes (Purged count) =
-    ReplyHasStatusAndLastField bytes about.status (line (codes "Purged") (decimal count))
+    ReplyHasStatusLengthAndLastField bytes about.status about.content_length
+    (line (codes "Purged") (decimal count))
 
 abbrev pub BytesShowReportedStatusAndLine : List ℕ → List ℕ → StatusAndReason → Type 0
 BytesShowReportedStatusAndLine name bytes about = ReplyBytesShowWhatIsReported name about bytes about.told
@@ -126,7 +146,8 @@ PassedAnswerShowsStatusAndCacheStatus =
 
 abbrev pub RefusalShowsStatusAndCause : Type 0
 RefusalShowsStatusAndCause = (name date : List ℕ) (cause : Cause) (close head : Bool)
-    → BytesShowReportedStatusAndLine name (refusal_reply_text date cause close head) (about_refusal cause)
+    → BytesShowReportedStatusAndLine name (refusal_reply_text date cause close head)
+    (about_refusal_reply cause head)
 
 abbrev pub PurgeReplyShowsStatusAndCount : Type 0
 PurgeReplyShowsStatusAndCount = (name date : List ℕ) (count : ℕ) (close : Bool)

@@ -66,7 +66,7 @@ use Rattle.proxy_core.specs.Revalidating.{sent_while_revalidating}
 use Rattle.proxy_core.specs.Scopes.{serials_purged_by_request, serials_removed_in_mode, serials_expired_in_mode}
 use Rattle.proxy_core.specs.Replies.{stored_reply_text, passed_answer_text, refusal_reply_text, purge_reply_text}
 use Rattle.proxy_core.specs.Replies.{is_head}
-use Rattle.proxy_core.specs.Abouts.{about_by_outcome, about_passed_answer, about_stored}
+use Rattle.proxy_core.specs.Abouts.{about_by_outcome, about_passed_answer, about_refusal_reply, about_stored}
 use Rattle.proxy_core.specs.Validating.{conditions_to_send, condition_about_serial, is_304_to_own_conditions}
 use Rattle.proxy_core.specs.Validating.{stored_response_validated, freshened_by_304, freshened_may_be_kept}
 use Rattle.proxy_core.specs.Storing.{is_storable, storing_rule_to_explain, serials_replaced_by_storing}
@@ -85,7 +85,7 @@ sent_stored_text name (Some e) now info asked = stored_reply_text name e now inf
 
 -- and what is told of it; nothing is told where none is held
 abbrev pub about_sent_stored : Option Stored → ℕ → CacheStatusInfo → Asked → StatusAndReason
-about_sent_stored None now info asked = record { status = 0; told = Purged 0; origin_line = None }
+about_sent_stored None now info asked = record { status = 0; told = Purged 0; content_length = 0; origin_line = None }
 about_sent_stored (Some e) now info asked = about_stored e now info asked
 
 -- the stored response of a serial is sent
@@ -107,7 +107,7 @@ abbrev pub outcome_of_refusal : ℕ → Cause → Asked → Outcome
 outcome_of_refusal now cause asked = Reply (record {
   bytes = refusal_reply_text (date_text_of now) cause asked.close (is_head asked);
   close = asked.close;
-  about = about_refusal cause;
+  about = about_refusal_reply cause (is_head asked);
   stored = None;
   used = None;
   removed = [];

@@ -119,7 +119,7 @@ response_304 fields = response_with 304 fields
 
 -- what wrong replies tell of themselves, where that isn't asked
 abbrev pub arbitrary_report_of_reply : StatusAndReason
-arbitrary_report_of_reply = about_refusal NoLine
+arbitrary_report_of_reply = about_refusal NoLine 0
 
 -- the right outcome of an event, of which something else is told
 abbrev pub outcome_with_changed_about : (StatusAndReason → StatusAndReason) → Outcome → Outcome
@@ -141,6 +141,9 @@ about_with_status_304 about = record about { status = 304 }
 
 abbrev pub about_as_refused : StatusAndReason → StatusAndReason
 about_as_refused about = record about { told = Refused NoLine }
+
+abbrev pub about_without_content : StatusAndReason → StatusAndReason
+about_without_content about = record about { content_length = 0 }
 
 abbrev pub about_with_origin_line_3 : StatusAndReason → StatusAndReason
 about_with_origin_line_3 about = record about { origin_line = Some 3 }

@@ -40,6 +40,7 @@ pub use crate::open::ids::Ids;
 pub use crate::open::stage::Stage;
 pub use crate::outcome::{Outcome, Reply, Run, Step};
 pub use crate::replies::reply_text::{is_head, refused};
+pub use crate::replies::stored_reply::ReplyTextAndAbout;
 pub use crate::runs::run;
 pub use crate::steps::condition::Condition;
 pub use crate::steps::fallback::Fallback;

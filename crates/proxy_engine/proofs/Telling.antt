@@ -8,7 +8,7 @@ use Rattle.hx_framing.specs.Text.{continue_text}
 use Rattle.hx_hop.specs.Moments.{date_text_of}
 use Rattle.hx_store.specs.Stored.{Stored}
 use Rattle.hx_hop.specs.declared.request_view.Asked.{Asked}
-use Rattle.hx_status.specs.Abouts.{about_refusal}
+use Rattle.proxy_core.specs.Abouts.{about_refusal_reply}
 use Rattle.hx_status.specs.declared.about.ReplyData.{ReplyData}
 use Rattle.proxy_core.specs.AnsweredRequests.{request_of_exchange}
 use Rattle.proxy_core.specs.Outcomes.{outcome_for_exchange, find_exchange, exchange_id_of_event}
@@ -101,7 +101,7 @@ module _ (now : ℕ) (act : Act) (place : ℕ) (exchanges : List Exchange) (past
       subst (All IsTold) (sym is) (All-cons IsTold (effects.Client (place + 1) continue_text None) [] (refl, (added, refl)) (All-nil IsTold))
   own_told emitted added (Refuses why head is) =
       subst (All IsTold) (sym is)
-      (All-cons IsTold (effects.Client (place + 1) (refusal_reply_text (date_text_of now) why true head) (Some (record { about = about_refusal why; question = question_of_refused_act act }))) (effects.Close (place + 1) ∷ [])
+      (All-cons IsTold (effects.Client (place + 1) (refusal_reply_text (date_text_of now) why true head) (Some (record { about = about_refusal_reply why head; question = question_of_refused_act act }))) (effects.Close (place + 1) ∷ [])
       (refl, inr (record { why = why; head = head; added = added; bytes_are = refl; about_is = refl; question_is = refl })) (close_told (place + 1)))
   own_told emitted added (Closes is) = subst (All IsTold) (sym is) (close_told (place + 1))
 

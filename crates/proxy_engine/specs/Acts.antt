@@ -18,7 +18,7 @@ use Rattle.hx_allow.specs.TableLines.{Table}
 use Rattle.hx_allow.specs.Addresses.{address_of_numbers}
 use Rattle.hx_allow.specs.Matching.{origin_address_of}
 use Rattle.hx_allow.specs.declared.verdicts.RequestRoute.{RequestRoute}
-use Rattle.hx_status.specs.Abouts.{about_refusal}
+use Rattle.proxy_core.specs.Abouts.{about_refusal_reply}
 use Rattle.hx_status.specs.declared.about.StatusAndReason.{StatusAndReason}
 use Rattle.hx_status.specs.declared.question.Question.{Question}
 use Rattle.hx_status.specs.declared.cause.Cause.{Cause}
@@ -143,7 +143,7 @@ pub record RequestIsRefused (s : EngineModel) (now i : ℕ) (why : Cause) (head 
     (emitted : List Effect)
     (after : EngineModel) : Type 0 where
   pub emitted_is : emitted ≡ effects.Client (connection_number i) (refusal_reply_text (date_text_of now) why true head)
-      (Some (record { about = about_refusal why; question = question }))
+      (Some (record { about = about_refusal_reply why head; question = question }))
       ∷ effects.Close (connection_number i)
       ∷ []
   pub after_is : after ≡ with_connection s i (connection_with_closed true)

@@ -14,7 +14,7 @@ use Rattle.hx_framing.specs.declared.messages.Next.TheVariants as next
 use Rattle.hx_framing.specs.Text.{continue_text}
 use Rattle.hx_hop.specs.declared.request_view.Asked.{Asked}
 use Rattle.hx_hop.specs.Moments.{date_text_of}
-use Rattle.hx_status.specs.Abouts.{about_refusal}
+use Rattle.proxy_core.specs.Abouts.{about_refusal_reply}
 use Rattle.hx_status.specs.declared.cause.Cause.{Cause}
 use Rattle.hx_status.specs.declared.question.Question.{Question}
 use Rattle.proxy_core.specs.Driving.{TraceKeepsThePromises}
@@ -133,7 +133,7 @@ pub data IsEffectsWithoutCoreStep (now place : ℕ) (question : Option Question)
       → IsEffectsWithoutCoreStep now place question emitted
   Refuses : (why : Cause) (head : Bool) → emitted
       ≡ effects.Client (connection_number place) (refusal_reply_text (date_text_of now) why true head)
-      (Some (record { about = about_refusal why; question = question }))
+      (Some (record { about = about_refusal_reply why head; question = question }))
       ∷ effects.Close (connection_number place) ∷ []
       → IsEffectsWithoutCoreStep now place question emitted
   Closes : emitted ≡ effects.Close (connection_number place) ∷ []

@@ -10,7 +10,7 @@ use Rattle.hx_allow.specs.TableLines.{Table}
 use Rattle.hx_framing.specs.Text.{continue_text}
 use Rattle.hx_hop.specs.declared.request_view.Asked.{Asked}
 use Rattle.hx_hop.specs.Moments.{date_text_of}
-use Rattle.hx_status.specs.Abouts.{about_refusal}
+use Rattle.proxy_core.specs.Abouts.{about_refusal_reply}
 use Rattle.hx_status.specs.declared.about.ReplyData.{ReplyData}
 use Rattle.hx_status.specs.declared.cause.Cause.{Cause}
 use Rattle.proxy_core.specs.Replies.{refusal_reply_text}
@@ -50,7 +50,7 @@ pub record IsRefusalOfEngine (now : ℕ) (act : Act) (past trace : List Item) (b
   pub head : Bool
   pub added : trace ≡ past
   pub bytes_are : bytes ≡ refusal_reply_text (date_text_of now) why true head
-  pub about_is : replied.about ≡ about_refusal why
+  pub about_is : replied.about ≡ about_refusal_reply why head
   pub question_is : replied.question ≡ question_of_refused_act act
 
 -- Bytes to a client, and what is told of them, where an act led from the trace `past` to `trace`, and these exchanges

@@ -16,7 +16,7 @@ use Rattle.hx_hop.specs.Asking.{asked_with_judged_target, asked_with_target}
 use Rattle.hx_hop.specs.Moments.{date_text_of}
 use Rattle.hx_target.specs.declared.target_fault.TargetFault.{TargetFault}
 use Rattle.hx_target.specs.declared.targets.Target.{Target}
-use Rattle.hx_status.specs.Abouts.{about_refusal}
+use Rattle.proxy_core.specs.Abouts.{about_refusal_reply}
 use Rattle.hx_status.specs.declared.question.Question.{Question}
 use Rattle.hx_status.specs.declared.cause.Cause.{Cause}
 use Rattle.hx_status.specs.declared.cause.Cause.TheVariants as cause
@@ -132,11 +132,11 @@ module _ (table : Table) (now : ℕ) (h : Bool) where
       subst (All (IsSent table.name now h)) (sym is)
       (All-cons (IsSent table.name now h) (effects.Client n continue_text None) [] (record { forwarded = tt; answered = λ early. inl refl }) (All-nil (IsSent table.name now h)))
 
-  refused_sent : (n : ℕ) (why : Cause) (head : Bool) (question : Option Question) (emitted : List Effect) → head ≡ h → emitted ≡ effects.Client n (refusal_reply_text (date_text_of now) why true head) (Some (record { about = about_refusal why; question = question })) ∷ effects.Close n ∷ []
+  refused_sent : (n : ℕ) (why : Cause) (head : Bool) (question : Option Question) (emitted : List Effect) → head ≡ h → emitted ≡ effects.Client n (refusal_reply_text (date_text_of now) why true head) (Some (record { about = about_refusal_reply why head; question = question })) ∷ effects.Close n ∷ []
       → All (IsSent table.name now h) emitted
   refused_sent n why head question emitted same is =
       subst (All (IsSent table.name now h)) (sym is)
-      (All-cons (IsSent table.name now h) (effects.Client n (refusal_reply_text (date_text_of now) why true head) (Some (record { about = about_refusal why; question = question }))) (effects.Close n ∷ [])
+      (All-cons (IsSent table.name now h) (effects.Client n (refusal_reply_text (date_text_of now) why true head) (Some (record { about = about_refusal_reply why head; question = question }))) (effects.Close n ∷ [])
       (record { forwarded = tt; answered = λ early. inr (subst (λ (g : Bool). BytesAreOneResponse g (refusal_reply_text (date_text_of now) why true head)) same (one_refusal now why true head early)) })
       (close_sent n))
 

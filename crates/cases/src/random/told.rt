@@ -63,10 +63,10 @@ pub fn is_told_of(replied: &ReplyData, asked: &Asked) -> bool {
     }
 }
 
-/// Whether what is told of these bytes is what they say: of a reply its status and its reason. Its only error is out of
-/// memory.
+/// Whether what is told of these bytes is what they say: of a reply its status, its reason, and the length of its
+/// content. Its only error is out of memory.
 pub fn is_told(alloc: Global, bytes: &[u8], about: &StatusAndReason) -> Result<bool, AllocError> {
-    let Some((head, _content)) = bytes.split_once_str(b"\r\n\r\n") else {
+    let Some((head, content)) = bytes.split_once_str(b"\r\n\r\n") else {
         return Ok(false);
     };
     let mut reason = Vec::new(alloc);
@@ -75,5 +75,6 @@ pub fn is_told(alloc: Global, bytes: &[u8], about: &StatusAndReason) -> Result<b
         Some(said) => said == reason.as_slice(),
         None => says_purged(head, reason.as_slice()),
     };
-    Ok(told && has_status(bytes, about.status))
+    let is_length_told = about.content_length == content.len() as u64;
+    Ok(told && is_length_told && has_status(bytes, about.status))
 }

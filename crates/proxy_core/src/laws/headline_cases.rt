@@ -26,7 +26,7 @@ ghost use Rattle.proxy_core.specs.WrongTraces.{events_with_second_forward, reply
 ghost use Rattle.proxy_core.specs.WrongTraces.{events_that_invalidate_a_by_a_304, delete_a};
 ghost use Rattle.proxy_core.specs.WrongTraces.{about_as_refused, about_without_origin_line, about_with_origin_line_3};
 ghost use Rattle.proxy_core.specs.WrongTraces.{right_outcome_with_changed_about, trace_with_wrong_item};
-ghost use Rattle.proxy_core.specs.WrongTraces.{about_with_status_304};
+ghost use Rattle.proxy_core.specs.WrongTraces.{about_with_status_304, about_without_content};
 ghost use Rattle.hx_allow.specs.Matching.{route_over};
 
 /// A request that the table denies reaches neither origin nor store, and is told its line; one that
@@ -233,12 +233,15 @@ pub fn the_headline_refuses_wrong_rule_names()
         (response_with 200 []) 101 true None))) }
 {}
 
-/// What is told of a reply as data is what it is: its status, why it is sent, and whose origin was asked.
+/// What is told of a reply as data is what it is: its status, why it is sent, the length of its content, and whose
+/// origin was asked.
 pub fn the_headline_refuses_wrong_reports()
     ensures another_status { HeadlineRefuses (trace_with_wrong_item events_that_store_a (Arrive 110 2 get_a)
         (right_outcome_with_changed_about about_with_status_304 events_that_store_a (Arrive 110 2 get_a))) }
     ensures a_hit_told_as_refused { HeadlineRefuses (trace_with_wrong_item events_that_store_a (Arrive 110 2 get_a)
         (right_outcome_with_changed_about about_as_refused events_that_store_a (Arrive 110 2 get_a))) }
+    ensures a_content_told_as_none { HeadlineRefuses (trace_with_wrong_item events_that_store_a (Arrive 110 2 get_a)
+        (right_outcome_with_changed_about about_without_content events_that_store_a (Arrive 110 2 get_a))) }
     ensures an_origin_that_was_not_asked { HeadlineRefuses
         (trace_with_wrong_item events_that_store_a (Arrive 110 2 get_a)
         (right_outcome_with_changed_about about_with_origin_line_3 events_that_store_a (Arrive 110 2 get_a))) }

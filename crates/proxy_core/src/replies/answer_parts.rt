@@ -92,14 +92,10 @@ fn part_text(
     }
     let lines = fields_in_place_of_answer(alloc, name, answer, head, shown, own)?;
     let part = &content[first..last + 1];
-    let bytes = text_in_place(
-        alloc,
-        &answer.exchange.asked,
-        STATUS_PARTIAL_CONTENT,
-        &lines,
-        part,
-    )?;
-    let about = about_in_place_of_answer(answer, head, shown, STATUS_PARTIAL_CONTENT);
+    let asked = &answer.exchange.asked;
+    let bytes = text_in_place(alloc, asked, STATUS_PARTIAL_CONTENT, &lines, part)?;
+    let sent = content_unless_head(is_head(asked), part);
+    let about = about_in_place_of_answer(answer, head, shown, STATUS_PARTIAL_CONTENT, sent);
     Ok(ReplyTextAndAbout { bytes, about })
 }
 
@@ -129,7 +125,8 @@ fn unsatisfied_text(
     let lines = fields_in_place_of_answer(alloc, name, answer, head, shown, own)?;
     let asked = &answer.exchange.asked;
     let bytes = text_in_place(alloc, asked, STATUS_RANGE_NOT_SATISFIABLE, &lines, &[])?;
-    let about = about_in_place_of_answer(answer, head, shown, STATUS_RANGE_NOT_SATISFIABLE);
+    let sent = content_unless_head(is_head(asked), &[]);
+    let about = about_in_place_of_answer(answer, head, shown, STATUS_RANGE_NOT_SATISFIABLE, sent);
     Ok(ReplyTextAndAbout { bytes, about })
 }
 

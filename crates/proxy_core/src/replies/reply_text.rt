@@ -1,11 +1,11 @@
 //! The bytes of what the origin answered and of what the proxy answers by itself, and what all replies share.
-ghost use Rattle.std.specs.Prelude.{◌≡◌, ◌<◌, length, is_some, IfOk, IfSome, Some, None};
+ghost use Rattle.std.specs.Prelude.{◌≡◌, ◌<◌, [], length, is_some, IfOk, IfSome, Some, None};
 ghost use Rattle.hx_directives.specs.Occurrences.{occurrences_of};
 ghost use Rattle.hx_framing.specs.Text.{response_text};
 ghost use Rattle.hx_hop.specs.Answering.{answered_of};
 ghost use Rattle.hx_hop.specs.Moments.{date_text_of};
 ghost use Rattle.proxy_core.specs.Abouts.{about_answer, about_in_place_of_answer, about_passed_answer};
-ghost use Rattle.proxy_core.specs.Abouts.{about_answer_passed_whole};
+ghost use Rattle.proxy_core.specs.Abouts.{about_answer_passed_whole, about_refusal_reply};
 ghost use Rattle.proxy_core.specs.Replies.{passed_answer_text, fields_of_passed_answer, length_of_passed_answer};
 ghost use Rattle.proxy_core.specs.Replies.{whole_answer_text, client_wants_304_for_answer, fields_in_place_of_answer};
 ghost use Rattle.proxy_core.specs.Replies.{not_modified_answer_text};
@@ -126,23 +126,32 @@ fn cache_status_of_answer(
     }
 }
 
-/// What is told of a response that is sent under a status, where the origin answered.
-fn about_answer(answer: &OriginAnswer<'_>, status: u16, shown: Status) -> StatusAndReason
-    ensures { result ≡ about_answer answer.now.exchange.now status shown }
+/// What is told of a response that is sent under a status, with this content, where the origin answered.
+fn about_answer(
+    answer: &OriginAnswer<'_>,
+    status: u16,
+    content: &[u8],
+    shown: Status,
+) -> StatusAndReason
+    ensures { result ≡ about_answer answer.now.exchange.now status content.now shown }
 {
     StatusAndReason {
         status,
         told: Told::Handled(shown),
+        content_length: content.len() as u64,
         origin_line: Some(answer.exchange.line.number),
     }
 }
 
-/// What is told of the answer itself.
+/// What is told of the answer itself, of which this content is sent.
 fn about_answer_passed_whole(
     answer: &OriginAnswer<'_>,
     head: &Answered,
     shown: PassedAnswerInfo,
+    content: &[u8],
 ) -> StatusAndReason
+    requires content { content.now ≡ content_unless_head (is_head answer.now.exchange.now.asked)
+        answer.now.response.now.content }
     requires head { head.now ≡ answered_of answer.now.response.now answer.now.response_time }
     requires ttl { shown.ttl ≡ ttl_of_passed_answer shown.policy answer.now.exchange.now head.now.status
         head.now.fields answer.now.response_time shown.stored }
@@ -150,7 +159,7 @@ fn about_answer_passed_whole(
         answer.now.response_time shown.stored shown.rule }
 {
     let status = cache_status_of_answer(answer, head, shown, None);
-    about_answer(answer, answer.response.status, status)
+    about_answer(answer, answer.response.status, content, status)
 }
 
 /// What is told of another response that is sent in its place.
@@ -159,15 +168,16 @@ pub(crate) fn about_in_place_of_answer(
     head: &Answered,
     shown: PassedAnswerInfo,
     status: u16,
+    content: &[u8],
 ) -> StatusAndReason
     requires head { head.now ≡ answered_of answer.now.response.now answer.now.response_time }
     requires ttl { shown.ttl ≡ ttl_of_passed_answer shown.policy answer.now.exchange.now head.now.status
         head.now.fields answer.now.response_time shown.stored }
     ensures { result ≡ about_in_place_of_answer shown.policy answer.now.exchange.now answer.now.response.now
-        answer.now.response_time shown.stored shown.rule status }
+        answer.now.response_time shown.stored shown.rule status content.now }
 {
     let shown = cache_status_of_answer(answer, head, shown, Some(head.status));
-    about_answer(answer, status, shown)
+    about_answer(answer, status, content, shown)
 }
 
 /// Takes the tags out, over a line that hides them.
@@ -258,7 +268,7 @@ pub(crate) fn whole_answer_text(
     let length = length_of_passed_answer(to_head, response);
     let content = content_unless_head(to_head, response.content.as_slice());
     let bytes = write_response(alloc, response.status, &lines, length, asked.close, content)?;
-    let about = about_answer_passed_whole(answer, head, shown);
+    let about = about_answer_passed_whole(answer, head, shown, content);
     Ok(ReplyTextAndAbout { bytes, about })
 }
 
@@ -276,12 +286,12 @@ fn not_modified_answer_text(
     ensures text { IfOk result (λ sent. sent.bytes ≡ not_modified_answer_text shown.policy name.now
         answer.now.exchange.now answer.now.response.now answer.now.response_time shown.stored shown.rule) }
     ensures about { IfOk result (λ sent. sent.about ≡ about_in_place_of_answer shown.policy answer.now.exchange.now
-        answer.now.response.now answer.now.response_time shown.stored shown.rule 304) }
+        answer.now.response.now answer.now.response_time shown.stored shown.rule 304 []) }
 {
     let own = answer_not_modified(alloc, &head.fields)?;
     let lines = fields_in_place_of_answer(alloc, name, answer, head, shown, own)?;
     let bytes = write_response(alloc, 304, &lines, None, answer.exchange.asked.close, &[])?;
-    let about = about_in_place_of_answer(answer, head, shown, 304);
+    let about = about_in_place_of_answer(answer, head, shown, 304, &[]);
     Ok(ReplyTextAndAbout { bytes, about })
 }
 
@@ -337,16 +347,18 @@ pub fn refused(
     cause: Cause,
     close: bool,
     head: bool,
-) -> Result<Bytes, AllocError>
+) -> Result<ReplyTextAndAbout, AllocError>
     requires { now < 253_402_300_800 }
-    ensures { IfOk result (λ text. text ≡ refusal_reply_text (date_text_of now) cause close head) }
+    ensures text { IfOk result (λ sent. sent.bytes ≡ refusal_reply_text (date_text_of now) cause close head) }
+    ensures about { IfOk result (λ sent. sent.about ≡ about_refusal_reply cause head) }
 {
     let (status, text) = refusal(alloc, cause)?;
     let lines = fields_of_refusal(alloc, now, text.as_slice())?;
     let content = content_unless_head(head, text.as_slice());
     let length = text.len() as u64;
-    let message = write_response(alloc, status, &lines, Some(length), close, content)?;
-    Ok(message)
+    let bytes = write_response(alloc, status, &lines, Some(length), close, content)?;
+    let about = StatusAndReason::refusal(cause, content.len() as u64);
+    Ok(ReplyTextAndAbout { bytes, about })
 }
 
 fn fields_of_purge(alloc: Global, now: u64, count: usize) -> Result<Fields, AllocError>

@@ -87,9 +87,10 @@ impl CacheStatusInfo {
 
 /// The bytes of a reply, and what it is.
 #[derive(Drop)]
-pub(crate) struct ReplyTextAndAbout {
-    pub(crate) bytes: Bytes,
-    pub(crate) about: StatusAndReason,
+pub struct ReplyTextAndAbout {
+    /// The whole message.
+    pub bytes: Bytes,
+    pub about: StatusAndReason,
 }
 
 /// A stored response that is sent to a request.
@@ -143,6 +144,8 @@ impl StoredReply<'_> {
             self.now.asked.now) }
         ensures about { IfOk result (λ sent. sent.about
             ≡ about_stored_response_sent (response_as_range_or_whole self.now.asked.now self.now.entry.now).status
+            (content_unless_head (is_head self.now.asked.now)
+            (response_as_range_or_whole self.now.asked.now self.now.entry.now).content)
             self.now.entry.now self.now.sent_at self.now.info) }
     {
         match range_answer(self.asked, self.entry) {
@@ -166,6 +169,8 @@ impl StoredReply<'_> {
             self.now.asked.now) }
         ensures about { IfOk result (λ sent. sent.about
             ≡ about_stored_response_sent (response_in_form_of (Part first last) self.now.entry.now).status
+            (content_unless_head (is_head self.now.asked.now)
+            (response_in_form_of (Part first last) self.now.entry.now).content)
             self.now.entry.now self.now.sent_at self.now.info) }
     {
         let fields = fields_of_206(alloc, self.entry, first, last)?;
@@ -194,7 +199,9 @@ impl StoredReply<'_> {
             (content_unless_head (is_head self.now.asked.now)
             (slice_range self.now.entry.now.content first (last + 1)))) }
         ensures about { IfOk result (λ sent. sent.about
-            ≡ about_stored_response_sent 206 self.now.entry.now self.now.sent_at self.now.info) }
+            ≡ about_stored_response_sent 206 (content_unless_head (is_head self.now.asked.now)
+            (slice_range self.now.entry.now.content first (last + 1)))
+            self.now.entry.now self.now.sent_at self.now.info) }
     {
         let entry = self.entry;
         let content = &entry.content.as_slice()[first..last + 1];
@@ -208,6 +215,8 @@ impl StoredReply<'_> {
             self.now.asked.now) }
         ensures about { IfOk result (λ sent. sent.about
             ≡ about_stored_response_sent (response_in_form_of Unsatisfiable self.now.entry.now).status
+            (content_unless_head (is_head self.now.asked.now)
+            (response_in_form_of Unsatisfiable self.now.entry.now).content)
             self.now.entry.now self.now.sent_at self.now.info) }
     {
         let fields = unsatisfied_fields(alloc, self.entry)?;
@@ -226,7 +235,8 @@ impl StoredReply<'_> {
             self.now.entry.now self.now.sent_at self.now.info) (Some 0) self.now.asked.now.close
             (content_unless_head (is_head self.now.asked.now) [])) }
         ensures about { IfOk result (λ sent. sent.about
-            ≡ about_stored_response_sent 416 self.now.entry.now self.now.sent_at self.now.info) }
+            ≡ about_stored_response_sent 416 (content_unless_head (is_head self.now.asked.now) [])
+            self.now.entry.now self.now.sent_at self.now.info) }
     {
         self.written_in_form(alloc, STATUS_RANGE_NOT_SATISFIABLE, fields, &[])
     }
@@ -245,7 +255,8 @@ impl StoredReply<'_> {
             self.now.entry.now self.now.sent_at self.now.info) (Some (length content.now)) self.now.asked.now.close
             (content_unless_head (is_head self.now.asked.now) content.now)) }
         ensures about { IfOk result (λ sent. sent.about
-            ≡ about_stored_response_sent status self.now.entry.now self.now.sent_at self.now.info) }
+            ≡ about_stored_response_sent status (content_unless_head (is_head self.now.asked.now) content.now)
+            self.now.entry.now self.now.sent_at self.now.info) }
     {
         let length = Some(content.len() as u64);
         let content = content_unless_head(is_head(self.asked), content);
@@ -269,6 +280,7 @@ impl StoredReply<'_> {
             self.now.sent_at self.now.info self.now.asked.now) }
         ensures about { IfOk result (λ sent. sent.about
             ≡ about_stored_response_sent self.now.entry.now.status
+            (content_unless_head (is_head self.now.asked.now) self.now.entry.now.content)
             self.now.entry.now self.now.sent_at self.now.info) }
     {
         let entry = self.entry;
@@ -286,7 +298,7 @@ impl StoredReply<'_> {
         ensures text { IfOk result (λ sent. sent.bytes ≡ not_modified_text self.now.name.now self.now.entry.now
             self.now.sent_at self.now.info self.now.asked.now) }
         ensures about { IfOk result (λ sent. sent.about
-            ≡ about_stored_response_sent 304 self.now.entry.now self.now.sent_at self.now.info) }
+            ≡ about_stored_response_sent 304 [] self.now.entry.now self.now.sent_at self.now.info) }
     {
         let fields = not_modified(alloc, self.entry)?;
         self.written_with(alloc, 304, &fields, None, &[])
@@ -326,7 +338,7 @@ impl StoredReply<'_> {
             (fields_of_sent_response self.now.name.now status fields.now
             self.now.entry.now self.now.sent_at self.now.info) length self.now.asked.now.close content.now) }
         ensures about { IfOk result (λ sent. sent.about
-            ≡ about_stored_response_sent status self.now.entry.now self.now.sent_at self.now.info) }
+            ≡ about_stored_response_sent status content.now self.now.entry.now self.now.sent_at self.now.info) }
     {
         if self.info.policy.hides_tags && fields.has(b"Cache-Tag") {
             let mut others = fields.copy(alloc)?;
@@ -350,7 +362,7 @@ impl StoredReply<'_> {
             (fields_with_age_and_status self.now.name.now status fields.now
             self.now.entry.now self.now.sent_at self.now.info) length self.now.asked.now.close content.now) }
         ensures about { IfOk result (λ sent. sent.about
-            ≡ about_stored_response_sent status self.now.entry.now self.now.sent_at self.now.info) }
+            ≡ about_stored_response_sent status content.now self.now.entry.now self.now.sent_at self.now.info) }
     {
         let entry = self.entry;
         let age = current_age(&entry.times, self.sent_at);
@@ -377,6 +389,7 @@ impl StoredReply<'_> {
         let about = StatusAndReason {
             status,
             told: Told::Handled(shown),
+            content_length: content.len() as u64,
             origin_line: self.info.origin_line,
         };
         Ok(ReplyTextAndAbout { bytes, about })

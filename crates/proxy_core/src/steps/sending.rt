@@ -24,13 +24,14 @@ use std::alloc::{AllocError, Global};
 /// What would be sent of a response that isn't held: no decision names one.
 fn nothing_to_send(alloc: Global) -> ReplyTextAndAbout
     ensures text { result.bytes ≡ [] }
-    ensures about { result.about ≡ record { status = 0; told = Purged 0; origin_line = None } }
+    ensures about { result.about ≡ record { status = 0; told = Purged 0; content_length = 0; origin_line = None } }
 {
     ReplyTextAndAbout {
         bytes: Bytes::new(alloc),
         about: StatusAndReason {
             status: 0,
             told: Told::Purged(0),
+            content_length: 0,
             origin_line: None,
         },
     }
@@ -85,10 +86,11 @@ pub(crate) fn refuse(
         ≡ outcome_of_refusal now cause asked.now) }
     ensures change { IfOk result (λ pending. pending.change ≡ Change.Keep) }
 {
+    let reply = refused(alloc, now, cause, asked.close, is_head(asked))?;
     Ok(PendingReply {
-        bytes: refused(alloc, now, cause, asked.close, is_head(asked))?,
+        bytes: reply.bytes,
         close: asked.close,
-        about: StatusAndReason::refusal(cause),
+        about: reply.about,
         change: Change::Keep,
         removed: Serials::new(alloc),
     })

@@ -7,6 +7,7 @@ ghost use Rattle.hx_framing.specs.declared.messages.Next.{Next};
 ghost use Rattle.hx_framing.specs.declared.messages.Next.TheVariants as next;
 ghost use Rattle.proxy_engine.specs.Admitted.{asked_on_connection, CoreIsHandedRequest};
 ghost use Rattle.hx_hop.specs.Moments.{date_text_of};
+ghost use Rattle.proxy_core.specs.Abouts.{about_refusal_reply};
 ghost use Rattle.proxy_core.specs.Replies.{refusal_reply_text};
 ghost use Rattle.proxy_core.specs.State.{State as CoreState};
 ghost use Rattle.proxy_engine.specs.EngineModel.{EngineModel};
@@ -29,9 +30,9 @@ use crate::work::EngineFault;
 use hx_fields::Bytes;
 use hx_framing::write_continue;
 use hx_hop::Asked;
-use hx_status::{Cause, Question, ReplyData, StatusAndReason};
+use hx_status::{Cause, Question, ReplyData};
 use hx_store::Shelf;
-use proxy_core::{is_head, refused};
+use proxy_core::{ReplyTextAndAbout, is_head, refused};
 use proxy_script::Effect;
 use std::alloc::{AllocError, Global};
 
@@ -62,9 +63,15 @@ fn send_continue(
 }
 
 /// The proxy's own answer, which closes the connection.
-fn proxys_own_answer(alloc: Global, now: u64, why: Cause, head: bool) -> Result<Bytes, AllocError>
+fn proxys_own_answer(
+    alloc: Global,
+    now: u64,
+    why: Cause,
+    head: bool,
+) -> Result<ReplyTextAndAbout, AllocError>
     requires { now < END_OF_TIME }
-    ensures { IfOk result (λ text. text ≡ refusal_reply_text (date_text_of now) why true head) }
+    ensures text { IfOk result (λ sent. sent.bytes ≡ refusal_reply_text (date_text_of now) why true head) }
+    ensures about { IfOk result (λ sent. sent.about ≡ about_refusal_reply why head) }
 {
     refused(alloc, now, why, true, head)
 }
@@ -92,14 +99,14 @@ fn refuse(
     ensures err { OnErr result (connections.new ≡ connections.old) }
 {
     let mut effects = effects_with_capacity(alloc)?;
-    let bytes = proxys_own_answer(alloc, now, why, head)?;
+    let own = proxys_own_answer(alloc, now, why, head)?;
     send_reply(
         connections,
         &mut effects,
         i,
-        bytes,
+        own.bytes,
         ReplyData {
-            about: StatusAndReason::refusal(why),
+            about: own.about,
             question,
         },
         true,

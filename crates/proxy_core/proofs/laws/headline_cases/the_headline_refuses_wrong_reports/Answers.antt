@@ -10,8 +10,8 @@ use Rattle.hx_storable.specs.Rules.{storage_rule_of}
 use Rattle.hx_validate.specs.Answering.{freshened_of}
 use Rattle.hx_status.specs.declared.cause.FailKind.TheVariants as kinds
 use Rattle.proxy_core.specs.declared.event.Event.TheVariants.{Arrive, Fail}
-use Rattle.proxy_core.specs.WrongTraces.{about_as_refused, events_that_store_a, get_a, about_without_origin_line, about_with_origin_line_3, right_outcome_with_changed_about, about_with_status_304}
-use Rattle.proxy_core.proofs.Refusals.{refuse, tells_an_origin, tells_no_origin, tells_refused, tells_status}
+use Rattle.proxy_core.specs.WrongTraces.{about_as_refused, events_that_store_a, get_a, about_without_origin_line, about_with_origin_line_3, right_outcome_with_changed_about, about_with_status_304, about_without_content}
+use Rattle.proxy_core.proofs.Refusals.{refuse, tells_an_origin, tells_no_content, tells_no_origin, tells_refused, tells_status}
 use Rattle.proxy_core.proofs.laws.headline_cases.the_headline_refuses_wrong_reports.Goals as goal
 
 pub returns-clause-another_status : goal.returns-clause-another_status
@@ -21,6 +21,10 @@ returns-clause-another_status c = refuse events_that_store_a (Arrive 110 2 get_a
 pub returns-clause-a_hit_told_as_refused : goal.returns-clause-a_hit_told_as_refused
 unfolding digits httpdate_on_literals matches_line verdict_of verdict_of_request policy_of decision_of reuse_rule_of storage_rule_of forwarded_of part_holding_day freshened_of error_rule_on
 returns-clause-a_hit_told_as_refused c = refuse events_that_store_a (Arrive 110 2 get_a) (right_outcome_with_changed_about about_as_refused events_that_store_a (Arrive 110 2 get_a)) tells_refused refl refl refl
+
+pub returns-clause-a_content_told_as_none : goal.returns-clause-a_content_told_as_none
+unfolding digits httpdate_on_literals matches_line verdict_of verdict_of_request policy_of decision_of reuse_rule_of storage_rule_of forwarded_of part_holding_day freshened_of error_rule_on
+returns-clause-a_content_told_as_none c = refuse events_that_store_a (Arrive 110 2 get_a) (right_outcome_with_changed_about about_without_content events_that_store_a (Arrive 110 2 get_a)) tells_no_content refl refl refl
 
 pub returns-clause-an_origin_that_was_not_asked : goal.returns-clause-an_origin_that_was_not_asked
 unfolding digits httpdate_on_literals matches_line verdict_of verdict_of_request policy_of decision_of reuse_rule_of storage_rule_of forwarded_of part_holding_day freshened_of error_rule_on

@@ -1,5 +1,5 @@
 use Rattle.std.proofs.Common.{true, Some, ap, ◌∙◌, ◌+◌, ◌++◌, List, ℕ, ◌∷◌, [], refl}
-use Rattle.hx_status.specs.Abouts.{about_refusal}
+use Rattle.proxy_core.specs.Abouts.{about_refusal_reply}
 use Rattle.hx_status.specs.declared.about.StatusAndReason.{StatusAndReason}
 use Rattle.proxy_script.specs.declared.effect_list.Effect.{Effect}
 use Rattle.proxy_script.specs.declared.effect_list.Effect.TheVariants.{Client, Close}
@@ -11,14 +11,14 @@ use Rattle.proxy_engine.proofs.steps.serving.refuse.Goals as goal
 pub returns-clause-ok : goal.returns-clause-ok
 returns-clause-ok c = λ s links core first a w h.
     let i = c.args.i in
-    let text = c.in_ok-bytes.ensures in
+    let text = c.in_ok-own.ensures.text in
     record {
       after = with_connection s i (connection_with_closed true);
       does = refused_served s c.args.now i a c.args.why c.args.head c.args.question c.send_reply.new.effects.items (with_connection s i (connection_with_closed true)) w record {
         emitted_is = c.send_reply.ensures.effects
-            ∙ (ap (λ (es : List Effect). es ++ Client (i + 1) c.in_ok-bytes.bytes (Some (record { about = c.refusal.result; question = c.args.question })) ∷ Close (i + 1) ∷ []) c.in_ok-effects.ensures.items
-            ∙ (ap (λ (a : StatusAndReason). Client (i + 1) c.in_ok-bytes.bytes (Some (record { about = a; question = c.args.question })) ∷ Close (i + 1) ∷ []) c.refusal.ensures
-            ∙ ap (λ (b : List ℕ). Client (i + 1) b (Some (record { about = about_refusal c.args.why; question = c.args.question })) ∷ Close (i + 1) ∷ []) text));
+            ∙ (ap (λ (es : List Effect). es ++ Client (i + 1) c.in_ok-own.own.bytes (Some (record { about = c.in_ok-own.own.about; question = c.args.question })) ∷ Close (i + 1) ∷ []) c.in_ok-effects.ensures.items
+            ∙ (ap (λ (a : StatusAndReason). Client (i + 1) c.in_ok-own.own.bytes (Some (record { about = a; question = c.args.question })) ∷ Close (i + 1) ∷ []) c.in_ok-own.ensures.about
+            ∙ ap (λ (b : List ℕ). Client (i + 1) b (Some (record { about = about_refusal_reply c.args.why c.args.head; question = c.args.question })) ∷ Close (i + 1) ∷ []) text));
         after_is = refl;
       };
       represents = c.send_reply.ensures.represents s links core first h;
