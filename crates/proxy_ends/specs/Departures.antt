@@ -15,7 +15,7 @@ use Rattle.proxy_figures.specs.Unanswered.{unanswered_name}
 use Rattle.proxy_figures.specs.declared.unanswered.UnansweredCause.{UnansweredCause}
 use Rattle.proxy_log.specs.Asked.{AskedWords, asked_words, asked_words_of_head}
 use Rattle.proxy_log.specs.Line.{LineWords, log_line_text, unanswered_reason}
-use Rattle.proxy_log.specs.PendingLines.{LineIsAdded, LineIsLost}
+use Rattle.proxy_log.specs.PendingLines.{LineIsAddedOrLost}
 use Rattle.proxy_log.specs.declared.kept_line.RequestLine.{RequestLine}
 use Rattle.proxy_log.specs.declared.logged_request.LoggedRequest.{LoggedRequest}
 use Rattle.proxy_log.specs.declared.pending_lines.Lines.{Lines}
@@ -54,17 +54,17 @@ words_of_departure asked address cause moment took origin = record {
   origin = origin;
 }
 
--- it stands behind the others, or it is lost, and counts as that; of one of which no log is kept there is none
+-- it stands behind the others, or where there is no room it is lost, and counts as that; of one of which no log is kept
+-- there is none
 abbrev pub LineIsAddedIfLogged : Option (Box LoggedClient) → UnansweredCause → Option LoggedRequest → ℕ → ℕ → List ℕ
     → Lines
     → Lines → Type 0
 LineIsAddedIfLogged None cause request moment took origin old new = new ≡ old
 LineIsAddedIfLogged (Some logged) cause request moment took origin old new =
-    LineIsAdded (log_line_text
+    LineIsAddedOrLost (log_line_text
     (words_of_departure (words_of_open_or_read_request request logged.value.line)
     (string_bytes logged.value.address) cause moment took
     origin)) old new
-    ⊎ LineIsLost old new
 
 abbrev pub UnansweredDepartureIsLogged : UnansweredDeparture → Option LoggedRequest → ℕ → ℕ → List ℕ → Lines → Lines
     → Type 0

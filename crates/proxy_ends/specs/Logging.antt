@@ -12,7 +12,7 @@ use Rattle.hx_status.specs.declared.question.Question.{Question}
 use Rattle.proxy_log.specs.Asked.{AskedWords, asked_words_of_head, words_of_question}
 use Rattle.proxy_log.specs.KeptLine.{RequestLineOfHeadIsKept, RequestLineIsDiscarded}
 use Rattle.proxy_log.specs.Line.{LineWords, log_line_text}
-use Rattle.proxy_log.specs.PendingLines.{LineIsAdded, LineIsLost}
+use Rattle.proxy_log.specs.PendingLines.{LineIsAddedOrLost}
 use Rattle.proxy_log.specs.declared.kept_line.RequestLine.{RequestLine}
 use Rattle.proxy_log.specs.declared.pending_lines.Lines.{Lines}
 use Rattle.proxy_ends.specs.declared.clients.client.LoggedClient.{LoggedClient}
@@ -31,7 +31,7 @@ words_about_reply asked address reply = record {
   method = asked.method;
   target = asked.target;
   status = reply.replied.now.about.status;
-  length = reply.length;
+  length = reply.replied.now.about.content_length;
   reason = reason_text reply.replied.now.about.told;
   took = reply.took;
   origin = reply.origin.now;
@@ -40,13 +40,15 @@ words_about_reply asked address reply = record {
 abbrev pub logged_address : Option (Box LoggedClient) → Option (List ℕ)
 logged_address logged = option_map (λ one. string_bytes one.value.address) logged
 
--- the line stands behind the others, or it is lost, and counts as that
-abbrev pub LineOfLoggedIsAdded : LoggedClient → Reply → Lines → Lines → Type 0
-LineOfLoggedIsAdded logged reply old new =
-    LineIsAdded (log_line_text
+-- the line about a reply to a client of which a log is kept
+abbrev pub line_of_logged : LoggedClient → Reply → List ℕ
+line_of_logged logged reply = log_line_text
     (words_about_reply (words_of_answered_or_read_request reply.replied.now.question logged.line)
-    (string_bytes logged.address) reply)) old new
-    ⊎ LineIsLost old new
+    (string_bytes logged.address) reply)
+
+-- the line stands behind the others, or where there is no room it is lost, and counts as that
+abbrev pub LineOfLoggedIsAdded : LoggedClient → Reply → Lines → Lines → Type 0
+LineOfLoggedIsAdded logged reply old new = LineIsAddedOrLost (line_of_logged logged reply) old new
 
 -- of a client of which a log is kept there is one; of any other none
 abbrev pub LineAboutReplyIsAdded : Option (Box LoggedClient) → Reply → Lines → Lines → Type 0

@@ -9,8 +9,6 @@ pub struct Reply<'a> {
     pub moment: u64,
     /// What it is, and what it answers.
     pub replied: &'a ReplyData,
-    /// The bytes of its content.
-    pub length: u64,
     /// Milliseconds since the first byte of its request came.
     pub took: u64,
     /// The address of the origin that was asked for it; empty where none was.

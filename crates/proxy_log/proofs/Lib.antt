@@ -3,3 +3,4 @@ pub mod KeptLines
 pub mod LineBytes
 pub mod LineParts
 pub mod LineSteps
+pub mod ReasonBytes

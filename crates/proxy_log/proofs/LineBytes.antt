@@ -13,10 +13,10 @@ use Rattle.proxy_log.specs.Line.{LineWords, is_logged_unescaped, hex_digit, logg
 use Rattle.proxy_log.specs.OneLine.{TextIsOneLine, LogLineIsInRange, is_byte, is_visible, is_log_word}
 use Rattle.proxy_log.specs.Seconds.{seconds_text, three_digits}
 
-all_both : (p : ℕ → Bool) (xs ys : List ℕ) → list_all p xs ≡ true → list_all p ys ≡ true → list_all p (xs ++ ys) ≡ true
+pub all_both : (p : ℕ → Bool) (xs ys : List ℕ) → list_all p xs ≡ true → list_all p ys ≡ true → list_all p (xs ++ ys) ≡ true
 all_both p xs ys first second = list_all-append p xs ys ∙ rw first second
 
-both : (a b : Bool) → (a && b) ≡ true → (a ≡ true) × (b ≡ true)
+pub both : (a b : Bool) → (a && b) ≡ true → (a ≡ true) × (b ≡ true)
 both true b h = (refl, h)
 both false b h = absurd (false≢true h)
 

@@ -4,15 +4,18 @@
 -- is_logged_unescaped, logged_byte, logged_text: bytes as they stand in a line, so that none of them breaks it
 -- logged_word: a word, which is never empty
 -- status_word: a status
--- LineWords, log_words_of_line: what a line says
+-- LineWords, log_words_of_line: what a line says      logged_reason_text: its reason
 -- log_line_text: the line
 -- unanswered_reason: what stands in the place of the reason where a request was never answered
 use Rattle.std.specs.Prelude.{ℕ, ◌+◌, ◌/◌, ◌%◌, ◌==◌, Bool, true, false, not, ◌&&◌, ◌||◌, nat_lt, if◌then◌else◌, List}
 use Rattle.std.specs.Prelude.{[], ◌∷◌, ◌++◌, codes, decimal}
+use Rattle.hx_status.specs.Abouts.{reason_text}
 use Rattle.hx_target.specs.declared.keys.Key.{Key}
 use Rattle.proxy_log.specs.Asked.{port_suffix, target_text}
 use Rattle.proxy_log.specs.Seconds.{seconds_text}
 use Rattle.proxy_log.specs.declared.line.Line.{Line}
+use Rattle.proxy_log.specs.declared.line.LoggedReason.{LoggedReason}
+use Rattle.proxy_log.specs.declared.line.LoggedReason.TheVariants.{OfReply, OfUnanswered}
 
 -- a byte that stands for itself: 21 to 7E (hex) but the backslash, and where blanks may stand the space
 abbrev pub is_logged_unescaped : Bool → ℕ → Bool
@@ -49,6 +52,15 @@ pub record LineWords : Type 0 where
   pub took : ℕ
   pub origin : List ℕ
 
+-- in the place of the reason where a request was never answered: `left`, and why
+abbrev pub unanswered_reason : List ℕ → List ℕ
+unanswered_reason cause = codes "left;cause=" ++ cause
+
+-- what the reply tells of itself, or why there was none
+abbrev pub logged_reason_text : LoggedReason → List ℕ
+logged_reason_text (OfReply told) = reason_text told.now
+logged_reason_text (OfUnanswered cause) = unanswered_reason cause.now
+
 abbrev pub log_words_of_line : Line → LineWords
 log_words_of_line line = record {
   moment = line.moment;
@@ -57,7 +69,7 @@ log_words_of_line line = record {
   target = target_text line.asked.target;
   status = line.status;
   length = line.length;
-  reason = line.reason.now;
+  reason = logged_reason_text line.reason;
   took = line.took;
   origin = line.origin.now;
 }
@@ -74,10 +86,6 @@ log_line_text line =
     ++ codes " " ++ status_word line.status ++ codes " " ++ decimal line.length ++ codes " "
     ++ logged_text true line.reason ++ codes " "
     ++ seconds_text line.took ++ codes " " ++ logged_word line.origin ++ codes "\n"
-
--- in the place of the reason where a request was never answered: `left`, and why
-abbrev pub unanswered_reason : List ℕ → List ℕ
-unanswered_reason cause = codes "left;cause=" ++ cause
 
 -- a target URI as it stands in a line: its scheme and its port are no words of a client
 unfoldable pub logged_uri : Key → List ℕ

@@ -2,7 +2,8 @@
 -- both.
 --
 -- count_plus_one: a count of 64 bits, which stays at its greatest number
-use Rattle.std.specs.Prelude.{◌≡◌, ℕ, ◌+◌, ◌<◌, min, List, ◌++◌, length, vec_capacity}
+-- LineIsAddedOrLost: what becomes of a line
+use Rattle.std.specs.Prelude.{◌≡◌, ◌⊎◌, ℕ, ◌+◌, ◌<◌, min, List, ◌++◌, length, vec_capacity}
 use Rattle.proxy_log.specs.declared.pending_lines.Lines.{Lines}
 
 abbrev pub count_plus_one : ℕ → ℕ
@@ -23,3 +24,7 @@ pub record LineIsLost (old new : Lines) : Type 0 where
 -- the memory that the lines have doesn't hold this one too
 abbrev pub HasNoRoomForLine : List ℕ → Lines → Type 0
 HasNoRoomForLine line old = vec_capacity old.text < length old.text.items + length line
+
+-- a line that is handed in is added; it is lost only where there is no room for it
+abbrev pub LineIsAddedOrLost : List ℕ → Lines → Lines → Type 0
+LineIsAddedOrLost line old new = LineIsAdded line old new ⊎ (LineIsLost old new × HasNoRoomForLine line old)

@@ -10,14 +10,14 @@ use Rattle.proxy_log.specs.Line.{LineWords, unanswered_reason}
 use Rattle.proxy_log.specs.declared.seen.ReplyObservation.{ReplyObservation}
 
 -- what the reply tells of itself stands there, whatever its bytes say
-abbrev pub reply_words : AskedWords → StatusAndReason → ℕ → ReplyObservation → LineWords
-reply_words asked about content_length seen = record {
+abbrev pub reply_words : AskedWords → StatusAndReason → ReplyObservation → LineWords
+reply_words asked about seen = record {
   moment = seen.moment;
   client = seen.client.now;
   method = asked.method;
   target = asked.target;
   status = about.status;
-  length = content_length;
+  length = about.content_length;
   reason = reason_text about.told;
   took = seen.took;
   origin = seen.origin.now;

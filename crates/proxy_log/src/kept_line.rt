@@ -1,5 +1,5 @@
 //! What is kept of a head that may be refused: its request line, as it came.
-ghost use Rattle.std.specs.Prelude.{◌≡◌, ◌⊎◌, ℕ, List, [], ◌++◌, false, true, OnOk};
+ghost use Rattle.std.specs.Prelude.{◌≡◌, ◌⊎◌, ℕ, List, [], ◌++◌, codes, false, true, OnOk};
 ghost use Rattle.proxy_log.specs.Asked.{asked_words, asked_words_of_head};
 ghost use Rattle.proxy_log.specs.KeptLine.{RequestLineOfHeadIsKept, RequestLineIsDiscarded};
 
@@ -63,6 +63,15 @@ impl RequestLine {
         self.text.extend_from_slice(bytes)
     }
 
+    /// Adds the LF that ends the line.
+    fn push_line_feed(&mut self) -> Result<(), AllocError>
+        ensures ok { OnOk result (self.new.text.items ≡ self.old.text.items ++ codes "\n") }
+        ensures over { self.new.is_over ≡ self.old.is_over }
+    {
+        self.text.push(b'\n')?;
+        Ok(())
+    }
+
     /// Keeps of a piece what belongs to the line.
     fn keep(&mut self, piece: &[u8]) -> Result<(), AllocError>
         requires { self.old.is_over ≡ false }
@@ -74,7 +83,7 @@ impl RequestLine {
             self.push(line)?;
             if !is_empty_line(self.text.as_slice()) {
                 self.is_over = true;
-                return self.push(b"\n");
+                return self.push_line_feed();
             }
             self.text.clear();
             rest = behind;

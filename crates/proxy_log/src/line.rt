@@ -1,18 +1,30 @@
 //! A line of the log, and its text.
-ghost use Rattle.std.specs.Prelude.{◌≡◌, ◌+◌, ◌<◌, ◌≤◌, ◌++◌, codes, decimal, false, length, take, vec_capacity};
-ghost use Rattle.std.specs.Prelude.{OnErr, OnOk, IsTrue};
+ghost use Rattle.std.specs.Prelude.{◌≡◌, ◌+◌, ◌<◌, ◌≤◌, ◌++◌, codes, decimal, false, if◌then◌else◌, length, take};
+ghost use Rattle.std.specs.Prelude.{OnErr, OnOk, IsTrue, true, vec_capacity};
 ghost use Rattle.std.specs.List.{list_all};
+ghost use Rattle.hx_status.specs.Abouts.{reason_text};
 ghost use Rattle.proxy_log.specs.Asked.{port_suffix, target_text, uri_text};
 ghost use Rattle.proxy_log.specs.Line.{is_logged_unescaped, hex_digit, logged_byte, logged_text, logged_word};
 ghost use Rattle.proxy_log.specs.Line.{log_words_of_line, log_line_text, status_word};
 ghost use Rattle.proxy_log.specs.Line.{log_line_front, log_line_answer, log_line_end, logged_uri};
+ghost use Rattle.proxy_log.specs.Line.{logged_reason_text, unanswered_reason};
 ghost use Rattle.proxy_log.specs.Seconds.{seconds_text};
 
 use crate::logged_request::{LoggedRequest, LoggedTarget};
 use crate::seconds::push_seconds;
+use hx_status::{Told, push_reason};
 use hx_target::Key;
 use itoa::Buffer;
 use std::alloc::AllocError;
+
+/// Why a request had its reply.
+#[derive(Clone, Copy)]
+pub enum LoggedReason<'a> {
+    /// What the reply tells of itself.
+    OfReply(&'a Told),
+    /// For this cause there was none.
+    OfUnanswered(&'a [u8]),
+}
 
 /// What a line says of a reply. It owns none of it: a line is written where it is known.
 #[derive(Clone, Copy)]
@@ -27,40 +39,39 @@ pub struct Line<'a> {
     pub status: u16,
     /// The bytes of content that were sent.
     pub length: u64,
-    /// What the reply tells of itself, or why there was none.
-    pub reason: &'a [u8],
+    pub reason: LoggedReason<'a>,
     /// From the request's first byte to the reply, or until its client had gone, in milliseconds.
     pub took: u64,
     /// The address of the origin that was asked; empty where none was.
     pub origin: &'a [u8],
 }
 
-// 1 at each byte that stands for itself in any word.
+// 0 at each byte that stands for itself in any word, and 1 at each other.
 #[rattlefmt::skip]
-static PLAIN_BYTES: [u8; 256] = [
-    0, 0, 0, 0, 0, 0, 0, 0, 0, 0, 0, 0, 0, 0, 0, 0,
-    0, 0, 0, 0, 0, 0, 0, 0, 0, 0, 0, 0, 0, 0, 0, 0,
-    0, 1, 1, 1, 1, 1, 1, 1, 1, 1, 1, 1, 1, 1, 1, 1,
+static ESCAPED_BYTES: [u8; 256] = [
     1, 1, 1, 1, 1, 1, 1, 1, 1, 1, 1, 1, 1, 1, 1, 1,
     1, 1, 1, 1, 1, 1, 1, 1, 1, 1, 1, 1, 1, 1, 1, 1,
-    1, 1, 1, 1, 1, 1, 1, 1, 1, 1, 1, 1, 0, 1, 1, 1,
+    1, 0, 0, 0, 0, 0, 0, 0, 0, 0, 0, 0, 0, 0, 0, 0,
+    0, 0, 0, 0, 0, 0, 0, 0, 0, 0, 0, 0, 0, 0, 0, 0,
+    0, 0, 0, 0, 0, 0, 0, 0, 0, 0, 0, 0, 0, 0, 0, 0,
+    0, 0, 0, 0, 0, 0, 0, 0, 0, 0, 0, 0, 1, 0, 0, 0,
+    0, 0, 0, 0, 0, 0, 0, 0, 0, 0, 0, 0, 0, 0, 0, 0,
+    0, 0, 0, 0, 0, 0, 0, 0, 0, 0, 0, 0, 0, 0, 0, 1,
     1, 1, 1, 1, 1, 1, 1, 1, 1, 1, 1, 1, 1, 1, 1, 1,
-    1, 1, 1, 1, 1, 1, 1, 1, 1, 1, 1, 1, 1, 1, 1, 0,
-    0, 0, 0, 0, 0, 0, 0, 0, 0, 0, 0, 0, 0, 0, 0, 0,
-    0, 0, 0, 0, 0, 0, 0, 0, 0, 0, 0, 0, 0, 0, 0, 0,
-    0, 0, 0, 0, 0, 0, 0, 0, 0, 0, 0, 0, 0, 0, 0, 0,
-    0, 0, 0, 0, 0, 0, 0, 0, 0, 0, 0, 0, 0, 0, 0, 0,
-    0, 0, 0, 0, 0, 0, 0, 0, 0, 0, 0, 0, 0, 0, 0, 0,
-    0, 0, 0, 0, 0, 0, 0, 0, 0, 0, 0, 0, 0, 0, 0, 0,
-    0, 0, 0, 0, 0, 0, 0, 0, 0, 0, 0, 0, 0, 0, 0, 0,
-    0, 0, 0, 0, 0, 0, 0, 0, 0, 0, 0, 0, 0, 0, 0, 0,
+    1, 1, 1, 1, 1, 1, 1, 1, 1, 1, 1, 1, 1, 1, 1, 1,
+    1, 1, 1, 1, 1, 1, 1, 1, 1, 1, 1, 1, 1, 1, 1, 1,
+    1, 1, 1, 1, 1, 1, 1, 1, 1, 1, 1, 1, 1, 1, 1, 1,
+    1, 1, 1, 1, 1, 1, 1, 1, 1, 1, 1, 1, 1, 1, 1, 1,
+    1, 1, 1, 1, 1, 1, 1, 1, 1, 1, 1, 1, 1, 1, 1, 1,
+    1, 1, 1, 1, 1, 1, 1, 1, 1, 1, 1, 1, 1, 1, 1, 1,
+    1, 1, 1, 1, 1, 1, 1, 1, 1, 1, 1, 1, 1, 1, 1, 1,
 ];
 
-/// Whether a byte stands for itself in any word.
-fn is_plain(b: u8) -> bool
-    ensures { result ≡ is_logged_unescaped false b }
+/// 0 for a byte that stands for itself in any word, and 1 for each other.
+fn one_if_escaped(b: u8) -> u8
+    ensures { result ≡ (if is_logged_unescaped false b then 0 else 1) }
 {
-    PLAIN_BYTES[usize::from(b)] == 1
+    ESCAPED_BYTES[usize::from(b)]
 }
 
 /// Whether a byte stands for itself in a line.
@@ -94,12 +105,12 @@ fn push_byte(text: &mut Vec<u8>, blanks: bool, b: u8) -> Result<(), AllocError>
 fn are_plain(bytes: &[u8]) -> bool
     ensures { result ≡ list_all (is_logged_unescaped false) bytes.now }
 {
+    // No byte ends the look at the others: so it takes fewer steps for each.
+    let mut escaped = 0usize;
     for b in bytes {
-        if !is_plain(*b) {
-            return false;
-        }
+        escaped += usize::from(one_if_escaped(*b));
     }
-    true
+    escaped == 0
 }
 
 /// Whether these bytes stand in a line as they are. Blanks are for whoever looks at each byte.
@@ -110,6 +121,7 @@ fn are_shown(blanks: bool, bytes: &[u8]) -> bool
 }
 
 /// Adds bytes one by one, each as it stands in a line.
+#[cold]
 #[inline(never)]
 fn push_escaped(text: &mut Vec<u8>, blanks: bool, bytes: &[u8]) -> Result<(), AllocError>
     ensures ok { OnOk result (text.new.items ≡ text.old.items ++ logged_text blanks bytes.now) }
@@ -139,6 +151,18 @@ fn push_shown(text: &mut Vec<u8>, blanks: bool, bytes: &[u8]) -> Result<(), Allo
     push_escaped(text, blanks, bytes)
 }
 
+/// The blank behind a word.
+#[inline]
+fn push_blank(text: &mut Vec<u8>) -> Result<(), AllocError>
+    ensures ok { OnOk result (text.new.items ≡ text.old.items ++ codes " ") }
+    ensures full { OnErr result (vec_capacity text.old < length text.old.items + length (codes " ")) }
+    ensures capacity { vec_capacity text.old ≤ vec_capacity text.new }
+    ensures front { take (length text.old.items) text.new.items ≡ text.old.items }
+{
+    text.push(b' ')?;
+    Ok(())
+}
+
 fn push_word(text: &mut Vec<u8>, bytes: &[u8]) -> Result<(), AllocError>
     ensures ok { OnOk result (text.new.items ≡ text.old.items ++ (logged_word bytes.now ++ codes " ")) }
     ensures full { OnErr result (vec_capacity text.old < length text.old.items + length
@@ -150,7 +174,7 @@ fn push_word(text: &mut Vec<u8>, bytes: &[u8]) -> Result<(), AllocError>
         return text.extend_from_slice(b"- ");
     }
     push_shown(text, false, bytes)?;
-    text.extend_from_slice(b" ")
+    push_blank(text)
 }
 
 /// Each byte of a port stands for itself.
@@ -173,6 +197,18 @@ fn push_port(text: &mut Vec<u8>, port: u16) -> Result<(), AllocError>
     text.extend_from_slice(digits.format(port).as_bytes())
 }
 
+/// The scheme of a target URI, and its host.
+fn push_scheme_and_host(text: &mut Vec<u8>, host: &[u8]) -> Result<(), AllocError>
+    ensures ok { OnOk result (text.new.items ≡ text.old.items ++ (codes "http://" ++ logged_text false host.now)) }
+    ensures full { OnErr result (vec_capacity text.old < length text.old.items + length
+        (codes "http://" ++ logged_text false host.now)) }
+    ensures capacity { vec_capacity text.old ≤ vec_capacity text.new }
+    ensures front { take (length text.old.items) text.new.items ≡ text.old.items }
+{
+    text.extend_from_slice(b"http://")?;
+    push_shown(text, false, host)
+}
+
 /// A target URI, part by part.
 #[tactic(auto, unfolding(crate::specs::Line::logged_uri))]
 fn push_uri_parts(text: &mut Vec<u8>, key: &Key) -> Result<(), AllocError>
@@ -181,11 +217,10 @@ fn push_uri_parts(text: &mut Vec<u8>, key: &Key) -> Result<(), AllocError>
     ensures capacity { vec_capacity text.old ≤ vec_capacity text.new }
     ensures front { take (length text.old.items) text.new.items ≡ text.old.items }
 {
-    text.extend_from_slice(b"http://")?;
-    push_shown(text, false, key.host.as_slice())?;
+    push_scheme_and_host(text, key.host.as_slice())?;
     push_port(text, key.port)?;
     push_shown(text, false, key.path_query.as_slice())?;
-    text.extend_from_slice(b" ")
+    push_blank(text)
 }
 
 /// A target URI, and the blank behind it.
@@ -227,7 +262,7 @@ fn push_time(text: &mut Vec<u8>, milliseconds: u64) -> Result<(), AllocError>
         return text.extend_from_slice(b"0.000 ");
     }
     push_seconds(text, milliseconds)?;
-    text.extend_from_slice(b" ")
+    push_blank(text)
 }
 
 fn push_number(text: &mut Vec<u8>, n: u64) -> Result<(), AllocError>
@@ -238,7 +273,7 @@ fn push_number(text: &mut Vec<u8>, n: u64) -> Result<(), AllocError>
 {
     let mut digits = Buffer::new();
     text.extend_from_slice(digits.format(n).as_bytes())?;
-    text.extend_from_slice(b" ")
+    push_blank(text)
 }
 
 /// A status, zeros where none was sent.
@@ -288,6 +323,48 @@ fn push_front(text: &mut Vec<u8>, line: &Line<'_>) -> Result<(), AllocError>
     push_target(text, &line.asked.target)
 }
 
+/// All that a reply tells of itself stands in a line as it is.
+fn told_is_shown(told: &Told)
+    ensures { logged_text true (reason_text told.now) ≡ reason_text told.now }
+{}
+
+/// Each byte of a cause may have to be escaped, and none of what stands before it.
+fn cause_is_escaped(cause: &[u8])
+    ensures { logged_text true (unanswered_reason cause.now) ≡ codes "left;cause=" ++ logged_text true cause.now }
+{}
+
+/// Why a request was never answered.
+fn push_cause(text: &mut Vec<u8>, cause: &[u8]) -> Result<(), AllocError>
+    ensures ok { OnOk result (text.new.items ≡ text.old.items ++ (codes "left;cause=" ++ logged_text true cause.now)) }
+    ensures full { OnErr result (vec_capacity text.old < length text.old.items + length
+        (codes "left;cause=" ++ logged_text true cause.now)) }
+    ensures capacity { vec_capacity text.old ≤ vec_capacity text.new }
+    ensures front { take (length text.old.items) text.new.items ≡ text.old.items }
+{
+    text.extend_from_slice(b"left;cause=")?;
+    push_shown(text, true, cause)
+}
+
+/// What a reply tells of itself, or why there was none.
+fn push_logged_reason(text: &mut Vec<u8>, reason: &LoggedReason<'_>) -> Result<(), AllocError>
+    ensures ok { OnOk result (text.new.items ≡ text.old.items ++ logged_text true (logged_reason_text reason.now)) }
+    ensures full { OnErr result (vec_capacity text.old < length text.old.items + length
+        (logged_text true (logged_reason_text reason.now))) }
+    ensures capacity { vec_capacity text.old ≤ vec_capacity text.new }
+    ensures front { take (length text.old.items) text.new.items ≡ text.old.items }
+{
+    match reason {
+        LoggedReason::OfReply(told) => {
+            told_is_shown(told);
+            push_reason(text, told)
+        }
+        LoggedReason::OfUnanswered(cause) => {
+            cause_is_escaped(cause);
+            push_cause(text, cause)
+        }
+    }
+}
+
 /// What it was told.
 #[tactic(auto, unfolding(crate::specs::Line::log_line_answer))]
 fn push_answer(text: &mut Vec<u8>, line: &Line<'_>) -> Result<(), AllocError>
@@ -299,8 +376,8 @@ fn push_answer(text: &mut Vec<u8>, line: &Line<'_>) -> Result<(), AllocError>
 {
     push_status(text, line.status)?;
     push_number(text, line.length)?;
-    push_shown(text, true, line.reason)?;
-    text.extend_from_slice(b" ")
+    push_logged_reason(text, &line.reason)?;
+    push_blank(text)
 }
 
 /// How long that took, and which origin was asked.

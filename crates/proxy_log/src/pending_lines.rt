@@ -1,17 +1,16 @@
 //! Lines that wait to be written.
 
-ghost use Rattle.std.specs.Prelude.{◌≡◌, ◌⊎◌, ◌+◌, ◌<◌, ◌++◌, [], length, vec_capacity, OnErr, OnOk};
+ghost use Rattle.std.specs.Prelude.{◌≡◌, ◌++◌, [], OnErr, OnOk};
 ghost use Rattle.proxy_log.specs.Asked.{asked_words};
-ghost use Rattle.proxy_log.specs.Line.{log_line_text, unanswered_reason, log_words_of_line};
-ghost use Rattle.proxy_log.specs.PendingLines.{HasNoRoomForLine, LineIsAdded, LineIsLost};
+ghost use Rattle.proxy_log.specs.Line.{log_line_text, log_words_of_line};
+ghost use Rattle.proxy_log.specs.PendingLines.{HasNoRoomForLine, LineIsAddedOrLost, LineIsLost};
 ghost use Rattle.proxy_log.specs.Replies.{reply_words, unanswered_words};
 
-use crate::line::{Line, push_line};
+use crate::line::{Line, LoggedReason, push_line};
 use crate::logged_request::LoggedRequest;
 use crate::seen::ReplyObservation;
-use hx_status::{StatusAndReason, push_reason};
+use hx_status::StatusAndReason;
 use std::alloc::{AllocError, Global};
-use std::mem::replace;
 
 /// Room for so many bytes is kept for the next lines.
 const MOST_KEPT: usize = 65_536;
@@ -21,19 +20,8 @@ const MOST_KEPT: usize = 65_536;
 pub struct Lines {
     alloc: Global,
     text: Vec<u8>,
-    /// Room for what the next line has as its reason.
-    reason: Vec<u8>,
     added: u64,
     lost: u64,
-}
-
-/// Adds why a request was never answered. Its only error is out of memory.
-fn push_unanswered_reason(reason: &mut Vec<u8>, cause: &[u8]) -> Result<(), AllocError>
-    ensures { OnOk result (reason.new.items ≡ reason.old.items ++ unanswered_reason cause.now) }
-{
-    reason.extend_from_slice(b"left;cause=")?;
-    reason.extend_from_slice(cause)?;
-    Ok(())
 }
 
 impl Lines {
@@ -45,7 +33,6 @@ impl Lines {
         Lines {
             alloc,
             text: Vec::new(alloc),
-            reason: Vec::new(alloc),
             added: 0,
             lost: 0,
         }
@@ -53,8 +40,7 @@ impl Lines {
 
     /// Adds a line. Where there is neither room nor memory for it, it is lost, and counted.
     pub fn add(&mut self, line: &Line<'_>)
-        ensures { LineIsAdded (log_line_text (log_words_of_line line.now)) self.old self.new
-            ⊎ (LineIsLost self.old self.new × HasNoRoomForLine (log_line_text (log_words_of_line line.now)) self.old) }
+        ensures { LineIsAddedOrLost (log_line_text (log_words_of_line line.now)) self.old self.new }
     {
         match self.write(line) {
             Ok(()) => self.added = self.added.saturating_add(1),
@@ -62,33 +48,27 @@ impl Lines {
         }
     }
 
-    /// Adds the line about a reply that answers what was asked, and has so many bytes of content. Where there is
-    /// neither room nor memory for it, it is lost, and counted.
+    /// Adds the line about a reply that answers what was asked. Where there is neither room nor memory for it, it is
+    /// lost, and counted.
     pub fn add_reply(
         &mut self,
         asked: &LoggedRequest<'_>,
         about: &StatusAndReason,
-        content_length: u64,
         seen: &ReplyObservation<'_>,
     )
-        ensures { LineIsAdded (log_line_text (reply_words (asked_words asked.now) about.now content_length seen.now))
-            self.old self.new ⊎ LineIsLost self.old self.new }
+        ensures { LineIsAddedOrLost (log_line_text (reply_words (asked_words asked.now) about.now seen.now)) self.old
+            self.new }
     {
-        let mut reason = self.take_reason();
-        match push_reason(&mut reason, &about.told) {
-            Ok(()) => self.add(&Line {
-                moment: seen.moment,
-                client: seen.client,
-                asked: *asked,
-                status: about.status,
-                length: content_length,
-                reason: reason.as_slice(),
-                took: seen.took,
-                origin: seen.origin,
-            }),
-            Err(AllocError) => self.count_lost_line(),
-        }
-        self.reason = reason;
+        self.add(&Line {
+            moment: seen.moment,
+            client: seen.client,
+            asked: *asked,
+            status: about.status,
+            length: about.content_length,
+            reason: LoggedReason::OfReply(&about.told),
+            took: seen.took,
+            origin: seen.origin,
+        });
     }
 
     /// Adds the line about a request that was never answered, for this cause: it has the status 0, and no byte was
@@ -99,35 +79,19 @@ impl Lines {
         cause: &[u8],
         seen: &ReplyObservation<'_>,
     )
-        ensures { LineIsAdded (log_line_text (unanswered_words (asked_words asked.now) cause.now seen.now)) self.old
-            self.new
-            ⊎ LineIsLost self.old self.new }
+        ensures { LineIsAddedOrLost (log_line_text (unanswered_words (asked_words asked.now) cause.now seen.now))
+            self.old self.new }
     {
-        let mut reason = self.take_reason();
-        match push_unanswered_reason(&mut reason, cause) {
-            Ok(()) => self.add(&Line {
-                moment: seen.moment,
-                client: seen.client,
-                asked: *asked,
-                status: 0,
-                length: 0,
-                reason: reason.as_slice(),
-                took: seen.took,
-                origin: seen.origin,
-            }),
-            Err(AllocError) => self.count_lost_line(),
-        }
-        self.reason = reason;
-    }
-
-    /// Takes the room for a reason, which is given back behind the line.
-    fn take_reason(&mut self) -> Vec<u8>
-        ensures empty { result.items ≡ [] }
-        ensures rest { self.new ≡ record self.old { reason = self.new.reason } }
-    {
-        let mut reason = replace(&mut self.reason, Vec::new(self.alloc));
-        reason.clear();
-        reason
+        self.add(&Line {
+            moment: seen.moment,
+            client: seen.client,
+            asked: *asked,
+            status: 0,
+            length: 0,
+            reason: LoggedReason::OfUnanswered(cause),
+            took: seen.took,
+            origin: seen.origin,
+        });
     }
 
     /// Writes a line behind the others, or changes nothing.

@@ -12,7 +12,6 @@ ghost use Rattle.proxy_log.specs.Cases.{log_words_of_get, refused_post_line, unr
 ghost use Rattle.proxy_log.specs.Cases.{unread_request_line_with_target};
 ghost use Rattle.proxy_log.specs.Cases.{report_of_hit, report_of_stored_miss};
 ghost use Rattle.proxy_log.specs.Line.{log_line_text};
-ghost use Rattle.proxy_log.specs.TextLines.{content_of};
 
 /// A miss, a hit, a denial with its blanks, a content that is refused, and what couldn't be read.
 pub fn worked_log_lines()
@@ -53,19 +52,6 @@ pub fn replies_are_reported_truthfully()
         ≡ codes "0.007 127.0.0.1:40001 GET http://h/a 200 5 origin timed-out;fwd=uri-miss 9.000 127.0.0.1:8081\n" }
     ensures purged { log_line_text (log_words_of_get 7 (reason_text (Purged 2)) 0 [])
         ≡ codes "0.007 127.0.0.1:40001 GET http://h/a 200 5 Purged: 2 0.000 -\n" }
-{}
-
-/// Of an answer, a refusal, an answer without content, a content with an empty line of its own, a head with bare line
-/// ends, and a head that hasn't ended.
-pub fn worked_contents_of_replies()
-    ensures answer { content_of (codes "HTTP/1.1 200 OK\r\nCache-Status: p;hit\r\nContent-Length: 2\r\n\r\nhi") ≡ codes "hi" }
-    ensures refusal { content_of (codes "HTTP/1.1 403 Forbidden\r\nRefusal: denied by line 1\r\n\r\ndenied by line 1")
-        ≡ codes "denied by line 1" }
-    ensures none { content_of (codes "HTTP/1.1 204 No Content\r\nPurged: 2\r\n\r\n") ≡ [] }
-    ensures lines { content_of (codes "HTTP/1.1 200 OK\r\nCache-Status: p;hit\r\n\r\na\r\n\r\nb\r\n\r\n")
-        ≡ codes "a\r\n\r\nb\r\n\r\n" }
-    ensures bare { content_of (codes "HTTP/1.1 200 OK\nCache-Status: p;hit\n\nhi") ≡ codes "hi" }
-    ensures begun { content_of (codes "HTTP/1.1 200 OK\r\nCache-Status: p;hit\r\n") ≡ [] }
 {}
 
 /// The default port is left out of a target URI, and any other isn't.

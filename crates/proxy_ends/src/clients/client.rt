@@ -63,12 +63,12 @@ impl LoggedClient {
             took: reply.took,
             origin: reply.origin,
         };
-        let (about, length) = (&reply.replied.about, reply.length);
+        let about = &reply.replied.about;
         match &reply.replied.question {
             Some(question) => {
-                lines.add_reply(&LoggedRequest::of_question(question), about, length, &seen);
+                lines.add_reply(&LoggedRequest::of_question(question), about, &seen);
             }
-            None => lines.add_reply(&self.line.asked(), about, length, &seen),
+            None => lines.add_reply(&self.line.asked(), about, &seen),
         }
     }
 }

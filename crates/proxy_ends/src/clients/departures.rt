@@ -1,7 +1,7 @@
 //! Clients that go with a request that isn't answered, and what is told of them.
-ghost use Rattle.std.specs.Prelude.{◌≡◌, ◌⊎◌};
+ghost use Rattle.std.specs.Prelude.{◌≡◌};
 ghost use Rattle.proxy_log.specs.Line.{log_line_text};
-ghost use Rattle.proxy_log.specs.PendingLines.{LineIsAdded, LineIsLost};
+ghost use Rattle.proxy_log.specs.PendingLines.{LineIsAddedOrLost};
 ghost use Rattle.proxy_log.specs.Replies.{unanswered_words};
 ghost use Rattle.proxy_ends.specs.Departures.{UnansweredDepartureIsLogged, words_of_open_or_read_request};
 ghost use Rattle.proxy_ends.specs.Timeouts.{milliseconds_since};
@@ -35,9 +35,9 @@ fn add_unanswered(
     cause: &[u8],
     seen: &ReplyObservation<'_>,
 )
-    ensures { LineIsAdded
+    ensures { LineIsAddedOrLost
         (log_line_text (unanswered_words (words_of_open_or_read_request request.now line.now) cause.now seen.now))
-        lines.old lines.new ⊎ LineIsLost lines.old lines.new }
+        lines.old lines.new }
 {
     match request {
         Some(request) => lines.add_unanswered(request, cause, seen),

@@ -602,13 +602,13 @@ impl<'a, R: Net> LiveSockets<'a, R> {
             return;
         }
         if let Some(replied) = replied {
-            self.note_answered(n, bytes, replied);
+            self.note_answered(n, replied);
         }
         self.drop_largest_beyond_limit();
     }
 
-    /// The request of a client was answered by these bytes, which are this reply: it may be read again.
-    fn note_answered(&mut self, n: u64, bytes: &[u8], replied: &ReplyData)
+    /// The request of a client was answered by this reply: it may be read again.
+    fn note_answered(&mut self, n: u64, replied: &ReplyData)
         ensures calls { self.new.calls ≡ self.old.calls }
     {
         let Some(key) = self.clients.key_of(n) else {
@@ -617,7 +617,7 @@ impl<'a, R: Net> LiveSockets<'a, R> {
         let took = self.clients.answered(key, self.now);
         self.may_have_room = true;
         if self.notes_replies() {
-            self.note_reply(key, bytes, replied, took);
+            self.note_reply(key, replied, took);
         }
         self.list_again(End::Client(n));
     }

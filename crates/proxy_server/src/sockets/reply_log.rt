@@ -5,7 +5,7 @@ use crate::sockets::live_sockets::LiveSockets;
 use hx_status::ReplyData;
 use proxy_ends::{Reply, UnansweredDeparture};
 use proxy_figures::reply_sort_of;
-use proxy_log::{LoggedRequest, content_length};
+use proxy_log::LoggedRequest;
 use std::mem::replace;
 use std::net::Net;
 
@@ -40,7 +40,7 @@ impl<'a, R: Net> LiveSockets<'a, R> {
     }
 
     /// Counts a reply that took so many milliseconds, and adds the line about it, to the client of this key.
-    pub(crate) fn note_reply(&mut self, key: usize, bytes: &[u8], replied: &ReplyData, took: u64)
+    pub(crate) fn note_reply(&mut self, key: usize, replied: &ReplyData, took: u64)
         ensures calls { self.new.calls ≡ self.old.calls }
     {
         let about = &replied.about;
@@ -58,7 +58,6 @@ impl<'a, R: Net> LiveSockets<'a, R> {
         let reply = Reply {
             moment: self.moment,
             replied,
-            length: content_length(bytes),
             took,
             origin: self.links.origins.name(origin).as_bytes(),
         };

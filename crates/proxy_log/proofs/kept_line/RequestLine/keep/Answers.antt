@@ -11,10 +11,10 @@ returns-then-not-is_empty_line c =
     let line = c.in-Some.line.now in
     let whole : c.push.new.self.text.items ≡ text ++ line = c.in_ok-push.ensures.ok in
     let other : is_empty_line (text ++ line) ≡ false = ap is_empty_line (sym whole) ∙ ap is_empty_line (sym c.as_slice.ensures.value) ∙ sym c.is_empty_line.ensures ∙ c.if-not-is_empty_line.true in
-    on_ok c.push-then-not-is_empty_line.result
-    (λ is head kept. found_whole head old c.args.piece.now text c.loop-line.rest.now line c.in-Some.behind.now c.args.self.now c.push-then-not-is_empty_line.new.self refl kept
-    (c.loop-line.invariant.kept (kept.unended c.requires)) c.in-Some.ensures.cut other c.push-then-not-is_empty_line.ensures.over (is ∙ ap (λ (z : List ℕ). z ++ codes "\n") whole))
-    c.push-then-not-is_empty_line.ensures.ok
+    on_ok c.push_line_feed.result
+    (λ is head kept. found_whole head old c.args.piece.now text c.loop-line.rest.now line c.in-Some.behind.now c.args.self.now c.push_line_feed.new.self refl kept
+    (c.loop-line.invariant.kept (kept.unended c.requires)) c.in-Some.ensures.cut other c.push_line_feed.ensures.over (is ∙ ap (λ (z : List ℕ). z ++ codes "\n") whole))
+    c.push_line_feed.ensures.ok
 
 pub loop-line-preserved : goal.loop-line-preserved
 loop-line-preserved c =
