@@ -27,7 +27,8 @@ pub fn worked_turns()
     ensures without_memory { (p : WorkLeftForNextTurn) → (work_left_after_turn p (Err faults.NoMemory) true).busy ≡ false }
     ensures without_listener { (p : WorkLeftForNextTurn)
         → (work_left_after_turn p (Err faults.Listener) false).busy ≡ true }
-    ensures counts { turn_end_of_report (Ok (record { accepted = 0; reads = 0; works = 1000; faults = 9 })) ≡ ends.Served }
+    ensures counts { turn_end_of_report (Ok (record { accepted = 0; reads = 0; works = 1000; faults = 9 }))
+        ≡ ends.Served }
     ensures nobody { turn_end_of_report (Err faults.Listener) ≡ ends.WithoutListener }
     ensures wanting { turn_end_of_report (Err faults.NoMemory) ≡ ends.WithoutMemory }
     ensures spent { turn_end_of_report (Err faults.Spent) ≡ ends.Served }
