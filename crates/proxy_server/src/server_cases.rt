@@ -24,7 +24,8 @@ pub fn worked_turns()
         (Ok (record { accepted = 0; reads = 0; works = 0; faults = 0 })) true).busy ≡ true }
     ensures due { (p : WorkLeftForNextTurn) → (work_left_after_turn p
         (Ok (record { accepted = 0; reads = 0; works = 1000; faults = 0 })) false).busy ≡ true }
-    ensures without_memory { (p : WorkLeftForNextTurn) → (work_left_after_turn p (Err faults.NoMemory) true).busy ≡ false }
+    ensures without_memory { (p : WorkLeftForNextTurn)
+        → (work_left_after_turn p (Err faults.NoMemory) true).busy ≡ false }
     ensures without_listener { (p : WorkLeftForNextTurn)
         → (work_left_after_turn p (Err faults.Listener) false).busy ≡ true }
     ensures counts { turn_end_of_report (Ok (record { accepted = 0; reads = 0; works = 1000; faults = 9 }))
