@@ -187,7 +187,8 @@ pub fn version_three_reads_as_before()
         → ¬ (config_or_fault_of_table t ≡ Err (Fault.StarInPath line)) }
     ensures one_host { (t : Members) (table : Table) → has_keys_of (table_version_of t) Four ≡ false
         → config_or_fault_of_table t ≡ Ok table → All LineHasOneHostAndPath table.lines }
-    ensures alike { (n : ℕ) (members : Members) → LineHasNoKeyOfVersionFour members → LineHasNoLowercaseMethodOrStar members
+    ensures alike { (n : ℕ) (members : Members) → LineHasNoKeyOfVersionFour members
+        → LineHasNoLowercaseMethodOrStar members
         → LineReadsAsInVersionThree members → line_fault Four n members ≡ line_fault Three n members }
     ensures still_read { (n : ℕ) (members : Members) → LineHasNoKeyOfVersionFour members
         → LineHasNoLowercaseMethodOrStar members
@@ -387,8 +388,10 @@ pub fn worked_lines_without_cache()
 /// the key in a table of the first version, a word that isn't known, and the key in a line that denies.
 #[tactic(auto, unfolding(toml::proofs::OnLiterals::toml_on_literals, crate::specs::Tables::config_or_fault_of_table, crate::specs::Tables::table_fault, crate::specs::Tables::table_of_members, crate::specs::Tables::is_name, crate::specs::LineTables::line_fault, crate::specs::LineTables::line_of_members, crate::specs::LineTables::is_line_host, crate::specs::LineTables::is_line_method, crate::specs::LineTables::is_line_path, crate::specs::Addresses::address_of, hx_target::specs::Hosts::is_host, hx_target::specs::Hosts::number_of_few_digits, hx_target::specs::Paths::has_dot_segment))]
 pub fn worked_table_versions()
-    ensures unknown { option_map config_or_fault_of_table (parse_document (codes "version = 5\nname = \"edge\"\ncapacity = 2\nmax_body = 1000\nmax_stored = 1000\n\n[[line]]\nhost = \"*\"\nmethods = [\"*\"]\npath = \"/live\"\norigin = \"127.0.0.1:8081\"\n")) ≡ Some (Err (Fault.BadNumber Version)) }
-    ensures first { option_map config_or_fault_of_table (parse_document (codes "version = 1\nname = \"edge\"\ncapacity = 2\nmax_body = 1000\nmax_stored = 1000\n\n[[line]]\nhost = \"*\"\nmethods = [\"*\"]\npath = \"/live\"\norigin = \"127.0.0.1:8081\"\ncache = \"off\"\n")) ≡ Some (Err (Fault.UnknownKey (codes "cache"))) }
+    ensures unknown { option_map config_or_fault_of_table
+        (parse_document (codes "version = 5\nname = \"edge\"\ncapacity = 2\nmax_body = 1000\nmax_stored = 1000\n\n[[line]]\nhost = \"*\"\nmethods = [\"*\"]\npath = \"/live\"\norigin = \"127.0.0.1:8081\"\n")) ≡ Some (Err (Fault.BadNumber Version)) }
+    ensures first { option_map config_or_fault_of_table
+        (parse_document (codes "version = 1\nname = \"edge\"\ncapacity = 2\nmax_body = 1000\nmax_stored = 1000\n\n[[line]]\nhost = \"*\"\nmethods = [\"*\"]\npath = \"/live\"\norigin = \"127.0.0.1:8081\"\ncache = \"off\"\n")) ≡ Some (Err (Fault.UnknownKey (codes "cache"))) }
     ensures word { option_map config_or_fault_of_table (parse_document (codes "version = 2\nname = \"edge\"\ncapacity = 2\nmax_body = 1000\nmax_stored = 1000\n\n[[line]]\nhost = \"*\"\nmethods = [\"*\"]\npath = \"/live\"\norigin = \"127.0.0.1:8081\"\ncache = \"no\"\n")) ≡ Some (Err (Fault.BadCache 1)) }
     ensures denying { option_map config_or_fault_of_table (parse_document (codes "version = 2\nname = \"edge\"\ncapacity = 2\nmax_body = 1000\nmax_stored = 1000\n\n[[line]]\nhost = \"*\"\nmethods = [\"*\"]\npath = \"/live\"\norigin = \"deny\"\ncache = \"off\"\n")) ≡ Some (Err (Fault.BadCache 1)) }
 {}

@@ -69,8 +69,10 @@ pub fn worked_faults_of_lists()
     ensures of_one_text { line_fault Four 3 (table_of_host_and_path (list_of_texts (codes "a" ∷ []))
         (list_of_texts (codes "/" ∷ [])))
         ≡ None }
-    ensures no_host { line_fault Four 3 (table_of_host_and_path (array no_items) (string (codes "/"))) ≡ Some (BadHost 3) }
-    ensures no_path { line_fault Four 3 (table_of_host_and_path (string (codes "a")) (array no_items)) ≡ Some (BadPath 3) }
+    ensures no_host { line_fault Four 3 (table_of_host_and_path (array no_items) (string (codes "/")))
+        ≡ Some (BadHost 3) }
+    ensures no_path { line_fault Four 3 (table_of_host_and_path (string (codes "a")) (array no_items))
+        ≡ Some (BadPath 3) }
     ensures hosts_32 { line_fault Four 3 (table_of_host_and_path (array (repeated_value 32 (string (codes "a"))))
         (string (codes "/")))
         ≡ None }
@@ -92,14 +94,18 @@ pub fn worked_faults_of_lists()
     ensures a_number { line_fault Four 3 (table_of_host_and_path (array (array_of_values (integer (pos 1) ∷ [])))
         (string (codes "/")))
         ≡ Some (BadHost 3) }
-    ensures number_alone { line_fault Four 3 (table_of_host_and_path (integer (pos 1)) (string (codes "/"))) ≡ Some (BadHost 3) }
-    ensures host_first { line_fault Four 3 (table_of_host_and_path (array no_items) (array no_items)) ≡ Some (BadHost 3) }
+    ensures number_alone { line_fault Four 3 (table_of_host_and_path (integer (pos 1)) (string (codes "/")))
+        ≡ Some (BadHost 3) }
+    ensures host_first { line_fault Four 3 (table_of_host_and_path (array no_items) (array no_items))
+        ≡ Some (BadHost 3) }
     ensures star_in_a_path { line_fault Four 3 (table_of_host_and_path (string (codes "a"))
         (list_of_texts (codes "/" ∷ codes "/a*" ∷ [])))
         ≡ Some (StarInPath 3) }
-    ensures hosts_of_three { line_fault Three 3 (table_of_host_and_path (list_of_texts (codes "a" ∷ [])) (string (codes "/")))
+    ensures hosts_of_three { line_fault Three 3
+        (table_of_host_and_path (list_of_texts (codes "a" ∷ [])) (string (codes "/")))
         ≡ Some (BadHost 3) }
-    ensures paths_of_three { line_fault Three 3 (table_of_host_and_path (string (codes "a")) (list_of_texts (codes "/" ∷ [])))
+    ensures paths_of_three { line_fault Three 3
+        (table_of_host_and_path (string (codes "a")) (list_of_texts (codes "/" ∷ [])))
         ≡ Some (BadPath 3) }
     ensures hosts_of_one { line_fault One 3 (table_of_host_and_path (list_of_texts (codes "a" ∷ [])) (string (codes "/")))
         ≡ Some (BadHost 3) }
@@ -128,7 +134,8 @@ pub fn worked_lines_with_lists()
           policy = default_policy_with_hidden_tags true true;
           refuses_loops = true;
         } }
-    ensures of_one { line_of_members Four (table_of_host_and_path (list_of_texts (codes "a" ∷ [])) (list_of_texts (codes "/"
+    ensures of_one { line_of_members Four
+        (table_of_host_and_path (list_of_texts (codes "a" ∷ [])) (list_of_texts (codes "/"
         ∷ [])))
         ≡ record (example_line_with_method (Some (codes "a")) (codes "GET") (codes "/") None) {
           policy = default_policy_with_hidden_tags true true;

@@ -65,12 +65,14 @@ pub fn worked_missing_keys_of_a_line()
     ensures methods { line_fault One 1 (table_of_pairs (key_with_text (codes "host") (codes "*") ∷ key_with_text
         (codes "origin") (codes "deny")
         ∷ key_with_text (codes "path") (codes "/") ∷ [])) ≡ Some (BadMethod 1) }
-    ensures path { line_fault One 1 (table_of_pairs (key_with_text (codes "host") (codes "*") ∷ methods_key_of_one_method (codes "GET")
+    ensures path { line_fault One 1
+        (table_of_pairs (key_with_text (codes "host") (codes "*") ∷ methods_key_of_one_method (codes "GET")
         ∷ key_with_text (codes "origin") (codes "deny") ∷ [])) ≡ Some (BadPath 1) }
     ensures origin { line_fault One 1
         (table_of_pairs (key_with_text (codes "host") (codes "*") ∷ methods_key_of_one_method (codes "GET")
         ∷ key_with_text (codes "path") (codes "/") ∷ [])) ≡ Some (BadOrigin 1) }
-    ensures no_text { line_fault One 1 (table_of_pairs (key_with_number (codes "host") 1 ∷ methods_key_of_one_method (codes "GET")
+    ensures no_text { line_fault One 1
+        (table_of_pairs (key_with_number (codes "host") 1 ∷ methods_key_of_one_method (codes "GET")
         ∷ key_with_text (codes "origin") (codes "deny") ∷ key_with_text (codes "path") (codes "/") ∷ [])) ≡ Some (BadHost 1) }
     ensures no_list { line_fault One 1 (table_of_pairs (key_with_text (codes "host") (codes "*") ∷ key_with_text
         (codes "methods") (codes "GET")
@@ -179,32 +181,40 @@ pub fn worked_versions_of_tables()
 /// The faults of a table in their order: with each that is mended the next one is told.
 #[tactic(auto, unfolding(crate::specs::Tables::config_or_fault_of_table, crate::specs::Tables::table_fault, crate::specs::Tables::is_name, crate::specs::LineTables::line_fault, crate::specs::LineTables::is_line_host, crate::specs::LineTables::is_line_method, crate::specs::LineTables::is_line_path, crate::specs::Addresses::address_of, hx_target::specs::Hosts::is_host, hx_target::specs::Hosts::number_of_few_digits, hx_target::specs::Paths::has_dot_segment))]
 pub fn worked_order_of_table_faults()
-    ensures unknown { config_or_fault_of_table (table_of_pairs (key_with_number (codes "colour") 1 ∷ [])) ≡ Err (UnknownKey (codes "colour")) }
+    ensures unknown { config_or_fault_of_table (table_of_pairs (key_with_number (codes "colour") 1 ∷ []))
+        ≡ Err (UnknownKey (codes "colour")) }
     ensures name { config_or_fault_of_table no_members ≡ Err BadName }
-    ensures bad_name { config_or_fault_of_table (table_of_pairs (key_with_text (codes "name") (codes "Edge") ∷ [])) ≡ Err BadName }
+    ensures bad_name { config_or_fault_of_table (table_of_pairs (key_with_text (codes "name") (codes "Edge") ∷ []))
+        ≡ Err BadName }
     ensures version { config_or_fault_of_table (table_of_pairs (key_with_text (codes "name") (codes "edge") ∷ [])) ≡ Err
         (BadNumber Version) }
     ensures capacity { config_or_fault_of_table (table_of_pairs (key_with_text (codes "name") (codes "edge") ∷ key_with_number
         (codes "version") 1 ∷ []))
         ≡ Err (BadNumber Capacity) }
-    ensures max_body { config_or_fault_of_table (table_of_pairs (key_with_number (codes "capacity") 2 ∷ key_with_text (codes "name") (codes "edge")
+    ensures max_body { config_or_fault_of_table
+        (table_of_pairs (key_with_number (codes "capacity") 2 ∷ key_with_text (codes "name") (codes "edge")
         ∷ key_with_number (codes "version") 1 ∷ [])) ≡ Err (BadNumber MaxBody) }
-    ensures max_stored { config_or_fault_of_table (table_of_pairs (key_with_number (codes "capacity") 2 ∷ key_with_number (codes "max_body") 0
+    ensures max_stored { config_or_fault_of_table
+        (table_of_pairs (key_with_number (codes "capacity") 2 ∷ key_with_number (codes "max_body") 0
         ∷ key_with_text (codes "name") (codes "edge") ∷ key_with_number (codes "version") 1 ∷ [])) ≡ Err (BadNumber MaxStored) }
-    ensures no_lines { config_or_fault_of_table (table_of_pairs (key_with_number (codes "capacity") 2 ∷ key_with_number (codes "max_body") 0
+    ensures no_lines { config_or_fault_of_table
+        (table_of_pairs (key_with_number (codes "capacity") 2 ∷ key_with_number (codes "max_body") 0
         ∷ key_with_number (codes "max_stored") 0 ∷ key_with_text (codes "name") (codes "edge") ∷ key_with_number (codes "version") 1 ∷ []))
         ≡ Err NoLines }
     ensures empty_lines { config_or_fault_of_table (table_with_lines 1 2 no_items) ≡ Err NoLines }
-    ensures first_line { config_or_fault_of_table (table_with_lines 1 2 (repeated_value 1 (table no_members))) ≡ Err (BadHost 1) }
+    ensures first_line { config_or_fault_of_table (table_with_lines 1 2 (repeated_value 1 (table no_members)))
+        ≡ Err (BadHost 1) }
     ensures cache_of_one { config_or_fault_of_table (table_with_lines 1 2
         (repeated_value 1 (table (line_table_with_keys (key_with_text (codes "cache") (codes "on") ∷ []))))) ≡ Err
         (UnknownKey (codes "cache")) }
     ensures cache_of_two { config_or_fault_of_table (table_with_lines 2 2
         (repeated_value 1 (table (line_table_with_keys (key_with_text (codes "cache") (codes "no") ∷ []))))) ≡ Err
         (BadCache 1) }
-    ensures capacity_0 { config_or_fault_of_table (table_with_lines 1 0 (repeated_value 1 (table (line_table_with_keys [])))) ≡ Err
+    ensures capacity_0 { config_or_fault_of_table
+        (table_with_lines 1 0 (repeated_value 1 (table (line_table_with_keys [])))) ≡ Err
         (BadNumber Capacity) }
-    ensures version_5 { config_or_fault_of_table (table_with_lines 5 2 (repeated_value 1 (table (line_table_with_keys [])))) ≡ Err
+    ensures version_5 { config_or_fault_of_table
+        (table_with_lines 5 2 (repeated_value 1 (table (line_table_with_keys [])))) ≡ Err
         (BadNumber Version) }
 {}
 
@@ -251,13 +261,15 @@ pub fn worked_faults_of_store_bound()
         ≡ Err (BadNumber MaxStore) }
     ensures above { config_or_fault_of_table (table_with_bounds 4 1000 (integer (pos 1099511627777)) no_items)
         ≡ Err (BadNumber MaxStore) }
-    ensures a_text { config_or_fault_of_table (table_with_bounds 4 1000 (string (codes "65536")) no_items) ≡ Err (BadNumber MaxStore) }
+    ensures a_text { config_or_fault_of_table (table_with_bounds 4 1000 (string (codes "65536")) no_items)
+        ≡ Err (BadNumber MaxStore) }
     ensures below_max_stored { config_or_fault_of_table (table_with_bounds 4 65537 (integer (pos 65536)) no_items)
         ≡ Err (BadNumber MaxStore) }
     ensures behind_max_stored { config_or_fault_of_table (table_with_bounds 4 16777217 (integer (pos 1)) no_items)
         ≡ Err (BadNumber MaxStored) }
     ensures least { config_or_fault_of_table (table_with_bounds 4 65536 (integer (pos 65536)) no_items) ≡ Err NoLines }
-    ensures most { config_or_fault_of_table (table_with_bounds 4 1000 (integer (pos 1099511627776)) no_items) ≡ Err NoLines }
+    ensures most { config_or_fault_of_table (table_with_bounds 4 1000 (integer (pos 1099511627776)) no_items)
+        ≡ Err NoLines }
     ensures missing { config_or_fault_of_table (table_with_lines 4 2 no_items) ≡ Err NoLines }
     ensures of_three { config_or_fault_of_table (table_with_bounds 3 1000 (integer (pos 65536)) no_items)
         ≡ Err (UnknownKey (codes "max_store")) }
@@ -281,7 +293,8 @@ pub fn worked_store_bounds()
           max_store = Some 65536;
           lines = line_of_version_four ∷ [];
         }) }
-    ensures unbounded { config_or_fault_of_table (table_with_lines 4 2 (repeated_value 1 (table (line_table_with_keys []))))
+    ensures unbounded { config_or_fault_of_table
+        (table_with_lines 4 2 (repeated_value 1 (table (line_table_with_keys []))))
         ≡ Ok (record {
           name = codes "edge";
           capacity = 2;
@@ -314,8 +327,10 @@ pub fn worked_faults_that_allocate()
 /// The faults of whole texts: a key that isn't known in front of others, a path that ends with a slash, and no line.
 #[tactic(auto, unfolding(toml::proofs::OnLiterals::toml_on_literals, crate::specs::Tables::config_or_fault_of_table, crate::specs::Tables::table_fault, crate::specs::Tables::is_name, crate::specs::LineTables::line_fault, crate::specs::LineTables::is_line_host, crate::specs::LineTables::is_line_method, crate::specs::LineTables::is_line_path, crate::specs::Addresses::address_of, hx_target::specs::Hosts::is_host, hx_target::specs::Hosts::number_of_few_digits, hx_target::specs::Paths::has_dot_segment))]
 pub fn worked_faults_of_texts()
-    ensures unknown { option_map config_or_fault_of_table (parse_document (codes "colour = 1\nversion = 1\nname = \"edge\"\ncapacity = 2\nmax_body = 1000\nmax_stored = 1000\n\n[[line]]\nhost = \"*\"\nmethods = [\"GET\", \"HEAD\", \"POST\"]\npath = \"/\"\norigin = \"127.0.0.1:8081\"\n")) ≡ Some (Err (UnknownKey (codes "colour"))) }
-    ensures least { option_map config_or_fault_of_table (parse_document (codes "zeta = 1\nalpha = 2\n")) ≡ Some (Err (UnknownKey (codes "alpha"))) }
+    ensures unknown { option_map config_or_fault_of_table
+        (parse_document (codes "colour = 1\nversion = 1\nname = \"edge\"\ncapacity = 2\nmax_body = 1000\nmax_stored = 1000\n\n[[line]]\nhost = \"*\"\nmethods = [\"GET\", \"HEAD\", \"POST\"]\npath = \"/\"\norigin = \"127.0.0.1:8081\"\n")) ≡ Some (Err (UnknownKey (codes "colour"))) }
+    ensures least { option_map config_or_fault_of_table (parse_document (codes "zeta = 1\nalpha = 2\n"))
+        ≡ Some (Err (UnknownKey (codes "alpha"))) }
     ensures path { option_map config_or_fault_of_table (parse_document (codes "version = 1\nname = \"edge\"\ncapacity = 2\nmax_body = 1000\nmax_stored = 1000\n\n[[line]]\nhost = \"*\"\nmethods = [\"GET\"]\npath = \"/a/\"\norigin = \"127.0.0.1:8081\"\n")) ≡ Some (Err (BadPath 1)) }
     ensures no_lines { option_map config_or_fault_of_table (parse_document (codes "version = 1\nname = \"edge\"\ncapacity = 2\nmax_body = 1000\nmax_stored = 1000\n\n")) ≡ Some (Err NoLines) }
 {}

@@ -218,7 +218,8 @@ fn fault_of_key(copied: Result<Bytes, AllocError>) -> TableFault
 #[tactic(auto, unfolding(crate::specs::Tables::config_or_fault_of_table))]
 pub fn config_or_fault_of_table(alloc: Global, table: &TomlTable) -> Result<Table, TableFault>
     requires { MembersAreOfSomeToml (table_view table.now) }
-    ensures judged { ¬ (result ≡ Err TableFault.OutOfMemory) → result ≡ config_or_fault_of_table (table_view table.now) }
+    ensures judged { ¬ (result ≡ Err TableFault.OutOfMemory) → result
+        ≡ config_or_fault_of_table (table_view table.now) }
     ensures memory_last { result ≡ Err TableFault.OutOfMemory
         → out_of_memory_may_precede_fault (table_fault (table_view table.now)) ≡ true }
 {

@@ -339,12 +339,16 @@ pub fn worked_paths_that_match()
 /// The first line decides, also against a later one that allows; an escape in the asked path hides nothing.
 #[tactic(auto, unfolding(crate::specs::Matching::verdict_of, crate::specs::Matching::matches_line))]
 pub fn worked_first_line_denies()
-    ensures escaped { verdict_of lines_with_denying_line_first (codes "GET") (target_for_path (codes "h") (codes "/%61dmin")) ≡ DeniedBy 1 }
-    ensures head { verdict_of lines_with_denying_line_first (codes "HEAD") (target_for_path (codes "h") (codes "/%61dmin")) ≡ DeniedBy 1 }
+    ensures escaped { verdict_of lines_with_denying_line_first (codes "GET")
+        (target_for_path (codes "h") (codes "/%61dmin")) ≡ DeniedBy 1 }
+    ensures head { verdict_of lines_with_denying_line_first (codes "HEAD")
+        (target_for_path (codes "h") (codes "/%61dmin")) ≡ DeniedBy 1 }
     ensures other_path { verdict_of lines_with_denying_line_first (codes "GET") (target_for_path (codes "h") (codes "/admins"))
         ≡ Allowed (route_over_line 2) }
-    ensures other_method { verdict_of lines_with_denying_line_first (codes "POST") (target_for_path (codes "h") (codes "/x")) ≡ NoLine }
-    ensures connect { verdict_of lines_with_denying_line_first (codes "CONNECT") (target_for_path (codes "h") (codes "/admin")) ≡ NoLine }
+    ensures other_method { verdict_of lines_with_denying_line_first (codes "POST")
+        (target_for_path (codes "h") (codes "/x")) ≡ NoLine }
+    ensures connect { verdict_of lines_with_denying_line_first (codes "CONNECT")
+        (target_for_path (codes "h") (codes "/admin")) ≡ NoLine }
     ensures no_lines { verdict_of [] (codes "GET") (target_for_path (codes "h") (codes "/x")) ≡ NoLine }
 {}
 
@@ -370,21 +374,27 @@ pub fn worked_verdicts_of_indexed_lines()
         ≡ Allowed (route_over_line 3) }
     ensures other_host { verdict_of example_lines_to_index (codes "POST") (target_for_path (codes "y") (codes "/")) ≡ NoLine }
     ensures numbers { numbers_of_lines_with_host (line_host_is_exactly (codes "x")) example_lines_to_index ≡ 1 ∷ 3 ∷ [] }
-    ensures numbers_of_others { numbers_of_lines_with_host (line_host_is_exactly (codes "y")) example_lines_to_index ≡ [] }
+    ensures numbers_of_others { numbers_of_lines_with_host (line_host_is_exactly (codes "y")) example_lines_to_index
+        ≡ [] }
     ensures numbers_for_every_host { numbers_of_lines_with_host is_for_every_host example_lines_to_index ≡ 2 ∷ [] }
     ensures among { verdict_by_line_numbers example_lines_to_index (1 ∷ 2 ∷ 3 ∷ []) (codes "POST") (codes "/") NoLine
         ≡ Allowed (route_over_line 3) }
-    ensures among_others { verdict_by_line_numbers example_lines_to_index (2 ∷ []) (codes "POST") (codes "/") NoLine ≡ NoLine }
-    ensures among_none { verdict_by_line_numbers example_lines_to_index (0 ∷ 4 ∷ []) (codes "GET") (codes "/") NoLine ≡ NoLine }
-    ensures behind_a_missing_one { verdict_by_line_numbers example_lines_to_index (4 ∷ 2 ∷ []) (codes "GET") (codes "/") NoLine
+    ensures among_others { verdict_by_line_numbers example_lines_to_index (2 ∷ []) (codes "POST") (codes "/") NoLine
+        ≡ NoLine }
+    ensures among_none { verdict_by_line_numbers example_lines_to_index (0 ∷ 4 ∷ []) (codes "GET") (codes "/") NoLine
+        ≡ NoLine }
+    ensures behind_a_missing_one { verdict_by_line_numbers example_lines_to_index (4 ∷ 2 ∷ []) (codes "GET")
+        (codes "/") NoLine
         ≡ Allowed (route_over_line 2) }
     ensures among_denied { verdict_by_line_numbers example_lines_to_index (1 ∷ 2 ∷ []) (codes "GET") (codes "/p/q") NoLine
         ≡ DeniedBy 1 }
-    ensures in_front { verdict_by_line_numbers example_lines_to_index (2 ∷ []) (codes "GET") (codes "/") (Allowed (route_over_line 3))
+    ensures in_front { verdict_by_line_numbers example_lines_to_index (2 ∷ []) (codes "GET") (codes "/")
+        (Allowed (route_over_line 3))
         ≡ Allowed (route_over_line 2) }
     ensures found_in_front { verdict_by_line_numbers example_lines_to_index (2 ∷ []) (codes "GET") (codes "/") (DeniedBy 1)
         ≡ DeniedBy 1 }
-    ensures found_alone { verdict_by_line_numbers example_lines_to_index (2 ∷ []) (codes "POST") (codes "/") (Allowed (route_over_line 3))
+    ensures found_alone { verdict_by_line_numbers example_lines_to_index (2 ∷ []) (codes "POST") (codes "/")
+        (Allowed (route_over_line 3))
         ≡ Allowed (route_over_line 3) }
 {}
 

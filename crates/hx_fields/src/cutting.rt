@@ -170,7 +170,8 @@ pub fn next_member_with_first_byte_in<'a>(
     firsts: &FirstBytes,
 ) -> Option<(&'a [u8], &'a [u8])>
     ensures members { MatchOption result (members_with_first_byte_in firsts.now value.now ≡ [])
-        (λ r. members_with_first_byte_in firsts.now value.now ≡ r.0.now ∷ members_with_first_byte_in firsts.now r.1.now) }
+        (λ r. members_with_first_byte_in firsts.now value.now
+        ≡ r.0.now ∷ members_with_first_byte_in firsts.now r.1.now) }
     ensures shorter { IfSome result (λ r. length r.1.now < length value.now) }
 {
     let mut start = 0;

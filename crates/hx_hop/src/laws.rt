@@ -218,9 +218,11 @@ pub fn worked_requests_past_the_cache()
     ensures if_range { asks_for_range (first_example_asked_with_line (codes "If-Range") (codes "\"e\"")) ≡ true }
     ensures no_range { asks_for_range (first_example_asked_with_line (codes "Accept-Ranges") (codes "bytes")) ≡ false }
     ensures if_match { has_precondition_for_origin (first_example_asked_with_line (codes "If-Match") (codes "*")) ≡ true }
-    ensures if_unmodified_since { has_precondition_for_origin (first_example_asked_with_line (codes "If-Unmodified-Since") (codes "x")) ≡ true }
+    ensures if_unmodified_since { has_precondition_for_origin
+        (first_example_asked_with_line (codes "If-Unmodified-Since") (codes "x")) ≡ true }
     ensures if_none_match { has_precondition_for_origin (first_example_asked_with_line (codes "If-None-Match") (codes "*")) ≡ false }
-    ensures if_modified_since { has_precondition_for_origin (first_example_asked_with_line (codes "If-Modified-Since") (codes "x")) ≡ false }
+    ensures if_modified_since { has_precondition_for_origin
+        (first_example_asked_with_line (codes "If-Modified-Since") (codes "x")) ≡ false }
     ensures content { request_has_content (example_asked_with_content (Some (codes "x"))) ≡ true }
     ensures empty { request_has_content (example_asked_with_content (Some [])) ≡ false }
     ensures none { request_has_content (example_asked_with_content None) ≡ false }
@@ -232,7 +234,8 @@ pub fn worked_forwarded_conditions()
     ensures both { forwarded_lines false example_http_1_0_request (codes "edge") (Some conditions_by_tag_and_date)
         ≡ line (codes "Host") (codes "h:" ++ decimal 81) ∷ line (codes "Accept") (codes "*/*") ∷ line (codes "If-None-Match") (codes "\"v1\"")
         ∷ line (codes "If-Modified-Since") (codes "Thu, 01 Jan 1970 00:00:05 GMT") ∷ line (codes "Via") (codes "1.0 edge") ∷ [] }
-    ensures the_clients { forwarded_client_lines false example_http_1_0_request.fields ≡ example_http_1_0_request.fields }
+    ensures the_clients { forwarded_client_lines false example_http_1_0_request.fields
+        ≡ example_http_1_0_request.fields }
     ensures kept { forwarded_lines true example_http_1_0_request (codes "edge") None
         ≡ line (codes "Host") (codes "h:" ++ decimal 81) ∷ line (codes "Accept") (codes "*/*") ∷ line (codes "Via") (codes "1.0 edge") ∷ [] }
     ensures kept_beside { forwarded_lines true example_http_1_0_request (codes "edge") (Some conditions_by_tag_and_date)

@@ -85,10 +85,12 @@ pub fn set_cookie_is_not_stored_where_policy_forbids()
         ≡ Some StoreRule.SetCookie }
     ensures public { rule_against_storing (get_a_with []) (login_page (codes "public, max-age=60")) facts_without_cookie_storing ≡ None }
     ensures without_the_word { rule_against_storing (get_a_with []) (login_page (codes "max-age=60")) storable_facts ≡ None }
-    ensures public_without_the_word { rule_against_storing (get_a_with []) (login_page (codes "public, max-age=60")) storable_facts ≡ None }
+    ensures public_without_the_word { rule_against_storing (get_a_with [])
+        (login_page (codes "public, max-age=60")) storable_facts ≡ None }
     ensures no_cookie { rule_against_storing (get_a_with []) (answer_fresh_a_minute 200) facts_without_cookie_storing
         ≡ None }
-    ensures errors_alone { rule_against_storing (get_a_with []) (login_page (codes "max-age=60")) facts_without_error_storing ≡ None }
+    ensures errors_alone { rule_against_storing (get_a_with [])
+        (login_page (codes "max-age=60")) facts_without_error_storing ≡ None }
 {}
 
 /// Where the operator gives his lifetimes to no response with Set-Cookie, one that has no public isn't stored for
@@ -109,9 +111,11 @@ pub fn set_cookie_is_not_stored_by_policy_lifetime()
         ≡ None }
     ensures expires { rule_against_storing (get_a_with [])
         (page_with_cookie 200 (line (codes "Expires") (codes "0") ∷ [])) facts_without_cookie_lifetime ≡ None }
-    ensures not_given { rule_against_storing (get_a_with []) (page_with_cookie 404 []) facts_without_cookie_lifetime ≡ None }
+    ensures not_given { rule_against_storing (get_a_with []) (page_with_cookie 404 []) facts_without_cookie_lifetime
+        ≡ None }
     ensures no_cookie { rule_against_storing (get_a_with []) (answer_with 200 []) facts_without_cookie_lifetime ≡ None }
-    ensures given { rule_against_storing (get_a_with []) (page_with_cookie 200 []) facts_with_lifetime_for_request_cookies
+    ensures given { rule_against_storing (get_a_with [])
+        (page_with_cookie 200 []) facts_with_lifetime_for_request_cookies
         ≡ None }
     ensures removed { rule_against_storing (get_a_with []) (page_with_cookie 200 []) facts_with_cookies_removed ≡ None }
     ensures removed_private { rule_against_storing (get_a_with []) (login_page (codes "private")) facts_with_cookies_removed
@@ -133,18 +137,25 @@ pub fn errors_are_not_stored_where_policy_forbids()
         ≡ Some StoreRule.ErrorStatus }
     ensures unavailable { rule_against_storing (get_a_with []) (answer_fresh_a_minute 503) facts_without_error_storing
         ≡ Some StoreRule.ErrorStatus }
-    ensures not_found { rule_against_storing (get_a_with []) (answer_fresh_a_minute 404) facts_without_error_storing ≡ None }
+    ensures not_found { rule_against_storing (get_a_with []) (answer_fresh_a_minute 404) facts_without_error_storing
+        ≡ None }
     ensures not_allowed { rule_against_storing (get_a_with []) (answer_fresh_a_minute 405) facts_without_error_storing
         ≡ None }
     ensures gone { rule_against_storing (get_a_with []) (answer_fresh_a_minute 410) facts_without_error_storing ≡ None }
-    ensures too_long { rule_against_storing (get_a_with []) (answer_fresh_a_minute 414) facts_without_error_storing ≡ None }
-    ensures not_implemented { rule_against_storing (get_a_with []) (answer_fresh_a_minute 501) facts_without_error_storing
+    ensures too_long { rule_against_storing (get_a_with []) (answer_fresh_a_minute 414) facts_without_error_storing
         ≡ None }
-    ensures found { rule_against_storing (get_a_with []) (answer_fresh_a_minute 302) facts_without_error_storing ≡ None }
-    ensures found_without_the_word { rule_against_storing (get_a_with []) (answer_fresh_a_minute 302) storable_facts ≡ None }
-    ensures bad_request_without_the_word { rule_against_storing (get_a_with []) (answer_fresh_a_minute 400) storable_facts
+    ensures not_implemented { rule_against_storing (get_a_with [])
+        (answer_fresh_a_minute 501) facts_without_error_storing
         ≡ None }
-    ensures cookies_alone { rule_against_storing (get_a_with []) (answer_fresh_a_minute 400) facts_without_cookie_storing
+    ensures found { rule_against_storing (get_a_with []) (answer_fresh_a_minute 302) facts_without_error_storing
+        ≡ None }
+    ensures found_without_the_word { rule_against_storing (get_a_with []) (answer_fresh_a_minute 302) storable_facts
+        ≡ None }
+    ensures bad_request_without_the_word { rule_against_storing (get_a_with [])
+        (answer_fresh_a_minute 400) storable_facts
+        ≡ None }
+    ensures cookies_alone { rule_against_storing (get_a_with [])
+        (answer_fresh_a_minute 400) facts_without_cookie_storing
         ≡ None }
 {}
 
@@ -170,16 +181,19 @@ pub fn worked_whole_answers_to_ranges()
 #[tactic(auto, unfolding(crate::specs::Rules::rule_against_storing))]
 pub fn cookie_requests_are_not_stored_by_policy_lifetime()
     ensures every { RequestCredentialsGetNoLifetime }
-    ensures cookie { rule_against_storing get_with_cookie (answer_with 200 []) facts_without_lifetime_for_request_cookies
+    ensures cookie { rule_against_storing get_with_cookie
+        (answer_with 200 []) facts_without_lifetime_for_request_cookies
         ≡ Some StoreRule.RequestCookie }
     ensures authorization { rule_against_storing get_with_authorization
         (answer_with 200 (cache_control_fields (codes "must-revalidate"))) facts_without_lifetime_for_request_cookies
         ≡ Some StoreRule.RequestCookie }
-    ensures redirect { rule_against_storing get_with_cookie (answer_with 301 []) facts_without_lifetime_for_request_cookies
+    ensures redirect { rule_against_storing get_with_cookie
+        (answer_with 301 []) facts_without_lifetime_for_request_cookies
         ≡ Some StoreRule.RequestCookie }
     ensures public { rule_against_storing get_with_cookie (answer_with 200 (cache_control_fields (codes "public")))
         facts_without_lifetime_for_request_cookies ≡ None }
-    ensures max_age { rule_against_storing get_with_cookie (answer_fresh_a_minute 200) facts_without_lifetime_for_request_cookies
+    ensures max_age { rule_against_storing get_with_cookie
+        (answer_fresh_a_minute 200) facts_without_lifetime_for_request_cookies
         ≡ None }
     ensures unreadable { rule_against_storing get_with_cookie (answer_with 200 (cache_control_fields (codes "max-age=x")))
         facts_without_lifetime_for_request_cookies ≡ None }
@@ -187,10 +201,13 @@ pub fn cookie_requests_are_not_stored_by_policy_lifetime()
         (answer_with 200 (cache_control_fields (codes "s-maxage=60"))) facts_without_lifetime_for_request_cookies ≡ None }
     ensures expires { rule_against_storing get_with_cookie (answer_with 200 (line (codes "Expires") (codes "0") ∷ []))
         facts_without_lifetime_for_request_cookies ≡ None }
-    ensures no_cookie { rule_against_storing (get_a_with []) (answer_with 200 []) facts_without_lifetime_for_request_cookies ≡ None }
-    ensures not_given { rule_against_storing get_with_cookie (answer_with 404 []) facts_without_lifetime_for_request_cookies ≡ None }
+    ensures no_cookie { rule_against_storing (get_a_with [])
+        (answer_with 200 []) facts_without_lifetime_for_request_cookies ≡ None }
+    ensures not_given { rule_against_storing get_with_cookie
+        (answer_with 404 []) facts_without_lifetime_for_request_cookies ≡ None }
     ensures without_a_lifetime { rule_against_storing get_with_cookie (answer_with 200 []) storable_facts ≡ None }
-    ensures shared { rule_against_storing get_with_cookie (answer_with 200 []) facts_with_lifetime_for_request_cookies ≡ None }
+    ensures shared { rule_against_storing get_with_cookie (answer_with 200 []) facts_with_lifetime_for_request_cookies
+        ≡ None }
     ensures private_first { rule_against_storing get_with_cookie (answer_with 200 (cache_control_fields (codes "private")))
         facts_without_lifetime_for_request_cookies ≡ Some StoreRule.Private }
 {}
@@ -232,7 +249,8 @@ pub fn worked_least_storage_rules(facts: StoringFacts)
     ensures private { rule_against_storing get_with_authorization (answer_with 200 (cache_control_fields (codes "private")))
         (facts_with_caching_on facts)
         ≡ Some StoreRule.Private }
-    ensures authorization { rule_against_storing get_with_authorization (answer_with 299 []) (facts_with_caching_on facts)
+    ensures authorization { rule_against_storing get_with_authorization (answer_with 299 [])
+        (facts_with_caching_on facts)
         ≡ Some StoreRule.Authorization }
     ensures nothing_allows { rule_against_storing (get_a_with [])
         (answer_with 299 (line (codes "Vary") (codes "*") ∷ [])) facts_with_vary_star
@@ -276,7 +294,8 @@ pub fn line_without_cache()
 #[tactic(auto, unfolding(crate::specs::Rules::rule_against_storing))]
 pub fn worked_status_alone_allows_storing()
     ensures not_found { rule_against_storing (get_a_with []) (answer_with 404 []) storable_facts ≡ None }
-    ensures found { rule_against_storing (get_a_with []) (answer_with 302 []) storable_facts ≡ Some StoreRule.NothingAllows }
+    ensures found { rule_against_storing (get_a_with []) (answer_with 302 []) storable_facts
+        ≡ Some StoreRule.NothingAllows }
 {}
 
 /// Each rule is listed once, in the order of the numbers, and those of the line's words come last.

@@ -194,7 +194,8 @@ impl IndexedEntries {
     /// Puts a new form of a held entry in its place, first, and hands the old one back. Nothing is allocated.
     pub(crate) fn replace(&mut self, entry: Entry) -> Entry
         requires held { holds_serial entry.serial self.old ≡ true }
-        requires same_key { ForSome (find_entry_of_serial entry.serial self.old) (λ old. same_key old.key entry.key ≡ true) }
+        requires same_key { ForSome (find_entry_of_serial entry.serial self.old)
+            (λ old. same_key old.key entry.key ≡ true) }
         ensures value { find_entry_of_serial entry.serial self.old ≡ Some result }
         ensures entries { self.new ≡ entry ∷ without_serials (entry.serial ∷ []) self.old }
     {

@@ -83,7 +83,8 @@ pub fn held_serials_are_found()
     ensures serials { (entries : List Stored) → serials entries ≡ map (λ e. e.serial) entries }
     ensures held { (serial : ℕ) (entries : List Stored) → holds_serial serial entries ≡ is_some
         (find_entry_of_serial serial entries) }
-    ensures found { (serial : ℕ) (entries : List Stored) → IfSome (find_entry_of_serial serial entries) (λ e. e.serial ≡ serial) }
+    ensures found { (serial : ℕ) (entries : List Stored)
+        → IfSome (find_entry_of_serial serial entries) (λ e. e.serial ≡ serial) }
 {}
 
 /// What is found of a key is the serial of each entry with that key and no other, ascending.

@@ -198,7 +198,8 @@ pub fn host_names_and_targets_have_length_limits()
         → is_name text ≡ true }
     ensures longer { (text : List ℕ) → 8192 < length (47 ∷ text) → judged_of (target_of_slash_and_text text (codes "/a"))
         ≡ Err TooLong }
-    ensures longest { (text : List ℕ) → length (47 ∷ text) ≤ 8192 → judged_of (target_of_slash_and_text text (codes "/a")) ≡ Ok
+    ensures longest { (text : List ℕ) → length (47 ∷ text) ≤ 8192
+        → judged_of (target_of_slash_and_text text (codes "/a")) ≡ Ok
         (record { key = record { host = codes "h"; port = 80; path_query = codes "/a" }; table_path = codes "/a" }) }
     ensures dots { (text : List ℕ) → judged_of (target_of_slash_and_text text (codes "/..")) ≡ Err DotSegment }
 {}

@@ -147,12 +147,15 @@ pub fn client_304_after_validation()
 /// A purge at 130 left half a minute of a minute. The 304 at 160 ends that: its moments are without a purge.
 #[tactic(auto, unfolding(httpdate::proofs::OnLiterals::httpdate_on_literals, crate::specs::Answering::freshened_of))]
 pub fn worked_304_ends_effect_of_purge()
-    ensures purged { lifetime_shortened_by_purge first_stored_expired_at_130.times (lifetime_of first_stored_expired_at_130.fields)
+    ensures purged { lifetime_shortened_by_purge first_stored_expired_at_130.times
+        (lifetime_of first_stored_expired_at_130.fields)
         ≡ explicit_lifetime 30 }
-    ensures moments { (freshened_of [] first_stored_expired_at_130 (answered_304_with first_304_fields) (asked_get_with [])
+    ensures moments { (freshened_of [] first_stored_expired_at_130 (answered_304_with first_304_fields)
+        (asked_get_with [])
         (times_of_message first_304_fields 160 160)).times
         ≡ record { date = 160; age_value = 0; request_time = 160; response_time = 160; expired = None } }
-    ensures fresh { lifetime_shortened_by_purge (times_of_message first_304_fields 160 160) (lifetime_of first_304_fields)
+    ensures fresh { lifetime_shortened_by_purge (times_of_message first_304_fields 160 160)
+        (lifetime_of first_304_fields)
         ≡ explicit_lifetime 60 }
 {}
 
@@ -160,22 +163,31 @@ pub fn worked_304_ends_effect_of_purge()
 #[tactic(auto, unfolding(httpdate::proofs::OnLiterals::httpdate_on_literals))]
 pub fn worked_if_none_match()
     ensures star { asked_and_stored_fields_give_304 (if_none_match_line (codes "*") ∷ []) [] ≡ true }
-    ensures equal { asked_and_stored_fields_give_304 (if_none_match_line (codes "\"e\"") ∷ []) (etag_line (codes "\"e\"") ∷ []) ≡ true }
-    ensures weak { asked_and_stored_fields_give_304 (if_none_match_line (codes "W/\"e\"") ∷ []) (etag_line (codes "\"e\"") ∷ []) ≡ true }
-    ensures second { asked_and_stored_fields_give_304 (if_none_match_line (codes "\"a, b\", \"e\"") ∷ []) (etag_line (codes "W/\"e\"") ∷ []) ≡ true }
-    ensures second_line { asked_and_stored_fields_give_304 (if_none_match_line (codes "\"a\"") ∷ if_none_match_line (codes "\"e\"")
+    ensures equal { asked_and_stored_fields_give_304 (if_none_match_line (codes "\"e\"") ∷ [])
+        (etag_line (codes "\"e\"") ∷ []) ≡ true }
+    ensures weak { asked_and_stored_fields_give_304 (if_none_match_line (codes "W/\"e\"") ∷ [])
+        (etag_line (codes "\"e\"") ∷ []) ≡ true }
+    ensures second { asked_and_stored_fields_give_304 (if_none_match_line (codes "\"a, b\", \"e\"") ∷ [])
+        (etag_line (codes "W/\"e\"") ∷ []) ≡ true }
+    ensures second_line { asked_and_stored_fields_give_304
+        (if_none_match_line (codes "\"a\"") ∷ if_none_match_line (codes "\"e\"")
         ∷ []) (etag_line (codes "\"e\"") ∷ []) ≡ true }
-    ensures other { asked_and_stored_fields_give_304 (if_none_match_line (codes "\"f\"") ∷ []) (etag_line (codes "\"e\"") ∷ []) ≡ false }
-    ensures star_among { asked_and_stored_fields_give_304 (if_none_match_line (codes "*, \"f\"") ∷ []) (etag_line (codes "\"e\"") ∷ []) ≡ false }
-    ensures two_stars { asked_and_stored_fields_give_304 (if_none_match_line (codes "*") ∷ if_none_match_line (codes "*") ∷ [])
+    ensures other { asked_and_stored_fields_give_304 (if_none_match_line (codes "\"f\"") ∷ [])
+        (etag_line (codes "\"e\"") ∷ []) ≡ false }
+    ensures star_among { asked_and_stored_fields_give_304 (if_none_match_line (codes "*, \"f\"") ∷ [])
+        (etag_line (codes "\"e\"") ∷ []) ≡ false }
+    ensures two_stars { asked_and_stored_fields_give_304
+        (if_none_match_line (codes "*") ∷ if_none_match_line (codes "*") ∷ [])
         (etag_line (codes "\"e\"") ∷ [])
         ≡ false }
-    ensures no_tag { asked_and_stored_fields_give_304 (if_none_match_line (codes "e") ∷ []) (etag_line (codes "e") ∷ []) ≡ false }
+    ensures no_tag { asked_and_stored_fields_give_304 (if_none_match_line (codes "e") ∷ []) (etag_line (codes "e") ∷ [])
+        ≡ false }
     ensures hides { asked_and_stored_fields_give_304 (if_none_match_line (codes "\"f\"") ∷ if_modified_since_line
         (codes "Thu, 01 Jan 1970 00:00:05 GMT") ∷ []) (last_modified_line (codes "Thu, 01 Jan 1970 00:00:05 GMT") ∷ []) ≡ false }
     ensures hides_empty { asked_and_stored_fields_give_304 (if_none_match_line [] ∷ if_modified_since_line
         (codes "Thu, 01 Jan 1970 00:00:05 GMT") ∷ []) (last_modified_line (codes "Thu, 01 Jan 1970 00:00:05 GMT") ∷ []) ≡ false }
-    ensures hides_earlier { asked_and_stored_fields_give_304 (if_none_match_line (codes "\"e\"") ∷ if_modified_since_line (codes "Thu, 01 Jan 1970 00:00:04 GMT")
+    ensures hides_earlier { asked_and_stored_fields_give_304
+        (if_none_match_line (codes "\"e\"") ∷ if_modified_since_line (codes "Thu, 01 Jan 1970 00:00:04 GMT")
         ∷ []) (etag_line (codes "\"e\"") ∷ last_modified_line (codes "Thu, 01 Jan 1970 00:00:05 GMT") ∷ []) ≡ true }
 {}
 
@@ -188,7 +200,8 @@ pub fn worked_if_modified_since()
         (last_modified_line (codes "Thu, 01 Jan 1970 00:00:05 GMT") ∷ []) ≡ true }
     ensures earlier { asked_and_stored_fields_give_304 (if_modified_since_line (codes "Thu, 01 Jan 1970 00:00:04 GMT") ∷ [])
         (last_modified_line (codes "Thu, 01 Jan 1970 00:00:05 GMT") ∷ []) ≡ false }
-    ensures by_date { asked_and_stored_fields_give_304 (if_modified_since_line (codes "Thu, 01 Jan 1970 00:01:40 GMT") ∷ []) (etag_line (codes "\"e\"") ∷ []) ≡ true }
+    ensures by_date { asked_and_stored_fields_give_304
+        (if_modified_since_line (codes "Thu, 01 Jan 1970 00:01:40 GMT") ∷ []) (etag_line (codes "\"e\"") ∷ []) ≡ true }
     ensures before_date { asked_and_stored_fields_give_304 (if_modified_since_line (codes "Thu, 01 Jan 1970 00:01:39 GMT") ∷ []) [] ≡ false }
     ensures two { asked_and_stored_fields_give_304 (if_modified_since_line (codes "Thu, 01 Jan 1970 00:01:40 GMT")
         ∷ if_modified_since_line (codes "Thu, 01 Jan 1970 00:01:40 GMT") ∷ []) [] ≡ false }

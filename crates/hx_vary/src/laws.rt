@@ -63,9 +63,11 @@ pub fn further_names_count_as_vary()
     ensures kept { nominated_values_with_further_names (codes "X-Forwarded-Proto" ∷ codes "ACCEPT-LANGUAGE" ∷ []) (vary_fields (codes "accept-language"))
         (accept_language_line (codes "de") ∷ []) ≡ record { name = codes "accept-language"; value = Some (codes "de") }
         ∷ record { name = codes "X-Forwarded-Proto"; value = None } ∷ [] }
-    ensures other { vary_matches (nominated_values_with_further_names (codes "Accept-Language" ∷ []) [] (accept_language_line (codes "de") ∷ []))
+    ensures other { vary_matches
+        (nominated_values_with_further_names (codes "Accept-Language" ∷ []) [] (accept_language_line (codes "de") ∷ []))
         (accept_language_line (codes "en") ∷ []) ≡ false }
-    ensures same { vary_matches (nominated_values_with_further_names (codes "Accept-Language" ∷ []) [] (accept_language_line (codes "de") ∷ []))
+    ensures same { vary_matches
+        (nominated_values_with_further_names (codes "Accept-Language" ∷ []) [] (accept_language_line (codes "de") ∷ []))
         (accept_language_line (codes "de") ∷ []) ≡ true }
     ensures absent { vary_matches
         (nominated_values_with_further_names (codes "Accept-Language" ∷ []) [] (accept_language_line (codes "de") ∷ [])) []

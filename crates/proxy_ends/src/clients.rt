@@ -509,7 +509,8 @@ impl<S: Stream + Drop> Clients<S> {
 
     /// Writes what is kept for a client, as far as the system takes it. Whether that could be done.
     pub fn flush(&mut self, key: usize, now: u64) -> bool
-        ensures unsent { self.new.unsent ≡ unsent_bytes_of_all_after_change self.old.unsent (client_at self.old.streams key)
+        ensures unsent { self.new.unsent
+            ≡ unsent_bytes_of_all_after_change self.old.unsent (client_at self.old.streams key)
             (client_at self.new.streams key) }
         ensures open { self.new.open ≡ self.old.open }
         ensures others { StreamsOfOtherKeysStay key self.old.streams self.new.streams }
@@ -533,7 +534,8 @@ impl<S: Stream + Drop> Clients<S> {
         ensures going { OnTrue result (client_is_absent_or_broken (client_at self.new.streams key)
             ≡ client_is_absent_or_broken (client_at self.old.streams key)) }
         ensures failed { OnFalse result (client_is_absent_or_broken (client_at self.new.streams key) ≡ true) }
-        ensures unsent { self.new.unsent ≡ unsent_bytes_of_all_after_change self.old.unsent (client_at self.old.streams key)
+        ensures unsent { self.new.unsent
+            ≡ unsent_bytes_of_all_after_change self.old.unsent (client_at self.old.streams key)
             (client_at self.new.streams key) }
         ensures open { self.new.open ≡ self.old.open }
         ensures others { StreamsOfOtherKeysStay key self.old.streams self.new.streams }

@@ -88,13 +88,17 @@ pub fn worked_times_of_links()
     ensures first_of_none { first_overtime_moment_of_link limits link_without_stream ≡ 191 }
     ensures by_its_line { exceeded_limit_of_link (link_with_origin_timeout_1 false) limits_with_origin_timeout_60 1101
         ≡ Some Silence }
-    ensures by_its_line_just { exceeded_limit_of_link (link_with_origin_timeout_1 false) limits_with_origin_timeout_60 1100
+    ensures by_its_line_just { exceeded_limit_of_link
+        (link_with_origin_timeout_1 false) limits_with_origin_timeout_60 1100
         ≡ None }
-    ensures without_a_word { exceeded_limit_of_link (example_link_begun_at_90 false) limits_with_origin_timeout_60 60100 ≡ None }
-    ensures without_a_word_over { exceeded_limit_of_link (example_link_begun_at_90 false) limits_with_origin_timeout_60 60101
+    ensures without_a_word { exceeded_limit_of_link (example_link_begun_at_90 false) limits_with_origin_timeout_60 60100
+        ≡ None }
+    ensures without_a_word_over { exceeded_limit_of_link
+        (example_link_begun_at_90 false) limits_with_origin_timeout_60 60101
         ≡ Some Silence }
     ensures longer_than_all { exceeded_limit_of_link (link_with_origin_timeout_1 false) limits 1101 ≡ Some Exchange }
-    ensures connects_as_others { exceeded_limit_of_link (link_with_origin_timeout_1 true) limits_with_origin_timeout_60 101
+    ensures connects_as_others { exceeded_limit_of_link
+        (link_with_origin_timeout_1 true) limits_with_origin_timeout_60 101
         ≡ Some Connect }
     ensures first_by_its_line { first_overtime_moment_of_link limits_with_origin_timeout_60
         (link_with_origin_timeout_1 false) ≡ 1101 }

@@ -194,7 +194,8 @@ pub(crate) fn take_client_bytes(
     ensures fault { IfErr result (ConnectionsRefuseHappening connections.old.items (Sends n bytes.now)) }
     ensures kept { result ≡ Err EngineFault.OutOfMemory
         → HappeningAddsToConnections connections.old.items (Sends n bytes.now) }
-    ensures reserved { ConnectionReaderHasRoomFor (slice_index_or connections.old.items (place_of_connection_number n) None)
+    ensures reserved { ConnectionReaderHasRoomFor
+        (slice_index_or connections.old.items (place_of_connection_number n) None)
         (length bytes.now)
         → result ≢ Err EngineFault.OutOfMemory }
     ensures activities { activities_of_connections connections.new.items

@@ -138,12 +138,14 @@ impl ReplyCounts {
         ensures statuses { self.new.statuses ≡ counts_with_one_more self.old.statuses (status - 200) }
         ensures stored { self.new.stored ≡ count_plus_one_if sort.now.stored self.old.stored }
         ensures collapsed { self.new.collapsed ≡ count_plus_one_if sort.now.collapsed self.old.collapsed }
-        ensures from_store { self.new.from_store ≡ times_with_reply_if_from_store (source_of_reply_sort sort.now) milliseconds
+        ensures from_store { self.new.from_store
+            ≡ times_with_reply_if_from_store (source_of_reply_sort sort.now) milliseconds
             self.old.from_store }
         ensures from_origin { self.new.from_origin ≡ times_with_reply_if_from_origin (source_of_reply_sort sort.now)
             milliseconds
             self.old.from_origin }
-        ensures from_proxy { self.new.from_proxy ≡ times_with_reply_if_by_proxy (source_of_reply_sort sort.now) milliseconds
+        ensures from_proxy { self.new.from_proxy
+            ≡ times_with_reply_if_by_proxy (source_of_reply_sort sort.now) milliseconds
             self.old.from_proxy }
     {
         count(&mut self.reasons, place_of(sort.reason, sort.detail));

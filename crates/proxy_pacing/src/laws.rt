@@ -27,7 +27,8 @@ pub fn worked_moments()
     ensures not_due { earliest_moment_if_due 4 (record { at = 5; id = 1 } ∷ []) ≡ None }
     ensures left { moments_without_earliest_due 6 (record { at = 5; id = 1 } ∷ (record { at = 6; id = 0 } ∷ []))
         ≡ record { at = 6; id = 0 } ∷ [] }
-    ensures all_left { moments_without_earliest_due 4 (record { at = 5; id = 1 } ∷ []) ≡ record { at = 5; id = 1 } ∷ [] }
+    ensures all_left { moments_without_earliest_due 4 (record { at = 5; id = 1 } ∷ []) ≡ record { at = 5; id = 1 }
+        ∷ [] }
     ensures nothing { has_no_bytes [] ≡ true }
     ensures something { has_no_bytes (0 ∷ []) ≡ false }
 {}

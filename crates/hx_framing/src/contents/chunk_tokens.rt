@@ -129,7 +129,8 @@ fn data_token(place: ChunkState, content: &mut Vec<u8>, bytes: &[u8]) -> ChunkTo
     requires need { 0 < place.need }
     requires room { vec_len content.now + length bytes.now ≤ vec_capacity content.now }
     ensures takes { ChunkTokenIsTaken place content.old.items bytes.now content.new.items result }
-    ensures room { vec_len content.new + (length bytes.now - bytes_taken_by_chunk_token result) ≤ vec_capacity content.new }
+    ensures room { vec_len content.new +
+        (length bytes.now - bytes_taken_by_chunk_token result) ≤ vec_capacity content.new }
 {
     if bytes.is_empty() {
         return ChunkToken::Incomplete;
@@ -207,7 +208,8 @@ fn next_token(place: ChunkState, content: &mut Vec<u8>, bytes: &[u8], searched: 
     requires none { has_no_lf (take searched bytes.now) ≡ true }
     requires room { vec_len content.now + length bytes.now ≤ vec_capacity content.now }
     ensures takes { ChunkTokenIsTaken place content.old.items bytes.now content.new.items result }
-    ensures room { vec_len content.new + (length bytes.now - bytes_taken_by_chunk_token result) ≤ vec_capacity content.new }
+    ensures room { vec_len content.new +
+        (length bytes.now - bytes_taken_by_chunk_token result) ≤ vec_capacity content.new }
 {
     match place.phase {
         ChunkPhase::Size => size_token(place, bytes, searched),

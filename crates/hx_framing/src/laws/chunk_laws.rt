@@ -91,7 +91,8 @@ pub fn worked_chunks_are_refused()
     ensures last_control { decoded_chunked_content 1000 (codes "3;" ++ 31 ∷ codes "\r\n") ≡ Bad fault.Chunk }
     ensures delete { decoded_chunked_content 1000 (codes "3;" ++ 127 ∷ codes "\r\n") ≡ Bad fault.Chunk }
     ensures sixteen_digits { decoded_chunked_content 1000 (codes "0000000000000001\r\n") ≡ Bad fault.Chunk }
-    ensures long_extension { decoded_chunked_content 1000 (codes "1;" ++ replicate 256 120 ++ codes "\r\n") ≡ Bad fault.Chunk }
+    ensures long_extension { decoded_chunked_content 1000 (codes "1;" ++ replicate 256 120 ++ codes "\r\n")
+        ≡ Bad fault.Chunk }
     ensures long_size { decoded_chunked_content 1000 (replicate 274 48) ≡ Bad fault.Chunk }
     ensures trailer_feed { decoded_chunked_content 1000 (codes "0\r\nT: 1\n") ≡ Bad fault.Chunk }
     ensures empty_feed { decoded_chunked_content 1000 (codes "0\r\n\n") ≡ Bad fault.Chunk }

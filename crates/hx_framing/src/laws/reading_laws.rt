@@ -86,7 +86,8 @@ pub fn worked_both_lengths_are_refused()
     ensures request { request_stream_reads (put_request_with (codes "Transfer-Encoding: chunked\r\nContent-Length: 5\r\n") ++ codes "0\r\n\r\n") (Faulty fault.BothLengths) }
     ensures turned { request_stream_reads (put_request_with (codes "Content-Length: 5\r\nTransfer-Encoding: chunked\r\n") ++ codes "0\r\n\r\n") (Faulty fault.BothLengths) }
     ensures old { request_stream_reads (codes "PUT /a HTTP/1.0\r\nTransfer-Encoding: chunked\r\nContent-Length: x\r\n\r\n") (Faulty fault.BothLengths) }
-    ensures response { response_stream_reads (ok_response_text_with_lines (codes "Transfer-Encoding: chunked\r\nContent-Length: 5\r\n") ++ codes "0\r\n\r\n") (Faulty fault.BothLengths) }
+    ensures response { response_stream_reads
+        (ok_response_text_with_lines (codes "Transfer-Encoding: chunked\r\nContent-Length: 5\r\n") ++ codes "0\r\n\r\n") (Faulty fault.BothLengths) }
 {}
 
 /// chunked is the one coding that is read; a request whose last coding is another has no end (RFC 9112, section 6.3).
@@ -151,8 +152,10 @@ pub fn worked_contents_run_until_the_close()
     ensures open { response_stream_reads (ok_response_text_with_lines [] ++ codes "hi") Incomplete }
     ensures closed { ended_response_stream_reads (ok_response_text_with_lines [] ++ codes "hi")
         (Spelled (response_with 200 [] (codes "hi") None) []) }
-    ensures empty { ended_response_stream_reads (ok_response_text_with_lines []) (Spelled (response_with 200 [] [] None) []) }
-    ensures large { response_stream_reads (ok_response_text_with_lines [] ++ replicate 1001 120) (Faulty fault.TooLarge) }
+    ensures empty { ended_response_stream_reads (ok_response_text_with_lines [])
+        (Spelled (response_with 200 [] [] None) []) }
+    ensures large { response_stream_reads (ok_response_text_with_lines [] ++ replicate 1001 120)
+        (Faulty fault.TooLarge) }
     ensures most { response_stream_reads (ok_response_text_with_lines [] ++ replicate 1000 120) Incomplete }
 {}
 

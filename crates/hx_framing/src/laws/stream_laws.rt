@@ -53,7 +53,8 @@ pub fn worked_stream_progress()
     ensures message { progress_after_answer (example_request_progress false [] false (put_request_of_hi ∷ []) true)
         (next.Message (put_request_read [] (Some [])))
         ≡ example_request_progress false [] false (put_request_of_hi ∷ put_request_read [] (Some []) ∷ []) false }
-    ensures nothing { progress_after_answer (example_request_progress false [] false (put_request_of_hi ∷ []) true) next.More
+    ensures nothing { progress_after_answer
+        (example_request_progress false [] false (put_request_of_hi ∷ []) true) next.More
         ≡ example_request_progress false [] false (put_request_of_hi ∷ []) true }
     ensures still_nothing { progress_after_answer (example_request_progress false [] false (put_request_of_hi
         ∷ []) false) next.More

@@ -38,7 +38,8 @@ pub fn worked_weights_of_answers()
 pub fn worked_answers_too_large_for_the_store()
     ensures just { answer_is_too_large_to_store (table_with_store_bound (Some 1272)) (forwarded_on_miss (get_a_with []))
         (response_with 200 (date_at_101 ∷ cache_control (codes "max-age=60") ∷ [])) 130 ≡ false }
-    ensures a_byte_less { answer_is_too_large_to_store (table_with_store_bound (Some 1271)) (forwarded_on_miss (get_a_with []))
+    ensures a_byte_less { answer_is_too_large_to_store (table_with_store_bound (Some 1271))
+        (forwarded_on_miss (get_a_with []))
         (response_with 200 (date_at_101 ∷ cache_control (codes "max-age=60") ∷ [])) 130 ≡ true }
     ensures unbounded { answer_is_too_large_to_store (table_with_store_bound None) (forwarded_on_miss (get_a_with []))
         (response_with 200 (date_at_101 ∷ cache_control (codes "max-age=60") ∷ [])) 130 ≡ false }
@@ -57,13 +58,19 @@ pub fn worked_answers_too_large_for_the_store()
 /// second goes, unless there is room for that byte.
 #[tactic(auto, unfolding(hx_validate::specs::Answering::freshened_of, httpdate::proofs::OnLiterals::httpdate_on_literals, hx_allow::specs::Matching::policy_of, hx_reuse::specs::Rules::least_reuse_rule_of, hx_reuse::specs::Rules::decision_of, hx_age::specs::Lifetime::lifetime_of))]
 pub fn worked_store_bounded_by_bytes()
-    ensures just { held_serials (table_with_store_bound (Some 2554)) (empty_store 5) trace_that_stores_a_and_b ≡ 2 ∷ 1 ∷ [] }
-    ensures a_byte_less { held_serials (table_with_store_bound (Some 2553)) (empty_store 5) trace_that_stores_a_and_b ≡ 2
+    ensures just { held_serials (table_with_store_bound (Some 2554)) (empty_store 5) trace_that_stores_a_and_b ≡ 2 ∷ 1
         ∷ [] }
-    ensures unbounded { held_serials (table_with_store_bound None) (empty_store 5) trace_that_stores_a_and_b ≡ 2 ∷ 1 ∷ [] }
-    ensures by_number { held_serials (table_with_store_bound (Some 2554)) (empty_store 1) trace_that_stores_a_and_b ≡ 2 ∷ [] }
-    ensures freshened { held_serials (table_with_store_bound (Some 2554)) (empty_store 5) trace_that_freshens_a ≡ 1 ∷ [] }
-    ensures freshened_with_room { held_serials (table_with_store_bound (Some 2555)) (empty_store 5) trace_that_freshens_a
+    ensures a_byte_less { held_serials (table_with_store_bound (Some 2553)) (empty_store 5) trace_that_stores_a_and_b
+        ≡ 2
+        ∷ [] }
+    ensures unbounded { held_serials (table_with_store_bound None) (empty_store 5) trace_that_stores_a_and_b ≡ 2 ∷ 1
+        ∷ [] }
+    ensures by_number { held_serials (table_with_store_bound (Some 2554)) (empty_store 1) trace_that_stores_a_and_b ≡ 2
+        ∷ [] }
+    ensures freshened { held_serials (table_with_store_bound (Some 2554)) (empty_store 5) trace_that_freshens_a ≡ 1
+        ∷ [] }
+    ensures freshened_with_room { held_serials (table_with_store_bound (Some 2555))
+        (empty_store 5) trace_that_freshens_a
         ≡ 1 ∷ 2 ∷ [] }
 {}
 
@@ -71,9 +78,11 @@ pub fn worked_store_bounded_by_bytes()
 #[tactic(auto, unfolding(hx_validate::specs::Answering::freshened_of, httpdate::proofs::OnLiterals::httpdate_on_literals, hx_allow::specs::Matching::policy_of, hx_reuse::specs::Rules::least_reuse_rule_of, hx_reuse::specs::Rules::decision_of, hx_age::specs::Lifetime::lifetime_of))]
 pub fn worked_store_at_the_start()
     ensures at_first { held_serials (table_with_store_bound None) store_that_starts_with_two_responses [] ≡ 2 ∷ 1 ∷ [] }
-    ensures entries { held_entries (table_with_store_bound None) store_that_starts_with_two_responses [] ≡ stored_of_fields 2 []
+    ensures entries { held_entries (table_with_store_bound None) store_that_starts_with_two_responses []
+        ≡ stored_of_fields 2 []
         ∷ stored_of_fields 1 [] ∷ [] }
-    ensures used { held_serials (table_with_store_bound None) store_that_starts_with_two_responses trace_that_sends_stored_a
+    ensures used { held_serials
+        (table_with_store_bound None) store_that_starts_with_two_responses trace_that_sends_stored_a
         ≡ 1 ∷ 2 ∷ [] }
     ensures none { held_serials (table_with_store_bound None) (empty_store 2) [] ≡ [] }
 {}

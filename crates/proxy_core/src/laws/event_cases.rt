@@ -86,7 +86,8 @@ pub fn worked_counts_of_traces()
     ensures ended { exchange_has_ended 1 trace_with_two_replies ≡ true }
     ensures another_ended { exchange_has_ended 2 trace_with_two_replies ≡ false }
     ensures closed { open_exchange_has_ended 1 trace_with_two_replies ≡ true }
-    ensures not_by_its_arrival { open_exchange_has_ended 1 (item_with_outcome (Arrive 1 1 get_a) (reply_without_store [])
+    ensures not_by_its_arrival { open_exchange_has_ended 1
+        (item_with_outcome (Arrive 1 1 get_a) (reply_without_store [])
         ∷ [])
         ≡ false }
     ensures another_closed { open_exchange_has_ended 2 trace_with_two_replies ≡ false }

@@ -45,7 +45,8 @@ pub fn an_expired_response_is_stale_until_made_fresh()
 #[tactic(auto, unfolding(httpdate::proofs::OnLiterals::httpdate_on_literals))]
 pub fn worked_purges_that_expire()
     ensures removes_none { serials_purge_removes get_a_with_purge_mode_stale (stored_from_first_answer ∷ []) ≡ [] }
-    ensures expires { serials_purge_expires get_a_with_purge_mode_stale (stored_from_first_answer ∷ []) ≡ Some (1 ∷ []) }
+    ensures expires { serials_purge_expires get_a_with_purge_mode_stale (stored_from_first_answer ∷ [])
+        ≡ Some (1 ∷ []) }
     ensures none_there { serials_purge_expires get_a_with_purge_mode_stale [] ≡ Some [] }
     ensures without_the_word { serials_purge_expires (get_a_with []) (stored_from_first_answer ∷ []) ≡ None }
     ensures by_its_tag { serials_purge_expires (get_a_with (line (codes "Purge-Mode") (codes "stale")
@@ -81,7 +82,8 @@ pub fn worked_purges_that_expire()
     ensures goes { entries_after_event (bounds_of table 9) (purged_at 130 stored_from_first_answer ∷ []) None
         (Arrive 140 3 (get_a_with [])) (outcome_of_purge (purged_at 130 stored_from_first_answer
         ∷ []) 140 (get_a_with [])) ≡ [] }
-    ensures overtakes { open_exchanges_after_event table [] (post_exchange 1 (codes "/a") ∷ post_exchange 2 (codes "/b") ∷ [])
+    ensures overtakes { open_exchanges_after_event table []
+        (post_exchange 1 (codes "/a") ∷ post_exchange 2 (codes "/b") ∷ [])
         (Arrive 130 3 get_a_with_purge_mode_stale) (outcome_of_purge [] 130 get_a_with_purge_mode_stale)
         ≡ as_overtaken (post_exchange 1 (codes "/a")) ∷ post_exchange 2 (codes "/b") ∷ [] }
 {}

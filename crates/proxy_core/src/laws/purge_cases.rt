@@ -85,7 +85,8 @@ pub fn worked_purges_with_a_tag()
         ∷ stored_with_tags 1 (seven_tags_and_a_comma ++ seven_tags_and_a_comma ++ seven_tags_and_a_comma
         ++ seven_tags_and_a_comma ++ seven_tags_and_a_comma ++ seven_tags_and_a_comma ++ seven_tags_and_a_comma
         ++ seven_tags_and_a_comma ++ seven_tags_and_a_comma ++ codes "b,c") ∷ []) ≡ 1 ∷ [] }
-    ensures overtaken { open_exchanges_after_event table [] (post_exchange 1 (codes "/a/b") ∷ post_exchange 2 (codes "/ab") ∷ [])
+    ensures overtaken { open_exchanges_after_event table []
+        (post_exchange 1 (codes "/a/b") ∷ post_exchange 2 (codes "/ab") ∷ [])
         (Arrive 130 3 (get_a_with (line (codes "Purge-Tag") (codes "news") ∷ [])))
         (outcome_of_purge [] 130 (get_a_with (line (codes "Purge-Tag") (codes "news") ∷ [])))
         ≡ record (post_exchange 1 (codes "/a/b")) { overtaken = true }

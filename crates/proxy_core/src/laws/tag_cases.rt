@@ -25,7 +25,8 @@ ghost use Rattle.proxy_core.specs.declared.replies.stored_reply.StoredCacheStatu
 /// Over a line that hides tags the lines of an answer have none: neither those of a stored response, whatever it is
 /// sent as, nor those of an answer of the origin, whole or in its place. Over each other line nothing is changed.
 pub fn hidden_tags_are_never_sent()
-    ensures stored { (name : List ℕ) (status : ℕ) (fields : List Field) (e : Stored) (now : ℕ) (info : StoredCacheStatusInfo)
+    ensures stored { (name : List ℕ) (status : ℕ) (fields : List Field) (e : Stored) (now : ℕ)
+        (info : StoredCacheStatusInfo)
         → info.policy.hides_tags ≡ true
         → has_field (fields_of_sent_response name status fields e now info) (codes "Cache-Tag") ≡ false }
     ensures passed { (policy : Policy) (name : List ℕ) (x : Exchange) (status : ℕ) (fields : List Field) (now : ℕ)
@@ -60,11 +61,13 @@ pub fn worked_tags_that_are_hidden()
     ensures to_head { stored_reply_text (codes "edge") (stored_of_fields 1 (cache_tag (codes "news") ∷ first_answer_fields)) 130
         (hit_status_info hides_tags_policy) head_request_for_a
         ≡ codes "HTTP/1.1 200 \r\nDate: Thu, 01 Jan 1970 00:01:41 GMT\r\nCache-Control: max-age=60\r\nETag: \"v1\"\r\nAge: 30\r\nCache-Status: edge;hit;ttl=30\r\nContent-Length: 2\r\n\r\n" }
-    ensures validated { stored_reply_text (codes "edge") (stored_of_fields 1 (cache_tag (codes "news") ∷ first_answer_fields)) 130
+    ensures validated { stored_reply_text (codes "edge")
+        (stored_of_fields 1 (cache_tag (codes "news") ∷ first_answer_fields)) 130
         (sent_after_forward_status_info hides_tags_policy (exchange_that_revalidates_e (get_a_with [])) (Some 304) None)
         (get_a_with [])
         ≡ codes "HTTP/1.1 200 \r\nDate: Thu, 01 Jan 1970 00:01:41 GMT\r\nCache-Control: max-age=60\r\nETag: \"v1\"\r\nAge: 30\r\nCache-Status: edge;fwd=stale;fwd-status=304;ttl=30;detail=no-lifetime\r\nContent-Length: 2\r\n\r\nhi" }
-    ensures who_has_it { stored_reply_text (codes "edge") (stored_of_fields 1 (cache_tag (codes "news") ∷ first_answer_fields)) 130
+    ensures who_has_it { stored_reply_text (codes "edge")
+        (stored_of_fields 1 (cache_tag (codes "news") ∷ first_answer_fields)) 130
         (hit_status_info hides_tags_policy) (get_a_with (line (codes "If-None-Match") (codes "\"v1\"") ∷ []))
         ≡ codes "HTTP/1.1 304 \r\nDate: Thu, 01 Jan 1970 00:01:41 GMT\r\nCache-Control: max-age=60\r\nETag: \"v1\"\r\nAge: 30\r\nCache-Status: edge;hit;ttl=30\r\n\r\n" }
     ensures each_line { stored_reply_text (codes "edge") (stored_of_fields 1 (line (codes "cache-tag") (codes "a")

@@ -272,7 +272,8 @@ pub fn worked_stored_responses()
 pub fn worked_stored_responses_after_a_304()
     ensures asked_about { condition_to_revalidate_stored (stored_of_fields 3 (etag_field (codes "\"e\"") ∷ []))
         ≡ Some (record { serial = 3; sent = record { etag = Some (codes "\"e\""); modified = None } }) }
-    ensures not_asked_about { condition_to_revalidate_stored (stored_of_fields 3 (cache_control (codes "max-age=60") ∷ [])) ≡ None }
+    ensures not_asked_about { condition_to_revalidate_stored
+        (stored_of_fields 3 (cache_control (codes "max-age=60") ∷ [])) ≡ None }
     ensures times { (freshened_by_304 (exchange_that_revalidates_e (get_a_with [])) (response_with 304 (date_at_101
         ∷ [])) 105
         (stored_of_fields 1 (etag_field (codes "\"e\"") ∷ []))).times
@@ -341,7 +342,8 @@ pub fn worked_line_options_in_storing()
     ensures none_given_to_errors { ttl_of_stored lifetime_60_policy
         (record stored_without_lifetime { status = 404 }) 110 ≡ negsuc 9 }
     ensures none_given { ttl_of_stored (plain true) stored_without_lifetime 110 ≡ negsuc 9 }
-    ensures stated { ttl_of_stored lifetime_60_policy (stored_of_fields 1 (cache_control (codes "max-age=20") ∷ [])) 110 ≡ pos 10 }
+    ensures stated { ttl_of_stored lifetime_60_policy (stored_of_fields 1 (cache_control (codes "max-age=20") ∷ [])) 110
+        ≡ pos 10 }
     ensures at_most { ttl_of_stored lifetime_at_most_15_policy (stored_of_fields 1 (cache_control (codes "max-age=31536000") ∷ [])) 110
         ≡ pos 5 }
     ensures for_one { is_storable (table_with_policy lifetime_60_but_not_to_cookies_policy)
@@ -664,9 +666,11 @@ pub fn worked_open_exchanges_after_a_step()
     ensures purged { open_exchanges_after_event table [] (record (post_exchange 1 (codes "/a")) { overtaken = false }
         ∷ post_exchange 2 (codes "/b") ∷ []) (Arrive 130 3 (get_a_with [])) (outcome_of_purge [] 130 (get_a_with []))
         ≡ record (post_exchange 1 (codes "/a")) { overtaken = true } ∷ post_exchange 2 (codes "/b") ∷ [] }
-    ensures denied { open_exchanges_after_event table [] (post_exchange 1 (codes "/a") ∷ []) (Arrive 130 3 (get_a_with []))
+    ensures denied { open_exchanges_after_event table [] (post_exchange 1 (codes "/a") ∷ [])
+        (Arrive 130 3 (get_a_with []))
         (outcome_of_refusal 130 (Denied 1) (get_a_with [])) ≡ post_exchange 1 (codes "/a") ∷ [] }
-    ensures behind { open_exchanges_after_event table [] (post_exchange 1 (codes "/b") ∷ []) (Arrive 130 2 (get_a_with []))
+    ensures behind { open_exchanges_after_event table [] (post_exchange 1 (codes "/b") ∷ [])
+        (Arrive 130 2 (get_a_with []))
         (Forward (route_over_line 1) [])
         ≡ post_exchange 1 (codes "/b") ∷ record (forwarded_on_miss (get_a_with [])) { id = 2; request_time = 130 } ∷ [] }
     ensures varied { open_exchanges_after_event table_varying_by_scheme [] [] (Arrive 130 1 (get_a_with []))
@@ -684,7 +688,8 @@ pub fn worked_open_exchanges_after_a_step()
     ensures names_what_is_held { open_exchanges_after_event table (stored_without_lifetime ∷ []) []
         (Arrive 130 1 (get_a_with [])) (Forward (route_over_line 1) [])
         ≡ record (exchange_that_revalidates_e (get_a_with [])) { request_time = 130; named = Some 1 } ∷ [] }
-    ensures woken_on { open_exchanges_after_event table (stored_without_lifetime ∷ []) (record waiting { overtaken = true }
+    ensures woken_on { open_exchanges_after_event table (stored_without_lifetime ∷ [])
+        (record waiting { overtaken = true }
         ∷ []) (Wake 130 2)
         (Forward (route_over_line 1) [])
         ≡ record (exchange_that_revalidates_e (get_a_with [])) { id = 2; request_time = 130 } ∷ [] }

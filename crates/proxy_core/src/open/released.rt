@@ -53,7 +53,8 @@ impl Released {
     pub(crate) fn enter(&mut self, stage: Stage, arrival: u64)
         ensures widened { ReleasedRangeIsNotNarrowed self.old self.new }
         ensures entered { is_free stage ≡ true → arrival_may_be_released self.new arrival ≡ true }
-        ensures reach { self.new ≡ (if is_free stage then released_arrival_range_with arrival arrival self.old else self.old) }
+        ensures reach { self.new
+            ≡ (if is_free stage then released_arrival_range_with arrival arrival self.old else self.old) }
     {
         if is_released(stage) {
             self.widen(arrival, arrival);

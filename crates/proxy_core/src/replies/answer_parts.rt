@@ -79,7 +79,8 @@ fn part_text(
     requires within { last < length answer.now.response.now.content }
     requires ttl { shown.ttl ≡ ttl_of_passed_answer shown.policy answer.now.exchange.now head.now.status
         head.now.fields answer.now.response_time shown.stored }
-    ensures text { IfOk result (λ sent. sent.bytes ≡ text_of_answer_or_its_range shown.policy name.now answer.now.exchange.now
+    ensures text { IfOk result
+        (λ sent. sent.bytes ≡ text_of_answer_or_its_range shown.policy name.now answer.now.exchange.now
         answer.now.response.now answer.now.response_time shown.stored shown.rule (Part first last)) }
     ensures about { IfOk result (λ sent. sent.about ≡ report_of_answer_cut_to_range shown.policy answer.now.exchange.now
         answer.now.response.now answer.now.response_time shown.stored shown.rule
@@ -111,7 +112,8 @@ fn unsatisfied_text(
     requires head { head.now ≡ answered_of answer.now.response.now answer.now.response_time }
     requires ttl { shown.ttl ≡ ttl_of_passed_answer shown.policy answer.now.exchange.now head.now.status
         head.now.fields answer.now.response_time shown.stored }
-    ensures text { IfOk result (λ sent. sent.bytes ≡ text_of_answer_or_its_range shown.policy name.now answer.now.exchange.now
+    ensures text { IfOk result
+        (λ sent. sent.bytes ≡ text_of_answer_or_its_range shown.policy name.now answer.now.exchange.now
         answer.now.response.now answer.now.response_time shown.stored shown.rule Unsatisfiable) }
     ensures about { IfOk result (λ sent. sent.about ≡ report_of_answer_cut_to_range shown.policy answer.now.exchange.now
         answer.now.response.now answer.now.response_time shown.stored shown.rule
@@ -142,12 +144,15 @@ pub(crate) fn text_of_answer_or_its_range(
     requires head { head.now ≡ answered_of answer.now.response.now answer.now.response_time }
     requires ttl { shown.ttl ≡ ttl_of_passed_answer shown.policy answer.now.exchange.now head.now.status
         head.now.fields answer.now.response_time shown.stored }
-    ensures text { IfOk result (λ sent. sent.bytes ≡ text_of_answer_or_its_range shown.policy name.now answer.now.exchange.now
+    ensures text { IfOk result
+        (λ sent. sent.bytes ≡ text_of_answer_or_its_range shown.policy name.now answer.now.exchange.now
         answer.now.response.now answer.now.response_time shown.stored shown.rule
-        (part_of_answer_to_send shown.policy answer.now.exchange.now answer.now.response.now answer.now.response_time)) }
+        (part_of_answer_to_send shown.policy answer.now.exchange.now answer.now.response.now
+        answer.now.response_time)) }
     ensures about { IfOk result (λ sent. sent.about ≡ report_of_answer_cut_to_range shown.policy answer.now.exchange.now
         answer.now.response.now answer.now.response_time shown.stored shown.rule
-        (part_of_answer_to_send shown.policy answer.now.exchange.now answer.now.response.now answer.now.response_time)) }
+        (part_of_answer_to_send shown.policy answer.now.exchange.now answer.now.response.now
+        answer.now.response_time)) }
 {
     match part_of_answer_to_send(answer, head, shown.policy) {
         RangeAnswer::Whole => whole_answer_text(alloc, name, answer, head, shown),

@@ -110,7 +110,8 @@ impl<S: Shelf> Core<S> {
         new_entry: NewEntry,
     ) -> Result<PendingReply, AllocError>
         requires head { head ≡ answered_of answer.now.response.now answer.now.response_time }
-        requires nominated { new_entry.nominated ≡ nominated_values_with_further_names answer.now.exchange.now.vary head.fields
+        requires nominated { new_entry.nominated
+            ≡ nominated_values_with_further_names answer.now.exchange.now.vary head.fields
             answer.now.exchange.now.asked.fields }
         requires directives { new_entry.directives ≡ occurrences_of head.fields }
         ensures outcome { IfOk result (λ pending. outcome_of_pending_reply pending

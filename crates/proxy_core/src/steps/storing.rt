@@ -61,7 +61,8 @@ impl NewEntry {
         head: Answered,
     ) -> Result<Entry, AllocError>
         requires head { head ≡ answered_of answer.now.response.now answer.now.response_time }
-        requires nominated { self.nominated ≡ nominated_values_with_further_names answer.now.exchange.now.vary head.fields
+        requires nominated { self.nominated
+            ≡ nominated_values_with_further_names answer.now.exchange.now.vary head.fields
             answer.now.exchange.now.asked.fields }
         requires directives { self.directives ≡ occurrences_of head.fields }
         ensures { IfOk result (λ entry. entry
@@ -129,7 +130,8 @@ impl<S: Shelf> Core<S> {
         nomination: &Nomination,
     ) -> bool
         requires head { head.now ≡ answered_of answer.now.response.now answer.now.response_time }
-        requires nomination { nomination.now ≡ nomination_with_further_names answer.now.exchange.now.vary head.now.fields
+        requires nomination { nomination.now
+            ≡ nomination_with_further_names answer.now.exchange.now.vary head.now.fields
             answer.now.exchange.now.asked.fields }
         ensures { result ≡ answer_is_too_large_to_store self.now.table answer.now.exchange.now answer.now.response.now
             answer.now.response_time }
@@ -158,7 +160,8 @@ impl<S: Shelf> Core<S> {
     ) -> StoringFacts
         requires head { head.now ≡ answered_of answer.now.response.now answer.now.response_time }
         requires directives { directives.now ≡ occurrences_of head.now.fields }
-        requires nomination { nomination.now ≡ nomination_with_further_names answer.now.exchange.now.vary head.now.fields
+        requires nomination { nomination.now
+            ≡ nomination_with_further_names answer.now.exchange.now.vary head.now.fields
             answer.now.exchange.now.asked.fields }
         ensures { result ≡ storing_facts_of_answer self.now.table answer.now.exchange.now answer.now.response.now
             answer.now.response_time self.now.next }
@@ -189,7 +192,8 @@ impl<S: Shelf> Core<S> {
     ) -> Result<Option<StoreRule>, AllocError>
         requires head { head.now ≡ answered_of answer.now.response.now answer.now.response_time }
         requires directives { directives.now ≡ occurrences_of head.now.fields }
-        requires nomination { nomination.now ≡ nomination_with_further_names answer.now.exchange.now.vary head.now.fields
+        requires nomination { nomination.now
+            ≡ nomination_with_further_names answer.now.exchange.now.vary head.now.fields
             answer.now.exchange.now.asked.fields }
         ensures { IfOk result (λ rule. rule ≡ rule_against_storing answer.now.exchange.now.asked head.now
             (storing_facts_of_answer self.now.table answer.now.exchange.now answer.now.response.now

@@ -387,7 +387,8 @@ impl<S: Stream + Drop> Client<S> {
         ensures within { result ≤ length buf.old }
         ensures length { length buf.new ≡ length buf.old }
         ensures some { 0 < length buf.old → 0 < length (input_bytes_not_handed_in self.old.rest) → 0 < result }
-        ensures given { take result buf.new ++ input_bytes_not_handed_in self.new.rest ≡ input_bytes_not_handed_in self.old.rest }
+        ensures given { take result buf.new ++ input_bytes_not_handed_in self.new.rest
+            ≡ input_bytes_not_handed_in self.old.rest }
         ensures peer { self.new.peer ≡ self.old.peer }
     {
         let Some(rest) = &mut self.rest else {

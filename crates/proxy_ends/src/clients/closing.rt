@@ -68,7 +68,8 @@ impl<S: Stream + Drop> Clients<S> {
     /// has.
     #[tactic(auto, using(crate::proofs::Closings::none_goes, crate::proofs::Closings::closes_at, crate::proofs::Closings::closes_none))]
     pub fn close(&mut self, n: u64, now: u64)
-        ensures others { ClosingByNumberDropsAtMostOneOther (get nat_cmp self.old.open n) self.old.streams self.new.streams }
+        ensures others { ClosingByNumberDropsAtMostOneOther
+            (get nat_cmp self.old.open n) self.old.streams self.new.streams }
         ensures leaves { IsInLeavingQueueIfUnsent (client_at_number self.old.open self.old.streams n)
             (client_at_number self.old.open self.new.streams n) }
     {

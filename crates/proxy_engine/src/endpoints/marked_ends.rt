@@ -218,7 +218,8 @@ impl<E: Endpoint> MarkedEnds<E> {
 
     /// The first end at which something is due. What is found there is kept.
     pub(crate) fn find(&mut self, alloc: Global) -> Result<Option<Place<E::Kind>>, AllocError>
-        ensures alike { ContentsOfPlacesAreRelated E.LooksLike (end_if_open_at self.old.items) (end_if_open_at self.new.items) }
+        ensures alike { ContentsOfPlacesAreRelated E.LooksLike (end_if_open_at self.old.items)
+            (end_if_open_at self.new.items) }
         ensures length { length self.new.items ≡ length self.old.items }
         ensures room { self.new.has_room ≡ self.old.has_room }
         ensures found { IfOk result

@@ -106,7 +106,8 @@ pub(crate) fn connection_number_of_place(place: u64) -> u64
 /// The number of the next connection, behind so many, if one is left.
 pub(crate) fn number_of_next_connection(count: u64) -> Option<u64>
     ensures { result
-        ≡ (if nat_lt (connection_number_of_place count) (2 ^ 64) then Some (connection_number_of_place count) else None) }
+        ≡ (if nat_lt (connection_number_of_place count) (2 ^ 64) then Some (connection_number_of_place count)
+        else None) }
 {
     count.checked_add(1)
 }

@@ -88,7 +88,8 @@ pub fn worked_lines_of_links()
     ensures seconds { origin_timeout_of_link model_with_origin_timeout_7 5 ≡ Some 7 }
     ensures no_seconds { origin_timeout_of_link model_with_origin_timeout_7 6 ≡ None }
     ensures of_none { origin_timeout_of_link model_with_origin_timeout_7 4 ≡ None }
-    ensures of_a_dropped_one { origin_timeout_of_link (with_changed_link model_with_origin_timeout_7 0 link_model_dropped) 5
+    ensures of_a_dropped_one { origin_timeout_of_link
+        (with_changed_link model_with_origin_timeout_7 0 link_model_dropped) 5
         ≡ None }
 {}
 
@@ -234,7 +235,8 @@ pub fn worked_marks()
     ensures is_gone { is_gone_if_connection (Some (example_connection [] Quiet true Free)) ≡ Some true }
     ensures is_there { is_gone_if_connection (Some (example_connection [] Quiet false Free)) ≡ Some false }
     ensures is_over { is_gone_if_connection None ≡ None }
-    ensures is_to_end { is_retired_connection (Some (record (example_connection [] Quiet false Free) { retired = true }))
+    ensures is_to_end { is_retired_connection
+        (Some (record (example_connection [] Quiet false Free) { retired = true }))
         ≡ true }
     ensures goes_on { is_retired_connection (Some (example_connection [] Quiet false Free)) ≡ false }
     ensures who_is_over_is_not_to_end { is_retired_connection None ≡ false }
@@ -279,7 +281,8 @@ pub fn worked_actions()
     ensures continues { (w : Action) → IsActionForReaderAnswer next.NeedsContinue w → w ≡ action.Continue }
     ensures ended { (w : Action) → IsActionForReaderAnswer next.End w → w ≡ action.Close }
     ensures asks { IsActionForReaderAnswer (next.Message request_of_a) action.Close → ⊥ }
-    ensures needs { map outcome_needs_link (outcomes.Forward (route_over_line 1) [] ∷ outcomes.Waits 1 ∷ outcomes.Ended ∷ [])
+    ensures needs { map outcome_needs_link
+        (outcomes.Forward (route_over_line 1) [] ∷ outcomes.Waits 1 ∷ outcomes.Ended ∷ [])
         ≡ true ∷ false ∷ false ∷ [] }
     ensures whole { link_result_is_answer (Gives answer_200) ≡ true }
     ensures broken { link_result_is_answer (Breaks kinds.Closed) ≡ false }
@@ -309,7 +312,8 @@ pub fn worked_activities()
     ensures waits { activities_after_outcome 0 7 (outcomes.Waits 1) (Free ∷ Free ∷ []) ≡ Waiting ∷ Free ∷ [] }
     ensures ended { activities_after_outcome 0 7 outcomes.Ended (Waiting ∷ []) ≡ Waiting ∷ [] }
     ensures no_more { activities_after_outcome 0 7 outcomes.WaitsNoMore (Waiting ∷ []) ≡ Waiting ∷ [] }
-    ensures opens { owners_after_outcome 3 (outcomes.Forward (route_over_line 1) []) (Some 1 ∷ []) ≡ Some 1 ∷ Some 3 ∷ [] }
+    ensures opens { owners_after_outcome 3 (outcomes.Forward (route_over_line 1) []) (Some 1 ∷ []) ≡ Some 1 ∷ Some 3
+        ∷ [] }
     ensures opens_none { owners_after_outcome 3 (outcomes.Waits 1) (Some 1 ∷ []) ≡ Some 1 ∷ [] }
     ensures takes_memory { map happening_takes_memory (Accepts 1 ∷ Sends 1 [] ∷ Hears 1 [] ∷ [])
         ≡ true ∷ true ∷ true ∷ [] }

@@ -134,9 +134,11 @@ pub fn worked_addresses_of_outcomes()
 /// What acts tell: a reply to its connection, with what it is and what it answers, and a close after it where it says
 /// so; a forward on the next link; nothing of one that waits. And what they leave.
 pub fn worked_effects_of_acts()
-    ensures reply { effects_of_outcome 2 7 reply_data_for_a.question (Replies (codes "x") (purge_status_and_reason 4) false)
+    ensures reply { effects_of_outcome 2 7 reply_data_for_a.question
+        (Replies (codes "x") (purge_status_and_reason 4) false)
         ≡ effects.Client 3 (codes "x") (Some reply_data_for_a) ∷ [] }
-    ensures last_reply { effects_of_outcome 2 7 reply_data_for_a.question (Replies (codes "x") (purge_status_and_reason 4) true)
+    ensures last_reply { effects_of_outcome 2 7 reply_data_for_a.question
+        (Replies (codes "x") (purge_status_and_reason 4) true)
         ≡ effects.Client 3 (codes "x") (Some reply_data_for_a) ∷ effects.Close 3 ∷ [] }
     ensures forward { effects_of_outcome 2 7 None (Forwards (address_of_numbers 127 0 0 1 80) (codes "x"))
         ≡ effects.Forward 7 (address_of_numbers 127 0 0 1 80) (codes "x") ∷ [] }

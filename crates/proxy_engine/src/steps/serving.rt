@@ -92,7 +92,8 @@ fn refuse(
     ensures ok { IfOk result (λ effects. (s : EngineModel) → (links : List (Option Link)) → (core : CoreState)
         → (first : ℕ) → (a : Next Request) → IsActionForReaderAnswer a (Action.Refuse why head question)
         → EngineRepresents (engine_state_of_parts connections.old.items links core first) s
-        → EngineDoesAct s now (Serves i a) effects.items (engine_state_of_parts connections.new.items links core first)) }
+        → EngineDoesAct s now (Serves i a) effects.items
+        (engine_state_of_parts connections.new.items links core first)) }
     ensures less { OnOk result
         (sum_by work_left_of_connection connections.new.items < sum_by work_left_of_connection connections.old.items) }
     ensures activities { activities_of_connections connections.new.items
@@ -125,7 +126,8 @@ fn shut(
     ensures ok { IfOk result (λ effects. (s : EngineModel) → (links : List (Option Link)) → (core : CoreState)
         → (first now : ℕ) → (a : Next Request) → IsActionForReaderAnswer a Action.Close
         → EngineRepresents (engine_state_of_parts connections.old.items links core first) s
-        → EngineDoesAct s now (Serves i a) effects.items (engine_state_of_parts connections.new.items links core first)) }
+        → EngineDoesAct s now (Serves i a) effects.items
+        (engine_state_of_parts connections.new.items links core first)) }
     ensures less { OnOk result
         (sum_by work_left_of_connection connections.new.items < sum_by work_left_of_connection connections.old.items) }
     ensures activities { activities_of_connections connections.new.items
